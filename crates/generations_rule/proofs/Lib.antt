@@ -1,0 +1,4 @@
+pub mod EvolutionLaws
+pub mod SetLaws
+pub mod PartLemmas
+pub mod TextLaws
