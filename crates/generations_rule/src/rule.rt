@@ -107,7 +107,7 @@ impl Rule {
         if !same_counts(&self.birth, &other.birth) {
             return false;
         }
-        self.states == other.states
+        other.states == self.states
     }
 
     /// The next state of a cell that ages: the last one is followed by death.

@@ -1,0 +1,5 @@
+pub mod WriteLaws
+pub mod PlaceOrder
+pub mod SortedCells
+pub mod MakingLaws
+pub mod SettleLaws

@@ -1,0 +1,61 @@
+-- An edit, and what it writes.
+use Rattle.std.specs.Prelude.{◌≡◌, ℕ, ◌^◌, ◌≤◌, Bool, true, false, not, ◌&&◌, ◌==◌, nat_le, List, [], ◌∷◌, length, find, Option, Some, None, option_map, IsTrue}
+use Rattle.std.specs.List.{list_all}
+use Rattle.generations_rule.specs.Place.{Place, is_place}
+use Rattle.multistate_rle.specs.declared.cell.Cell.{Cell}
+use Rattle.multistate_rle.specs.Cells.{place_of, is_sorted, are_nonzero, are_below}
+use Rattle.edit_stamps.specs.declared.write.Write.{Write}
+use Rattle.edit_stamps.specs.declared.rect.Rect.{Rect}
+use Rattle.edit_stamps.specs.Plane.{is_in_plane, is_in, is_empty, is_area_in_plane}
+use Rattle.edit_stamps.specs.Stamp.{is_stamp}
+use Rattle.edit_stamps.specs.Write.{unwritten, greater, Writes}
+
+-- a stamp, an area if there is one, and the listed cells
+pub record PlaneEdit : Type 0 where
+  pub stamp : ℕ
+  pub area : Option Rect
+  pub cells : List Cell
+
+-- ---- what an edit writes
+
+-- the state of the first cell that is listed at a place
+abbrev pub listed : List Cell → Place → Option ℕ
+listed cells c = option_map (λ cell. cell.state) (find (λ cell. is_place (place_of cell) c) cells)
+
+abbrev pub is_covered : Option Rect → Place → Bool
+is_covered None c = false
+is_covered (Some area) c = is_in area c
+
+-- the stamp with the listed state; with 0 elsewhere in the area; else nothing
+abbrev pub write_by : ℕ → Option ℕ → Bool → Write
+write_by stamp (Some state) covered = record { stamp = stamp; state = state }
+write_by stamp None true = record { stamp = stamp; state = 0 }
+write_by stamp None false = unwritten
+
+abbrev pub writes_of : PlaneEdit → Writes
+writes_of e c = write_by e.stamp (listed e.cells c) (is_covered e.area c)
+
+-- the greatest write of some edits at a place
+abbrev pub greatest : List PlaneEdit → Writes
+greatest [] c = unwritten
+greatest (e ∷ edits) c = greater (writes_of e c) (greatest edits c)
+
+-- ---- which edits there are
+
+-- without an area some cell is listed; an area is neither empty nor too wide, and has the listed cells, none of them dead
+abbrev pub fits_area : Option Rect → List Cell → Bool
+fits_area None cells = not (length cells == 0)
+fits_area (Some area) cells =
+    not (is_empty area) && is_area_in_plane area && nat_le area.width 4096 && nat_le area.height 4096
+    && are_nonzero cells && list_all (λ cell. is_in area (place_of cell)) cells
+
+pub record IsEdit (e : PlaneEdit) : Type 0 where
+  pub stamp : IsTrue (is_stamp e.stamp)
+  pub count : length e.cells ≤ 2 ^ 20
+  pub sorted : IsTrue (is_sorted e.cells)
+  pub in_plane : IsTrue (list_all (λ cell. is_in_plane (place_of cell)) e.cells)
+  pub area : IsTrue (fits_area e.area e.cells)
+
+-- each listed state is below a rule's number of states
+abbrev pub has_states_below : ℕ → PlaneEdit → Bool
+has_states_below states e = are_below states e.cells

@@ -1,0 +1,57 @@
+-- What writes, maps of writes and edits obey.
+use Rattle.std.specs.Prelude.{◌≡◌, ℕ, ◌⊎◌, ◌↔◌, IsTrue, IfOk, List, ◌++◌, Contains, false, reverse}
+use Rattle.std.specs.Ordering.{nat_cmp, is_le, then_cmp, on}
+use Rattle.generations_rule.specs.Place.{Place}
+use Rattle.generations_rule.specs.Rule.{GenerationsRule}
+use Rattle.multistate_rle.specs.declared.cell.Cell.{Cell}
+use Rattle.multistate_rle.specs.Cells.{is_sorted}
+use Rattle.edit_stamps.specs.declared.write.Write.{Write}
+use Rattle.edit_stamps.specs.Edit.{PlaneEdit, IsEdit, greatest, listed, write_by, writes_of, has_states_below}
+use Rattle.edit_stamps.specs.Making.{edit_of_cells, settled}
+use Rattle.edit_stamps.specs.Stamp.{is_stamp}
+use Rattle.edit_stamps.specs.Write.{at_most, greater, unwritten, Writes, AreSame, IsBelow, joined}
+
+-- the order of writes is total, and the least write is at its bottom
+pub record IsTotal : Type 0 where
+  pub reflexive : (v : Write) → IsTrue (at_most v v)
+  pub transitive : (u v w : Write) → IsTrue (at_most u v) → IsTrue (at_most v w) → IsTrue (at_most u w)
+  pub antisymmetric : (v w : Write) → IsTrue (at_most v w) → IsTrue (at_most w v) → v ≡ w
+  pub total : (v w : Write) → IsTrue (at_most v w) ⊎ IsTrue (at_most w v)
+  pub least : (v : Write) → IsTrue (at_most unwritten v)
+
+-- the greater write is commutative, associative and idempotent
+pub record IsLattice : Type 0 where
+  pub commutative : (v w : Write) → greater v w ≡ greater w v
+  pub associative : (u v w : Write) → greater (greater u v) w ≡ greater u (greater v w)
+  pub idempotent : (v : Write) → greater v v ≡ v
+
+-- the join is above both maps and below every map that is above both; p is below q exactly when joining them gives q
+pub record IsLeastUpperBound : Type 0 where
+  pub left : (p q : Writes) → IsBelow p (joined p q)
+  pub right : (p q : Writes) → IsBelow q (joined p q)
+  pub least : (p q r : Writes) → IsBelow p r → IsBelow q r → IsBelow (joined p q) r
+  pub absorbs : (p q : Writes) → IsBelow p q ↔ AreSame (joined p q) q
+
+-- the greatest writes depend only on which edits there are
+abbrev pub DependsOnMembers : Type 0
+DependsOnMembers = (E F : List PlaneEdit) → ((e : PlaneEdit) → Contains E e ↔ Contains F e) → AreSame (greatest E) (greatest F)
+
+-- the greatest writes of two lists together are the join of those of each
+abbrev pub JoinsLists : Type 0
+JoinsLists = (E F : List PlaneEdit) → AreSame (greatest (E ++ F)) (joined (greatest E) (greatest F))
+
+-- entries are settled in order, and at each coordinate the last one stays
+pub record SettlesEntries : Type 0 where
+  pub sorted : (cells : List Cell) → IsTrue (is_sorted (settled cells))
+  pub last_stays : (cells : List Cell) (c : Place) → listed (settled cells) c ≡ listed (reverse cells) c
+
+-- a sorted list is told by what is listed at each place
+abbrev pub IsToldByReads : Type 0
+IsToldByReads = (xs ys : List Cell) → IsTrue (is_sorted xs) → IsTrue (is_sorted ys) → ((c : Place) → listed xs c ≡ listed ys c) → xs ≡ ys
+
+-- what is made of cells is an edit; it writes at each place the state of the last entry there, and nothing elsewhere
+pub record MakesEdits : Type 0 where
+  pub edit : (r : GenerationsRule) (stamp : ℕ) (cells : List Cell) → IsTrue (is_stamp stamp) → IfOk (edit_of_cells r stamp cells) (λ e. IsEdit e)
+  pub states : (r : GenerationsRule) (stamp : ℕ) (cells : List Cell) → IfOk (edit_of_cells r stamp cells) (λ e. IsTrue (has_states_below r.states e))
+  pub last_entries : (r : GenerationsRule) (stamp : ℕ) (cells : List Cell) (c : Place) →
+      IfOk (edit_of_cells r stamp cells) (λ e. writes_of e c ≡ write_by stamp (listed (reverse cells) c) false)

@@ -1,0 +1,9 @@
+pub mod Stamp
+pub mod Write
+pub mod Plane
+pub mod Edit
+pub mod EditFault
+pub mod Making
+pub mod PlaneMap
+pub mod Laws
+pub mod Rows

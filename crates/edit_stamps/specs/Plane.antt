@@ -1,0 +1,30 @@
+-- The plane of a document: x and y from -2^30 to 2^30 - 1; and rectangles in it.
+use Rattle.std.specs.Prelude.{◌-◌, ◌^◌, ℤ, pos, negsuc, ◌+ℤ◌, Bool, ◌||◌, ◌&&◌, int_le, int_lt, ◌==◌}
+use Rattle.generations_rule.specs.Place.{Place}
+use Rattle.edit_stamps.specs.declared.rect.Rect.{Rect}
+
+-- the least coordinate
+abbrev pub least : ℤ
+least = negsuc (2 ^ 30 - 1)
+
+-- one past the greatest
+abbrev pub past : ℤ
+past = pos (2 ^ 30)
+
+abbrev pub is_side : ℤ → Bool
+is_side n = int_le least n && int_lt n past
+
+abbrev pub is_in_plane : Place → Bool
+is_in_plane c = is_side c.x && is_side c.y
+
+-- the place lies in the rectangle
+abbrev pub is_in : Rect → Place → Bool
+is_in r c = int_le r.x c.x && int_lt c.x (r.x +ℤ pos r.width) && int_le r.y c.y && int_lt c.y (r.y +ℤ pos r.height)
+
+abbrev pub is_empty : Rect → Bool
+is_empty r = r.width == 0 || r.height == 0
+
+-- the rectangle lies in the plane
+abbrev pub is_area_in_plane : Rect → Bool
+is_area_in_plane r =
+    is_side r.x && is_side r.y && int_le (r.x +ℤ pos r.width) past && int_le (r.y +ℤ pos r.height) past

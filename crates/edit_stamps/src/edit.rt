@@ -1,0 +1,96 @@
+//! Edits: what one drawing writes.
+
+ghost use Rattle.std.specs.Prelude.{◌≡◌, IsTrue, IfOk, None};
+ghost use Rattle.generations_rule.specs.Refusal.{Answers};
+
+use crate::fault::EditFault;
+use crate::rect::Rect;
+use crate::settle;
+use crate::stamp::Stamp;
+use generations_rule::Rule;
+use multistate_rle::Cell;
+use std::alloc::{AllocError, Global};
+use std::marker::Model;
+
+/// What one drawing writes: each listed cell, and state 0 at every other coordinate of its area, if
+/// it has one. The listed cells are sorted by `y`, then `x`, each coordinate once, and lie in the
+/// plane. No edit reads the plane.
+#[derive(Debug, Drop)]
+pub struct Edit {
+    stamp: Stamp,
+    area: Option<Rect>,
+    cells: Vec<Cell>,
+}
+
+impl Model for Edit {
+    ghost use Rattle.edit_stamps.specs.Edit.{PlaneEdit, IsEdit};
+
+    ghost Value = { PlaneEdit };
+
+    ghost view = { λ e. record { stamp = e.stamp; area = e.area; cells = e.cells.items } };
+
+    ghost invariant = { λ e. IsEdit (record { stamp = e.stamp; area = e.area; cells = e.cells.items }) };
+}
+
+impl Edit {
+    ghost use Rattle.edit_stamps.specs.Edit.{IsEdit};
+    ghost use Rattle.edit_stamps.specs.EditFault.{IsWant};
+    ghost use Rattle.edit_stamps.specs.Making.{edit_of_cells};
+
+    /// The edit that writes these cells, in any order; of the entries at one coordinate the last
+    /// wins. Refused are, in this order: no cell, more than 2^20 entries, an entry outside the
+    /// plane, and one whose state the rule does not have, also where a later entry replaces it.
+    pub fn cells(
+        alloc: Global,
+        rule: &Rule,
+        stamp: Stamp,
+        cells: &[Cell],
+    ) -> Result<Edit, EditFault>
+        ensures { Answers IsWant result (edit_of_cells rule.now stamp cells.now) }
+    {
+        if let Some(fault) = settle::fault_of_cells(rule, cells) {
+            return Err(fault);
+        }
+        let cells = settle::settled_cells(alloc, cells)?;
+        // What is known of a stamp is known of the edit: the call tells that it is in range.
+        let _in_range = stamp.number();
+        Ok(Edit {
+            stamp,
+            area: None,
+            cells,
+        })
+    }
+
+    pub fn stamp(&self) -> Stamp
+        ensures { result ≡ self.now.stamp }
+    {
+        self.stamp
+    }
+
+    /// The area outside whose listed cells the edit writes state 0.
+    pub fn area(&self) -> Option<Rect>
+        ensures { result ≡ self.now.area }
+    {
+        self.area
+    }
+
+    /// The listed cells, sorted by `y`, then `x`, each coordinate once.
+    pub fn listed_cells(&self) -> &[Cell]
+        ensures cells { result.now ≡ self.now.cells }
+        ensures edit { IsEdit self.now }
+    {
+        &self.cells
+    }
+
+    /// The same edit.
+    pub fn copy(&self) -> Result<Edit, AllocError>
+        ensures { IfOk result (λ edit. edit ≡ self.now) }
+    {
+        let cells = Vec::from_slice(*self.cells.allocator(), &self.cells)?;
+        Ok(Edit {
+            stamp: self.stamp,
+            area: self.area,
+            cells,
+        })
+    }
+}

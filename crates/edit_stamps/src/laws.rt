@@ -1,0 +1,24 @@
+//! What the definitions obey, for all writes, maps and edits: the contracts of functions that do
+//! nothing.
+
+ghost use Rattle.edit_stamps.specs.Laws.{IsTotal, IsLattice, IsLeastUpperBound, DependsOnMembers, JoinsLists, SettlesEntries, IsToldByReads, MakesEdits};
+
+/// Writes and maps of writes. The order is total, and the greater write is commutative,
+/// associative and idempotent. The join of two maps is their least upper bound, as RR-7506 asks of
+/// a state-based object. The greatest writes of edits depend only on which edits there are, and
+/// those of two lists together are the join of those of each.
+pub fn write_laws()
+    ensures order { IsTotal }
+    ensures lattice { IsLattice }
+    ensures join { IsLeastUpperBound }
+    ensures members { DependsOnMembers }
+    ensures lists { JoinsLists }
+{}
+
+/// Edits of cells. Entries are settled in order, the last one of a coordinate wins, and a sorted
+/// list is told by what is listed at each place.
+pub fn edit_laws()
+    ensures entries { SettlesEntries }
+    ensures reads { IsToldByReads }
+    ensures made { MakesEdits }
+{}

@@ -1,0 +1,27 @@
+//! Who wrote what when, and which write wins: stamps, writes and edits of a shared plane.
+//!
+//! Each coordinate holds a last-writer-wins register (Shapiro et al., INRIA RR-7506) whose stamps
+//! are Lamport's (1978). Writes with equal stamps are ordered by their states, so that any two
+//! writes have one greater.
+#![tactic(auto)]
+
+mod edit;
+mod fault;
+mod laws;
+mod list;
+mod rect;
+mod settle;
+mod stamp;
+mod write;
+
+pub use edit::Edit;
+pub use fault::EditFault;
+pub use laws::{edit_laws, write_laws};
+pub use list::EditList;
+pub use multistate_rle::Cell;
+pub use rect::Rect;
+pub use stamp::Stamp;
+pub use write::Write;
+
+#[cfg(test)]
+mod tests;
