@@ -9,3 +9,7 @@ test:
 run:
 	@test -d crates/genedit || { echo "make run: the program genedit is not built yet (docs/ARCHITECTURE.md says what is)" >&2; exit 1; }
 	@cd crates/genedit && rt run < stdin
+
+# Measures; asserts nothing.
+bench:
+	@cd crates/edit_bench && rt run -- --time

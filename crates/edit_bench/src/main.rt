@@ -1,0 +1,58 @@
+//! Measures `Edit::cells` at its limit: 2^20 entries in random order, a sixteenth of which repeat a
+//! coordinate. Prints what was made, which is the same on every machine; with the word `--time` also
+//! how many entries were settled in a second.
+#![tactic(auto)]
+
+use anyhow::{Context, Result};
+use edit_stamps::{Cell, Edit, Stamp};
+use generations_rule::Rule;
+use rand::seq::SliceRandom;
+use rand_pcg::Pcg32;
+use std::alloc::{AllocError, Global};
+use std::env;
+use std::time::Instant;
+
+/// How many entries an edit may have.
+const ENTRIES: u32 = 0x10_0000;
+
+/// How many different coordinates are listed.
+const COORDINATES: u32 = 0xf_0000;
+
+fn entries(alloc: Global) -> Result<Vec<Cell>, AllocError> {
+    let mut cells = Vec::with_capacity(alloc, ENTRIES as usize)?;
+    for i in 0..ENTRIES {
+        let place = i % COORDINATES;
+        cells.push(Cell {
+            x: (place % 1024) as i32,
+            y: (place / 1024) as i32,
+            state: (i % 3) as u8,
+        })?;
+    }
+    cells.as_mut_slice().shuffle(&mut Pcg32::new(2026, 11));
+    Ok(cells)
+}
+
+fn wants_time(rt: &(impl env::Env + Alloc)) -> Result<bool> {
+    let mut words = env::args(rt)?;
+    Ok(words.any(|word| word.as_str() == "--time"))
+}
+
+fn main(rt: HostRuntime) -> Result<()> {
+    let alloc = rt.alloc();
+    let rule = Rule::parse(b"/2/3")?;
+    let stamp = Stamp::new(1, 1).context("a stamp in range")?;
+    let cells = entries(alloc)?;
+    let start = Instant::now(&rt)?;
+    let edit = Edit::cells(alloc, &rule, stamp, &cells)?;
+    let taken = start.elapsed(&rt)?;
+    println!(rt;
+        "Edit::cells: {} entries, {} cells",
+        cells.len(),
+        edit.listed_cells().len()
+    )?;
+    if wants_time(&rt)? {
+        let rate = f64::from(ENTRIES) / taken.as_secs_f64();
+        println!(rt; "Edit::cells: {rate:.0} entries a second")?;
+    }
+    Ok(())
+}
