@@ -3,3 +3,4 @@ pub mod PlaceOrder
 pub mod SortedCells
 pub mod MakingLaws
 pub mod SettleLaws
+pub mod OneEdit

@@ -1,6 +1,8 @@
 -- An edit, and what it writes.
 use Rattle.std.specs.Prelude.{◌≡◌, ℕ, ◌^◌, ◌≤◌, Bool, true, false, not, ◌&&◌, ◌==◌, nat_le, List, [], ◌∷◌, length, find, Option, Some, None, option_map, IsTrue}
+use Rattle.std.specs.Ordering.{int_eq}
 use Rattle.std.specs.List.{list_all}
+use Rattle.std.specs.Cmp.Lexicographic.{pointwise}
 use Rattle.generations_rule.specs.Place.{Place, is_place}
 use Rattle.multistate_rle.specs.declared.cell.Cell.{Cell}
 use Rattle.multistate_rle.specs.Cells.{place_of, is_sorted, are_nonzero, are_below}
@@ -15,6 +17,24 @@ pub record PlaneEdit : Type 0 where
   pub stamp : ℕ
   pub area : Option Rect
   pub cells : List Cell
+
+-- ---- when two edits are one
+
+abbrev pub is_cell : Cell → Cell → Bool
+is_cell a b = int_eq a.x b.x && int_eq a.y b.y && a.state == b.state
+
+abbrev pub is_rect : Rect → Rect → Bool
+is_rect a b = int_eq a.x b.x && int_eq a.y b.y && a.width == b.width && a.height == b.height
+
+abbrev pub is_area : Option Rect → Option Rect → Bool
+is_area None None = true
+is_area (Some a) (Some b) = is_rect a b
+is_area None (Some b) = false
+is_area (Some a) None = false
+
+-- the same stamp, area and cells
+abbrev pub is_edit : PlaneEdit → PlaneEdit → Bool
+is_edit a b = a.stamp == b.stamp && is_area a.area b.area && pointwise is_cell a.cells b.cells
 
 -- ---- what an edit writes
 

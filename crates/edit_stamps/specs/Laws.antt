@@ -6,7 +6,7 @@ use Rattle.generations_rule.specs.Rule.{GenerationsRule}
 use Rattle.multistate_rle.specs.declared.cell.Cell.{Cell}
 use Rattle.multistate_rle.specs.Cells.{is_sorted}
 use Rattle.edit_stamps.specs.declared.write.Write.{Write}
-use Rattle.edit_stamps.specs.Edit.{PlaneEdit, IsEdit, greatest, listed, write_by, writes_of, has_states_below}
+use Rattle.edit_stamps.specs.Edit.{PlaneEdit, IsEdit, is_edit, greatest, listed, write_by, writes_of, has_states_below}
 use Rattle.edit_stamps.specs.Making.{edit_of_cells, settled}
 use Rattle.edit_stamps.specs.Stamp.{is_stamp}
 use Rattle.edit_stamps.specs.Write.{at_most, greater, unwritten, Writes, AreSame, IsBelow, joined}
@@ -55,3 +55,7 @@ pub record MakesEdits : Type 0 where
   pub states : (r : GenerationsRule) (stamp : ℕ) (cells : List Cell) → IfOk (edit_of_cells r stamp cells) (λ e. IsTrue (has_states_below r.states e))
   pub last_entries : (r : GenerationsRule) (stamp : ℕ) (cells : List Cell) (c : Place) →
       IfOk (edit_of_cells r stamp cells) (λ e. writes_of e c ≡ write_by stamp (listed (reverse cells) c) false)
+
+-- the test of two edits holds exactly where they are one
+abbrev pub TellsEdits : Type 0
+TellsEdits = (a b : PlaneEdit) → IsTrue (is_edit a b) ↔ (a ≡ b)

@@ -2,6 +2,8 @@
 
 ghost use Rattle.std.specs.Prelude.{◌≡◌, IsTrue, IfOk, None};
 ghost use Rattle.generations_rule.specs.Refusal.{Answers};
+ghost use Rattle.edit_stamps.specs.Edit.{is_area, is_cell};
+ghost use Rattle.std.specs.Cmp.Lexicographic.{pointwise};
 
 use crate::fault::EditFault;
 use crate::rect::Rect;
@@ -33,7 +35,7 @@ impl Model for Edit {
 }
 
 impl Edit {
-    ghost use Rattle.edit_stamps.specs.Edit.{IsEdit};
+    ghost use Rattle.edit_stamps.specs.Edit.{IsEdit, is_edit};
     ghost use Rattle.edit_stamps.specs.EditFault.{IsWant};
     ghost use Rattle.edit_stamps.specs.Making.{edit_of_cells};
 
@@ -82,6 +84,19 @@ impl Edit {
         &self.cells
     }
 
+    /// Whether the two are one edit: the same stamp, area and cells.
+    pub fn same(&self, other: &Edit) -> bool
+        ensures { result ≡ is_edit self.now other.now }
+    {
+        if self.stamp != other.stamp {
+            return false;
+        }
+        if !same_area(self.area, other.area) {
+            return false;
+        }
+        same_cells(&self.cells, &other.cells)
+    }
+
     /// The same edit.
     pub fn copy(&self) -> Result<Edit, AllocError>
         ensures { IfOk result (λ edit. edit ≡ self.now) }
@@ -93,4 +108,20 @@ impl Edit {
             cells,
         })
     }
+}
+
+fn same_area(a: Option<Rect>, b: Option<Rect>) -> bool
+    ensures { result ≡ is_area a b }
+{
+    match (a, b) {
+        (None, None) => true,
+        (Some(a), Some(b)) => a == b,
+        _ => false,
+    }
+}
+
+fn same_cells(a: &[Cell], b: &[Cell]) -> bool
+    ensures { result ≡ pointwise is_cell a.now b.now }
+{
+    a == b
 }

@@ -1,7 +1,7 @@
 //! What the definitions obey, for all writes, maps and edits: the contracts of functions that do
 //! nothing.
 
-ghost use Rattle.edit_stamps.specs.Laws.{IsTotal, IsLattice, IsLeastUpperBound, DependsOnMembers, JoinsLists, SettlesEntries, IsToldByReads, MakesEdits};
+ghost use Rattle.edit_stamps.specs.Laws.{IsTotal, IsLattice, IsLeastUpperBound, DependsOnMembers, JoinsLists, SettlesEntries, IsToldByReads, MakesEdits, TellsEdits};
 
 /// Writes and maps of writes. The order is total, and the greater write is commutative,
 /// associative and idempotent. The join of two maps is their least upper bound, as RR-7506 asks of
@@ -16,9 +16,11 @@ pub fn write_laws()
 {}
 
 /// Edits of cells. Entries are settled in order, the last one of a coordinate wins, and a sorted
-/// list is told by what is listed at each place.
+/// list is told by what is listed at each place. Two edits pass the test of being one exactly where they
+/// are.
 pub fn edit_laws()
     ensures entries { SettlesEntries }
     ensures reads { IsToldByReads }
     ensures made { MakesEdits }
+    ensures one { TellsEdits }
 {}

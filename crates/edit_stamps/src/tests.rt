@@ -92,6 +92,28 @@ fn settles_entries(rt: HostRuntime) -> Result<(), Fail> {
 }
 
 #[test]
+fn tells_edits_apart(rt: HostRuntime) -> Result<(), Fail> {
+    let alloc = rt.alloc();
+    let rule = Rule::parse(b"345/2/4")?;
+    let first = Stamp::new(1, 1).ok_or("in range")?;
+    let second = Stamp::new(2, 1).ok_or("in range")?;
+    let edit = Edit::cells(alloc, &rule, first, &[cell(0, 0, 1), cell(1, 0, 2)])?;
+    assert!(rt; edit.same(&edit.copy()?));
+    // the same cells in another order
+    assert!(rt; edit.same(&Edit::cells(alloc, &rule, first, &[cell(1, 0, 2), cell(0, 0, 1)])?));
+    let others = [
+        Edit::cells(alloc, &rule, second, &[cell(0, 0, 1), cell(1, 0, 2)])?,
+        Edit::cells(alloc, &rule, first, &[cell(0, 0, 1), cell(1, 0, 3)])?,
+        Edit::cells(alloc, &rule, first, &[cell(0, 0, 1), cell(2, 0, 2)])?,
+        Edit::cells(alloc, &rule, first, &[cell(0, 0, 1)])?,
+    ];
+    for other in &others {
+        assert!(rt; !edit.same(other), "{other:?}");
+    }
+    Ok(())
+}
+
+#[test]
 fn refuses_in_order(rt: HostRuntime) -> Result<(), Fail> {
     let rule = Rule::parse(b"345/2/4")?;
     let stamp = Stamp::new(1, 1).ok_or("in range")?;
