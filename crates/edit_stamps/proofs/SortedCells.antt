@@ -44,10 +44,10 @@ sorted_cons a (b ∷ cells) behind sorted =
 
 -- ---- what is listed
 
-listed_here : (a : Cell) (cells : List Cell) (c : Place) → is_place (place_of a) c ≡ true → listed (a ∷ cells) c ≡ Some a.state
+pub listed_here : (a : Cell) (cells : List Cell) (c : Place) → is_place (place_of a) c ≡ true → listed (a ∷ cells) c ≡ Some a.state
 listed_here a cells c h = rw h refl
 
-listed_there : (a : Cell) (cells : List Cell) (c : Place) → is_place (place_of a) c ≡ false → listed (a ∷ cells) c ≡ listed cells c
+pub listed_there : (a : Cell) (cells : List Cell) (c : Place) → is_place (place_of a) c ≡ false → listed (a ∷ cells) c ≡ listed cells c
 listed_there a cells c h = rw h refl
 
 -- nothing is listed before what stands behind a place
@@ -154,7 +154,7 @@ listed_first : (a : Cell) (cells : List Cell) → listed (a ∷ cells) (place_of
 listed_first a cells = listed_here a cells (place_of a) (same_itself (place_of a))
 
 -- the rest of a sorted list lists nothing at the place of its first cell
-listed_behind : (a : Cell) (cells : List Cell) (c : Place) → is_sorted (a ∷ cells) ≡ true → is_place (place_of a) c ≡ true → listed cells c ≡ None
+pub listed_behind : (a : Cell) (cells : List Cell) (c : Place) → is_sorted (a ∷ cells) ≡ true → is_place (place_of a) c ≡ true → listed cells c ≡ None
 listed_behind a cells c sorted here = subst (λ p. listed cells p ≡ None) (one_place (place_of a) c here) (none_listed (place_of a) cells (sorted_behind a cells sorted))
 
 -- a place before a sorted list is not listed in it

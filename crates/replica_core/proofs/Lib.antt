@@ -1,0 +1,4 @@
+pub mod ReadLemmas
+pub mod JoinLemmas
+pub mod JoiningLaws
+pub mod EditWrites
