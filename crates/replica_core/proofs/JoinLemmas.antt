@@ -31,11 +31,11 @@ unwritten-greater v = absorbed unwritten v (is_total.least v)
 
 -- ---- one write
 
-key_is_place : (at q : Coordinate) → is_eq (key_cmp at q) ≡ is_place (place_at at) (place_at q)
+pub key_is_place : (at q : Coordinate) → is_eq (key_cmp at q) ≡ is_place (place_at at) (place_at q)
 key_is_place at q = grind (arith, ints)
 
 -- the coordinate of a place
-abbrev coordinate : Place → Coordinate
+abbrev pub coordinate : Place → Coordinate
 coordinate c = record { y = c.y; x = c.x }
 
 -- the write that stands where another was put beside the ones that stood

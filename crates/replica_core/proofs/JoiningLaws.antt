@@ -9,7 +9,7 @@ use Rattle.std.proofs.lemmas.Int.{ints}
 use Rattle.multistate_rle.specs.declared.cell.Cell.{Cell}
 use Rattle.multistate_rle.specs.Cells.{place_of}
 use Rattle.edit_stamps.specs.declared.write.Write.{Write}
-use Rattle.edit_stamps.specs.Plane.{is_in, is_in_plane}
+use Rattle.edit_stamps.specs.Plane.{is_in, is_in_plane, is_area_in_plane}
 use Rattle.edit_stamps.specs.PlaneMap.{PlaneMap, write_at}
 use Rattle.edit_stamps.specs.Write.{at_most, greater, unwritten, Writes, AreSame, IsBelow, joined}
 use Rattle.edit_stamps.proofs.PlaceOrder.{one_place, same_itself}
@@ -56,18 +56,23 @@ greatest_joined g p q c w greatest same = record {
 
 -- ---- the plane
 
-pub inside_joined : (p q : Writes) (c : Place) (w : Write) → LiesInPlane p → is_in_plane c ≡ true → AreSame q (joined p (only c w)) → LiesInPlane q
-inside_joined p q c w inside here same d out = elim (cases_Bool (is_place c d)) [
-    | inl t ↦ absurd (let e : is_in_plane d ≡ true = subst (λ e. is_in_plane e ≡ true) (one_place c d t) here in cc)
-    | inr f ↦ same d ∙ ap (λ b. greater (p d) (if b then w else unwritten)) f ∙ greater-unwritten (p d) ∙ inside d out
-  ]
+pub inside_joined : (p q added : Writes) → LiesInPlane p → LiesInPlane added → AreSame q (joined p added) → LiesInPlane q
+inside_joined p q added inside more same d out =
+    same d ∙ (λ i. greater (inside d out i) (more d out i)) ∙ greater-unwritten unwritten
 
-pub plane_joined : (g : ℕ) (p q : PlaneMap) (c : Place) (w : Write) → IsPlane g p → is_in_plane c ≡ true →
+pub plane_joined : (g : ℕ) (p q : PlaneMap) (c : Place) (w : Write) → IsPlane g p → LiesInPlane (only c w) →
     AreSame (write_at q) (joined (write_at p) (only c w)) → IsPlane (max g w.stamp) q
 plane_joined g p q c w plane here same = record {
   greatest = greatest_joined g (write_at p) (write_at q) c w plane.greatest same;
-  inside = inside_joined (write_at p) (write_at q) c w plane.inside here same
+  inside = inside_joined (write_at p) (write_at q) (only c w) plane.inside here same
 }
+
+-- a write in the plane
+pub only_inside : (c : Place) (w : Write) → is_in_plane c ≡ true → LiesInPlane (only c w)
+only_inside c w here d out = elim (cases_Bool (is_place c d)) [
+    | inl t ↦ absurd (let e : is_in_plane d ≡ true = subst (λ e. is_in_plane e ≡ true) (one_place c d t) here in cc)
+    | inr f ↦ rw f refl
+  ]
 
 -- ---- joining one after another
 
@@ -221,3 +226,11 @@ joining_starts_at old stamp area =
 pub on_err : {T E P : Type 0} (r : Result T E) → P → OnErr r P
 on_err (Ok x) p = tt
 on_err (Err e) p = p
+
+-- each column of a row that lies in the plane
+pub column_inside : (row : Rect) (i : ℕ) (at : Coordinate) → is_area_in_plane row ≡ true → i < row.width → row.height ≡ 1 →
+    at ≡ record { y = row.y; x = row.x +ℤ pos i } → is_in_plane (place_at at) ≡ true
+column_inside row i at area within one is =
+    ap (λ q. is_in_plane (place_at q)) is ∙ inside_of row.x row.y row.width row.height i area within where
+  inside_of : (x y : ℤ) (w h j : ℕ) → is_area_in_plane (strip x y w h) ≡ true → j < w → is_in_plane (record { x = x +ℤ pos j; y = y }) ≡ true
+  inside_of x y w h j fits below = grind (arith, ints)

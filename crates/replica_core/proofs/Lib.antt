@@ -2,3 +2,4 @@ pub mod ReadLemmas
 pub mod JoinLemmas
 pub mod JoiningLaws
 pub mod EditWrites
+pub mod EntryLaws

@@ -82,7 +82,6 @@ impl Model for Plane {
 
 impl Plane {
     ghost use Rattle.edit_stamps.specs.Making.{are_in_plane};
-    ghost use Rattle.edit_stamps.specs.Plane.{is_in_plane};
     ghost use Rattle.replica_core.specs.Plane.{IsGreatestStamp, IsBetween, LiesInPlane, blank, written};
 
     /// The plane where nothing was written.
@@ -135,6 +134,17 @@ impl Plane {
         Ok(())
     }
 
+    /// Joins another map. After want of memory part of it may be joined.
+    pub fn join(&mut self, other: &Plane) -> Result<(), AllocError>
+        ensures ok { OnOk result (AreSame (write_at self.new) (joined (write_at self.old) (write_at other.now))) }
+        ensures err { OnErr result (IsBetween (write_at self.old) (write_at other.now) (write_at self.new)) }
+    {
+        for (at, write) in other.writes.iter() {
+            self.join_write(*at, *write)?;
+        }
+        Ok(())
+    }
+
     /// Joins listed cells that were written with one stamp.
     fn join_cells(&mut self, stamp: u64, cells: &[Cell]) -> Result<(), AllocError>
         requires { IsTrue (are_in_plane cells.now) }
@@ -178,7 +188,7 @@ impl Plane {
 
     /// Joins one write.
     fn join_write(&mut self, at: Coordinate, write: Write) -> Result<(), AllocError>
-        requires { IsTrue (is_in_plane (place_at at)) }
+        requires { LiesInPlane (only (place_at at) write) }
         ensures ok { OnOk result (AreSame (write_at self.new) (joined (write_at self.old) (only (place_at at) write))) }
         ensures err { OnErr result (self.new ≡ self.old) }
     {

@@ -1,8 +1,13 @@
 use Rattle.std.proofs.Common.{◌≡◌, ◌+◌, ◌-◌, ◌+ℤ◌, pos, arith}
 use Rattle.edit_stamps.specs.PlaneMap.{write_at}
 use Rattle.replica_core.specs.Plane.{blank, only, place_at, strip}
-use Rattle.replica_core.proofs.JoiningLaws.{joining_goes, joining_ends, first_blank, no_blank_column}
+use Rattle.replica_core.proofs.JoiningLaws.{joining_goes, joining_ends, first_blank, no_blank_column, only_inside, column_inside}
 use Rattle.replica_core.proofs.plane.Plane.join_row.Goals as goal
+
+pub join_write-requires : goal.join_write-requires
+join_write-requires c =
+    only_inside (place_at c.column_of.result) (record { stamp = c.args.stamp; state = 0 })
+      (column_inside c.args.row c.loop-column.column c.column_of.result c.requires.area c.loop-column-test.true c.requires.height c.column_of.ensures)
 
 pub loop-column-preserved : goal.loop-column-preserved
 loop-column-preserved c =
