@@ -1,3 +1,4 @@
+pub mod JournalLaws
 pub mod ReadLemmas
 pub mod JoinLemmas
 pub mod JoiningLaws

@@ -1,1 +1,6 @@
 pub mod Plane
+pub mod Journal
+pub mod Fault
+pub mod Message
+pub mod Replica
+pub mod Laws

@@ -1,6 +1,14 @@
 //! Replicas of a shared plane: drawing, taking and showing.
 #![tactic(auto)]
 
+mod fault;
+mod journal;
+mod message;
 mod plane;
+mod replica;
+mod spec;
 
-pub use plane::Plane;
+pub use fault::Fault;
+pub use message::Message;
+pub use replica::Replica;
+pub use spec::{CellList, EditSpec};

@@ -1,0 +1,35 @@
+-- The refusals of replicas, as users meet them.
+use Rattle.std.specs.Prelude.{ℕ, List, codes, ⊤}
+use Rattle.edit_stamps.specs.EditFault.{fault_number as edit_fault_number, fault_text as edit_fault_text}
+use Rattle.edit_stamps.specs.declared.fault.EditFault.{EditFault}
+use Rattle.edit_stamps.specs.declared.fault.EditFault.TheVariants as edit_faults
+use Rattle.replica_core.specs.declared.fault.Fault.{Fault}
+use Rattle.replica_core.specs.declared.fault.Fault.TheVariants.{Edit, OtherRule, ClockFull, Memory}
+
+-- its number in the table of faults
+abbrev pub fault_number : Fault → ℕ
+fault_number (Edit fault) = edit_fault_number fault
+fault_number OtherRule = 16
+fault_number ClockFull = 24
+fault_number Memory = 255
+
+abbrev pub fault_text : Fault → List ℕ
+fault_text (Edit fault) = edit_fault_text fault
+fault_text OtherRule = codes "OtherRule"
+fault_text ClockFull = codes "ClockFull"
+fault_text Memory = codes "Memory"
+
+-- a fault that is no part of what a call means
+abbrev pub IsWant : Fault → Type 0
+IsWant Memory = ⊤
+IsWant (Edit fault) = ⊥
+IsWant OtherRule = ⊥
+IsWant ClockFull = ⊥
+
+-- an edit's refusal as a replica's
+abbrev pub fault_of_edit : EditFault → Fault
+fault_of_edit edit_faults.Memory = Memory
+fault_of_edit edit_faults.Nothing = Edit edit_faults.Nothing
+fault_of_edit edit_faults.TooMany = Edit edit_faults.TooMany
+fault_of_edit edit_faults.OutOfPlane = Edit edit_faults.OutOfPlane
+fault_of_edit edit_faults.StateRange = Edit edit_faults.StateRange

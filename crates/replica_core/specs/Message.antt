@@ -1,0 +1,42 @@
+-- Messages, and what they share.
+use Rattle.std.specs.Prelude.{◌<◌, ℕ, IsTrue, List, [], Option, Some, None}
+use Rattle.std.specs.List.{AllByRecursion}
+use Rattle.generations_rule.specs.Place.{Place}
+use Rattle.generations_rule.specs.Rule.{GenerationsRule}
+use Rattle.edit_stamps.specs.Edit.{PlaneEdit, greatest, has_states_below}
+use Rattle.edit_stamps.specs.PlaneMap.{write_at}
+use Rattle.edit_stamps.specs.Write.{Writes}
+use Rattle.replica_core.specs.declared.message.Content.{Content}
+use Rattle.replica_core.specs.declared.message.Content.TheVariants.{Edits, State}
+
+-- a rule, and edits or a map
+pub record Shared : Type 0 where
+  pub rule : GenerationsRule
+  pub content : Content
+
+-- what a message's content writes at each place
+abbrev pub writes_in : Content → Writes
+writes_in (Edits edits) = greatest edits
+writes_in (State plane) = write_at plane
+
+-- the edits of a message of edits
+abbrev pub edits_of : Content → Option (List PlaneEdit)
+edits_of (Edits edits) = Some edits
+edits_of (State plane) = None
+
+-- the edits that a message adds to a journal: a map has none
+abbrev pub edits_in : Content → List PlaneEdit
+edits_in (Edits edits) = edits
+edits_in (State plane) = []
+
+-- each state of a map is below a number of states
+abbrev pub HasStatesBelow : ℕ → Writes → Type 0
+HasStatesBelow states p = (c : Place) → (p c).state < states
+
+-- each edit's listed states are
+abbrev pub HaveStatesBelow : ℕ → List PlaneEdit → Type 0
+HaveStatesBelow states edits = AllByRecursion (λ e. IsTrue (has_states_below states e)) edits
+
+abbrev pub IsBelowStates : ℕ → Content → Type 0
+IsBelowStates states (Edits edits) = HaveStatesBelow states edits
+IsBelowStates states (State plane) = HasStatesBelow states (write_at plane)

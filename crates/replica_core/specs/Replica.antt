@@ -1,0 +1,78 @@
+-- A replica, and what a draw and a message do to it.
+use Rattle.std.specs.Prelude.{◌≡◌, ℕ, ◌+◌, ◌^◌, ◌<◌, ◌≤◌, not, nat_lt, List, [], ◌∷◌, ◌++◌, Result, Ok, Err}
+use Rattle.generations_rule.specs.Place.{Place}
+use Rattle.generations_rule.specs.Refusal.{when, unless, ◌>>=◌}
+use Rattle.generations_rule.specs.Rule.{GenerationsRule}
+use Rattle.edit_stamps.specs.declared.fault.EditFault.{EditFault}
+use Rattle.edit_stamps.specs.Edit.{PlaneEdit, writes_of}
+use Rattle.edit_stamps.specs.Making.{edit_of_cells}
+use Rattle.edit_stamps.specs.PlaneMap.{PlaneMap, write_at}
+use Rattle.edit_stamps.specs.Stamp.{counter_of, stamp_of, last_counter}
+use Rattle.edit_stamps.specs.Write.{Writes, AreSame, IsBelow, joined}
+use Rattle.replica_core.specs.declared.spec.EditSpec.{EditSpec}
+use Rattle.replica_core.specs.declared.spec.EditSpec.TheVariants.{Cells}
+use Rattle.replica_core.specs.declared.fault.Fault.{Fault}
+use Rattle.replica_core.specs.declared.fault.Fault.TheVariants as faults
+use Rattle.replica_core.specs.declared.message.Content.{Content}
+use Rattle.replica_core.specs.Fault.{fault_of_edit}
+use Rattle.replica_core.specs.Journal.{noted}
+use Rattle.replica_core.specs.Message.{writes_in, edits_in, HasStatesBelow}
+
+-- what contracts see of a replica
+pub record ReplicaState : Type 0 where
+  pub rule : GenerationsRule
+  pub number : ℕ
+  pub map : PlaneMap
+  pub journal : List PlaneEdit
+
+-- ---- draws
+
+-- Lamport's rule: one more than the greatest counter, if the clock is not full
+abbrev pub stamp_after : ℕ → ℕ → Result ℕ Fault
+stamp_after counter replica = unless (when (not (nat_lt counter last_counter)) faults.ClockFull) (stamp_of (counter + 1) replica)
+
+abbrev pub or_edit_fault : Result PlaneEdit EditFault → Result PlaneEdit Fault
+or_edit_fault (Ok e) = Ok e
+or_edit_fault (Err fault) = Err (fault_of_edit fault)
+
+-- the edit of a specification
+abbrev pub made : GenerationsRule → ℕ → EditSpec → Result PlaneEdit EditFault
+made r stamp (Cells cells) = edit_of_cells r stamp cells
+
+-- the edit that a replica draws, whose greatest counter is given
+abbrev pub edit_drawn : GenerationsRule → ℕ → ℕ → EditSpec → Result PlaneEdit Fault
+edit_drawn r counter replica spec = stamp_after counter replica >>= (λ stamp. or_edit_fault (made r stamp spec))
+
+-- ---- what changes
+
+-- rule and number are as they were
+pub record IsOneReplica (old new : ReplicaState) : Type 0 where
+  pub rule : new.rule ≡ old.rule
+  pub number : new.number ≡ old.number
+
+-- the edit is joined, stands in the journal, and wins each cell that it writes
+pub record DrawsAs (old new : ReplicaState) (e : PlaneEdit) : Type 0 where
+  pub one : IsOneReplica old new
+  pub map : AreSame (write_at new.map) (joined (write_at old.map) (writes_of e))
+  pub journal : new.journal ≡ old.journal ++ e ∷ []
+  pub wins : (c : Place) → 0 < (writes_of e c).stamp → write_at new.map c ≡ writes_of e c
+
+-- the message's writes are joined, and the journal has its edits
+pub record Takes (old new : ReplicaState) (m : Content) : Type 0 where
+  pub one : IsOneReplica old new
+  pub map : AreSame (write_at new.map) (joined (write_at old.map) (writes_in m))
+  pub journal : new.journal ≡ noted old.journal (edits_in m)
+
+-- After want of memory: all but the map is as it was, and the map has lost nothing, and gained nothing but part of
+-- what was to be joined.
+pub record IsPartly (old new : ReplicaState) (added : Writes) : Type 0 where
+  pub one : IsOneReplica old new
+  pub journal : new.journal ≡ old.journal
+  pub kept : IsBelow (write_at old.map) (write_at new.map)
+  pub no_more : IsBelow (write_at new.map) (joined (write_at old.map) added)
+
+-- which replicas there are
+pub record IsReplica (r : ReplicaState) : Type 0 where
+  pub number : 1 ≤ r.number
+  pub few : r.number < 2 ^ 16
+  pub states : HasStatesBelow r.rule.states (write_at r.map)

@@ -1,0 +1,81 @@
+//! Why a replica refuses.
+
+ghost use Rattle.std.specs.Prelude.{◌≡◌};
+
+use edit_stamps::EditFault;
+use std::alloc::AllocError;
+use std::error::Error;
+use std::fmt;
+
+/// Why a replica refuses.
+#[derive(Clone, Copy, Debug, PartialEq, Eq)]
+pub enum Fault {
+    /// The edit's own refusal.
+    Edit(EditFault),
+    /// The message has another rule than the replica.
+    OtherRule,
+    /// The greatest counter of the plane is the last one, 2^48 - 1.
+    ClockFull,
+    /// The system refused memory.
+    Memory,
+}
+
+impl Fault {
+    ghost use Rattle.replica_core.specs.Fault.{fault_number};
+
+    /// Its number in the table of faults; 255 for want of memory.
+    pub fn number(self) -> u8
+        ensures { result ≡ fault_number self }
+    {
+        match self {
+            Fault::Edit(fault) => fault.number(),
+            Fault::OtherRule => 16,
+            Fault::ClockFull => 24,
+            Fault::Memory => 255,
+        }
+    }
+}
+
+/// Its name.
+impl fmt::Display for Fault {
+    ghost use Rattle.std.specs.Prelude.{Some};
+    ghost use Rattle.replica_core.specs.Fault.{fault_text};
+
+    ghost output = { λ fault. Some (fault_text fault) };
+
+    fn fmt<W: fmt::Write>(&self, f: &mut fmt::Formatter<W>) -> fmt::Result {
+        match self {
+            Fault::Edit(fault) => write!(f, "{fault}"),
+            Fault::OtherRule => write!(f, "OtherRule"),
+            Fault::ClockFull => write!(f, "ClockFull"),
+            Fault::Memory => write!(f, "Memory"),
+        }
+    }
+}
+
+impl Error for Fault {}
+
+impl From<AllocError> for Fault {
+    ghost use Rattle.std.specs.Prelude.{◌≡◌};
+    ghost use Rattle.replica_core.specs.declared.fault.Fault.TheVariants.{Memory};
+
+    ghost from_gives = { λ _ fault. fault ≡ Memory };
+
+    fn from(_error: AllocError) -> Fault {
+        Fault::Memory
+    }
+}
+
+impl From<EditFault> for Fault {
+    ghost use Rattle.std.specs.Prelude.{◌≡◌};
+    ghost use Rattle.replica_core.specs.Fault.{fault_of_edit};
+
+    ghost from_gives = { λ from fault. fault ≡ fault_of_edit from };
+
+    fn from(fault: EditFault) -> Fault {
+        match fault {
+            EditFault::Memory => Fault::Memory,
+            refusal => Fault::Edit(refusal),
+        }
+    }
+}

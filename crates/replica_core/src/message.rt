@@ -1,0 +1,85 @@
+//! What replicas send to one another.
+
+ghost use Rattle.std.specs.Prelude.{◌≡◌, option_copied};
+
+use crate::plane::Plane;
+use edit_stamps::{Edit, EditList};
+use generations_rule::Rule;
+use std::marker::Model;
+
+/// A rule, and either edits or a map.
+#[derive(Debug, Drop)]
+pub struct Message {
+    rule: Rule,
+    content: Content,
+}
+
+/// What a message shares.
+#[derive(Debug, Drop)]
+pub enum Content {
+    /// Edits in order.
+    Edits(EditList),
+    /// A whole map.
+    State(Plane),
+}
+
+impl Model for Message {
+    ghost use Rattle.replica_core.specs.Message.{Shared, IsBelowStates};
+
+    ghost Value = { Shared };
+
+    ghost view = { λ m. record { rule = m.rule; content = m.content } };
+
+    ghost invariant = { λ m. IsBelowStates m.rule.states m.content };
+}
+
+impl Message {
+    ghost use Rattle.replica_core.specs.declared.message.Content.TheVariants.{Edits, State};
+    ghost use Rattle.replica_core.specs.Message.{HaveStatesBelow, HasStatesBelow, IsBelowStates, edits_of};
+    ghost use Rattle.edit_stamps.specs.PlaneMap.{write_at};
+
+    /// A message of edits whose states the rule has.
+    pub fn of_edits(rule: Rule, edits: Vec<Edit>) -> Message
+        requires { HaveStatesBelow rule.states edits.items }
+        ensures { result ≡ record { rule = rule; content = Edits edits.items } }
+    {
+        Message {
+            rule,
+            content: Content::Edits(EditList::of_vec(edits)),
+        }
+    }
+
+    /// A message of a map whose states the rule has.
+    pub(crate) fn of_plane(rule: Rule, plane: Plane) -> Message
+        requires { HasStatesBelow rule.states (write_at plane) }
+        ensures { result ≡ record { rule = rule; content = State plane } }
+    {
+        Message {
+            rule,
+            content: Content::State(plane),
+        }
+    }
+
+    pub fn rule(&self) -> Rule
+        ensures { result ≡ self.now.rule }
+    {
+        self.rule
+    }
+
+    /// Its edits, if it is a message of edits.
+    pub fn edits(&self) -> Option<&[Edit]>
+        ensures { option_copied result ≡ edits_of self.now.content }
+    {
+        match &self.content {
+            Content::Edits(edits) => Some(edits.as_slice()),
+            Content::State(_) => None,
+        }
+    }
+
+    pub(crate) fn content(&self) -> &Content
+        ensures value { result.now ≡ self.now.content }
+        ensures states { IsBelowStates self.now.rule.states self.now.content }
+    {
+        &self.content
+    }
+}
