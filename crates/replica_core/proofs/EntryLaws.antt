@@ -33,6 +33,9 @@ AllInside (e ∷ entries) = LiesInPlane (only (place_at e.0) e.1) × AllInside e
 other : (k q x : Coordinate) → is_eq (key_cmp k q) ≡ true → key_cmp k x ≡ Less → is_eq (key_cmp q x) ≡ false
 other k q x same less = grind (arith, ints)
 
+pub same_key : (k : Coordinate) → is_eq (key_cmp k k) ≡ true
+same_key k = grind (arith, ints)
+
 turned : (q x : Coordinate) → is_eq (key_cmp q x) ≡ true → is_eq (key_cmp x q) ≡ true
 turned q x same = grind (arith, ints)
 
@@ -46,14 +49,14 @@ nothing_left v w none = is_total.antisymmetric v unwritten (subst (λ u. at_most
 nothing_right : (v w : Write) → greater v w ≡ unwritten → w ≡ unwritten
 nothing_right v w none = is_total.antisymmetric w unwritten (subst (λ u. at_most w u ≡ true) none (right_of v w)) (is_total.least w)
 
-not_found : (k q : Coordinate) (entries : List (Coordinate × Write)) → is_eq (key_cmp k q) ≡ true →
+pub not_found : (k q : Coordinate) (entries : List (Coordinate × Write)) → is_eq (key_cmp k q) ≡ true →
     AllByRecursion (λ x. key_cmp k x ≡ Less) (keys_of entries) → found entries q ≡ None
 not_found k q [] same all = refl
 not_found k q (e ∷ entries) same all =
     let differs : is_eq (key_cmp q e.0) ≡ false = other k q e.0 same all.0 in
     rw differs (not_found k q entries same all.1)
 
-written_is_found : (entries : List (Coordinate × Write)) (q : Coordinate) → IsStrictlySortedBy key_cmp (keys_of entries) →
+pub written_is_found : (entries : List (Coordinate × Write)) (q : Coordinate) → IsStrictlySortedBy key_cmp (keys_of entries) →
     entries_written entries (place_at q) ≡ unwrap_or (found entries q) unwritten
 unfolding IsStrictlySortedBy
 written_is_found [] q sorted = refl

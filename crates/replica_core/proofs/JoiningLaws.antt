@@ -234,3 +234,12 @@ column_inside row i at area within one is =
     ap (λ q. is_in_plane (place_at q)) is ∙ inside_of row.x row.y row.width row.height i area within where
   inside_of : (x y : ℤ) (w h j : ℕ) → is_area_in_plane (strip x y w h) ≡ true → j < w → is_in_plane (record { x = x +ℤ pos j; y = y }) ≡ true
   inside_of x y w h j fits below = grind (arith, ints)
+
+-- before the first column of a row
+pub joining_starts_row : (old : Writes) (stamp : ℕ) (row : Rect) → row.height ≡ 1 →
+    IsJoining old old (blank stamp (strip (row.x +ℤ pos 0) row.y (row.width - 0) 1)) (blank stamp row)
+joining_starts_row old stamp row one =
+    let width : row.width - 0 ≡ row.width = omega arith in
+    subst (λ x. IsJoining old old (blank stamp (strip x row.y (row.width - 0) 1)) (blank stamp row)) (sym (add_none row.x))
+      (subst (λ w. IsJoining old old (blank stamp (strip row.x row.y w 1)) (blank stamp row)) (sym width)
+        (subst (λ h. IsJoining old old (blank stamp (strip row.x row.y row.width h)) (blank stamp row)) one (joining_starts old (blank stamp row))))

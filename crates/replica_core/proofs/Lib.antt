@@ -4,3 +4,4 @@ pub mod JoinLemmas
 pub mod JoiningLaws
 pub mod EditWrites
 pub mod EntryLaws
+pub mod StateLaws

@@ -1,11 +1,10 @@
 -- Messages, and what they share.
-use Rattle.std.specs.Prelude.{◌<◌, ℕ, IsTrue, List, [], Option, Some, None}
-use Rattle.std.specs.List.{AllByRecursion}
-use Rattle.generations_rule.specs.Place.{Place}
+use Rattle.std.specs.Prelude.{ℕ, List, [], Option, Some, None}
 use Rattle.generations_rule.specs.Rule.{GenerationsRule}
-use Rattle.edit_stamps.specs.Edit.{PlaneEdit, greatest, has_states_below}
+use Rattle.edit_stamps.specs.Edit.{PlaneEdit, greatest}
 use Rattle.edit_stamps.specs.PlaneMap.{write_at}
 use Rattle.edit_stamps.specs.Write.{Writes}
+use Rattle.replica_core.specs.Plane.{HasStatesBelow, HaveStatesBelow}
 use Rattle.replica_core.specs.declared.message.Content.{Content}
 use Rattle.replica_core.specs.declared.message.Content.TheVariants.{Edits, State}
 
@@ -29,14 +28,7 @@ abbrev pub edits_in : Content → List PlaneEdit
 edits_in (Edits edits) = edits
 edits_in (State plane) = []
 
--- each state of a map is below a number of states
-abbrev pub HasStatesBelow : ℕ → Writes → Type 0
-HasStatesBelow states p = (c : Place) → (p c).state < states
-
--- each edit's listed states are
-abbrev pub HaveStatesBelow : ℕ → List PlaneEdit → Type 0
-HaveStatesBelow states edits = AllByRecursion (λ e. IsTrue (has_states_below states e)) edits
-
+-- each state of a message is below a number of states
 abbrev pub IsBelowStates : ℕ → Content → Type 0
 IsBelowStates states (Edits edits) = HaveStatesBelow states edits
 IsBelowStates states (State plane) = HasStatesBelow states (write_at plane)

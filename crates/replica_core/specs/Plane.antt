@@ -1,11 +1,13 @@
 -- The plane of a replica, as it is read.
-use Rattle.std.specs.Prelude.{◌≡◌, ℕ, ◌≤◌, ◌<◌, ℤ, Bool, false, List, [], ◌∷◌, map, if◌then◌else◌}
+use Rattle.std.specs.Prelude.{IsTrue, ◌≡◌, ℕ, ◌≤◌, ◌<◌, ℤ, Bool, false, List, [], ◌∷◌, map, if◌then◌else◌}
 use Rattle.generations_rule.specs.Place.{Place, is_place}
 use Rattle.multistate_rle.specs.declared.cell.Cell.{Cell}
 use Rattle.multistate_rle.specs.Cells.{place_of}
 use Rattle.edit_stamps.specs.declared.write.Write.{Write}
 use Rattle.edit_stamps.specs.declared.rect.Rect.{Rect}
 use Rattle.replica_core.specs.declared.plane.Coordinate.{Coordinate}
+use Rattle.std.specs.List.{AllByRecursion}
+use Rattle.edit_stamps.specs.Edit.{PlaneEdit, has_states_below}
 use Rattle.edit_stamps.specs.Plane.{is_in, is_in_plane}
 use Rattle.edit_stamps.specs.PlaneMap.{PlaneMap, write_at}
 use Rattle.edit_stamps.specs.Write.{unwritten, greater, Writes, AreSame, IsBelow, joined}
@@ -52,3 +54,17 @@ pub record IsBetween (old added new : Writes) : Type 0 where
 pub record IsPlane (greatest_stamp : ℕ) (p : PlaneMap) : Type 0 where
   pub greatest : IsGreatestStamp greatest_stamp (write_at p)
   pub inside : LiesInPlane (write_at p)
+
+-- ---- states
+
+-- each state of a map is below a number of states
+abbrev pub HasStatesBelow : ℕ → Writes → Type 0
+HasStatesBelow states p = (c : Place) → (p c).state < states
+
+-- each edit's listed states are
+abbrev pub HaveStatesBelow : ℕ → List PlaneEdit → Type 0
+HaveStatesBelow states edits = AllByRecursion (λ e. IsTrue (has_states_below states e)) edits
+
+-- of a map whose states are below a number, what is joined is too where each state that was to be joined is
+abbrev pub KeepsStates : (ℕ → Type 0) → Writes → Writes → Type 0
+KeepsStates IsAddedBelow old new = (states : ℕ) → HasStatesBelow states old → IsAddedBelow states → HasStatesBelow states new

@@ -16,7 +16,8 @@ use Rattle.replica_core.specs.declared.fault.Fault.TheVariants as faults
 use Rattle.replica_core.specs.declared.message.Content.{Content}
 use Rattle.replica_core.specs.Fault.{fault_of_edit}
 use Rattle.replica_core.specs.Journal.{noted}
-use Rattle.replica_core.specs.Message.{writes_in, edits_in, HasStatesBelow}
+use Rattle.replica_core.specs.Message.{writes_in, edits_in}
+use Rattle.replica_core.specs.Plane.{HasStatesBelow}
 
 -- what contracts see of a replica
 pub record ReplicaState : Type 0 where

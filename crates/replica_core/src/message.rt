@@ -35,7 +35,8 @@ impl Model for Message {
 
 impl Message {
     ghost use Rattle.replica_core.specs.declared.message.Content.TheVariants.{Edits, State};
-    ghost use Rattle.replica_core.specs.Message.{HaveStatesBelow, HasStatesBelow, IsBelowStates, edits_of};
+    ghost use Rattle.replica_core.specs.Message.{IsBelowStates, edits_of};
+    ghost use Rattle.replica_core.specs.Plane.{HaveStatesBelow, HasStatesBelow};
     ghost use Rattle.edit_stamps.specs.PlaneMap.{write_at};
 
     /// A message of edits whose states the rule has.

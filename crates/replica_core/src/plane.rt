@@ -1,11 +1,12 @@
 //! The writes that a replica holds.
 
-ghost use Rattle.std.specs.Prelude.{◌≡◌, ◌<◌, ◌+ℤ◌, pos, IfOk, IsTrue, OnOk, OnErr};
+ghost use Rattle.std.specs.Prelude.{◌≡◌, ◌<◌, ◌+ℤ◌, pos, IfOk, IsTrue, OnOk, OnErr, ⊤};
 ghost use Rattle.edit_stamps.specs.Plane.{is_area_in_plane};
 ghost use Rattle.generations_rule.specs.Place.{at_place};
 ghost use Rattle.edit_stamps.specs.PlaneMap.{write_at};
 ghost use Rattle.edit_stamps.specs.Write.{unwritten, AreSame, IsBelow, joined};
-ghost use Rattle.edit_stamps.specs.Edit.{writes_of};
+ghost use Rattle.edit_stamps.specs.Edit.{greatest, has_states_below, writes_of};
+ghost use Rattle.multistate_rle.specs.Cells.{are_below};
 ghost use Rattle.replica_core.specs.Plane.{only, map_of_entries, place_at, strip};
 
 use edit_stamps::{Edit, Rect, Write};
@@ -82,7 +83,7 @@ impl Model for Plane {
 
 impl Plane {
     ghost use Rattle.edit_stamps.specs.Making.{are_in_plane};
-    ghost use Rattle.replica_core.specs.Plane.{IsGreatestStamp, IsBetween, LiesInPlane, blank, written};
+    ghost use Rattle.replica_core.specs.Plane.{HasStatesBelow, HaveStatesBelow, IsGreatestStamp, IsBetween, KeepsStates, LiesInPlane, blank, written};
 
     /// The plane where nothing was written.
     pub fn new(alloc: Global) -> Plane
@@ -124,6 +125,7 @@ impl Plane {
     pub fn join_edit(&mut self, edit: &Edit) -> Result<(), AllocError>
         ensures ok { OnOk result (AreSame (write_at self.new) (joined (write_at self.old) (writes_of edit.now))) }
         ensures err { OnErr result (IsBetween (write_at self.old) (writes_of edit.now) (write_at self.new)) }
+        ensures states { KeepsStates (λ states. IsTrue (has_states_below states edit.now)) (write_at self.old) (write_at self.new) }
     {
         let stamp = edit.stamp().number();
         let cells = edit.listed_cells();
@@ -134,10 +136,23 @@ impl Plane {
         Ok(())
     }
 
+    /// Joins what edits write. After want of memory part of it may be joined.
+    pub fn join_edits(&mut self, edits: &[Edit]) -> Result<(), AllocError>
+        ensures ok { OnOk result (AreSame (write_at self.new) (joined (write_at self.old) (greatest edits.now))) }
+        ensures err { OnErr result (IsBetween (write_at self.old) (greatest edits.now) (write_at self.new)) }
+        ensures states { KeepsStates (λ states. HaveStatesBelow states edits.now) (write_at self.old) (write_at self.new) }
+    {
+        for edit in edits {
+            self.join_edit(edit)?;
+        }
+        Ok(())
+    }
+
     /// Joins another map. After want of memory part of it may be joined.
     pub fn join(&mut self, other: &Plane) -> Result<(), AllocError>
         ensures ok { OnOk result (AreSame (write_at self.new) (joined (write_at self.old) (write_at other.now))) }
         ensures err { OnErr result (IsBetween (write_at self.old) (write_at other.now) (write_at self.new)) }
+        ensures states { KeepsStates (λ states. HasStatesBelow states (write_at other.now)) (write_at self.old) (write_at self.new) }
     {
         for (at, write) in other.writes.iter() {
             self.join_write(*at, *write)?;
@@ -150,6 +165,7 @@ impl Plane {
         requires { IsTrue (are_in_plane cells.now) }
         ensures ok { OnOk result (AreSame (write_at self.new) (joined (write_at self.old) (written stamp cells.now))) }
         ensures err { OnErr result (IsBetween (write_at self.old) (written stamp cells.now) (write_at self.new)) }
+        ensures states { KeepsStates (λ states. IsTrue (are_below states cells.now)) (write_at self.old) (write_at self.new) }
     {
         for cell in cells {
             let write = Write {
@@ -166,6 +182,7 @@ impl Plane {
         requires { IsTrue (is_area_in_plane area) }
         ensures ok { OnOk result (AreSame (write_at self.new) (joined (write_at self.old) (blank stamp area))) }
         ensures err { OnErr result (IsBetween (write_at self.old) (blank stamp area) (write_at self.new)) }
+        ensures states { KeepsStates (λ _. ⊤) (write_at self.old) (write_at self.new) }
     {
         for row in 0..area.height {
             self.join_row(stamp, row_of(area, row))?;
@@ -179,6 +196,7 @@ impl Plane {
         requires height { row.height ≡ 1 }
         ensures ok { OnOk result (AreSame (write_at self.new) (joined (write_at self.old) (blank stamp row))) }
         ensures err { OnErr result (IsBetween (write_at self.old) (blank stamp row) (write_at self.new)) }
+        ensures states { KeepsStates (λ _. ⊤) (write_at self.old) (write_at self.new) }
     {
         for column in 0..row.width {
             self.join_write(column_of(row, column), Write { stamp, state: 0 })?;
@@ -191,6 +209,7 @@ impl Plane {
         requires { LiesInPlane (only (place_at at) write) }
         ensures ok { OnOk result (AreSame (write_at self.new) (joined (write_at self.old) (only (place_at at) write))) }
         ensures err { OnErr result (self.new ≡ self.old) }
+        ensures states { KeepsStates (λ states. write.state < states) (write_at self.old) (write_at self.new) }
     {
         join_into(&mut self.writes, at, write)?;
         self.greatest_stamp = self.greatest_stamp.max(write.stamp);

@@ -30,7 +30,7 @@ pub struct Replica {
 impl Model for Replica {
     ghost use Rattle.std.specs.Prelude.{◌≤◌};
     ghost use Rattle.edit_stamps.specs.PlaneMap.{write_at};
-    ghost use Rattle.replica_core.specs.Message.{HasStatesBelow};
+    ghost use Rattle.replica_core.specs.Plane.{HasStatesBelow};
     ghost use Rattle.replica_core.specs.Replica.{ReplicaState, IsReplica};
 
     ghost Value = { ReplicaState };

@@ -1,6 +1,7 @@
 use Rattle.std.proofs.Common.{◌-◌, pos, ◌+ℤ◌}
 use Rattle.edit_stamps.specs.PlaneMap.{write_at}
-use Rattle.replica_core.specs.Plane.{blank, strip}
+use Rattle.replica_core.specs.Plane.{blank, strip, KeepsStates}
+use Rattle.std.specs.Prelude.{⊤}
 use Rattle.replica_core.proofs.JoiningLaws.{IsJoining}
 use Rattle.replica_core.proofs.plane.Plane.join_area.Given as goal
 
@@ -8,3 +9,4 @@ abbrev pub invariant-loop-row : goal.invariant-loop-row
 invariant-loop-row l =
     IsJoining (write_at l.fn.self) (write_at l.self)
       (blank l.stamp (strip l.area.x (l.area.y +ℤ pos l.row) l.area.width (l.area.height - l.row))) (blank l.stamp l.area)
+    × KeepsStates (λ _. ⊤) (write_at l.fn.self) (write_at l.self)

@@ -1,7 +1,9 @@
 use Rattle.std.proofs.Common.{◌≡◌, sym, ◌∙◌, subst}
 use Rattle.edit_stamps.specs.Edit.{writes_of}
 use Rattle.edit_stamps.specs.PlaneMap.{PlaneMap, write_at}
-use Rattle.replica_core.specs.Plane.{written}
+use Rattle.replica_core.specs.Plane.{written, HasStatesBelow}
+use Rattle.std.specs.Prelude.{IsTrue}
+use Rattle.multistate_rle.specs.Cells.{are_below}
 use Rattle.replica_core.proofs.JoiningLaws.{IsJoining, on_err}
 use Rattle.replica_core.proofs.EditWrites.{area_joined, no_area_joined, cells_joined, cells_broken, area_broken}
 use Rattle.replica_core.proofs.plane.Plane.join_edit.Goals as goal
@@ -11,6 +13,26 @@ pub returns-in_err-join_area-clause-err : goal.returns-in_err-join_area-clause-e
 returns-in_err-join_area-clause-err c =
     on_err c.from_residual.result (area_broken (write_at c.args.self.now) (write_at c.join_area.new.self) c.args.edit.now c.number-stamp.result c.in-Some.area
       c.listed_cells-cells.ensures.edit (c.number-stamp.ensures.value ∙ c.stamp.ensures) (sym c.area.ensures ∙ c.in-Some.is) c.in_err-join_area.ensures.err)
+
+pub returns-in_err-join_area-clause-states : goal.returns-in_err-join_area-clause-states
+returns-in_err-join_area-clause-states c n below own = c.join_area.ensures.states n below tt
+
+-- the states before the cells are joined
+pub returns-in_err-join_cells-clause-states : goal.returns-in_err-join_cells-clause-states
+returns-in_err-join_cells-clause-states c n below own =
+    let mid : HasStatesBelow n (write_at c.match-area.self) = elim c.match-area.branch [
+        in-Some+in_ok-join_area w ↦ subst (λ (p : PlaneMap). HasStatesBelow n (write_at p)) (sym w.self-is) (w.join_area.ensures.states n below tt)
+        | in_default w ↦ subst (λ (p : PlaneMap). HasStatesBelow n (write_at p)) (sym w.self-is) below
+      ] in
+    c.join_cells.ensures.states n mid (subst (λ cells. IsTrue (are_below n cells)) (sym c.listed_cells-cells.ensures.cells) own)
+
+pub returns-clause-states : goal.returns-clause-states
+returns-clause-states c n below own =
+    let mid : HasStatesBelow n (write_at c.match-area.self) = elim c.match-area.branch [
+        in-Some+in_ok-join_area w ↦ subst (λ (p : PlaneMap). HasStatesBelow n (write_at p)) (sym w.self-is) (w.join_area.ensures.states n below tt)
+        | in_default w ↦ subst (λ (p : PlaneMap). HasStatesBelow n (write_at p)) (sym w.self-is) below
+      ] in
+    c.join_cells.ensures.states n mid (subst (λ cells. IsTrue (are_below n cells)) (sym c.listed_cells-cells.ensures.cells) own)
 
 pub returns-in_err-join_cells-clause-err : goal.returns-in_err-join_cells-clause-err
 returns-in_err-join_cells-clause-err c =
