@@ -1,5 +1,5 @@
 -- A replica, and what a draw and a message do to it.
-use Rattle.std.specs.Prelude.{◌≡◌, ℕ, ◌+◌, ◌^◌, ◌<◌, ◌≤◌, not, nat_lt, List, [], ◌∷◌, ◌++◌, Result, Ok, Err}
+use Rattle.std.specs.Prelude.{◌≡◌, ◌≢◌, ℕ, ◌+◌, ◌^◌, ◌<◌, ◌≤◌, not, nat_lt, List, [], ◌∷◌, ◌++◌, Result, Ok, Err}
 use Rattle.generations_rule.specs.Place.{Place}
 use Rattle.generations_rule.specs.Refusal.{when, unless, ◌>>=◌}
 use Rattle.generations_rule.specs.Rule.{GenerationsRule}
@@ -8,15 +8,16 @@ use Rattle.edit_stamps.specs.Edit.{PlaneEdit, writes_of}
 use Rattle.edit_stamps.specs.Making.{edit_of_cells}
 use Rattle.edit_stamps.specs.PlaneMap.{PlaneMap, write_at}
 use Rattle.edit_stamps.specs.Stamp.{counter_of, stamp_of, last_counter}
-use Rattle.edit_stamps.specs.Write.{Writes, AreSame, IsBelow, joined}
+use Rattle.edit_stamps.specs.Write.{unwritten, Writes, AreSame, IsBelow, joined}
 use Rattle.replica_core.specs.declared.spec.EditSpec.{EditSpec}
 use Rattle.replica_core.specs.declared.spec.EditSpec.TheVariants.{Cells}
 use Rattle.replica_core.specs.declared.fault.Fault.{Fault}
 use Rattle.replica_core.specs.declared.fault.Fault.TheVariants as faults
 use Rattle.replica_core.specs.declared.message.Content.{Content}
+use Rattle.replica_core.specs.declared.message.Content.TheVariants.{Edits, State}
 use Rattle.replica_core.specs.Fault.{fault_of_edit}
 use Rattle.replica_core.specs.Journal.{noted}
-use Rattle.replica_core.specs.Message.{writes_in, edits_in}
+use Rattle.replica_core.specs.Message.{Shared, writes_in, edits_in}
 use Rattle.replica_core.specs.Plane.{HasStatesBelow}
 
 -- what contracts see of a replica
@@ -71,6 +72,49 @@ pub record IsPartly (old new : ReplicaState) (added : Writes) : Type 0 where
   pub journal : new.journal ≡ old.journal
   pub kept : IsBelow (write_at old.map) (write_at new.map)
   pub no_more : IsBelow (write_at new.map) (joined (write_at old.map) added)
+
+-- ---- what each call answers, and what it leaves
+
+-- a new replica: nothing is written, and no edit noted
+pub record IsNew (rule : GenerationsRule) (number : ℕ) (r : ReplicaState) : Type 0 where
+  pub same_rule : r.rule ≡ rule
+  pub same_number : r.number ≡ number
+  pub map : AreSame (write_at r.map) (λ _. unwritten)
+  pub journal : r.journal ≡ []
+
+-- what a drawn edit writes, if there is one
+abbrev pub writes_drawn : Result PlaneEdit Fault → Writes
+writes_drawn (Ok e) c = writes_of e c
+writes_drawn (Err fault) c = unwritten
+
+-- A draw answers the edit that is drawn at the greatest stamp of the map, or its first refusal, which leaves all as it
+-- was, or want of memory.
+abbrev pub IsDraw : ReplicaState → ReplicaState → Result PlaneEdit Fault → Result PlaneEdit Fault → Type 0
+IsDraw old new meant (Ok e) = (meant ≡ Ok e) × DrawsAs old new e
+IsDraw old new meant (Err faults.Memory) = IsPartly old new (writes_drawn meant)
+IsDraw old new meant (Err faults.ClockFull) = (meant ≡ Err faults.ClockFull) × (new ≡ old)
+IsDraw old new meant (Err (faults.Edit fault)) = (meant ≡ Err (faults.Edit fault)) × (new ≡ old)
+IsDraw old new meant (Err faults.OtherRule) = ⊥
+
+-- A message is taken whole; one of another rule is refused, which leaves all as it was; nothing else is refused but
+-- want of memory.
+abbrev pub IsTaking : ReplicaState → ReplicaState → Shared → Result (Unit {0}) Fault → Type 0
+IsTaking old new m (Ok done) = (m.rule ≡ old.rule) × Takes old new m.content
+IsTaking old new m (Err faults.OtherRule) = (m.rule ≢ old.rule) × (new ≡ old)
+IsTaking old new m (Err faults.Memory) = (m.rule ≡ old.rule) × IsPartly old new (writes_in m.content)
+IsTaking old new m (Err faults.ClockFull) = ⊥
+IsTaking old new m (Err (faults.Edit fault)) = ⊥
+
+-- a message's content is a map equal to p at every place
+abbrev pub IsMapOf : Writes → Content → Type 0
+IsMapOf p (State plane) = AreSame (write_at plane) p
+IsMapOf p (Edits edits) = ⊥
+
+-- a message of the replica's rule with its map, whose states the rule has
+pub record IsSnapshot (r : ReplicaState) (m : Shared) : Type 0 where
+  pub rule : m.rule ≡ r.rule
+  pub map : IsMapOf (write_at r.map) m.content
+  pub states : HasStatesBelow m.rule.states (write_at r.map)
 
 -- which replicas there are
 pub record IsReplica (r : ReplicaState) : Type 0 where

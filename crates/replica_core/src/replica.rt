@@ -1,11 +1,17 @@
 //! One replica of a shared plane.
 
-ghost use Rattle.std.specs.Prelude.{◌≡◌, ◌≤◌, ℕ, IfOk, IfErr, OnOk, OnErr, [], Ok, Err};
-ghost use Rattle.generations_rule.specs.Place.{at_place};
+ghost use Rattle.std.specs.Prelude.{◌≡◌, ◌≤◌, ◌++◌, ◌∷◌, [], ℕ, false, IfOk, IfErr, IsTrue, OnOk};
 ghost use Rattle.generations_rule.specs.Refusal.{Answers};
+ghost use Rattle.generations_rule.specs.Place.{at_place};
 ghost use Rattle.edit_stamps.specs.Stamp.{counter_of};
 ghost use Rattle.edit_stamps.specs.PlaneMap.{write_at};
-ghost use Rattle.edit_stamps.specs.Write.{unwritten, AreSame};
+ghost use Rattle.edit_stamps.specs.Write.{unwritten, AreSame, joined};
+ghost use Rattle.edit_stamps.specs.Edit.{greatest, has_states_below, writes_of};
+ghost use Rattle.replica_core.specs.Fault.{IsWant};
+ghost use Rattle.replica_core.specs.Journal.{noted};
+ghost use Rattle.replica_core.specs.Message.{edits_in, writes_in, IsBelowStates};
+ghost use Rattle.replica_core.specs.Replica.{made, or_edit_fault, stamp_after};
+ghost use Rattle.replica_core.specs.Plane.{HaveStatesBelow, IsBetween, IsGreatestStamp, KeepsStates};
 
 use crate::fault::Fault;
 use crate::journal::Journal;
@@ -21,6 +27,7 @@ use std::marker::Model;
 /// number, 1 to 65535, is its own among all that exchange messages.
 #[derive(Debug, Drop)]
 pub struct Replica {
+    alloc: Global,
     rule: Rule,
     number: u16,
     plane: Plane,
@@ -38,4 +45,157 @@ impl Model for Replica {
     ghost view = { λ r. record { rule = r.rule; number = r.number; map = r.plane; journal = r.journal } };
 
     ghost invariant = { λ r. IsReplica (record { rule = r.rule; number = r.number; map = r.plane; journal = r.journal }) };
+}
+
+impl Replica {
+    ghost use Rattle.edit_stamps.specs.Plane.{is_in_plane};
+    ghost use Rattle.replica_core.specs.Replica.{edit_drawn, IsDraw, IsNew, IsReplica, IsSnapshot, IsTaking};
+
+    /// A replica that holds nothing. The only error is want of memory.
+    pub fn new(alloc: Global, rule: Rule, number: u16) -> Result<Replica, Fault>
+        requires { 1 ≤ number }
+        ensures new { IfOk result (λ replica. IsNew rule number replica) }
+        ensures err { IfErr result IsWant }
+    {
+        let _rule = rule.states();
+        Ok(Replica {
+            alloc,
+            rule,
+            number,
+            plane: Plane::new(alloc),
+            journal: Journal::new(alloc),
+        })
+    }
+
+    pub fn rule(&self) -> Rule
+        ensures { result ≡ self.now.rule }
+    {
+        self.rule
+    }
+
+    pub fn number(&self) -> u16
+        ensures value { result ≡ self.now.number }
+        ensures replica { IsReplica self.now }
+    {
+        self.number
+    }
+
+    /// The edits that were drawn here or given in messages of edits, in order, each once.
+    pub fn journal(&self) -> &[Edit]
+        ensures { result.now ≡ self.now.journal }
+    {
+        self.journal.as_slice()
+    }
+
+    /// The write at a coordinate; the least write where nothing was written, and outside the plane.
+    pub fn get(&self, x: i32, y: i32) -> Write
+        ensures value { result ≡ write_at self.now.map (at_place x y) }
+        ensures outside { is_in_plane (at_place x y) ≡ false → result ≡ unwritten }
+    {
+        let _map = self.plane.greatest_stamp();
+        self.plane.get(x, y)
+    }
+
+    /// A message of this replica's map. The only error is want of memory.
+    pub fn snapshot(&self) -> Result<Message, Fault>
+        ensures snapshot { IfOk result (λ message. IsSnapshot self.now message) }
+        ensures err { IfErr result IsWant }
+    {
+        let plane = self.plane.copy()?;
+        Ok(Message::of_plane(self.rule, plane))
+    }
+
+    /// Draws an edit: its stamp is one more than the greatest counter held, with this replica's
+    /// number (Lamport 1978), so that it wins every cell that it writes. Refused are a full clock,
+    /// then what the maker of the edit refuses. After want of memory part of it may be drawn.
+    pub fn draw(&mut self, spec: EditSpec) -> Result<Edit, Fault>
+        ensures { (n : ℕ) × IsGreatestStamp n (write_at self.old.map)
+            × IsDraw self.old self.new (edit_drawn self.old.rule (counter_of n) self.old.number spec) result }
+    {
+        let stamp = next_stamp(&self.plane, self.number)?;
+        let edit = make(self.alloc, &self.rule, stamp, &spec)?;
+        draw_into(&mut self.plane, &mut self.journal, &edit)?;
+        Ok(edit)
+    }
+
+    /// Takes a message: joins its map, or what its edits write, and notes those of its edits that
+    /// the journal does not have by then. Refused is a message of another rule. After want of
+    /// memory part of it may be joined.
+    pub fn take(&mut self, message: &Message) -> Result<(), Fault>
+        ensures { IsTaking self.old self.new message.now result }
+    {
+        if !self.rule.same(&message.rule()) {
+            return Err(Fault::OtherRule);
+        }
+        take_into(&mut self.plane, &mut self.journal, message.content())?;
+        Ok(())
+    }
+}
+
+/// Lamport's rule: one more than the greatest counter held.
+fn next_stamp(plane: &Plane, number: u16) -> Result<Stamp, Fault>
+    requires { 1 ≤ number }
+    ensures { (n : ℕ) × IsGreatestStamp n (write_at plane.now) × (result ≡ stamp_after (counter_of n) number) }
+{
+    let counter = plane.greatest_stamp() / 0x1_0000;
+    Stamp::new(counter + 1, number).ok_or(Fault::ClockFull)
+}
+
+fn make(alloc: Global, rule: &Rule, stamp: Stamp, spec: &EditSpec) -> Result<Edit, Fault>
+    ensures edit { Answers IsWant result (or_edit_fault (made rule.now stamp spec.now)) }
+    ensures states { IfOk result (λ edit. IsTrue (has_states_below rule.now.states edit)) }
+{
+    match spec {
+        EditSpec::Cells(cells) => {
+            let edit = Edit::cells(alloc, rule, stamp, cells.as_slice())?;
+            Ok(edit)
+        }
+    }
+}
+
+/// Joins an edit and notes it.
+fn draw_into(plane: &mut Plane, journal: &mut Journal, edit: &Edit) -> Result<(), Fault>
+    ensures map { OnOk result (AreSame (write_at plane.new) (joined (write_at plane.old) (writes_of edit.now))) }
+    ensures noted { OnOk result (journal.new ≡ journal.old ++ edit.now ∷ []) }
+    ensures err { IfErr result (λ fault. (fault ≡ Fault.Memory) × (journal.new ≡ journal.old)
+        × IsBetween (write_at plane.old) (writes_of edit.now) (write_at plane.new)) }
+    ensures states { KeepsStates (λ states. IsTrue (has_states_below states edit.now)) (write_at plane.old) (write_at plane.new) }
+{
+    let noted = edit.copy()?;
+    plane.join_edit(edit)?;
+    journal.push(noted)?;
+    Ok(())
+}
+
+/// Joins what a message shares, and notes its edits.
+fn take_into(plane: &mut Plane, journal: &mut Journal, content: &Content) -> Result<(), Fault>
+    ensures map { OnOk result (AreSame (write_at plane.new) (joined (write_at plane.old) (writes_in content.now))) }
+    ensures noted { OnOk result (journal.new ≡ noted journal.old (edits_in content.now)) }
+    ensures err { IfErr result (λ fault. (fault ≡ Fault.Memory) × (journal.new ≡ journal.old)
+        × IsBetween (write_at plane.old) (writes_in content.now) (write_at plane.new)) }
+    ensures states { KeepsStates (λ states. IsBelowStates states content.now) (write_at plane.old) (write_at plane.new) }
+{
+    match content {
+        Content::Edits(edits) => {
+            take_edits(plane, journal, edits.as_slice())?;
+            Ok(())
+        }
+        Content::State(other) => {
+            plane.join(other)?;
+            Ok(())
+        }
+    }
+}
+
+fn take_edits(plane: &mut Plane, journal: &mut Journal, edits: &[Edit]) -> Result<(), Fault>
+    ensures map { OnOk result (AreSame (write_at plane.new) (joined (write_at plane.old) (greatest edits.now))) }
+    ensures noted { OnOk result (journal.new ≡ noted journal.old edits.now) }
+    ensures err { IfErr result (λ fault. (fault ≡ Fault.Memory) × (journal.new ≡ journal.old)
+        × IsBetween (write_at plane.old) (greatest edits.now) (write_at plane.new)) }
+    ensures states { KeepsStates (λ states. HaveStatesBelow states edits.now) (write_at plane.old) (write_at plane.new) }
+{
+    let fresh = journal.fresh(edits)?;
+    plane.join_edits(edits)?;
+    journal.append(fresh)?;
+    Ok(())
 }
