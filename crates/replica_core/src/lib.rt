@@ -3,12 +3,14 @@
 
 mod fault;
 mod journal;
+mod laws;
 mod message;
 mod plane;
 mod replica;
 mod spec;
 
 pub use fault::Fault;
+pub use laws::clock_laws;
 pub use message::Message;
 pub use replica::Replica;
 pub use spec::{CellList, EditSpec};

@@ -1,0 +1,10 @@
+//! What the clocks of replicas obey, for all edits: the contract of a function that does nothing.
+
+ghost use Rattle.replica_core.specs.Laws.{TellsCounter};
+
+/// The greatest counter of edits is that of the greatest stamp in the map of their greatest writes:
+/// a replica need not keep edits to know its clock.
+pub fn clock_laws()
+    ensures { TellsCounter }
+{
+}
