@@ -21,7 +21,7 @@ use Rattle.replica_core.proofs.JoinLemmas.{absorbed, greater-unwritten, unwritte
 
 -- ---- the greatest stamp
 
-stamps_rise : (v w : Write) → at_most v w ≡ true → v.stamp ≤ w.stamp
+pub stamps_rise : (v w : Write) → at_most v w ≡ true → v.stamp ≤ w.stamp
 stamps_rise v w h = grind (arith, nat_tests)
 
 -- the greater of two writes is above both, and has a stamp of one of them
@@ -31,7 +31,7 @@ left_of v w = is_least_upper_bound.left (λ _. v) (λ _. w) (record { x = pos 0;
 pub right_of : (v w : Write) → at_most w (greater v w) ≡ true
 right_of v w = is_least_upper_bound.right (λ _. v) (λ _. w) (record { x = pos 0; y = pos 0 })
 
-stamp_of_greater : (v w : Write) → (greater v w).stamp ≤ max v.stamp w.stamp
+pub stamp_of_greater : (v w : Write) → (greater v w).stamp ≤ max v.stamp w.stamp
 stamp_of_greater v w = elim (cases_Bool (at_most v w)) [ | inl t ↦ rw t (omega arith) | inr f ↦ rw f (omega arith) ]
 
 only-here : (c : Place) (w : Write) → only c w c ≡ w

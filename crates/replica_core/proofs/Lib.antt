@@ -5,3 +5,4 @@ pub mod JoiningLaws
 pub mod EditWrites
 pub mod EntryLaws
 pub mod StateLaws
+pub mod ClockLaws
