@@ -119,3 +119,6 @@ makes_edits = record {
   states = λ r stamp cells. below r stamp cells (cells_fault r.states cells) refl;
   last_entries = λ r stamp cells c. last_entries r stamp cells c (cells_fault r.states cells);
 }
+
+pub states_kept : (states : ℕ) (cells kept : List Cell) → cells_fault states cells ≡ None → kept ≡ settled cells → are_below states kept ≡ true
+states_kept states cells kept none is = rw is (all_settled (λ cell. nat_lt cell.state states) cells (accepted states cells none).below)

@@ -35,7 +35,7 @@ impl Model for Edit {
 }
 
 impl Edit {
-    ghost use Rattle.edit_stamps.specs.Edit.{IsEdit, is_edit};
+    ghost use Rattle.edit_stamps.specs.Edit.{IsEdit, has_states_below, is_edit};
     ghost use Rattle.edit_stamps.specs.EditFault.{IsWant};
     ghost use Rattle.edit_stamps.specs.Making.{edit_of_cells};
 
@@ -48,7 +48,8 @@ impl Edit {
         stamp: Stamp,
         cells: &[Cell],
     ) -> Result<Edit, EditFault>
-        ensures { Answers IsWant result (edit_of_cells rule.now stamp cells.now) }
+        ensures edit { Answers IsWant result (edit_of_cells rule.now stamp cells.now) }
+        ensures states { IfOk result (λ edit. IsTrue (has_states_below rule.now.states edit)) }
     {
         if let Some(fault) = settle::fault_of_cells(rule, cells) {
             return Err(fault);

@@ -1,16 +1,15 @@
 -- Finding an edit by its stamp: what the links of a journal say, and how they are kept.
-use Rattle.std.proofs.Common.{◌≡◌, ◌≢◌, ◌∙◌, ℕ, zero, suc, ◌+◌, ◌-◌, ◌<◌, ◌≤◌, ◌==◌, Bool, true, false, List, [], ◌∷◌, ◌++◌, length, take, drop, get_or, refl, sym, ap, subst, arith, add-one, inl, inr, append_assoc, length-append, get_or-set_same, get_or-set_other, drop-cons}
-use Rattle.std.specs.Prelude.{if◌then◌else◌, ◌||◌, Some, slice_get, slice_set, slice_index, IsSome, IsTrue}
+use Rattle.std.proofs.Common.{◌≡◌, ◌∙◌, ℕ, zero, suc, ◌+◌, ◌-◌, ◌<◌, ◌≤◌, ◌==◌, Bool, true, false, List, [], ◌∷◌, ◌++◌, length, take, get_or, refl, sym, ap, subst, arith, add-one, inl, inr, get_or-set_same, get_or-set_other}
+use Rattle.std.specs.Prelude.{if◌then◌else◌, ◌||◌, Some, slice_get, slice_set, slice_index, IsSome}
 use Rattle.std.specs.List.{list_any}
 use Rattle.std.specs.Ordering.{nat_cmp}
 use Rattle.std.specs.BTreeMap.{BTreeMap, get}
 use Rattle.std.proofs.lemmas.Bool.{cases_eq}
 use Rattle.std.proofs.lemmas.Bool.Decides.{nat_tests, eqb_tells}
 use Rattle.std.proofs.lemmas.List.{take_more, take_all, take-take, take-append-le, length-take-le}
-use Rattle.std.proofs.lemmas.List.Folds.{list_any-append}
 use Rattle.std.proofs.lemmas.Option.{slice_get_within, get_or_from_slice_get, slice_get_read}
 use Rattle.edit_stamps.specs.Edit.{PlaneEdit, is_edit}
-use Rattle.replica_core.specs.Journal.{behind, latest_in, start_in, IsLinked, IsChained, HasStarts, noted}
+use Rattle.replica_core.specs.Journal.{behind, latest_in, IsLinked, IsChained, HasStarts}
 
 -- ---- the last edit of a stamp
 
@@ -19,6 +18,7 @@ behind-le true zero m h = omega arith
 behind-le false zero m h = omega arith
 behind-le b (suc n) m h = omega arith
 
+-- the place is in the list
 pub latest-within : (E : List PlaneEdit) (s : ℕ) → latest_in E s ≤ length E
 latest-within [] s = omega arith
 latest-within (e ∷ E) s = behind-le (s == e.stamp) (latest_in E s) (length E) (latest-within E s)
@@ -27,6 +27,7 @@ behind-if : (b c : Bool) (m n : ℕ) → behind b (if c then m + 1 else n) ≡ (
 behind-if b true m n = rw (add-one m, add-one (suc m)) refl
 behind-if b false m n = refl
 
+-- one more edit is the last of its stamp, and changes no other
 pub latest-push : (E : List PlaneEdit) (e : PlaneEdit) (s : ℕ) → latest_in (E ++ e ∷ []) s ≡ (if s == e.stamp then length E + 1 else latest_in E s)
 latest-push [] e s = refl
 latest-push (x ∷ E) e s = rw (latest-push E e s) (behind-if (s == x.stamp) (s == e.stamp) (length E) (latest_in E s))
@@ -191,6 +192,15 @@ linked_more {E} {earlier} {latest} {after} n x linked room here starts = record 
   ];
 }
 
+-- the same, with the stamp and the place that it led to as they were read
+pub linked_by : {E : List PlaneEdit} {earlier : List ℕ} {latest after : ℕ → ℕ} (n : ℕ) (x : PlaneEdit) (stamp v : ℕ) → stamp ≡ x.stamp → v ≡ latest stamp →
+    IsLinked E earlier latest n → n < length earlier → slice_get E n ≡ Some x → ((s : ℕ) → after s ≡ (if stamp == s then n + 1 else latest s)) →
+    IsLinked E (slice_set earlier n v) after (n + 1)
+linked_by {E} {earlier} {latest} {after} n x stamp v is read linked room here starts =
+    let led : v ≡ latest x.stamp = read ∙ ap (λ t. latest t) is in
+    let onward : (s : ℕ) → after s ≡ (if x.stamp == s then n + 1 else latest s) = λ s. starts s ∙ ap (λ t. if t == s then n + 1 else latest s) is in
+    subst (λ w. IsLinked E (slice_set earlier n w) after (n + 1)) (sym led) (linked_more n x linked room here onward)
+
 -- edits put behind a journal leave its links
 pub linked_ahead : {E all : List PlaneEdit} {earlier wider : List ℕ} {latest after : ℕ → ℕ} (F : List PlaneEdit) (n : ℕ) → all ≡ E ++ F → n ≡ length E → IsChained E earlier latest →
     ((k : ℕ) → k < length earlier → slice_index wider k ≡ slice_index earlier k) → ((s : ℕ) → after s ≡ latest s) → IsLinked all wider after n
@@ -213,12 +223,3 @@ starts_ahead E F {all} latest n is len has k e from there =
 pub start_alone : (latest : BTreeMap ℕ ℕ) (edit : PlaneEdit) → IsSome (get nat_cmp latest edit.stamp) → HasStarts latest (edit ∷ []) 0
 start_alone latest edit has zero e above there = let same : edit ≡ e = cc in subst (λ (x : PlaneEdit). IsSome (get nat_cmp latest x.stamp)) same has
 start_alone latest edit has (suc k) e above there = absurd (cc)
-
--- the same, with the stamp and the place that it led to as they were read
-pub linked_by : {E : List PlaneEdit} {earlier : List ℕ} {latest after : ℕ → ℕ} (n : ℕ) (x : PlaneEdit) (stamp v : ℕ) → stamp ≡ x.stamp → v ≡ latest stamp →
-    IsLinked E earlier latest n → n < length earlier → slice_get E n ≡ Some x → ((s : ℕ) → after s ≡ (if stamp == s then n + 1 else latest s)) →
-    IsLinked E (slice_set earlier n v) after (n + 1)
-linked_by {E} {earlier} {latest} {after} n x stamp v is read linked room here starts =
-    let led : v ≡ latest x.stamp = read ∙ ap (λ t. latest t) is in
-    let onward : (s : ℕ) → after s ≡ (if x.stamp == s then n + 1 else latest s) = λ s. starts s ∙ ap (λ t. if t == s then n + 1 else latest s) is in
-    subst (λ w. IsLinked E (slice_set earlier n w) after (n + 1)) (sym led) (linked_more n x linked room here onward)

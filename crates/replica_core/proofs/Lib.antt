@@ -1,4 +1,5 @@
 pub mod JournalLaws
+pub mod NotedLaws
 pub mod ReadLemmas
 pub mod JoinLemmas
 pub mod JoiningLaws

@@ -41,6 +41,7 @@ impl Model for Journal {
 }
 
 impl Journal {
+    /// A journal of no edit.
     pub fn new(alloc: Global) -> Journal
         ensures { result ≡ [] }
     {
@@ -51,6 +52,7 @@ impl Journal {
         }
     }
 
+    /// The edits, in the order in which they were noted.
     pub fn as_slice(&self) -> &[Edit]
         ensures { result.now ≡ self.now }
     {
@@ -77,7 +79,7 @@ impl Journal {
         Ok(fresh)
     }
 
-    /// Adds an edit at the end.
+    /// Adds an edit at the end. Where memory is refused, the journal stays as it was.
     pub fn push(&mut self, edit: Edit) -> Result<(), AllocError>
         ensures ok { OnOk result (self.new ≡ self.old ++ edit ∷ []) }
         ensures err { OnErr result (self.new ≡ self.old) }
@@ -85,7 +87,7 @@ impl Journal {
         push_linked(&mut self.edits, &mut self.earlier, &mut self.latest, edit)
     }
 
-    /// Adds a journal's edits at the end.
+    /// Adds a journal's edits at the end. Where memory is refused, this one stays as it was.
     pub fn append(&mut self, fresh: Journal) -> Result<(), AllocError>
         ensures ok { OnOk result (self.new ≡ self.old ++ fresh) }
         ensures err { OnErr result (self.new ≡ self.old) }

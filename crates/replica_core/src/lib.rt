@@ -10,7 +10,10 @@ mod replica;
 mod spec;
 
 pub use fault::Fault;
-pub use laws::clock_laws;
+pub use laws::{clock_laws, journal_laws};
 pub use message::Message;
 pub use replica::Replica;
 pub use spec::{CellList, EditSpec};
+
+#[cfg(test)]
+mod tests;

@@ -1,4 +1,4 @@
-use Rattle.std.proofs.Common.{◌≡◌, ◌∙◌, ◌++◌, List, sym, subst, arith, length}
+use Rattle.std.proofs.Common.{◌≡◌, ◌∙◌, List, sym, subst, arith, length}
 use Rattle.edit_stamps.specs.Edit.{PlaneEdit}
 use Rattle.replica_core.specs.Journal.{start_in, IsLinked, HasStarts}
 use Rattle.replica_core.proofs.JournalLaws.{linked_ahead, starts_ahead}

@@ -1,6 +1,5 @@
-use Rattle.std.proofs.Common.{◌≡◌, ◌∙◌, ◌+◌, ◌<◌, ◌≤◌, refl, sym, ap, arith, length, length-set}
+use Rattle.std.proofs.Common.{◌∙◌, ◌<◌, refl, arith, length, length-set}
 use Rattle.std.proofs.lemmas.Option.{slice_get_read}
-use Rattle.edit_stamps.specs.Edit.{PlaneEdit}
 use Rattle.replica_core.proofs.JournalLaws.{linked_by}
 use Rattle.replica_core.proofs.journal.link.Goals as goal
 

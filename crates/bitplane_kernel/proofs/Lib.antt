@@ -1,0 +1,11 @@
+pub mod BitLemmas
+pub mod AdderLemmas
+pub mod NumberLemmas
+pub mod CountLemmas
+pub mod PlaneLemmas
+pub mod StepLemmas
+pub mod SquareLemmas
+pub mod AdvanceLemmas
+pub mod ReadLemmas
+pub mod QuarterLemmas
+pub mod LeafLemmas

@@ -1,0 +1,5 @@
+use Rattle.bitplane_kernel.proofs.CountLemmas.{HasBelow}
+use Rattle.bitplane_kernel.proofs.counts.where_surviving.Given as goal
+
+abbrev pub invariant-loop-n : goal.invariant-loop-n
+invariant-loop-n l = HasBelow l.n l.exact l.rule.survival l.cells

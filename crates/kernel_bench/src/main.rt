@@ -1,0 +1,82 @@
+//! How fast a block is advanced on bit planes, against the rule applied cell by cell.
+//!
+//! Both step the same blocks by one generation and are compared. With the argument `--time` there is
+//! a megabyte of blocks, and the cells a second of both are printed; without it there are a few
+//! blocks, and what is printed is the same on every machine.
+#![tactic(auto)]
+
+mod cells;
+mod race;
+
+use generations_rule::Rule;
+use race::Race;
+use std::time::{Clock, Duration};
+use std::{env, io};
+
+/// Star Wars' counts, with two states up to the most.
+const RULES: [&[u8]; 5] = [
+    b"345/2/2",
+    b"345/2/3",
+    b"345/2/4",
+    b"345/2/25",
+    b"345/2/256",
+];
+
+/// A megabyte of blocks of 256 cells.
+const MEGABYTE: u64 = 4096;
+
+/// The cells of a block that are not on its edge.
+const INNER: u64 = 196;
+
+/// How many generations one measurement on planes makes, and one cell by cell.
+const ADVANCES: u32 = 50;
+
+const STEPS: u32 = 2;
+
+/// How many measurements are made of each; the quickest counts.
+const ROUNDS: u32 = 8;
+
+fn main(rt: HostRuntime) -> io::Result<()> {
+    let is_timed = env::args(&rt)?.any(|word| word.as_str() == "--time");
+    for text in RULES {
+        let Ok(rule) = Rule::parse(text) else {
+            continue;
+        };
+        let count = if is_timed { MEGABYTE } else { 8 };
+        let mut race = Race::new(rt.alloc(), rule, count)?;
+        race.advance();
+        race.step();
+        println!(rt;
+            "{} states: {} of {} cells are the same",
+            race.rule.states(),
+            race.same(),
+            count * INNER
+        )?;
+        if is_timed {
+            let (planes, cells) = quickest(&rt, &mut race)?;
+            println!(rt;
+                "  {planes} million cells a second on planes, {cells} cell by cell: {} times",
+                planes / cells.max(1)
+            )?;
+        }
+    }
+    Ok(())
+}
+
+/// The best rates of several measurements, on planes and cell by cell, taken in turn.
+fn quickest(clock: &impl Clock, race: &mut Race) -> io::Result<(u64, u64)> {
+    let mut planes = 0;
+    let mut cells = 0;
+    for _ in 0..ROUNDS {
+        planes = rate(ADVANCES, race.time_of_advances(clock, ADVANCES)?).max(planes);
+        cells = rate(STEPS, race.time_of_steps(clock, STEPS)?).max(cells);
+    }
+    Ok((planes, cells))
+}
+
+/// Million cells a second, where every block made so many generations.
+fn rate(generations: u32, time: Duration) -> u64 {
+    let cells = u64::from(generations) * MEGABYTE * INNER;
+    let micros = u64::try_from(time.as_micros()).unwrap_or(u64::MAX);
+    cells / micros.max(1)
+}
