@@ -1,10 +1,10 @@
 -- What is made of cells is an edit.
-use Rattle.std.proofs.Common.{◌≡◌, ℕ, ◌+◌, ◌≤◌, ◌<◌, ◌^◌, Bool, true, false, cond, List, [], ◌∷◌, length, refl, sym, ◌∙◌, ap, subst, arith, if◌then◌else◌}
-use Rattle.std.specs.Prelude.{◌&&◌, not, ◌==◌, nat_lt, IsTrue, Option, Some, None, IfOk, reverse}
+use Rattle.std.proofs.Common.{◌≡◌, ℕ, ◌+◌, ◌≤◌, ◌^◌, Bool, true, false, List, [], ◌∷◌, length, refl, sym, ap, subst, arith}
+use Rattle.std.specs.Prelude.{not, ◌==◌, nat_lt, IsTrue, Option, Some, None, IfOk, reverse}
 use Rattle.std.specs.List.{list_all}
-use Rattle.std.proofs.lemmas.Bool.{and_parts, cases_Bool, ltb-false}
+use Rattle.std.proofs.lemmas.Bool.{and_parts, ltb-false}
 use Rattle.std.proofs.lemmas.Bool.Decides.{nat_tests}
-use Rattle.generations_rule.specs.Place.{Place, is_before, is_place}
+use Rattle.generations_rule.specs.Place.{Place}
 use Rattle.generations_rule.specs.Refusal.{when, first_of, unless}
 use Rattle.generations_rule.specs.Rule.{GenerationsRule}
 use Rattle.multistate_rle.specs.declared.cell.Cell.{Cell}
@@ -13,10 +13,10 @@ use Rattle.edit_stamps.specs.declared.fault.EditFault.{EditFault}
 use Rattle.edit_stamps.specs.declared.fault.EditFault.TheVariants.{Nothing, TooMany, OutOfPlane, StateRange}
 use Rattle.edit_stamps.specs.Edit.{IsEdit, listed, write_by, writes_of, has_states_below}
 use Rattle.edit_stamps.specs.Laws.{MakesEdits}
-use Rattle.edit_stamps.specs.Making.{add, settled, most_cells, are_in_plane, cells_fault, edit_of_cells}
+use Rattle.edit_stamps.specs.Making.{add, settled, most_cells, are_in_plane, cells_fault}
 use Rattle.edit_stamps.specs.Plane.{is_in_plane}
 use Rattle.edit_stamps.specs.Stamp.{is_stamp}
-use Rattle.edit_stamps.proofs.PlaceOrder.{Compared, Before, Same, Behind, compared}
+use Rattle.edit_stamps.proofs.PlaceOrder.{Before, Same, Behind, compared}
 use Rattle.edit_stamps.proofs.SortedCells.{settled_sorted, last_stays}
 
 -- cells that are refused nothing

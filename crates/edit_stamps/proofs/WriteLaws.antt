@@ -1,11 +1,10 @@
 -- The order of writes, and what follows for maps of writes.
-use Rattle.std.proofs.Common.{◌≡◌, ◌⊎◌, inl, inr, ℕ, zero, suc, ◌+◌, ◌<◌, ◌≤◌, Bool, true, false, List, [], ◌∷◌, ◌++◌, length, get_or, refl, sym, ◌∙◌, ap, subst, arith, if◌then◌else◌}
-use Rattle.std.specs.Prelude.{◌↔◌, IsTrue, nat_lt, nat_le, ◌==◌, ◌&&◌, ◌||◌, Contains, slice_index_or}
-use Rattle.std.proofs.lemmas.Bool.Decides.{nat_tests}
+use Rattle.std.proofs.Common.{◌≡◌, ◌⊎◌, inl, inr, zero, suc, ◌<◌, ◌≤◌, false, List, [], ◌∷◌, refl, sym, ◌∙◌, ap, subst, arith}
+use Rattle.std.specs.Prelude.{IsTrue, nat_lt, Contains}
 use Rattle.std.proofs.lemmas.Bool.{or_cases, and_parts, ltb-true, leb-true, eqb-true, lt-ltb, le-leb, eq-eqb, cases_Bool, cases_order, cases_lt}
 use Rattle.generations_rule.specs.Place.{Place}
 use Rattle.edit_stamps.specs.declared.write.Write.{Write}
-use Rattle.edit_stamps.specs.Write.{at_most, greater, unwritten, Writes, AreSame, IsBelow, joined}
+use Rattle.edit_stamps.specs.Write.{at_most, greater, unwritten}
 use Rattle.edit_stamps.specs.Edit.{PlaneEdit, greatest, writes_of}
 use Rattle.edit_stamps.specs.Laws.{IsTotal, IsLattice, IsLeastUpperBound, DependsOnMembers, JoinsLists}
 

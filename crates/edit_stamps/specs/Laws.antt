@@ -1,6 +1,5 @@
 -- What writes, maps of writes and edits obey.
 use Rattle.std.specs.Prelude.{◌≡◌, ℕ, ◌⊎◌, ◌↔◌, IsTrue, IfOk, List, ◌++◌, Contains, false, reverse}
-use Rattle.std.specs.Ordering.{nat_cmp, is_le, then_cmp, on}
 use Rattle.generations_rule.specs.Place.{Place}
 use Rattle.generations_rule.specs.Rule.{GenerationsRule}
 use Rattle.multistate_rle.specs.declared.cell.Cell.{Cell}

@@ -1,11 +1,9 @@
 -- Worked values of the definitions.
-use Rattle.std.specs.Prelude.{◌≡◌, ℕ, List, [], ◌∷◌, Some, None, Ok, Err, codes, refl, pos, negsuc, ℤ, map, true, false}
+use Rattle.std.specs.Prelude.{◌≡◌, ℕ, [], ◌∷◌, Some, None, Ok, Err, codes, refl, pos, negsuc, ℤ, map, false}
 use Rattle.generations_rule.specs.Rule.{GenerationsRule}
 use Rattle.generations_rule.specs.RuleText.{rule_of_text}
 use Rattle.generations_rule.specs.Place.{at_place}
 use Rattle.multistate_rle.specs.declared.cell.Cell.{Cell}
-use Rattle.edit_stamps.specs.declared.rect.Rect.{Rect}
-use Rattle.edit_stamps.specs.declared.write.Write.{Write}
 use Rattle.edit_stamps.specs.declared.fault.EditFault.TheVariants.{Nothing, OutOfPlane, StateRange}
 use Rattle.edit_stamps.specs.Stamp.{stamp_of, stamp_made, counter_of, replica_of}
 use Rattle.edit_stamps.specs.Write.{at_most}

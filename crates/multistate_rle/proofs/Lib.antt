@@ -1,0 +1,16 @@
+pub mod NumberLemmas
+pub mod RowLemmas
+pub mod FillLemmas
+pub mod SplitLemmas
+pub mod ReadLemmas
+pub mod StepLemmas
+pub mod LineLemmas
+pub mod BodyLemmas
+pub mod PatternLaws
+pub mod HeaderLemmas
+pub mod TokenLaws
+pub mod SpellingLaws
+pub mod BodyLaws
+pub mod HeadLaws
+pub mod TextBackLaws
+pub mod BoxLaws

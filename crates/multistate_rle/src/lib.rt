@@ -1,6 +1,33 @@
-//! Cells of patterns with many states, as pattern files exchange them.
+//! Texts in Golly's multi-state RLE, read and written: patterns of cells with up to 256 states, as
+//! pattern collectors exchange them.
+//!
+//! Golly's help ("File formats: Extended RLE format") and LifeWiki ("Run Length Encoded") describe
+//! the format.
 #![tactic(auto)]
 
+mod bounds;
 mod cell;
+mod fault;
+mod header;
+mod laws;
+mod letters;
+mod line;
+mod lines;
+mod number;
+mod origin;
+mod pattern;
+mod reading;
+mod role;
+mod scan;
+mod tokens;
+mod writing;
 
 pub use cell::Cell;
+pub use fault::RleFault;
+pub use laws::{reading_laws, token_laws};
+pub use pattern::{Pattern, PatternCell};
+pub use reading::parse;
+pub use writing::write;
+
+#[cfg(test)]
+mod tests;

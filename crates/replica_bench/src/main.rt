@@ -4,8 +4,8 @@
 #![tactic(auto)]
 
 use anyhow::Result;
-use multistate_rle::Cell;
 use generations_rule::Rule;
+use multistate_rle::Cell;
 use rand_core::utils::NextWord;
 use rand_pcg::Pcg32;
 use replica_core::{CellList, EditSpec, Message, Replica};
@@ -78,7 +78,10 @@ fn run(rt: &(impl Clock + Print), alloc: Global, timed: bool) -> Result<()> {
     let mut replica = Replica::new(alloc, rule, 1)?;
     let drawn = timed_draws(rt, alloc, &mut replica, &mut random, draws)?;
     let taken = timed_take(rt, &mut replica, &snapshot)?;
-    println!(rt; "Replica: {draws} draws of {CELLS} cells, {} edits noted", replica.journal().len())?;
+    println!(rt;
+        "Replica: {draws} draws of {CELLS} cells, {} edits noted",
+        replica.journal().len()
+    )?;
     if timed {
         report(rt, draws, drawn, taken)?;
     }
@@ -88,7 +91,10 @@ fn run(rt: &(impl Clock + Print), alloc: Global, timed: bool) -> Result<()> {
 fn report(rt: &impl Print, draws: u32, drawn: Duration, taken: Duration) -> Result<()> {
     let rate = f64::from(draws) / drawn.as_secs_f64();
     println!(rt; "Replica::draw: {rate:.0} edits of {CELLS} cells a second")?;
-    println!(rt; "Replica::take: a snapshot of {draws} such edits in {:.3} s", taken.as_secs_f64())?;
+    println!(rt;
+        "Replica::take: a snapshot of {draws} such edits in {:.3} s",
+        taken.as_secs_f64()
+    )?;
     Ok(())
 }
 

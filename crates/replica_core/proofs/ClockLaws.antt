@@ -1,23 +1,20 @@
 -- The greatest counter of edits is that of the map of their greatest writes.
-use Rattle.std.proofs.Common.{◌≡◌, ℕ, ◌+◌, ◌*◌, ◌/◌, ◌%◌, ◌^◌, ◌≤◌, ◌<◌, max, Bool, true, false, List, [], ◌∷◌, length, refl, sym, ◌∙◌, ap, subst, arith, inl, inr, ℤ, pos, ◌+ℤ◌}
-use Rattle.std.specs.Prelude.{IsTrue, Option, Some, None, fold, not, ◌==◌, ◌&&◌, ◌||◌, nat_le, int_le, int_lt}
+use Rattle.std.proofs.Common.{◌≡◌, ℕ, ◌≤◌, max, Bool, true, false, List, [], ◌∷◌, refl, sym, ◌∙◌, ap, arith}
+use Rattle.std.specs.Prelude.{IsTrue, Option, Some, None, fold, not, ◌&&◌, nat_le}
 use Rattle.std.specs.List.{AllByRecursion, list_all}
-use Rattle.std.proofs.lemmas.Bool.{cases_Bool, and_parts}
 use Rattle.std.proofs.lemmas.Bool.Decides.{nat_tests}
 use Rattle.std.proofs.lemmas.Int.{ints}
 use Rattle.generations_rule.specs.Place.{Place}
 use Rattle.multistate_rle.specs.declared.cell.Cell.{Cell}
 use Rattle.multistate_rle.specs.Cells.{place_of, are_nonzero}
 use Rattle.edit_stamps.specs.declared.rect.Rect.{Rect}
-use Rattle.edit_stamps.specs.declared.write.Write.{Write}
 use Rattle.edit_stamps.specs.Edit.{PlaneEdit, IsEdit, greatest, listed, write_by, writes_of, fits_area, is_covered}
 use Rattle.edit_stamps.specs.Plane.{is_in, is_empty, is_area_in_plane}
 use Rattle.edit_stamps.specs.Stamp.{counter_of}
-use Rattle.edit_stamps.specs.Write.{at_most, greater, unwritten, Writes}
+use Rattle.edit_stamps.specs.Write.{greater}
 use Rattle.edit_stamps.proofs.PlaceOrder.{same_itself}
 use Rattle.edit_stamps.proofs.SortedCells.{listed_here}
-use Rattle.replica_core.specs.Laws.{greatest_counter, TellsCounter}
-use Rattle.replica_core.specs.Plane.{IsGreatestStamp}
+use Rattle.replica_core.specs.Laws.{TellsCounter}
 use Rattle.replica_core.proofs.JoiningLaws.{left_of, right_of, stamps_rise, stamp_of_greater}
 
 -- ---- each edit writes a cell
@@ -47,15 +44,15 @@ writing_with : (stamp : ℕ) (area : Option Rect) (cells : List Cell) → IsTrue
 writing_with stamp None [] fits = absurd (cc)
 writing_with stamp None (a ∷ cells) fits = record {
   at = place_of a;
-  stamp = ap (λ o. (write_by stamp o false).stamp) (listed_here a cells (place_of a) (same_itself (place_of a)))
+  stamp = ap (λ o. (write_by stamp o false).stamp) (listed_here a cells (place_of a) (same_itself (place_of a)));
 }
 writing_with stamp (Some area) cells fits =
     let some : is_empty area ≡ false = first_of_six (is_empty area) (is_area_in_plane area) (nat_le area.width 4096) (nat_le area.height 4096)
-      (are_nonzero cells) (list_all (λ cell. is_in area (place_of cell)) cells) fits in
+    (are_nonzero cells) (list_all (λ cell. is_in area (place_of cell)) cells) fits in
     let corner : Place = record { x = area.x; y = area.y } in
     record {
       at = corner;
-      stamp = ap (λ covered. (write_by stamp (listed cells corner) covered).stamp) (corner_in area some) ∙ stamp_of_covered stamp (listed cells corner)
+      stamp = ap (λ covered. (write_by stamp (listed cells corner) covered).stamp) (corner_in area some) ∙ stamp_of_covered stamp (listed cells corner);
     }
 
 writing : (e : PlaneEdit) → IsEdit e → Writing e
@@ -79,11 +76,11 @@ stamps_reached [] m all bound = omega arith
 stamps_reached (e ∷ edits) m all bound =
     let own = writing e all.0 in
     let rises : (writes_of e own.at).stamp ≤ (greater (writes_of e own.at) (greatest edits own.at)).stamp =
-      stamps_rise (writes_of e own.at) (greater (writes_of e own.at) (greatest edits own.at)) (left_of (writes_of e own.at) (greatest edits own.at)) in
+    stamps_rise (writes_of e own.at) (greater (writes_of e own.at) (greatest edits own.at)) (left_of (writes_of e own.at) (greatest edits own.at)) in
     let rest : max_stamp edits ≤ m = stamps_reached edits m all.1 (λ c.
-      let up : (greatest edits c).stamp ≤ (greater (writes_of e c) (greatest edits c)).stamp =
-        stamps_rise (greatest edits c) (greater (writes_of e c) (greatest edits c)) (right_of (writes_of e c) (greatest edits c)) in
-      omega (arith, up, bound c)) in
+    let up : (greatest edits c).stamp ≤ (greater (writes_of e c) (greatest edits c)).stamp =
+    stamps_rise (greatest edits c) (greater (writes_of e c) (greatest edits c)) (right_of (writes_of e c) (greatest edits c)) in
+    omega (arith, up, bound c)) in
     omega (arith, rises, own.stamp, bound own.at, rest)
 
 -- ---- counters

@@ -1,20 +1,18 @@
 -- What an edit writes, as its area and its listed cells are joined.
-use Rattle.std.proofs.Common.{◌≡◌, ℕ, ◌≤◌, Bool, true, false, cond, List, [], ◌∷◌, refl, sym, ◌∙◌, ap, subst, arith, inl, inr, if◌then◌else◌}
-use Rattle.std.specs.Prelude.{◌&&◌, IsTrue, Option, Some, None, ◌==◌, nat_le, nat_lt}
-use Rattle.std.proofs.lemmas.Bool.{cases_Bool, and_parts}
+use Rattle.std.proofs.Common.{◌≡◌, ℕ, Bool, true, false, List, [], ◌∷◌, refl, sym, ◌∙◌, ap, arith, inl, inr, if◌then◌else◌}
+use Rattle.std.specs.Prelude.{Option, Some, None}
+use Rattle.std.proofs.lemmas.Bool.{cases_Bool}
 use Rattle.std.proofs.lemmas.Bool.Decides.{nat_tests}
 use Rattle.generations_rule.specs.Place.{Place, is_place}
 use Rattle.multistate_rle.specs.declared.cell.Cell.{Cell}
 use Rattle.multistate_rle.specs.Cells.{place_of, is_sorted}
 use Rattle.edit_stamps.specs.declared.rect.Rect.{Rect}
 use Rattle.edit_stamps.specs.declared.write.Write.{Write}
-use Rattle.edit_stamps.specs.Edit.{PlaneEdit, IsEdit, listed, is_covered, write_by, writes_of}
+use Rattle.edit_stamps.specs.Edit.{PlaneEdit, IsEdit, listed, write_by, writes_of}
 use Rattle.edit_stamps.specs.Plane.{is_in}
-use Rattle.edit_stamps.specs.Write.{at_most, greater, unwritten, Writes, AreSame, IsBelow, joined}
-use Rattle.edit_stamps.proofs.PlaceOrder.{one_place}
+use Rattle.edit_stamps.specs.Write.{at_most, greater, unwritten, Writes, AreSame, joined}
 use Rattle.edit_stamps.proofs.SortedCells.{sorted_tail, listed_behind, listed_here, listed_there}
-use Rattle.edit_stamps.proofs.WriteLaws.{is_lattice}
-use Rattle.replica_core.specs.Plane.{only, written, blank, IsBetween}
+use Rattle.replica_core.specs.Plane.{written, blank, IsBetween}
 use Rattle.replica_core.proofs.JoinLemmas.{absorbed, greater-unwritten, unwritten-greater}
 use Rattle.replica_core.proofs.JoiningLaws.{IsJoining, joining_starts, joining_goes, joining_ends, joining_breaks}
 
@@ -26,12 +24,12 @@ written_is_listed stamp (a ∷ cells) sorted c =
     let rest : written stamp cells c ≡ write_by stamp (listed cells c) false = written_is_listed stamp cells (sorted_tail a cells sorted) c in
     elim (cases_Bool (is_place (place_of a) c)) [
       | inl here ↦
-        ap (λ b. greater (if b then own else unwritten) (written stamp cells c)) here
-        ∙ ap (greater own) (rest ∙ ap (λ o. write_by stamp o false) (listed_behind a cells c sorted here))
-        ∙ greater-unwritten own ∙ ap (λ o. write_by stamp o false) (sym (listed_here a cells c here))
+          ap (λ b. greater (if b then own else unwritten) (written stamp cells c)) here
+          ∙ ap (greater own) (rest ∙ ap (λ o. write_by stamp o false) (listed_behind a cells c sorted here))
+          ∙ greater-unwritten own ∙ ap (λ o. write_by stamp o false) (sym (listed_here a cells c here))
       | inr there ↦
-        ap (λ b. greater (if b then own else unwritten) (written stamp cells c)) there
-        ∙ unwritten-greater (written stamp cells c) ∙ rest ∙ ap (λ o. write_by stamp o false) (sym (listed_there a cells c there))
+          ap (λ b. greater (if b then own else unwritten) (written stamp cells c)) there
+          ∙ unwritten-greater (written stamp cells c) ∙ rest ∙ ap (λ o. write_by stamp o false) (sym (listed_there a cells c there))
     ]
 
 -- on one stamp state 0 is at most any other
@@ -60,38 +58,38 @@ pub area_joined : (old mid : Writes) (e : PlaneEdit) (stamp : ℕ) (area : Rect)
     AreSame mid (joined old (blank stamp area)) → IsJoining old mid (written stamp e.cells) (writes_of e)
 area_joined old mid e stamp area edit same has step =
     joining_goes old old mid (blank stamp area) (written stamp e.cells) (writes_of e) (writes_of e) (joining_starts old (writes_of e))
-      (λ c. (λ i. writes_of (record { stamp = sym same i; area = has i; cells = e.cells }) c) ∙ area_and_cells stamp area e.cells edit.sorted c)
-      step
+    (λ c. (λ i. writes_of (record { stamp = sym same i; area = has i; cells = e.cells }) c) ∙ area_and_cells stamp area e.cells edit.sorted c)
+    step
 
 -- an edit without an area
 pub no_area_joined : (old : Writes) (e : PlaneEdit) (stamp : ℕ) → IsEdit e → stamp ≡ e.stamp → e.area ≡ None →
     IsJoining old old (written stamp e.cells) (writes_of e)
 no_area_joined old e stamp edit same has =
     joining_goes old old old (λ _. unwritten) (written stamp e.cells) (writes_of e) (writes_of e) (joining_starts old (writes_of e))
-      (λ c. (λ i. writes_of (record { stamp = sym same i; area = has i; cells = e.cells }) c) ∙ cells_alone stamp e.cells edit.sorted c
-        ∙ sym (unwritten-greater (written stamp e.cells c)))
-      (λ c. sym (greater-unwritten (old c)))
+    (λ c. (λ i. writes_of (record { stamp = sym same i; area = has i; cells = e.cells }) c) ∙ cells_alone stamp e.cells edit.sorted c
+    ∙ sym (unwritten-greater (written stamp e.cells c)))
+    (λ c. sym (greater-unwritten (old c)))
 
 -- the cells are joined last
 pub cells_joined : (old mid new : Writes) (e : PlaneEdit) (stamp : ℕ) (cells : List Cell) → cells ≡ e.cells →
     IsJoining old mid (written stamp e.cells) (writes_of e) → AreSame new (joined mid (written stamp cells)) → AreSame new (joined old (writes_of e))
 cells_joined old mid new e stamp cells same far step =
     joining_ends old new (λ _. unwritten) (writes_of e)
-      (joining_goes old mid new (written stamp cells) (λ _. unwritten) (written stamp e.cells) (writes_of e) far
-        (λ c. ap (λ cs. written stamp cs c) (sym same) ∙ sym (greater-unwritten (written stamp cells c))) step)
-      (λ c. refl)
+    (joining_goes old mid new (written stamp cells) (λ _. unwritten) (written stamp e.cells) (writes_of e) far
+    (λ c. ap (λ cs. written stamp cs c) (sym same) ∙ sym (greater-unwritten (written stamp cells c))) step)
+    (λ c. refl)
 
 -- or stop half way
 pub cells_broken : (old mid new : Writes) (e : PlaneEdit) (stamp : ℕ) (cells : List Cell) → cells ≡ e.cells →
     IsJoining old mid (written stamp e.cells) (writes_of e) → IsBetween mid (written stamp cells) new → IsBetween old (writes_of e) new
 cells_broken old mid new e stamp cells same far stopped =
     joining_breaks old mid new (written stamp cells) (λ _. unwritten) (written stamp e.cells) (writes_of e) far
-      (λ c. ap (λ cs. written stamp cs c) (sym same) ∙ sym (greater-unwritten (written stamp cells c))) stopped
+    (λ c. ap (λ cs. written stamp cs c) (sym same) ∙ sym (greater-unwritten (written stamp cells c))) stopped
 
 -- the area stops half way
 pub area_broken : (old new : Writes) (e : PlaneEdit) (stamp : ℕ) (area : Rect) → IsEdit e → stamp ≡ e.stamp → e.area ≡ Some area →
     IsBetween old (blank stamp area) new → IsBetween old (writes_of e) new
 area_broken old new e stamp area edit same has stopped =
     joining_breaks old old new (blank stamp area) (written stamp e.cells) (writes_of e) (writes_of e) (joining_starts old (writes_of e))
-      (λ c. (λ i. writes_of (record { stamp = sym same i; area = has i; cells = e.cells }) c) ∙ area_and_cells stamp area e.cells edit.sorted c)
-      stopped
+    (λ c. (λ i. writes_of (record { stamp = sym same i; area = has i; cells = e.cells }) c) ∙ area_and_cells stamp area e.cells edit.sorted c)
+    stopped

@@ -1,5 +1,5 @@
 -- A map to which writes are joined one after another.
-use Rattle.std.proofs.Common.{◌≡◌, ℕ, ◌+◌, ◌-◌, ◌≤◌, ◌<◌, max, ℤ, pos, ◌+ℤ◌, length, get_or, drop, drop-cons, add-one, Bool, true, false, cond, List, [], ◌∷◌, refl, sym, ◌∙◌, ap, subst, arith, inl, inr, if◌then◌else◌}
+use Rattle.std.proofs.Common.{◌≡◌, ℕ, ◌+◌, ◌-◌, ◌≤◌, ◌<◌, max, ℤ, pos, ◌+ℤ◌, length, get_or, drop, drop-cons, add-one, Bool, true, false, List, refl, sym, ◌∙◌, ap, subst, arith, inl, inr, if◌then◌else◌}
 use Rattle.std.specs.Prelude.{IsTrue, Result, Ok, Err, OnErr, ◌||◌, ◌&&◌, int_le, int_lt}
 use Rattle.std.specs.Ordering.{int_eq}
 use Rattle.std.proofs.lemmas.Bool.{cases_Bool}
@@ -7,7 +7,6 @@ use Rattle.std.proofs.lemmas.Bool.Decides.{nat_tests}
 use Rattle.generations_rule.specs.Place.{Place, is_place}
 use Rattle.std.proofs.lemmas.Int.{ints}
 use Rattle.multistate_rle.specs.declared.cell.Cell.{Cell}
-use Rattle.multistate_rle.specs.Cells.{place_of}
 use Rattle.edit_stamps.specs.declared.write.Write.{Write}
 use Rattle.edit_stamps.specs.Plane.{is_in, is_in_plane, is_area_in_plane}
 use Rattle.edit_stamps.specs.PlaneMap.{PlaneMap, write_at}
@@ -17,7 +16,7 @@ use Rattle.edit_stamps.proofs.WriteLaws.{is_total, is_lattice, is_least_upper_bo
 use Rattle.replica_core.specs.declared.plane.Coordinate.{Coordinate}
 use Rattle.edit_stamps.specs.declared.rect.Rect.{Rect}
 use Rattle.replica_core.specs.Plane.{place_at, only, written, blank, strip, IsGreatestStamp, LiesInPlane, IsBetween, IsPlane}
-use Rattle.replica_core.proofs.JoinLemmas.{absorbed, greater-unwritten, unwritten-greater}
+use Rattle.replica_core.proofs.JoinLemmas.{greater-unwritten, unwritten-greater}
 
 -- ---- the greatest stamp
 
@@ -32,26 +31,26 @@ pub right_of : (v w : Write) → at_most w (greater v w) ≡ true
 right_of v w = is_least_upper_bound.right (λ _. v) (λ _. w) (record { x = pos 0; y = pos 0 })
 
 pub stamp_of_greater : (v w : Write) → (greater v w).stamp ≤ max v.stamp w.stamp
-stamp_of_greater v w = elim (cases_Bool (at_most v w)) [ | inl t ↦ rw t (omega arith) | inr f ↦ rw f (omega arith) ]
+stamp_of_greater v w = elim (cases_Bool (at_most v w)) [ inl t ↦ rw t (omega arith) | inr f ↦ rw f (omega arith) ]
 
 only-here : (c : Place) (w : Write) → only c w c ≡ w
 only-here c w = rw (same_itself c) refl
 
 only_stamp : (c : Place) (w : Write) (d : Place) → (only c w d).stamp ≤ w.stamp
-only_stamp c w d = elim (cases_Bool (is_place c d)) [ | inl t ↦ rw t (omega arith) | inr f ↦ rw f (omega arith) ]
+only_stamp c w d = elim (cases_Bool (is_place c d)) [ inl t ↦ rw t (omega arith) | inr f ↦ rw f (omega arith) ]
 
 pub greatest_joined : (g : ℕ) (p q : Writes) (c : Place) (w : Write) → IsGreatestStamp g p → AreSame q (joined p (only c w)) → IsGreatestStamp (max g w.stamp) q
 greatest_joined g p q c w greatest same = record {
   above = λ d. rw (same d) (omega (arith, stamp_of_greater (p d) (only c w d), greatest.above d, only_stamp c w d));
   least = λ m bound.
-    let old : g ≤ m = greatest.least m (λ d.
+      let old : g ≤ m = greatest.least m (λ d.
       let up : (p d).stamp ≤ (greater (p d) (only c w d)).stamp = stamps_rise (p d) (greater (p d) (only c w d)) (left_of (p d) (only c w d)) in
       let within : (greater (p d) (only c w d)).stamp ≤ m = subst (λ v. v.stamp ≤ m) (same d) (bound d) in
       omega arith) in
-    let up : (only c w c).stamp ≤ (greater (p c) (only c w c)).stamp = stamps_rise (only c w c) (greater (p c) (only c w c)) (right_of (p c) (only c w c)) in
-    let within : (greater (p c) (only c w c)).stamp ≤ m = subst (λ v. v.stamp ≤ m) (same c) (bound c) in
-    let own : (only c w c).stamp ≡ w.stamp = ap (λ v. v.stamp) (only-here c w) in
-    omega arith
+      let up : (only c w c).stamp ≤ (greater (p c) (only c w c)).stamp = stamps_rise (only c w c) (greater (p c) (only c w c)) (right_of (p c) (only c w c)) in
+      let within : (greater (p c) (only c w c)).stamp ≤ m = subst (λ v. v.stamp ≤ m) (same c) (bound c) in
+      let own : (only c w c).stamp ≡ w.stamp = ap (λ v. v.stamp) (only-here c w) in
+      omega arith;
 }
 
 -- ---- the plane
@@ -64,15 +63,15 @@ pub plane_joined : (g : ℕ) (p q : PlaneMap) (c : Place) (w : Write) → IsPlan
     AreSame (write_at q) (joined (write_at p) (only c w)) → IsPlane (max g w.stamp) q
 plane_joined g p q c w plane here same = record {
   greatest = greatest_joined g (write_at p) (write_at q) c w plane.greatest same;
-  inside = inside_joined (write_at p) (write_at q) (only c w) plane.inside here same
+  inside = inside_joined (write_at p) (write_at q) (only c w) plane.inside here same;
 }
 
 -- a write in the plane
 pub only_inside : (c : Place) (w : Write) → is_in_plane c ≡ true → LiesInPlane (only c w)
 only_inside c w here d out = elim (cases_Bool (is_place c d)) [
-    | inl t ↦ absurd (let e : is_in_plane d ≡ true = subst (λ e. is_in_plane e ≡ true) (one_place c d t) here in cc)
-    | inr f ↦ rw f refl
-  ]
+  | inl t ↦ absurd (let e : is_in_plane d ≡ true = subst (λ e. is_in_plane e ≡ true) (one_place c d t) here in cc)
+  | inr f ↦ rw f refl
+]
 
 -- ---- joining one after another
 
@@ -88,9 +87,9 @@ pub joining_goes : (old now later added rest more all : Writes) → IsJoining ol
     AreSame more (joined added rest) → AreSame later (joined now added) → IsJoining old later rest all
 joining_goes old now later added rest more all far split step = record {
   kept = λ c. is_total.transitive (old c) (now c) (later c) (far.kept c)
-    (subst (λ v. IsTrue (at_most (now c) v)) (sym (step c)) (left_of (now c) (added c)));
+      (subst (λ v. IsTrue (at_most (now c) v)) (sym (step c)) (left_of (now c) (added c)));
   left = λ c. ap (λ v. greater v (rest c)) (step c) ∙ is_lattice.associative (now c) (added c) (rest c)
-    ∙ ap (greater (now c)) (sym (split c)) ∙ far.left c
+      ∙ ap (greater (now c)) (sym (split c)) ∙ far.left c;
 }
 
 pub joining_ends : (old now rest all : Writes) → IsJoining old now rest all → AreSame rest (λ _. unwritten) → AreSame now (joined old all)
@@ -101,7 +100,7 @@ joining_ends old now rest all far none c =
 pub joining_stops : (old now rest all : Writes) → IsJoining old now rest all → IsBetween old all now
 joining_stops old now rest all far = record {
   kept = far.kept;
-  no_more = λ c. subst (λ v. IsTrue (at_most (now c) v)) (far.left c) (left_of (now c) (rest c))
+  no_more = λ c. subst (λ v. IsTrue (at_most (now c) v)) (far.left c) (left_of (now c) (rest c));
 }
 
 -- a part of it that stops half way
@@ -110,12 +109,12 @@ pub joining_breaks : (old now later added rest more all : Writes) → IsJoining 
 joining_breaks old now later added rest more all far split stopped = record {
   kept = λ c. is_total.transitive (old c) (now c) (later c) (far.kept c) (stopped.kept c);
   no_more = λ c.
-    let up : at_most (later c) (greater (now c) (added c)) ≡ true = stopped.no_more c in
-    let more_of : greater (greater (now c) (added c)) (rest c) ≡ greater (old c) (all c) =
+      let up : at_most (later c) (greater (now c) (added c)) ≡ true = stopped.no_more c in
+      let more_of : greater (greater (now c) (added c)) (rest c) ≡ greater (old c) (all c) =
       is_lattice.associative (now c) (added c) (rest c) ∙ ap (greater (now c)) (sym (split c)) ∙ far.left c in
-    subst (λ v. IsTrue (at_most (later c) v)) more_of
+      subst (λ v. IsTrue (at_most (later c) v)) more_of
       (is_total.transitive (later c) (greater (now c) (added c)) (greater (greater (now c) (added c)) (rest c)) up
-        (left_of (greater (now c) (added c)) (rest c)))
+      (left_of (greater (now c) (added c)) (rest c)));
 }
 
 -- ---- cells and areas
@@ -185,7 +184,7 @@ no_row x y w c = grind (arith, ints)
 pub first_blank : (stamp : ℕ) (row : Rect) (i : ℕ) (at : Coordinate) → i < row.width → row.height ≡ 1 →
     at ≡ record { y = row.y; x = row.x +ℤ pos i } →
     AreSame (blank stamp (strip (row.x +ℤ pos i) row.y (row.width - i) 1))
-      (joined (only (place_at at) (record { stamp = stamp; state = 0 })) (blank stamp (strip (row.x +ℤ pos (i + 1)) row.y (row.width - (i + 1)) 1)))
+    (joined (only (place_at at) (record { stamp = stamp; state = 0 })) (blank stamp (strip (row.x +ℤ pos (i + 1)) row.y (row.width - (i + 1)) 1)))
 first_blank stamp row i at within one is c =
     let zero : Write = record { stamp = stamp; state = 0 } in
     let rest : Bool = is_in (strip (row.x +ℤ pos (i + 1)) row.y (row.width - (i + 1)) 1) c in
@@ -196,7 +195,7 @@ first_blank stamp row i at within one is c =
 -- the first row of what is left of an area
 pub first_blank_row : (stamp : ℕ) (area row : Rect) (i : ℕ) → i < area.height → row ≡ strip area.x (area.y +ℤ pos i) area.width 1 →
     AreSame (blank stamp (strip area.x (area.y +ℤ pos i) area.width (area.height - i)))
-      (joined (blank stamp row) (blank stamp (strip area.x (area.y +ℤ pos (i + 1)) area.width (area.height - (i + 1)))))
+    (joined (blank stamp row) (blank stamp (strip area.x (area.y +ℤ pos (i + 1)) area.width (area.height - (i + 1)))))
 first_blank_row stamp area row i within is c =
     let zero : Write = record { stamp = stamp; state = 0 } in
     let rest : Bool = is_in (strip area.x (area.y +ℤ pos (i + 1)) area.width (area.height - (i + 1))) c in
@@ -220,7 +219,7 @@ pub joining_starts_at : (old : Writes) (stamp : ℕ) (area : Rect) →
 joining_starts_at old stamp area =
     let height : area.height - 0 ≡ area.height = omega arith in
     subst (λ y. IsJoining old old (blank stamp (strip area.x y area.width (area.height - 0))) (blank stamp area)) (sym (add_none area.y))
-      (subst (λ h. IsJoining old old (blank stamp (strip area.x area.y area.width h)) (blank stamp area)) (sym height) (joining_starts old (blank stamp area)))
+    (subst (λ h. IsJoining old old (blank stamp (strip area.x area.y area.width h)) (blank stamp area)) (sym height) (joining_starts old (blank stamp area)))
 
 -- what holds anyway holds after an error
 pub on_err : {T E P : Type 0} (r : Result T E) → P → OnErr r P
@@ -232,8 +231,8 @@ pub column_inside : (row : Rect) (i : ℕ) (at : Coordinate) → is_area_in_plan
     at ≡ record { y = row.y; x = row.x +ℤ pos i } → is_in_plane (place_at at) ≡ true
 column_inside row i at area within one is =
     ap (λ q. is_in_plane (place_at q)) is ∙ inside_of row.x row.y row.width row.height i area within where
-  inside_of : (x y : ℤ) (w h j : ℕ) → is_area_in_plane (strip x y w h) ≡ true → j < w → is_in_plane (record { x = x +ℤ pos j; y = y }) ≡ true
-  inside_of x y w h j fits below = grind (arith, ints)
+      inside_of : (x y : ℤ) (w h j : ℕ) → is_area_in_plane (strip x y w h) ≡ true → j < w → is_in_plane (record { x = x +ℤ pos j; y = y }) ≡ true
+      inside_of x y w h j fits below = grind (arith, ints)
 
 -- before the first column of a row
 pub joining_starts_row : (old : Writes) (stamp : ℕ) (row : Rect) → row.height ≡ 1 →
@@ -241,5 +240,5 @@ pub joining_starts_row : (old : Writes) (stamp : ℕ) (row : Rect) → row.heigh
 joining_starts_row old stamp row one =
     let width : row.width - 0 ≡ row.width = omega arith in
     subst (λ x. IsJoining old old (blank stamp (strip x row.y (row.width - 0) 1)) (blank stamp row)) (sym (add_none row.x))
-      (subst (λ w. IsJoining old old (blank stamp (strip row.x row.y w 1)) (blank stamp row)) (sym width)
-        (subst (λ h. IsJoining old old (blank stamp (strip row.x row.y row.width h)) (blank stamp row)) one (joining_starts old (blank stamp row))))
+    (subst (λ w. IsJoining old old (blank stamp (strip row.x row.y w 1)) (blank stamp row)) (sym width)
+    (subst (λ h. IsJoining old old (blank stamp (strip row.x row.y row.width h)) (blank stamp row)) one (joining_starts old (blank stamp row))))

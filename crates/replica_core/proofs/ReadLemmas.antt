@@ -1,11 +1,10 @@
 -- What is read of a map of coordinates is what the map has there.
-use Rattle.std.proofs.Common.{◌≡◌, ℕ, Bool, true, false, List, [], ◌∷◌, refl, sym, ◌∙◌, ap, arith, ℤ, pos, ◌+ℤ◌, cond}
-use Rattle.std.specs.Prelude.{◌&&◌, int_le, int_lt, Option, Some, None, unwrap_or, option_map, find}
+use Rattle.std.proofs.Common.{◌≡◌, Bool, true, false, List, [], ◌∷◌, refl, ◌∙◌, ap, arith, cond}
+use Rattle.std.specs.Prelude.{Option, Some, unwrap_or, option_map, find}
 use Rattle.std.specs.declared.cmp.Ordering.{Ordering}
 use Rattle.std.specs.Ordering.{is_eq, int_cmp, ordering_then}
 use Rattle.std.specs.Map.{lookup}
 use Rattle.std.proofs.lemmas.Int.{ints}
-use Rattle.generations_rule.specs.Place.{Place}
 use Rattle.edit_stamps.specs.declared.write.Write.{Write}
 use Rattle.edit_stamps.specs.Write.{unwritten}
 use Rattle.edit_stamps.specs.Plane.{is_in}

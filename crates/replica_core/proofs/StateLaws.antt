@@ -1,7 +1,6 @@
 -- States stay below a number as writes are joined.
-use Rattle.std.proofs.Common.{◌≡◌, ℕ, zero, suc, ◌+◌, ◌<◌, ◌≤◌, Bool, true, false, List, [], ◌∷◌, length, get_or, drop, drop-cons, add-one, refl, sym, ◌∙◌, ap, subst, arith, inl, inr, pos, if◌then◌else◌}
-use Rattle.std.specs.Prelude.{IsTrue, ⊤, nat_lt, ◌&&◌, unwrap_or}
-use Rattle.std.specs.List.{AllByRecursion, list_all}
+use Rattle.std.proofs.Common.{◌≡◌, ℕ, zero, suc, ◌+◌, ◌<◌, true, List, [], ◌∷◌, length, get_or, drop, drop-cons, add-one, refl, sym, ◌∙◌, ap, subst, arith, inl, inr, pos, if◌then◌else◌}
+use Rattle.std.specs.Prelude.{IsTrue, nat_lt, unwrap_or}
 use Rattle.std.proofs.lemmas.Bool.{cases_Bool, and_parts, ltb-true}
 use Rattle.generations_rule.specs.Place.{Place, is_place}
 use Rattle.multistate_rle.specs.declared.cell.Cell.{Cell}
@@ -28,13 +27,13 @@ pub zero_below : (n : ℕ) (p : Writes) → HasStatesBelow n p → 0 < n
 zero_below n p below = omega (arith, below origin)
 
 greater_below : (n : ℕ) (v w : Write) → v.state < n → w.state < n → (greater v w).state < n
-greater_below n v w h k = elim (cases_Bool (at_most v w)) [ | inl t ↦ rw t k | inr f ↦ rw f h ]
+greater_below n v w h k = elim (cases_Bool (at_most v w)) [ inl t ↦ rw t k | inr f ↦ rw f h ]
 
 pub joined_below : (n : ℕ) (p q r : Writes) → HasStatesBelow n p → HasStatesBelow n q → AreSame r (joined p q) → HasStatesBelow n r
 joined_below n p q r h k same c = rw (same c) (greater_below n (p c) (q c) (h c) (k c))
 
 only_below : (n : ℕ) (c : Place) (w : Write) → w.state < n → HasStatesBelow n (only c w)
-only_below n c w h d = elim (cases_Bool (is_place c d)) [ | inl t ↦ rw t h | inr f ↦ rw f (omega arith) ]
+only_below n c w h d = elim (cases_Bool (is_place c d)) [ inl t ↦ rw t h | inr f ↦ rw f (omega arith) ]
 
 -- one write
 pub write_keeps : (old new : Writes) (c : Place) (w : Write) → AreSame new (joined old (only c w)) → KeepsStates (λ n. w.state < n) old new
@@ -77,21 +76,21 @@ first_alone e entries sorted =
 rest_below : (n : ℕ) (e : Coordinate × Write) (entries : List (Coordinate × Write)) → IsStrictlySortedBy key_cmp (keys_of (e ∷ entries)) →
     HasStatesBelow n (entries_written (e ∷ entries)) → HasStatesBelow n (entries_written entries)
 rest_below n e entries sorted below c = elim (cases_Bool (is_place (place_at e.0) c)) [
-    | inl here ↦
+  | inl here ↦
       let none : entries_written entries c ≡ unwritten = subst (λ p. entries_written entries p ≡ unwritten) (one_place (place_at e.0) c here) (first_alone e entries sorted) in
       rw none (zero_below n (entries_written (e ∷ entries)) below)
-    | inr there ↦
+  | inr there ↦
       let same : entries_written (e ∷ entries) c ≡ entries_written entries c =
-        ap (λ b. greater (if b then e.1 else unwritten) (entries_written entries c)) there ∙ unwritten-greater (entries_written entries c) in
+      ap (λ b. greater (if b then e.1 else unwritten) (entries_written entries c)) there ∙ unwritten-greater (entries_written entries c) in
       subst (λ v. v.state < n) same (below c)
-  ]
+]
 
 pub entries_below : (n : ℕ) (entries : List (Coordinate × Write)) → IsStrictlySortedBy key_cmp (keys_of entries) → HasStatesBelow n (entries_written entries) → AllBelow n entries
 unfolding IsStrictlySortedBy
 entries_below n [] sorted below = tt
 entries_below n (e ∷ entries) sorted below =
     let own : entries_written (e ∷ entries) (place_at e.0) ≡ e.1 =
-      (λ i. greater (only_here (place_at e.0) e.1 i) (first_alone e entries sorted i)) ∙ greater-unwritten e.1 in
+    (λ i. greater (only_here (place_at e.0) e.1 i) (first_alone e entries sorted i)) ∙ greater-unwritten e.1 in
     (subst (λ v. v.state < n) own (below (place_at e.0)), entries_below n entries sorted.1 (rest_below n e entries sorted below))
 
 -- ---- edits
@@ -113,5 +112,5 @@ pub entries_all_below : (p : PlaneMap) (entries items : List (Coordinate × Writ
     IsStrictlySortedBy key_cmp (keys_of entries) → map_of_entries entries ≡ p → (n : ℕ) → HasStatesBelow n (write_at p) → AllBelow n items
 entries_all_below p entries items same sorted is n below =
     let read : HasStatesBelow n (entries_written entries) = λ c.
-      subst (λ v. v.state < n) (ap (λ q. write_at q c) (sym is) ∙ sym (written_is_read entries sorted c)) (below c) in
+    subst (λ v. v.state < n) (ap (λ q. write_at q c) (sym is) ∙ sym (written_is_read entries sorted c)) (below c) in
     subst (AllBelow n) (sym same) (entries_below n entries sorted read)

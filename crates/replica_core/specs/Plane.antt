@@ -1,5 +1,5 @@
 -- The plane of a replica, as it is read.
-use Rattle.std.specs.Prelude.{IsTrue, ◌≡◌, ℕ, ◌≤◌, ◌<◌, ℤ, Bool, false, List, [], ◌∷◌, map, if◌then◌else◌}
+use Rattle.std.specs.Prelude.{IsTrue, ◌≡◌, ℕ, ◌≤◌, ◌<◌, ℤ, false, List, [], ◌∷◌, map, if◌then◌else◌}
 use Rattle.generations_rule.specs.Place.{Place, is_place}
 use Rattle.multistate_rle.specs.declared.cell.Cell.{Cell}
 use Rattle.multistate_rle.specs.Cells.{place_of}
@@ -10,7 +10,7 @@ use Rattle.std.specs.List.{AllByRecursion}
 use Rattle.edit_stamps.specs.Edit.{PlaneEdit, has_states_below}
 use Rattle.edit_stamps.specs.Plane.{is_in, is_in_plane}
 use Rattle.edit_stamps.specs.PlaneMap.{PlaneMap, write_at}
-use Rattle.edit_stamps.specs.Write.{unwritten, greater, Writes, AreSame, IsBelow, joined}
+use Rattle.edit_stamps.specs.Write.{unwritten, greater, Writes, IsBelow, joined}
 
 abbrev pub place_at : Coordinate → Place
 place_at at = record { x = at.x; y = at.y }

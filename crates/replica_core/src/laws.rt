@@ -7,12 +7,10 @@ ghost use Rattle.replica_core.specs.Laws.{NotesEdits, TellsCounter};
 /// a replica need not keep edits to know its clock.
 pub fn clock_laws()
     ensures { TellsCounter }
-{
-}
+{}
 
 /// A noted journal has the edits of both lists, each once if it had each once, and noting a list
 /// again changes nothing.
 pub fn journal_laws()
     ensures { NotesEdits }
-{
-}
+{}

@@ -99,7 +99,10 @@ impl Plane {
     pub fn get(&self, x: i32, y: i32) -> Write
         ensures { result ≡ write_at self.now (at_place x y) }
     {
-        self.writes.get(&at(x, y)).copied().unwrap_or(Write::UNWRITTEN)
+        self.writes
+            .get(&at(x, y))
+            .copied()
+            .unwrap_or(Write::UNWRITTEN)
     }
 
     /// The greatest stamp of a write, 0 where there is none.

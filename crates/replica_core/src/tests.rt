@@ -164,8 +164,28 @@ fn notes_two_edits_of_one_stamp(rt: HostRuntime) -> Result<(), Fail> {
     let rule = Rule::parse(b"345/2/4")?;
     let mut one = Replica::new(alloc, rule, 3)?;
     let mut other = Replica::new(alloc, rule, 4)?;
-    let low = message_of_one(alloc, rule, 5, 1, Cell { x: 0, y: 0, state: 1 })?;
-    let high = message_of_one(alloc, rule, 5, 1, Cell { x: 0, y: 0, state: 3 })?;
+    let low = message_of_one(
+        alloc,
+        rule,
+        5,
+        1,
+        Cell {
+            x: 0,
+            y: 0,
+            state: 1,
+        },
+    )?;
+    let high = message_of_one(
+        alloc,
+        rule,
+        5,
+        1,
+        Cell {
+            x: 0,
+            y: 0,
+            state: 3,
+        },
+    )?;
     for message in [&low, &high, &low] {
         one.take(message)?;
     }

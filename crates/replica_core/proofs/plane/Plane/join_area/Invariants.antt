@@ -8,5 +8,5 @@ use Rattle.replica_core.proofs.plane.Plane.join_area.Given as goal
 abbrev pub invariant-loop-row : goal.invariant-loop-row
 invariant-loop-row l =
     IsJoining (write_at l.fn.self) (write_at l.self)
-      (blank l.stamp (strip l.area.x (l.area.y +ℤ pos l.row) l.area.width (l.area.height - l.row))) (blank l.stamp l.area)
+    (blank l.stamp (strip l.area.x (l.area.y +ℤ pos l.row) l.area.width (l.area.height - l.row))) (blank l.stamp l.area)
     × KeepsStates (λ _. ⊤) (write_at l.fn.self) (write_at l.self)

@@ -8,5 +8,5 @@ use Rattle.replica_core.proofs.plane.Plane.join_row.Given as goal
 abbrev pub invariant-loop-column : goal.invariant-loop-column
 invariant-loop-column l =
     IsJoining (write_at l.fn.self) (write_at l.self)
-      (blank l.stamp (strip (l.row.x +ℤ pos l.column) l.row.y (l.row.width - l.column) 1)) (blank l.stamp l.row)
+    (blank l.stamp (strip (l.row.x +ℤ pos l.column) l.row.y (l.row.width - l.column) 1)) (blank l.stamp l.row)
     × KeepsStates (λ _. ⊤) (write_at l.fn.self) (write_at l.self)

@@ -1,0 +1,229 @@
+-- Texts that spell tokens, with any digits for their counts, are read as the tokens.
+use Rattle.std.proofs.Common.{◌≡◌, ◌≢◌, ℕ, zero, suc, ◌+◌, ◌*◌, ◌-◌, ◌/◌, ◌%◌, ◌≤◌, ◌<◌, ◌^◌, Bool, true, false, List, [], ◌∷◌, ◌++◌, refl, sym, ◌∙◌, ap, arith, subst, inl, inr, ◌⊎◌, append_assoc, append-nil, eq-eqb}
+use Rattle.std.specs.Prelude.{Option, Some, None, Result, Ok, Err, unwrap_or, ◌==◌, ◌&&◌, ◌||◌, nat_lt, nat_le, if◌then◌else◌, ⊤, codes}
+use Rattle.std.specs.List.{list_all}
+use Rattle.std.specs.Str.Parse.{digits_value, digits_value_after}
+use Rattle.std.specs.Char.{digit_value}
+use Rattle.std.proofs.lemmas.Bool.{ne_eqb, eqb-true, eqb-false}
+use Rattle.std.proofs.lemmas.Bool.Decides.{nat_tests}
+use Rattle.generations_rule.specs.Refusal.{when, first_of, ◌>>=◌}
+use Rattle.multistate_rle.specs.declared.fault.RleFault.{RleFault}
+use Rattle.multistate_rle.specs.declared.fault.RleFault.TheVariants.{State, Count, TooMany}
+use Rattle.multistate_rle.specs.declared.role.Role.{Role}
+use Rattle.multistate_rle.specs.declared.role.Role.TheVariants as role
+use Rattle.multistate_rle.specs.declared.tokens.Begun.{Begun}
+use Rattle.multistate_rle.specs.declared.letters.Letters.{Letters}
+use Rattle.multistate_rle.specs.Bytes.{is_digit}
+use Rattle.multistate_rle.specs.Letters.{letters, letters_text}
+use Rattle.multistate_rle.specs.Tokens.{Token, Cells, Rows, drawn, count_of}
+use Rattle.multistate_rle.specs.Reading.{Mark, Pen, bytes_of, is_letter, is_prefix, bare_role, role_of, start, fresh, with_digit, with_prefix, ended, fault_of, followed, moved, cells_of, tokens_of, AreFine, bare, body_read, pattern_of}
+use Rattle.multistate_rle.specs.Laws.{IsCount, IsTag, IsSpelling, EndsTokens, ReadsSpellings}
+use Rattle.multistate_rle.proofs.NumberLemmas.{digit_is}
+use Rattle.multistate_rle.proofs.ReadLemmas.{by_role, step_is}
+use Rattle.multistate_rle.proofs.PatternLaws.{and_parts, none_of_three, none_of_one, FineRun, fine_run}
+
+-- ---- what bytes are
+
+letter_role : (prefix : Option ℕ) (c : ℕ) → 65 ≤ c → c ≤ 88 → role_of prefix c ≡ role.State (24 * unwrap_or prefix 0 + (c - 64))
+letter_role prefix c low high =
+    let mark : (c == 33) ≡ false = ne_eqb c 33 (omega arith) in
+    let first : nat_le 65 c ≡ true = grind (arith, nat_tests) in
+    let last : nat_le c 88 ≡ true = grind (arith, nat_tests) in
+    rw (mark, first, last) refl
+
+no_letter : (c : ℕ) → 88 < c → role_of None c ≡ bare_role c
+no_letter c high =
+    let mark : (c == 33) ≡ false = ne_eqb c 33 (omega arith) in
+    let first : nat_le 65 c ≡ true = grind (arith, nat_tests) in
+    let last : nat_le c 88 ≡ false = grind (arith, nat_tests) in
+    rw (mark, first, last) refl
+
+prefix_role : (c : ℕ) → 112 ≤ c → c ≤ 121 → role_of None c ≡ role.Prefix (c - 111)
+prefix_role c low high =
+    let past : nat_le c 57 ≡ false = grind (arith, nat_tests) in
+    let digit : nat_le 48 c ≡ true = grind (arith, nat_tests) in
+    let first : nat_le 112 c ≡ true = grind (arith, nat_tests) in
+    let last : nat_le c 121 ≡ true = grind (arith, nat_tests) in
+    no_letter c (omega arith) ∙ rw (digit, past, first, last) refl
+
+digit_role : (c : ℕ) → is_digit c ≡ true → role_of None c ≡ role.Digit (c - 48)
+digit_role c digit =
+    let parts = and_parts (nat_le 48 c) (nat_le c 57) digit in
+    let low : 48 ≤ c = grind (arith, nat_tests, parts.0) in
+    let high : c ≤ 57 = grind (arith, nat_tests, parts.1) in
+    let mark : (c == 33) ≡ false = ne_eqb c 33 (omega arith) in
+    let first : nat_le 65 c ≡ false = grind (arith, nat_tests) in
+    rw (mark, first, digit) refl
+
+-- ---- counts
+
+-- what is read of a count, with digits behind it
+counted : Option ℕ → List ℕ → Option ℕ
+counted count [] = count
+counted count (c ∷ ds) = counted (Some (10 * unwrap_or count 0 + (c - 48))) ds
+
+counted_is : (n : ℕ) (ds : List ℕ) → list_all is_digit ds ≡ true → counted (Some n) ds ≡ Some (digits_value_after 10 n ds)
+unfolding counted
+counted_is n [] digits = refl
+counted_is n (c ∷ ds) digits =
+    let parts = and_parts (is_digit c) (list_all is_digit ds) digits in
+    let next : 10 * n + (c - 48) ≡ n * 10 + digit_value c = omega (arith, digit_is c parts.0) in
+    counted_is (10 * n + (c - 48)) ds parts.1 ∙ ap (λ m. Some (digits_value_after 10 m ds)) next
+
+count_is : (n : ℕ) (ds : List ℕ) → IsCount n ds → unwrap_or (counted None ds) 1 ≡ n
+unfolding counted
+count_is n [] is = sym is
+count_is n (c ∷ ds) is =
+    let parts = and_parts (is_digit c) (list_all is_digit ds) is.0 in
+    let first : 10 * 0 + (c - 48) ≡ 0 * 10 + digit_value c = omega (arith, digit_is c parts.0) in
+    ap (λ o. unwrap_or o 1) (counted_is (10 * 0 + (c - 48)) ds parts.1 ∙ ap (λ m. Some (digits_value_after 10 m ds)) first) ∙ is.1
+
+count_digits : (n : ℕ) (ds : List ℕ) → IsCount n ds → list_all is_digit ds ≡ true
+count_digits n [] is = refl
+count_digits n (c ∷ ds) is = is.0
+
+-- what is read once the digits of a count are read
+record Counted (end : ℕ) (marks : List Mark) (rest : List ℕ) (count : Option ℕ) (b : Begun) (pen : Pen) : Type 0 where
+  later : List Mark
+  begun : Begun
+  bytes : bytes_of later ≡ rest
+  same : tokens_of end marks b pen ≡ tokens_of end later begun pen
+  count_read : begun.count ≡ count
+  no_prefix : begun.prefix ≡ None
+
+digits_read : (end : ℕ) (ds rest : List ℕ) (marks : List Mark) (b : Begun) (pen : Pen) → bytes_of marks ≡ ds ++ rest → b.prefix ≡ None → list_all is_digit ds ≡ true →
+    Counted end marks rest (counted b.count ds) b pen
+unfolding counted
+digits_read end [] rest marks b pen bytes none digits = record { later = marks; begun = b; bytes = bytes; same = refl; count_read = refl; no_prefix = none }
+digits_read end (c ∷ ds) rest [] b pen bytes none digits = absurd (cc)
+digits_read end (c ∷ ds) rest (m ∷ marks) b pen bytes none digits =
+    let parts = and_parts (is_digit c) (list_all is_digit ds) digits in
+    let byte : m.1 ≡ c = cc in
+    let more : bytes_of marks ≡ ds ++ rest = cc in
+    let is : role_of b.prefix m.1 ≡ role.Digit (c - 48) = (λ i. role_of (none i) (byte i)) ∙ digit_role c parts.0 in
+    let next = digits_read end ds rest marks (with_digit m.0 (c - 48) b) pen more none parts.1 in
+    record {
+      later = next.later;
+      begun = next.begun;
+      bytes = next.bytes;
+      same = step_is end m marks b pen (role.Digit (c - 48)) is ∙ next.same;
+      count_read = next.count_read;
+      no_prefix = next.no_prefix;
+    }
+
+-- ---- tags
+
+fine_at : (place : ℕ) (pen : Pen) (token : Token) → fault_of 0 pen token ≡ None → fault_of place pen token ≡ None
+fine_at place pen (Cells n s) none =
+    let three = none_of_three (nat_lt 255 s) (n == 0 || nat_lt (2 ^ 32) (pen.column + n)) (nat_lt (2 ^ 20) (pen.cells + cells_of (Cells n s))) (State 0) (Count 0) TooMany none in
+    rw (three.0, three.1, three.2) refl
+fine_at place pen (Rows n) none = rw (none_of_one (n == 0 || nat_lt (2 ^ 32 - 1) (pen.row + n)) (Count 0) none) refl
+
+-- the byte that ends a run of a state
+run_ends : (end : ℕ) (m : Mark) (marks : List Mark) (b : Begun) (pen : Pen) (n s : ℕ) (tokens : List Token) → role_of b.prefix m.1 ≡ role.State s → unwrap_or b.count 1 ≡ n →
+    fault_of 0 pen (Cells n s) ≡ None → tokens_of end marks fresh (moved (Cells n s) pen) ≡ Ok tokens → tokens_of end (m ∷ marks) b pen ≡ Ok (Cells n s ∷ tokens)
+run_ends end m marks b pen n s tokens is count fine rest =
+    step_is end m marks b pen (role.State s) is
+    ∙ ap (λ k. followed (fault_of (unwrap_or b.place m.0) pen (Cells k s)) (Cells k s) (tokens_of end marks fresh (moved (Cells k s) pen))) count
+    ∙ (λ i. followed (fine_at (unwrap_or b.place m.0) pen (Cells n s) fine i) (Cells n s) (rest i))
+
+rows_end : (end : ℕ) (m : Mark) (marks : List Mark) (b : Begun) (pen : Pen) (n : ℕ) (tokens : List Token) → role_of b.prefix m.1 ≡ role.RowEnd → unwrap_or b.count 1 ≡ n →
+    fault_of 0 pen (Rows n) ≡ None → tokens_of end marks fresh (moved (Rows n) pen) ≡ Ok tokens → tokens_of end (m ∷ marks) b pen ≡ Ok (Rows n ∷ tokens)
+rows_end end m marks b pen n tokens is count fine rest =
+    step_is end m marks b pen role.RowEnd is
+    ∙ ap (λ k. followed (fault_of (unwrap_or b.place m.0) pen (Rows k)) (Rows k) (tokens_of end marks fresh (moved (Rows k) pen))) count
+    ∙ (λ i. followed (fine_at (unwrap_or b.place m.0) pen (Rows n) fine i) (Rows n) (rest i))
+
+one_byte : (end c n s : ℕ) (more : List ℕ) (marks : List Mark) (b : Begun) (pen : Pen) (tokens : List Token) → bytes_of marks ≡ c ∷ more → b.prefix ≡ None → role_of None c ≡ role.State s → unwrap_or b.count 1 ≡ n →
+    fault_of 0 pen (Cells n s) ≡ None → ((later : List Mark) → bytes_of later ≡ more → tokens_of end later fresh (moved (Cells n s) pen) ≡ Ok tokens) → tokens_of end marks b pen ≡ Ok (Cells n s ∷ tokens)
+one_byte end c n s more [] b pen tokens bytes none is count fine rest = absurd (cc)
+one_byte end c n s more (m ∷ marks) b pen tokens bytes none is count fine rest =
+    let byte : m.1 ≡ c = cc in
+    let behind : bytes_of marks ≡ more = cc in
+    run_ends end m marks b pen n s tokens ((λ i. role_of (none i) (byte i)) ∙ is) count fine (rest marks behind)
+
+two_bytes : (end c d k n s : ℕ) (more : List ℕ) (marks : List Mark) (b : Begun) (pen : Pen) (tokens : List Token) → bytes_of marks ≡ c ∷ d ∷ more → b.prefix ≡ None →
+    role_of None c ≡ role.Prefix k → role_of (Some k) d ≡ role.State s → unwrap_or b.count 1 ≡ n →
+    fault_of 0 pen (Cells n s) ≡ None → ((later : List Mark) → bytes_of later ≡ more → tokens_of end later fresh (moved (Cells n s) pen) ≡ Ok tokens) → tokens_of end marks b pen ≡ Ok (Cells n s ∷ tokens)
+two_bytes end c d k n s more [] b pen tokens bytes none prefix is count fine rest = absurd (cc)
+two_bytes end c d k n s more (m ∷ []) b pen tokens bytes none prefix is count fine rest = absurd (cc)
+two_bytes end c d k n s more (m ∷ l ∷ marks) b pen tokens bytes none prefix is count fine rest =
+    let first : m.1 ≡ c = cc in
+    let last : l.1 ≡ d = cc in
+    let behind : bytes_of marks ≡ more = cc in
+    step_is end m (l ∷ marks) b pen (role.Prefix k) ((λ i. role_of (none i) (first i)) ∙ prefix)
+    ∙ run_ends end l marks (with_prefix m.0 k b) pen n s tokens (ap (role_of (Some k)) last ∙ is) count fine (rest marks behind)
+
+row_byte : (end n : ℕ) (more : List ℕ) (marks : List Mark) (b : Begun) (pen : Pen) (tokens : List Token) → bytes_of marks ≡ 36 ∷ more → b.prefix ≡ None → unwrap_or b.count 1 ≡ n →
+    fault_of 0 pen (Rows n) ≡ None → ((later : List Mark) → bytes_of later ≡ more → tokens_of end later fresh (moved (Rows n) pen) ≡ Ok tokens) → tokens_of end marks b pen ≡ Ok (Rows n ∷ tokens)
+row_byte end n more [] b pen tokens bytes none count fine rest = absurd (cc)
+row_byte end n more (m ∷ marks) b pen tokens bytes none count fine rest =
+    let byte : m.1 ≡ 36 = cc in
+    let behind : bytes_of marks ≡ more = cc in
+    rows_end end m marks b pen n tokens (λ i. role_of (none i) (byte i)) count fine (rest marks behind)
+
+-- a state's letters, where there are more than two states
+many_tag : (dead small : Bool) (end n s : ℕ) (more : List ℕ) (marks : List Mark) (b : Begun) (pen : Pen) (tokens : List Token) → (s == 0) ≡ dead → nat_le s 24 ≡ small →
+    bytes_of marks ≡ letters_text (letters false s) ++ more → b.prefix ≡ None → unwrap_or b.count 1 ≡ n →
+    fault_of 0 pen (Cells n s) ≡ None → ((later : List Mark) → bytes_of later ≡ more → tokens_of end later fresh (moved (Cells n s) pen) ≡ Ok tokens) → tokens_of end marks b pen ≡ Ok (Cells n s ∷ tokens)
+many_tag true small end n s more marks b pen tokens d l bytes none count fine rest =
+    let is : 0 ≡ s = sym (eqb-true s 0 d) in
+    one_byte end 46 n s more marks b pen tokens (rw d at bytes) none (ap (λ t. role.State t) is) count fine rest
+many_tag false true end n s more marks b pen tokens d l bytes none count fine rest =
+    let low : s ≢ 0 = eqb-false s 0 d in
+    let high : s ≤ 24 = grind (arith, nat_tests) in
+    let is : 24 * 0 + (64 + s - 64) ≡ s = omega arith in
+    one_byte end (64 + s) n s more marks b pen tokens (rw (d, l) at bytes) none
+    (letter_role None (64 + s) (omega arith) (omega arith) ∙ ap (λ t. role.State t) is) count fine rest
+many_tag false false end n s more marks b pen tokens d l bytes none count fine rest =
+    let low : 24 < s = grind (arith, nat_tests) in
+    let high : s ≤ 255 = (fine_run 0 pen n s fine).state in
+    let is : 24 * (111 + (s - 1) / 24 - 111) + (65 + (s - 1) % 24 - 64) ≡ s = omega arith in
+    two_bytes end (111 + (s - 1) / 24) (65 + (s - 1) % 24) (111 + (s - 1) / 24 - 111) n s more marks b pen tokens (rw (d, l) at bytes) none
+    (prefix_role (111 + (s - 1) / 24) (omega arith) (omega arith))
+    (letter_role (Some (111 + (s - 1) / 24 - 111)) (65 + (s - 1) % 24) (omega arith) (omega arith) ∙ ap (λ t. role.State t) is) count fine rest
+
+-- and where there are two
+two_tag : (end n s : ℕ) (more : List ℕ) (marks : List Mark) (b : Begun) (pen : Pen) (tokens : List Token) → s ≤ 1 →
+    bytes_of marks ≡ letters_text (letters true s) ++ more → b.prefix ≡ None → unwrap_or b.count 1 ≡ n →
+    fault_of 0 pen (Cells n s) ≡ None → ((later : List Mark) → bytes_of later ≡ more → tokens_of end later fresh (moved (Cells n s) pen) ≡ Ok tokens) → tokens_of end marks b pen ≡ Ok (Cells n s ∷ tokens)
+two_tag end n zero more marks b pen tokens le bytes none count fine rest = one_byte end 98 n 0 more marks b pen tokens bytes none refl count fine rest
+two_tag end n (suc zero) more marks b pen tokens le bytes none count fine rest = one_byte end 111 n 1 more marks b pen tokens bytes none refl count fine rest
+two_tag end n (suc (suc s)) more marks b pen tokens le bytes none count fine rest = absurd (omega arith)
+
+tag_read : (end : ℕ) (token : Token) (tag more : List ℕ) (marks : List Mark) (b : Begun) (pen : Pen) (tokens : List Token) → IsTag token tag →
+    bytes_of marks ≡ tag ++ more → b.prefix ≡ None → unwrap_or b.count 1 ≡ count_of token →
+    fault_of 0 pen token ≡ None → ((later : List Mark) → bytes_of later ≡ more → tokens_of end later fresh (moved token pen) ≡ Ok tokens) → tokens_of end marks b pen ≡ Ok (token ∷ tokens)
+tag_read end (Cells n s) tag more marks b pen tokens (inl is) bytes none count fine rest =
+    many_tag (s == 0) (nat_le s 24) end n s more marks b pen tokens refl refl (bytes ∙ ap (λ t. t ++ more) is) none count fine rest
+tag_read end (Cells n s) tag more marks b pen tokens (inr is) bytes none count fine rest =
+    two_tag end n s more marks b pen tokens is.0 (bytes ∙ ap (λ t. t ++ more) is.1) none count fine rest
+tag_read end (Rows n) tag more marks b pen tokens is bytes none count fine rest =
+    row_byte end n more marks b pen tokens (bytes ∙ ap (λ t. t ++ more) is) none count fine rest
+
+-- ---- whole spellings
+
+ends_read : (end : ℕ) (tail : List ℕ) (marks : List Mark) (pen : Pen) → bytes_of marks ≡ tail → EndsTokens tail → tokens_of end marks fresh pen ≡ Ok []
+ends_read end tail [] pen bytes ends = refl
+ends_read end [] (m ∷ marks) pen bytes ends = absurd (cc)
+ends_read end (c ∷ tail) (m ∷ marks) pen bytes ends =
+    let byte : m.1 ≡ c = cc in
+    step_is end m marks fresh pen role.EndMark (ap (role_of None) (byte ∙ ends))
+
+pub spelling_read : (end : ℕ) (tokens : List Token) (spelt tail : List ℕ) (marks : List Mark) (pen : Pen) → bytes_of marks ≡ spelt ++ tail → IsSpelling tokens spelt → EndsTokens tail → AreFine pen tokens →
+    tokens_of end marks fresh pen ≡ Ok tokens
+spelling_read end [] spelt tail marks pen bytes is ends fine = ends_read end tail marks pen (bytes ∙ ap (λ s. s ++ tail) is) ends
+spelling_read end (token ∷ tokens) spelt tail marks pen bytes is ends fine =
+    let digits = is.0 in
+    let tag = is.1 in
+    let more = is.2 in
+    let split : bytes_of marks ≡ digits ++ (tag ++ (more ++ tail)) = bytes ∙ ap (λ s. s ++ tail) is.3.1.1.1 ∙ append_assoc digits (tag ++ more) tail ∙ ap (λ rest. digits ++ rest) (append_assoc tag more tail) in
+    let read = digits_read end digits (tag ++ (more ++ tail)) marks fresh pen split refl (count_digits (count_of token) digits is.3.0) in
+    let count : unwrap_or read.begun.count 1 ≡ count_of token = ap (λ o. unwrap_or o 1) read.count_read ∙ count_is (count_of token) digits is.3.0 in
+    read.same
+    ∙ tag_read end token tag (more ++ tail) read.later read.begun pen tokens is.3.1.0 read.bytes read.no_prefix count fine.0
+    (λ later behind. spelling_read end tokens more tail later (moved token pen) behind is.3.1.1.0 ends fine.1)
+
+pub reads_spellings : ReadsSpellings
+reads_spellings end origin sides lines tokens spelt tail bytes is ends fine =
+    ap (λ read. (read >>= λ tokens. Ok (drawn tokens 0 0)) >>= λ cells. Ok (pattern_of origin sides cells)) (spelling_read end tokens spelt tail (bare lines) start bytes is ends fine)

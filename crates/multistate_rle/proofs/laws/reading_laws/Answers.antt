@@ -1,0 +1,17 @@
+use Rattle.multistate_rle.proofs.SpellingLaws.{reads_spellings}
+use Rattle.multistate_rle.proofs.BodyLaws.{reads_bodies_back}
+use Rattle.multistate_rle.proofs.TextBackLaws.{text_back}
+use Rattle.multistate_rle.proofs.BoxLaws.{reads_back}
+use Rattle.multistate_rle.proofs.laws.reading_laws.Goals as goal
+
+pub returns-clause-spellings : goal.returns-clause-spellings
+returns-clause-spellings c = reads_spellings
+
+pub returns-clause-bodies : goal.returns-clause-bodies
+returns-clause-bodies c = reads_bodies_back
+
+pub returns-clause-texts : goal.returns-clause-texts
+returns-clause-texts c = text_back
+
+pub returns-clause-back : goal.returns-clause-back
+returns-clause-back c = reads_back

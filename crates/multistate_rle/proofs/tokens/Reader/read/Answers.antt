@@ -1,0 +1,12 @@
+use Rattle.std.proofs.Common.{◌≡◌, ◌∙◌, sym, ap, ◌++◌}
+use Rattle.std.specs.Prelude.{Ok}
+use Rattle.generations_rule.specs.Refusal.{◌>>=◌}
+use Rattle.multistate_rle.specs.Tokens.{drawn}
+use Rattle.multistate_rle.specs.Steps.{pen_of}
+use Rattle.multistate_rle.proofs.ReadLemmas.{digit_read}
+use Rattle.multistate_rle.proofs.tokens.Reader.read.Goals as goal
+
+pub returns-in-Digit : goal.returns-in-Digit
+returns-in-Digit c = λ end marks.
+    ap (λ read. read >>= λ tokens. Ok (c.args.self.now.cells.items ++ drawn tokens c.args.self.now.column c.args.self.now.row))
+    (digit_read end c.args.place c.args.byte c.in-Digit.digit marks c.args.self.now.begun c.with_digit-self.result (pen_of c.args.self.now) (sym c.in-Digit.ensures) c.with_digit-self.ensures)

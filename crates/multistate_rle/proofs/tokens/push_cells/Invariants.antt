@@ -1,0 +1,8 @@
+use Rattle.std.proofs.Common.{◌≡◌, ◌++◌, ◌-◌}
+use Rattle.multistate_rle.specs.Tokens.{cells_in_row}
+use Rattle.multistate_rle.proofs.tokens.push_cells.Given as goal
+
+abbrev pub invariant-loop-at : goal.invariant-loop-at
+invariant-loop-at l =
+    l.cells.items ++ cells_in_row (l.at-end - l.at) l.state l.at l.row
+    ≡ l.fn.cells.items ++ cells_in_row l.count l.state l.column l.row

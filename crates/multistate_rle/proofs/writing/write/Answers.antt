@@ -1,0 +1,16 @@
+use Rattle.std.proofs.Common.{◌≡◌, ◌∙◌, ◌++◌, ap, List, ℕ}
+use Rattle.std.specs.Prelude.{◌==◌}
+use Rattle.generations_rule.specs.RuleText.{text_of}
+use Rattle.multistate_rle.specs.declared.bounds.Bounds.{Bounds}
+use Rattle.multistate_rle.specs.Writing.{head, body}
+use Rattle.multistate_rle.specs.Bounds.{in_box, box_of}
+use Rattle.multistate_rle.specs.Tokens.{tokens_from}
+use Rattle.multistate_rle.proofs.writing.write.Goals as goal
+
+pub returns : goal.returns
+returns c =
+    let rule : c.deref.result.now ≡ text_of c.args.rule.now = c.deref.ensures.value ∙ c.in_ok-rule_text.ensures.printed in
+    let front : c.in_ok-text.text.items ≡ head (text_of c.args.rule.now) c.args.generation (box_of c.args.cells.now) =
+    c.in_ok-text.ensures ∙ (λ i. head (rule i) c.args.generation (c.bounds_of-bounds.ensures i)) in
+    c.in_ok-text-2.ensures
+    ∙ (λ i. front i ++ body (c.states.ensures.value i == 2) (tokens_from 0 0 (in_box (c.bounds_of-bounds.ensures i) c.args.cells.now)))

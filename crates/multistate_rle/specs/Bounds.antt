@@ -1,0 +1,34 @@
+-- The bounding box of cells.
+use Rattle.std.specs.Prelude.{ℕ, ◌+◌, List, [], ◌∷◌, map, fold, ℤ, pos, ◌-ℤ◌, nat_abs}
+use Rattle.std.specs.Int.{int_max, int_min}
+use Rattle.multistate_rle.specs.declared.cell.Cell.{Cell}
+use Rattle.multistate_rle.specs.declared.bounds.Bounds.{Bounds}
+use Rattle.multistate_rle.specs.declared.pattern.PatternCell.{PatternCell}
+
+-- how many from the one to the other, both counted
+abbrev pub span : ℤ → ℤ → ℕ
+span from to = nat_abs (to -ℤ from) + 1
+
+abbrev pub least : (Cell → ℤ) → ℤ → List Cell → ℤ
+least f first cells = fold (λ n d. int_min n (f d)) first cells
+
+abbrev pub greatest : (Cell → ℤ) → ℤ → List Cell → ℤ
+greatest f first cells = fold (λ n d. int_max n (f d)) first cells
+
+-- the least box that holds all cells; all is 0 where there is none
+abbrev pub box_of : List Cell → Bounds
+box_of [] = record { x = pos 0; y = pos 0; width = 0; height = 0 }
+box_of (c ∷ cells) = record {
+  x = least (λ d. d.x) c.x cells;
+  y = least (λ d. d.y) c.y cells;
+  width = span (least (λ d. d.x) c.x cells) (greatest (λ d. d.x) c.x cells);
+  height = span (least (λ d. d.y) c.y cells) (greatest (λ d. d.y) c.y cells);
+}
+
+-- a cell as seen from a corner
+abbrev pub seen_from : ℤ → ℤ → Cell → PatternCell
+seen_from x y c = record { column = nat_abs (c.x -ℤ x); row = nat_abs (c.y -ℤ y); state = c.state }
+
+-- the cells as seen from their box's corner
+abbrev pub in_box : Bounds → List Cell → List PatternCell
+in_box b cells = map (seen_from b.x b.y) cells

@@ -1,0 +1,48 @@
+-- Bytes of ASCII texts, and decimal numbers.
+use Rattle.std.specs.Prelude.{ℕ, Bool, ◌||◌, ◌&&◌, List, [], ◌∷◌, nat_le, ◌==◌, if◌then◌else◌, take, drop, length, Option, Some, None}
+use Rattle.std.specs.List.{prefix_len, list_all}
+use Rattle.std.specs.Str.{bytes_eq}
+use Rattle.std.specs.Str.Parse.{digits_value}
+
+abbrev pub is_digit : ℕ → Bool
+is_digit c = nat_le 48 c && nat_le c 57
+
+-- a space or a tab
+abbrev pub is_blank : ℕ → Bool
+is_blank c = c == 32 || c == 9
+
+-- LF or CR
+abbrev pub is_line_end : ℕ → Bool
+is_line_end c = c == 10 || c == 13
+
+-- the part in front that passes a test
+abbrev pub front : (ℕ → Bool) → List ℕ → List ℕ
+front test xs = take (prefix_len test xs) xs
+
+-- what follows that part
+abbrev pub past : (ℕ → Bool) → List ℕ → List ℕ
+past test xs = drop (prefix_len test xs) xs
+
+-- the next reading of what was read, if it was
+infixl 10 ◌>=>◌
+abbrev pub ◌>=>◌ : {A B : Type 0} → Option A → (A → Option B) → Option B
+(Some x) >=> f = f x
+None >=> f = None
+
+-- what stands behind a byte, if the text begins with it
+abbrev pub behind : ℕ → List ℕ → Option (List ℕ)
+behind c [] = None
+behind c (d ∷ rest) = if c == d then Some rest else None
+
+-- what stands behind some bytes, if the text begins with them
+abbrev pub behind_all : List ℕ → List ℕ → Option (List ℕ)
+behind_all cs text = if bytes_eq (take (length cs) text) cs then Some (drop (length cs) text) else None
+
+-- a number, if it is at most so much
+abbrev pub at_most : ℕ → ℕ → Option ℕ
+at_most most n = if nat_le n most then Some n else None
+
+-- a decimal number of at most so much, with any zeros in front, and nothing else
+abbrev pub number : ℕ → List ℕ → Option ℕ
+number most [] = None
+number most (c ∷ digits) = if list_all is_digit (c ∷ digits) then at_most most (digits_value 10 (c ∷ digits)) else None

@@ -1,0 +1,98 @@
+-- What the definitions obey.
+use Rattle.std.specs.Prelude.{◌≡◌, ◌⊎◌, ℕ, ◌≤◌, ◌<◌, ◌^◌, ℤ, pos, negsuc, not, Bool, List, [], ◌∷◌, ◌++◌, true, false, nat_le, if◌then◌else◌, length, Ok, IfOk, ⊤, codes}
+use Rattle.generations_rule.specs.Rule.{GenerationsRule, IsRule}
+use Rattle.multistate_rle.specs.declared.pattern.PatternCell.{PatternCell}
+use Rattle.multistate_rle.specs.declared.cell.Cell.{Cell}
+use Rattle.multistate_rle.specs.Cells.{is_sorted, are_nonzero, are_below}
+use Rattle.multistate_rle.specs.Bounds.{box_of, in_box}
+use Rattle.multistate_rle.specs.Pattern.{RlePattern, IsPattern, are_sorted, are_alive, are_within}
+use Rattle.std.specs.List.{list_all, enumerate_from}
+use Rattle.std.specs.Str.Parse.{digits_value}
+use Rattle.multistate_rle.specs.declared.origin.Origin.{Origin}
+use Rattle.multistate_rle.specs.Bytes.{is_digit, is_line_end}
+use Rattle.multistate_rle.specs.declared.bounds.Bounds.{Bounds}
+use Rattle.multistate_rle.specs.Letters.{letters, letters_text}
+use Rattle.multistate_rle.specs.Tokens.{Token, Cells, Rows, IsTokensOf, count_of, drawn, tokens_from}
+use Rattle.multistate_rle.specs.Reading.{parsed, Mark, bytes_of, bare, start, AreFine, body_read, pattern_of, lines_of}
+use Rattle.multistate_rle.specs.Writing.{rle_text, IsRleText, head, body}
+
+-- a finite set of nonzero cells, as its sorted list, has a canonical token list
+abbrev pub HasTokens : Type 0
+HasTokens = (cells : List PatternCell) → are_sorted cells ≡ true → are_alive cells ≡ true → IsTokensOf (tokens_from 0 0 cells) cells
+
+-- and only that one
+abbrev pub HasOneTokenList : Type 0
+HasOneTokenList = (cells : List PatternCell) (tokens : List Token) → IsTokensOf tokens cells → tokens ≡ tokens_from 0 0 cells
+
+-- so the text of cells is the only one that their canonical tokens spell
+abbrev pub HasOneText : Type 0
+HasOneText = (r : GenerationsRule) (g : ℕ) (cells : List Cell) (text : List ℕ) → IsRleText r g cells text → text ≡ rle_text r g cells
+
+-- ---- texts by hand
+
+-- the digits of a count: none for 1, or any that write it
+abbrev pub IsCount : ℕ → List ℕ → Type 0
+IsCount n [] = n ≡ 1
+IsCount n (c ∷ digits) = (list_all is_digit (c ∷ digits) ≡ true) × (digits_value 10 (c ∷ digits) ≡ n)
+
+-- the letters of a tag: `.` or `b`, `o` or `A`, `B` to `X`, and `p` to `y` before a letter; `$`
+abbrev pub IsTag : Token → List ℕ → Type 0
+IsTag (Cells n s) tag = (tag ≡ letters_text (letters false s)) ⊎ ((s ≤ 1) × (tag ≡ letters_text (letters true s)))
+IsTag (Rows n) tag = tag ≡ codes "$"
+
+-- bytes spell tokens: each is a count and a tag
+abbrev pub IsSpelling : List Token → List ℕ → Type 0
+IsSpelling [] bytes = bytes ≡ []
+IsSpelling (token ∷ tokens) bytes =
+    (digits : List ℕ) × (tag : List ℕ) × (more : List ℕ) × (IsCount (count_of token) digits × (IsTag token tag × (IsSpelling tokens more × (bytes ≡ digits ++ (tag ++ more)))))
+
+-- nothing, or the end mark and anything
+abbrev pub EndsTokens : List ℕ → Type 0
+EndsTokens [] = ⊤
+EndsTokens (c ∷ rest) = c ≡ 33
+
+-- Where what is left of the lines behind a header, without comment lines and blanks, spells tokens that are not faulty,
+-- what is read is what the tokens draw.
+abbrev pub ReadsSpellings : Type 0
+ReadsSpellings = (end : ℕ) (origin : Origin) (sides : ℕ × ℕ) (lines : List (List Mark)) (tokens : List Token) (spelt tail : List ℕ) →
+    bytes_of (bare lines) ≡ spelt ++ tail → IsSpelling tokens spelt → EndsTokens tail → AreFine start tokens →
+    body_read end origin sides lines ≡ Ok (pattern_of origin sides (drawn tokens 0 0))
+
+-- The body that is written of cells is read as the cells, behind any header and from any place of a text on.
+abbrev pub ReadsBodiesBack : Type 0
+ReadsBodiesBack = (end : ℕ) (origin : Origin) (sides : ℕ × ℕ) (n : ℕ) (two : Bool) (cells : List PatternCell) →
+    are_sorted cells ≡ true → are_alive cells ≡ true → are_within (2 ^ 32) (2 ^ 32) cells ≡ true → length cells ≤ 2 ^ 20 →
+    list_all (λ cell. nat_le cell.state (if two then 1 else 255)) cells ≡ true →
+    body_read end origin sides (lines_of (enumerate_from n (body two (tokens_from 0 0 cells)))) ≡ Ok (pattern_of origin sides cells)
+
+-- a signed number of 32 bits
+abbrev pub FitsPlane : ℤ → Type 0
+FitsPlane (pos n) = n ≤ 2147483647
+FitsPlane (negsuc n) = n ≤ 2147483647
+
+-- A whole text that is written of cells in a box, with sides below 2^32, is read as the cells in that box, with its
+-- position and generation. The rule stands in the header as any text without a line's end.
+abbrev pub ReadsBoxesBack : Type 0
+ReadsBoxesBack = (rule : List ℕ) (g : ℕ) (b : Bounds) (two : Bool) (cells : List PatternCell) →
+    FitsPlane b.x → FitsPlane b.y → g < 2 ^ 64 → b.width ≤ 4294967295 → b.height ≤ 4294967295 →
+    list_all (λ c. not (is_line_end c)) rule ≡ true → are_sorted cells ≡ true → are_alive cells ≡ true →
+    are_within b.width b.height cells ≡ true → length cells ≤ 2 ^ 20 →
+    list_all (λ cell. nat_le cell.state (if two then 1 else 255)) cells ≡ true →
+    parsed (head rule g b ++ body two (tokens_from 0 0 cells))
+    ≡ Ok (record { width = b.width; height = b.height; pos = (b.x, b.y); generation = g; cells = cells })
+
+-- What is written of cells, sorted, nonzero and below the rule's number of states, at most 2^20 and with sides below
+-- 2^32, is read again: the same cells less the position, the same box, position and generation.
+abbrev pub ReadsBack : Type 0
+ReadsBack = (r : GenerationsRule) (g : ℕ) (cells : List Cell) → IsRule r → g < 2 ^ 64 →
+    FitsPlane (box_of cells).x → FitsPlane (box_of cells).y →
+    is_sorted cells ≡ true → are_nonzero cells ≡ true → are_below r.states cells ≡ true → length cells ≤ 2 ^ 20 →
+    (box_of cells).width < 2 ^ 32 → (box_of cells).height < 2 ^ 32 →
+    parsed (rle_text r g cells)
+    ≡ Ok (record {
+      width = (box_of cells).width;
+      height = (box_of cells).height;
+      pos = ((box_of cells).x, (box_of cells).y);
+      generation = g;
+      cells = in_box (box_of cells) cells;
+    })

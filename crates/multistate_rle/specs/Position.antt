@@ -1,0 +1,69 @@
+-- The line `#CXRLE Pos=x,y Gen=n`.
+use Rattle.std.specs.Prelude.{ℕ, Bool, not, List, [], ◌∷◌, ◌==◌, if◌then◌else◌, Option, Some, None, ℤ, pos, neg_ℤ, codes, length, option_map, unwrap_or, filter, drop}
+use Rattle.std.specs.Str.{bytes_eq}
+use Rattle.std.specs.List.{slice_split, before_first, position_or_len}
+use Rattle.multistate_rle.specs.declared.origin.Origin.{Origin}
+use Rattle.multistate_rle.specs.declared.origin.Items.{Items}
+use Rattle.multistate_rle.specs.Bytes.{is_blank, ◌>=>◌, behind, behind_all, number}
+
+-- the words of a line, separated by blanks
+abbrev pub words : List ℕ → List (List ℕ)
+words line = filter (λ word. not (length word == 0)) (slice_split is_blank line)
+
+-- a number of 32 bits with its sign
+abbrev pub signed : List ℕ → Option ℤ
+signed [] = None
+signed (c ∷ digits) =
+    if c == 45 then option_map (λ n. neg_ℤ (pos n)) (number 2147483648 digits) else option_map pos (number 2147483647 (c ∷ digits))
+
+abbrev pub is_comma : ℕ → Bool
+is_comma c = c == 44
+
+-- `Pos=x,y`
+abbrev pub position_in : List ℕ → Option (ℤ × ℤ)
+position_in word =
+    behind_all (codes "Pos=") word >=> λ sides.
+    signed (before_first is_comma sides) >=> λ x.
+    behind 44 (drop (position_or_len is_comma sides) sides) >=> λ rest.
+    signed rest >=> λ y. Some (x, y)
+
+-- `Gen=n`
+abbrev pub generation_in : List ℕ → Option ℕ
+generation_in word = behind_all (codes "Gen=") word >=> λ digits. number 18446744073709551615 digits
+
+-- a position, if there was none before
+abbrev pub with_position : ℤ × ℤ → Items → Option Items
+with_position p items = elim items.pos [ None ↦ Some (record items { pos = Some p }) | Some q ↦ None ]
+
+-- a generation, if there was none before
+abbrev pub with_generation : ℕ → Items → Option Items
+with_generation n items = elim items.generation [ None ↦ Some (record items { generation = Some n }) | Some m ↦ None ]
+
+-- an item that was read as a position or a generation
+abbrev pub item_by : Option (ℤ × ℤ) → Option ℕ → Items → Option Items
+item_by (Some p) generation items = with_position p items
+item_by None generation items = generation >=> λ n. with_generation n items
+
+-- one item more, of a kind that was not read before
+abbrev pub with_item : List ℕ → Items → Option Items
+with_item word items = item_by (position_in word) (generation_in word) items
+
+abbrev pub items_in : Items → List (List ℕ) → Option Items
+items_in items [] = Some items
+items_in items (word ∷ words) = with_item word items >=> λ more. items_in more words
+
+-- what is missing is 0
+abbrev pub origin_from : Items → Origin
+origin_from items = record { pos = unwrap_or items.pos (pos 0, pos 0); generation = unwrap_or items.generation 0 }
+
+abbrev pub no_items : Items
+no_items = record { pos = None; generation = None }
+
+abbrev pub origin_in_words : List (List ℕ) → Option Origin
+origin_in_words [] = None
+origin_in_words (first ∷ items) =
+    if bytes_eq first (codes "#CXRLE") then option_map origin_from (items_in no_items items) else None
+
+-- the origin that a line names, if it is well formed
+abbrev pub origin_of : List ℕ → Option Origin
+origin_of line = origin_in_words (words line)

@@ -1,0 +1,40 @@
+-- What one byte does to a reader of tokens.
+use Rattle.std.specs.Prelude.{◌≡◌, ◌⊎◌, ℕ, ◌+◌, List, [], ◌∷◌, ◌++◌, length, Option, Some, None, Result, Ok, Err}
+use Rattle.generations_rule.specs.Refusal.{◌>>=◌}
+use Rattle.multistate_rle.specs.declared.fault.RleFault.{RleFault}
+use Rattle.multistate_rle.specs.declared.fault.RleFault.TheVariants.{Tag, Memory}
+use Rattle.multistate_rle.specs.declared.pattern.PatternCell.{PatternCell}
+use Rattle.multistate_rle.specs.declared.tokens.Reader.{Reader}
+use Rattle.multistate_rle.specs.declared.tokens.Begun.{Begun}
+use Rattle.multistate_rle.specs.declared.tokens.Step.{Step}
+use Rattle.multistate_rle.specs.declared.tokens.Step.TheVariants.{Goes, Ends}
+use Rattle.multistate_rle.specs.Tokens.{Token, Cells, Rows, drawn}
+use Rattle.multistate_rle.specs.Reading.{Mark, Pen, fresh, moved, fault_of, tokens_of, ended}
+
+abbrev pub pen_of : Reader → Pen
+pen_of r = record { column = r.column; row = r.row; cells = length r.cells.items }
+
+-- all cells, once the bytes that follow are read too
+abbrev pub cells_with : ℕ → List Mark → Reader → Result (List PatternCell) RleFault
+cells_with end marks r = tokens_of end marks r.begun (pen_of r) >>= λ tokens. Ok (r.cells.items ++ drawn tokens r.column r.row)
+
+-- One byte more: what is read then is what would have been read, with the byte in front.
+abbrev pub Reads : Reader → Mark → Result Step RleFault → Reader → Type 0
+Reads old mark (Ok Goes) new = (end : ℕ) (marks : List Mark) → cells_with end marks new ≡ cells_with end (mark ∷ marks) old
+Reads old mark (Ok Ends) new = (end : ℕ) (marks : List Mark) → Ok new.cells.items ≡ cells_with end (mark ∷ marks) old
+Reads old mark (Err fault) new = (fault ≡ Memory) ⊎ ((end : ℕ) (marks : List Mark) → Err fault ≡ cells_with end (mark ∷ marks) old)
+
+-- whether the tokens may end at a place
+abbrev pub EndsAt : ℕ → Begun → Result (Unit {0}) RleFault → Type 0
+EndsAt place b (Ok x) = ended place b ≡ Ok []
+EndsAt place b (Err fault) = ended place b ≡ Err fault
+
+-- one token more, unless it is faulty
+pub record Draws (token : Token) (old new : Reader) : Type 0 where
+  pub cells : new.cells.items ≡ old.cells.items ++ drawn (token ∷ []) old.column old.row
+  pub pen : pen_of new ≡ moved token (pen_of old)
+  pub begun : new.begun ≡ fresh
+
+abbrev pub Puts : ℕ → Token → Reader → Result (Unit {0}) RleFault → Reader → Type 0
+Puts place token old (Ok x) new = (fault_of place (pen_of old) token ≡ None) × Draws token old new
+Puts place token old (Err fault) new = (fault ≡ Memory) ⊎ (fault_of place (pen_of old) token ≡ Some fault)

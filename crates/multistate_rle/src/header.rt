@@ -1,0 +1,53 @@
+//! The header line.
+
+ghost use Rattle.std.specs.Prelude.{◌≡◌, option_map};
+ghost use Rattle.multistate_rle.specs.Header.{header_of, side as side_in, symbol as text_behind, number_in_front, may_end as may_end_with};
+
+use crate::number::number;
+use crate::scan;
+
+/// The sides that a header line `x = w, y = h` names; blanks may stand round each part, and behind
+/// the sides nothing, or a comma and any text.
+pub fn header(line: &[u8]) -> Option<(u64, u64)>
+    ensures { result ≡ header_of line.now }
+{
+    let (width, rest) = side(b'x', line)?;
+    let rest = symbol(b',', rest)?;
+    let (height, rest) = side(b'y', rest)?;
+    if may_end(scan::without_blanks(rest)) {
+        Some((width, height))
+    } else {
+        None
+    }
+}
+
+fn side(letter: u8, line: &[u8]) -> Option<(u64, &[u8])>
+    ensures { option_map (λ found. (found.0, found.1.now)) result ≡ side_in letter line.now }
+{
+    let rest = symbol(letter, line)?;
+    let rest = symbol(b'=', rest)?;
+    number_at(scan::without_blanks(rest))
+}
+
+fn symbol(byte: u8, line: &[u8]) -> Option<&[u8]>
+    ensures { option_map (λ rest. rest.now) result ≡ text_behind byte line.now }
+{
+    scan::behind(byte, scan::without_blanks(line))
+}
+
+fn number_at(line: &[u8]) -> Option<(u64, &[u8])>
+    ensures { option_map (λ found. (found.0, found.1.now)) result ≡ number_in_front line.now }
+{
+    let len = scan::digits_in_front(line);
+    let side = number(u64::from(u32::MAX), &line[..len])?;
+    Some((side, &line[len..]))
+}
+
+fn may_end(rest: &[u8]) -> bool
+    ensures { result ≡ may_end_with rest.now }
+{
+    match rest.first() {
+        Some(byte) => *byte == b',',
+        None => true,
+    }
+}

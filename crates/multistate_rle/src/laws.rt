@@ -1,0 +1,21 @@
+//! What the definitions obey, for all cells and texts: the contracts of functions that do nothing.
+
+ghost use Rattle.multistate_rle.specs.Laws.{HasTokens, HasOneTokenList, HasOneText, ReadsSpellings, ReadsBodiesBack, ReadsBoxesBack, ReadsBack};
+
+/// A finite set of nonzero cells, as its sorted list, has a canonical token list, and only one; so
+/// a rule, a generation and cells have only one text.
+pub fn token_laws()
+    ensures tokens { HasTokens }
+    ensures only { HasOneTokenList }
+    ensures text { HasOneText }
+{}
+
+/// A text that spells tokens, with any digits for their counts, and with blanks, line ends and
+/// comment lines anywhere, is read as what the tokens draw; and what is written of cells is
+/// read as the cells, with their box, position and generation.
+pub fn reading_laws()
+    ensures spellings { ReadsSpellings }
+    ensures bodies { ReadsBodiesBack }
+    ensures texts { ReadsBoxesBack }
+    ensures back { ReadsBack }
+{}

@@ -1,0 +1,44 @@
+//! Where a byte stands in its line.
+
+ghost use Rattle.std.specs.Prelude.{◌≡◌};
+
+use crate::scan;
+
+/// How far a line is read.
+#[derive(Clone, Copy, Debug, PartialEq, Eq)]
+pub enum Line {
+    /// At its first byte.
+    Start,
+    /// Behind that, in a line that counts.
+    Inside,
+    /// In a line whose first byte is `#`.
+    Comment,
+}
+
+impl Line {
+    ghost use Rattle.multistate_rle.specs.Lines.{line_after, is_dropped};
+
+    /// How far it is read after one byte more.
+    pub fn after(self, byte: u8) -> Line
+        ensures { result ≡ line_after self byte }
+    {
+        if scan::is_line_end(byte) {
+            return Line::Start;
+        }
+        match self {
+            Line::Start if byte == b'#' => Line::Comment,
+            Line::Comment => Line::Comment,
+            _ => Line::Inside,
+        }
+    }
+
+    /// Whether a byte behind which the line is so far read is no part of a token.
+    pub fn drops(self, byte: u8) -> bool
+        ensures { result ≡ is_dropped self byte }
+    {
+        match self {
+            Line::Comment => true,
+            Line::Start | Line::Inside => scan::is_blank(byte) || scan::is_line_end(byte),
+        }
+    }
+}

@@ -1,0 +1,189 @@
+//! Tokens, written on lines.
+
+ghost use Rattle.std.specs.Prelude.{◌≡◌, ◌≢◌, ◌≤◌, ◌<◌, ◌^◌, ◌∷◌, ◌++◌, [], OnOk, IfOk, map, length, codes};
+ghost use Rattle.multistate_rle.specs.Writing.{spelling, token_text, filled};
+ghost use Rattle.multistate_rle.specs.Tokens.{Cells, Rows, gap, tokens_from, skip};
+
+use crate::letters::Letters;
+use crate::pattern::PatternCell;
+use itoa::Buffer;
+use std::alloc::AllocError;
+
+/// The greatest length of a line.
+const LINE_LIMIT: usize = 70;
+
+/// A run of cells of one state, which the next cell may make longer.
+#[derive(Clone, Copy, Debug, PartialEq, Eq)]
+pub struct Run {
+    pub count: u64,
+    pub state: u8,
+}
+
+/// Where the next cell may stand, and the run that ends there.
+#[derive(Clone, Copy, Debug, PartialEq, Eq)]
+pub struct Pen {
+    pub column: u64,
+    pub row: u64,
+    pub run: Option<Run>,
+}
+
+impl Pen {
+    ghost use Rattle.std.specs.Prelude.{◌≡◌};
+    ghost use Rattle.multistate_rle.specs.Filling.{no_pen, extends};
+
+    pub fn new() -> Pen
+        ensures { result ≡ no_pen }
+    {
+        Pen {
+            column: 0,
+            row: 0,
+            run: None,
+        }
+    }
+
+    /// The run of which a cell is one more.
+    fn extended(self, cell: PatternCell) -> Option<Run>
+        ensures { result ≡ extends self cell }
+    {
+        let run = self.run?;
+        if u64::from(cell.row) == self.row
+            && u64::from(cell.column) <= self.column
+            && run.state == cell.state
+        {
+            Some(run)
+        } else {
+            None
+        }
+    }
+}
+
+/// A text, and how many bytes stand on its last line.
+#[derive(Drop)]
+pub struct Lines {
+    pub text: Vec<u8>,
+    pub used: usize,
+    pub two_states: bool,
+    ghost short: { used ≤ 70 },
+}
+
+impl Lines {
+    ghost use Rattle.std.specs.Prelude.{◌≡◌, ◌≢◌, ◌∷◌, ◌++◌, [], OnOk, IfOk, map, codes};
+    ghost use Rattle.multistate_rle.specs.Writing.{spelling, token_text};
+    ghost use Rattle.multistate_rle.specs.Tokens.{Cells, Rows, gap, skip};
+    ghost use Rattle.multistate_rle.specs.Filling.{Writes, no_pen, run_tokens, IsPen, WritesCell, extends};
+
+    /// The next line of a text whose lines are ended.
+    pub fn after(text: Vec<u8>, two_states: bool) -> Lines
+        ensures { (result.text.items ≡ text.items) × (result.used ≡ 0) × (result.two_states ≡ two_states) }
+    {
+        Lines {
+            text,
+            used: 0,
+            two_states,
+        }
+    }
+
+    /// A count, left out where it is 1, and a tag: on this line if there is room, else on the next.
+    pub fn put(&mut self, count: u64, letters: Letters) -> Result<(), AllocError>
+        ensures { OnOk result (Writes self.old (spelling count letters ∷ []) self.new) }
+    {
+        let mut buffer = Buffer::new();
+        let digits: &[u8] = if count == 1 {
+            &[]
+        } else {
+            buffer.format(count).as_bytes()
+        };
+        let len = digits.len() + letters.len();
+        if self.used + len > LINE_LIMIT {
+            self.text.push(b'\n')?;
+            self.used = 0;
+        }
+        self.text.extend_from_slice(digits)?;
+        if let Some(prefix) = letters.prefix {
+            self.text.push(prefix)?;
+        }
+        self.text.push(letters.last)?;
+        self.used += len;
+        Ok(())
+    }
+
+    fn put_cells(&mut self, count: u64, state: u8) -> Result<(), AllocError>
+        ensures { OnOk result (Writes self.old (map (token_text self.old.two_states) (Cells count state ∷ [])) self.new) }
+    {
+        self.put(count, Letters::of_state(self.two_states, state))
+    }
+
+    fn put_rows(&mut self, count: u64) -> Result<(), AllocError>
+        ensures { OnOk result (Writes self.old (map (token_text self.old.two_states) (Rows count ∷ [])) self.new) }
+    {
+        self.put(count, Letters::plain(b'$'))
+    }
+
+    /// A run, if there is one.
+    pub fn put_run(&mut self, run: Option<Run>) -> Result<(), AllocError>
+        ensures { OnOk result (Writes self.old (map (token_text self.old.two_states) (run_tokens run [])) self.new) }
+    {
+        match run {
+            Some(run) => self.put_cells(run.count, run.state),
+            None => Ok(()),
+        }
+    }
+
+    fn put_dead(&mut self, count: u64) -> Result<(), AllocError>
+        ensures { OnOk result (Writes self.old (map (token_text self.old.two_states) (skip count)) self.new) }
+    {
+        if count == 0 {
+            Ok(())
+        } else {
+            self.put_cells(count, 0)
+        }
+    }
+
+    /// The row ends and the dead columns between a pen and a cell.
+    fn put_gap(&mut self, pen: Pen, cell: PatternCell) -> Result<(), AllocError>
+        ensures { OnOk result (Writes self.old (map (token_text self.old.two_states) (gap pen.column pen.row cell)) self.new) }
+    {
+        let column = u64::from(cell.column);
+        let row = u64::from(cell.row);
+        if row == pen.row {
+            return self.put_dead(column.saturating_sub(pen.column));
+        }
+        self.put_rows(row.saturating_sub(pen.row))?;
+        self.put_dead(column)
+    }
+
+    /// One cell more: what cannot grow any further is written, and the cell's own run begins.
+    pub fn put_cell(&mut self, pen: Pen, cell: PatternCell) -> Result<Pen, AllocError>
+        requires pen { IsPen pen }
+        requires cell { cell.state ≢ 0 }
+        ensures { IfOk result (λ next. WritesCell self.old pen cell next self.new) }
+    {
+        let run = match pen.extended(cell) {
+            Some(run) => Run {
+                count: run.count + 1,
+                state: run.state,
+            },
+            None => {
+                self.put_run(pen.run)?;
+                self.put_gap(pen, cell)?;
+                Run {
+                    count: 1,
+                    state: cell.state,
+                }
+            }
+        };
+        Ok(Pen {
+            column: u64::from(cell.column) + 1,
+            row: u64::from(cell.row),
+            run: Some(run),
+        })
+    }
+
+    /// The end of the last line.
+    pub fn put_end(&mut self) -> Result<(), AllocError>
+        ensures { OnOk result (self.new.text.items ≡ self.old.text.items ++ codes "\n") }
+    {
+        self.text.push(b'\n')?;
+        Ok(())
+    }
+}

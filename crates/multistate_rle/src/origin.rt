@@ -1,0 +1,140 @@
+//! The line `#CXRLE Pos=x,y Gen=n`.
+
+ghost use Rattle.std.specs.Prelude.{◌≡◌, ◌≤◌, length};
+ghost use Rattle.std.specs.List.{position_or_len};
+ghost use Rattle.multistate_rle.specs.Position.{is_comma, no_items, words, items_in, with_item as one_more, with_position, with_generation, origin_of as origin_in, origin_from, signed as signed_of, position_in, generation_in};
+
+use crate::number::number;
+use crate::scan;
+
+/// Where a pattern was in its plane, and at which generation.
+#[derive(Clone, Copy, Debug, PartialEq, Eq)]
+pub struct Origin {
+    pub pos: (i32, i32),
+    pub generation: u64,
+}
+
+/// What was read of the items of such a line.
+#[derive(Clone, Copy, Debug, PartialEq, Eq)]
+pub struct Items {
+    pub pos: Option<(i32, i32)>,
+    pub generation: Option<u64>,
+}
+
+impl Items {
+    pub fn new() -> Items
+        ensures { result ≡ no_items }
+    {
+        Items {
+            pos: None,
+            generation: None,
+        }
+    }
+
+    /// What is missing is 0.
+    pub fn origin(self) -> Origin
+        ensures { result ≡ origin_from self }
+    {
+        Origin {
+            pos: self.pos.unwrap_or((0, 0)),
+            generation: self.generation.unwrap_or(0),
+        }
+    }
+
+    /// One item more, of a kind that was not read before.
+    fn with_item(self, word: &[u8]) -> Option<Items>
+        ensures { result ≡ one_more word.now self }
+    {
+        match position(word) {
+            Some(pos) => self.with_position(pos),
+            None => self.with_generation(generation(word)?),
+        }
+    }
+
+    fn with_position(self, pos: (i32, i32)) -> Option<Items>
+        ensures { result ≡ with_position pos self }
+    {
+        match self.pos {
+            None => Some(Items {
+                pos: Some(pos),
+                generation: self.generation,
+            }),
+            Some(_) => None,
+        }
+    }
+
+    fn with_generation(self, generation: u64) -> Option<Items>
+        ensures { result ≡ with_generation generation self }
+    {
+        match self.generation {
+            None => Some(Items {
+                pos: self.pos,
+                generation: Some(generation),
+            }),
+            Some(_) => None,
+        }
+    }
+}
+
+/// The origin that a comment line names, if it is a well formed `#CXRLE` line.
+pub fn origin_of(line: &[u8]) -> Option<Origin>
+    ensures { result ≡ origin_in line.now }
+{
+    let line = scan::without_blanks(line);
+    let (first, items) = line.split_at(scan::word_len(line));
+    if first != b"#CXRLE".as_slice() {
+        return None;
+    }
+    Some(items_of(items)?.origin())
+}
+
+fn items_of(line: &[u8]) -> Option<Items>
+    ensures { result ≡ items_in no_items (words line.now) }
+{
+    let mut items = Items::new();
+    let mut rest = scan::without_blanks(line);
+    while !rest.is_empty() {
+        let (word, behind) = rest.split_at(scan::word_len(rest));
+        items = items.with_item(word)?;
+        rest = scan::without_blanks(behind);
+    }
+    Some(items)
+}
+
+fn position(word: &[u8]) -> Option<(i32, i32)>
+    ensures { result ≡ position_in word.now }
+{
+    let sides = word.strip_prefix(b"Pos=")?;
+    let len = comma_at(sides);
+    let x = signed(&sides[..len])?;
+    let y = signed(scan::behind(b',', &sides[len..])?)?;
+    Some((x, y))
+}
+
+fn generation(word: &[u8]) -> Option<u64>
+    ensures { result ≡ generation_in word.now }
+{
+    number(u64::MAX, word.strip_prefix(b"Gen=")?)
+}
+
+fn comma_at(text: &[u8]) -> usize
+    ensures count { result ≡ position_or_len is_comma text.now }
+    ensures within { result ≤ length text.now }
+{
+    text.iter().take_while(|byte| **byte != b',').count()
+}
+
+fn signed(word: &[u8]) -> Option<i32>
+    ensures { result ≡ signed_of word.now }
+{
+    match word.split_first() {
+        Some((b'-', digits)) => {
+            let size = number(1 << 31, digits)?;
+            Some(-(size as i64) as i32)
+        }
+        _ => {
+            let size = number(i32::MAX as u64, word)?;
+            Some(size as i32)
+        }
+    }
+}

@@ -1,0 +1,138 @@
+//! Reading an RLE text: the lines up to the header, and the tokens behind it.
+
+ghost use Rattle.std.specs.Prelude.{◌≡◌, ◌+◌, ◌≤◌, ◌<◌, ◌^◌, ◌++◌, Ok, Err, length, drop, take, OnOk, IfErr, MatchOption, unwrap_or, None};
+ghost use Rattle.std.specs.List.{enumerate_from, position_or_len};
+ghost use Rattle.multistate_rle.specs.Bytes.{is_line_end};
+ghost use Rattle.generations_rule.specs.Refusal.{Answers, AnswersAs};
+ghost use Rattle.multistate_rle.specs.Reading.{parsed, lines_of, body_read, is_comment as begins_comment, cells_read, bare, or_else, width_of, height_of};
+
+use crate::fault::RleFault;
+use crate::header::header;
+use crate::line::Line;
+use crate::origin::{self, Items, Origin};
+use crate::pattern::{Pattern, PatternCell};
+use crate::scan;
+use crate::tokens::{Reader, Step};
+use std::alloc::Global;
+
+/// The pattern that a text in Golly's multi-state RLE spells, or what is wrong with the text; the
+/// fault is `Memory` only where memory was refused. Memory is taken for nonzero cells alone, and a
+/// text is read once, in time that grows with its length and the number of its cells.
+pub fn parse(alloc: Global, text: &[u8]) -> Result<Pattern, RleFault>
+    ensures { Answers (λ fault. fault ≡ RleFault.Memory) result (parsed text.now) }
+{
+    let Some(front) = front_of(text) else {
+        return Err(RleFault::Header);
+    };
+    let cells = body_cells(alloc, text, front.body)?;
+    Ok(Pattern {
+        width: width(front.width, &cells),
+        height: height(front.height, &cells),
+        pos: front.origin.pos,
+        generation: front.origin.generation,
+        cells,
+    })
+}
+
+/// What stands before the tokens: the origin, the header's sides, and where the next line begins.
+#[derive(Clone, Copy)]
+struct Front {
+    origin: Origin,
+    width: u64,
+    height: u64,
+    body: usize,
+}
+
+fn front_of(text: &[u8]) -> Option<Front>
+    ensures { MatchOption result (parsed text.now ≡ Err RleFault.Header) (λ front.
+        (parsed text.now ≡ body_read (length text.now) front.origin (front.width, front.height) (lines_of (enumerate_from front.body (drop front.body text.now))))
+        × (front.width ≤ 4294967295) × (front.height ≤ 4294967295)) }
+{
+    let mut origin = None;
+    let mut start = 0;
+    while start < text.len() {
+        let line = line_at(text, start);
+        start += line.len() + 1;
+        if is_comment(line) {
+            origin = first_of(origin, origin::origin_of(line));
+        } else if !scan::is_all_blank(line) {
+            let (width, height) = header(line)?;
+            return Some(Front {
+                origin: origin.unwrap_or(Items::new().origin()),
+                width,
+                height,
+                body: start,
+            });
+        }
+    }
+    None
+}
+
+/// The line that begins at a place, without its end.
+fn line_at(text: &[u8], start: usize) -> &[u8]
+    requires { start ≤ length text.now }
+    ensures line { result.now ≡ take (position_or_len is_line_end (drop start text.now)) (drop start text.now) }
+    ensures within { start + length result.now ≤ length text.now }
+{
+    let rest = &text[start..];
+    &rest[..scan::line_len(rest)]
+}
+
+fn first_of(first: Option<Origin>, second: Option<Origin>) -> Option<Origin>
+    ensures { result ≡ or_else first second }
+{
+    match first {
+        Some(origin) => Some(origin),
+        None => second,
+    }
+}
+
+fn is_comment(line: &[u8]) -> bool
+    ensures { result ≡ begins_comment line.now }
+{
+    match line.first() {
+        Some(byte) => *byte == b'#',
+        None => false,
+    }
+}
+
+/// The cells that the tokens draw, which begin at this place of the text.
+fn body_cells(alloc: Global, text: &[u8], start: usize) -> Result<Vec<PatternCell>, RleFault>
+    ensures { AnswersAs (λ cells meant. cells.items ≡ meant) (λ fault. fault ≡ RleFault.Memory) result
+        (cells_read (length text.now) (bare (lines_of (enumerate_from start (drop start text.now))))) }
+{
+    let mut reader = Reader::new(alloc);
+    let mut line = Line::Start;
+    for place in start..text.len() {
+        let byte = text[place];
+        line = line.after(byte);
+        if line.drops(byte) {
+            continue;
+        }
+        match reader.read(place as u64, byte) {
+            Ok(Step::Goes) => {}
+            Ok(Step::Ends) => return Ok(reader.cells),
+            Err(fault) => return Err(fault),
+        }
+    }
+    match reader.end(text.len() as u64) {
+        Ok(()) => Ok(reader.cells),
+        Err(fault) => Err(fault),
+    }
+}
+
+fn width(least: u64, cells: &[PatternCell]) -> u64
+    ensures { result ≡ width_of least cells.now }
+{
+    cells
+        .iter()
+        .fold(least, |most, cell| most.max(u64::from(cell.column) + 1))
+}
+
+fn height(least: u64, cells: &[PatternCell]) -> u64
+    ensures { result ≡ height_of least cells.now }
+{
+    cells
+        .iter()
+        .fold(least, |most, cell| most.max(u64::from(cell.row) + 1))
+}

@@ -1,0 +1,211 @@
+//! The tokens behind the header, read byte by byte.
+
+ghost use Rattle.std.specs.Prelude.{◌≡◌, ◌≢◌, ◌+◌, ◌*◌, ◌≤◌, ◌<◌, ◌^◌, ◌++◌, ◌⊎◌, Some, None, length, OnOk, IfErr, IfOk, OnErr, unwrap_or, min};
+ghost use Rattle.multistate_rle.specs.Reading.{fresh, with_digit, with_prefix, fault_of};
+ghost use Rattle.std.specs.Prelude.{[]};
+ghost use Rattle.multistate_rle.specs.Begun.{capped};
+ghost use Rattle.multistate_rle.specs.Tokens.{Cells, Rows, run, cells_in_row};
+
+use crate::fault::RleFault;
+use crate::pattern::PatternCell;
+use crate::role::Role;
+use std::alloc::{AllocError, Global};
+
+/// More columns, and more rows, than there are: a count above it is as faulty as this one.
+const COUNT_LIMIT: u64 = 4_294_967_297;
+
+const MOST_CELLS: u64 = 1 << 20;
+
+/// What is read of a token that is not at its end: its place, its count (at most `COUNT_LIMIT`,
+/// however many digits it has) and its prefix.
+#[derive(Clone, Copy, Debug, PartialEq, Eq)]
+pub struct Begun {
+    pub place: Option<u64>,
+    pub count: Option<u64>,
+    pub prefix: Option<u8>,
+}
+
+impl Begun {
+    fn new() -> Begun
+        ensures { result ≡ fresh }
+    {
+        Begun {
+            place: None,
+            count: None,
+            prefix: None,
+        }
+    }
+
+    fn with_digit(self, place: u64, digit: u8) -> Begun
+        requires count { unwrap_or self.count 0 ≤ 4294967297 }
+        requires digit { digit ≤ 9 }
+        ensures { result ≡ capped (with_digit place digit self) }
+    {
+        let count = 10 * self.count.unwrap_or(0) + u64::from(digit);
+        Begun {
+            place: Some(self.place.unwrap_or(place)),
+            count: Some(count.min(COUNT_LIMIT)),
+            prefix: self.prefix,
+        }
+    }
+
+    fn with_prefix(self, place: u64, prefix: u8) -> Begun
+        ensures { result ≡ with_prefix place prefix self }
+    {
+        Begun {
+            place: Some(self.place.unwrap_or(place)),
+            count: self.count,
+            prefix: Some(prefix),
+        }
+    }
+}
+
+/// Whether tokens may follow a byte.
+#[derive(Clone, Copy, Debug, PartialEq, Eq)]
+pub enum Step {
+    Goes,
+    Ends,
+}
+
+/// What was drawn so far, where the next token draws, and what is read of it.
+#[derive(Drop)]
+pub struct Reader {
+    pub column: u64,
+    pub row: u64,
+    pub cells: Vec<PatternCell>,
+    pub begun: Begun,
+    ghost column_fits: { column ≤ 4294967296 },
+    ghost row_fits: { row ≤ 4294967295 },
+    ghost count_fits: { unwrap_or begun.count 0 ≤ 4294967297 },
+    ghost prefix_fits: { unwrap_or begun.prefix 0 ≤ 10 },
+}
+
+impl Reader {
+    ghost use Rattle.multistate_rle.specs.Steps.{pen_of, Reads, EndsAt, Puts};
+    ghost use Rattle.std.specs.Prelude.{◌≡◌, ◌+◌, ◌*◌, ◌≤◌, ◌<◌, ◌^◌, ◌++◌, ◌⊎◌, Some, None, [], length, OnOk, IfErr, IfOk, OnErr, unwrap_or};
+    ghost use Rattle.multistate_rle.specs.Reading.{fresh, fault_of};
+    ghost use Rattle.multistate_rle.specs.Tokens.{Cells, Rows};
+
+    pub fn new(alloc: Global) -> Reader
+        ensures { (result.column ≡ 0) × (result.row ≡ 0) × (result.cells.items ≡ []) × (result.begun ≡ fresh) }
+    {
+        Reader {
+            column: 0,
+            row: 0,
+            cells: Vec::new(alloc),
+            begun: Begun::new(),
+        }
+    }
+
+    /// Goes on by one byte, neither a blank nor a line's end nor in a comment.
+    pub fn read(&mut self, place: u64, byte: u8) -> Result<Step, RleFault>
+        ensures { Reads self.old (place, byte) result self.new }
+    {
+        match Role::of(self.begun.prefix, byte) {
+            Role::EndMark => {
+                self.end(place)?;
+                return Ok(Step::Ends);
+            }
+            Role::Digit(digit) => self.begun = self.begun.with_digit(place, digit),
+            Role::Prefix(prefix) => self.begun = self.begun.with_prefix(place, prefix),
+            Role::State(state) => self.put_run(place, state)?,
+            Role::RowEnd => self.put_rows(place)?,
+            Role::Stray => return Err(RleFault::Tag(place)),
+        }
+        Ok(Step::Goes)
+    }
+
+    /// The end of the tokens, at a place: no prefix may stand alone.
+    pub fn end(&self, place: u64) -> Result<(), RleFault>
+        ensures { EndsAt place self.now.begun result }
+    {
+        match self.begun.prefix {
+            None => Ok(()),
+            Some(_) => Err(RleFault::Tag(place)),
+        }
+    }
+
+    fn put_run(&mut self, place: u64, state: u16) -> Result<(), RleFault>
+        ensures { Puts (unwrap_or self.old.begun.place place) (Cells (unwrap_or self.old.begun.count 1) state) self.old result self.new }
+    {
+        let place = self.begun.place.unwrap_or(place);
+        let count = self.begun.count.unwrap_or(1);
+        if let Some(fault) = self.run_fault(place, count, state) {
+            return Err(fault);
+        }
+        push_run(&mut self.cells, count, state as u8, self.column, self.row)?;
+        self.column += count;
+        self.begun = Begun::new();
+        Ok(())
+    }
+
+    fn put_rows(&mut self, place: u64) -> Result<(), RleFault>
+        ensures { Puts (unwrap_or self.old.begun.place place) (Rows (unwrap_or self.old.begun.count 1)) self.old result self.new }
+    {
+        let place = self.begun.place.unwrap_or(place);
+        let count = self.begun.count.unwrap_or(1);
+        if count == 0 || self.row + count > u64::from(u32::MAX) {
+            return Err(RleFault::Count(place));
+        }
+        self.column = 0;
+        self.row += count;
+        self.begun = Begun::new();
+        Ok(())
+    }
+
+    fn run_fault(&self, place: u64, count: u64, state: u16) -> Option<RleFault>
+        requires { count ≤ 4294967297 }
+        ensures { result ≡ fault_of place (pen_of self.now) (Cells count state) }
+    {
+        if state > 255 {
+            return Some(RleFault::State(place));
+        }
+        if count == 0 || self.column + count > 1 << 32 {
+            return Some(RleFault::Count(place));
+        }
+        let cells = if state == 0 { 0 } else { count };
+        if self.cells.len() as u64 + cells > MOST_CELLS {
+            return Some(RleFault::TooMany);
+        }
+        None
+    }
+}
+
+/// The nonzero cells of a run.
+fn push_run(
+    cells: &mut Vec<PatternCell>,
+    count: u64,
+    state: u8,
+    column: u64,
+    row: u64,
+) -> Result<(), AllocError>
+    requires columns { column + count ≤ 4294967296 }
+    requires row { row ≤ 4294967295 }
+    ensures { OnOk result (cells.new.items ≡ cells.old.items ++ run count state column row) }
+{
+    if state == 0 {
+        return Ok(());
+    }
+    push_cells(cells, count, state, column, row)
+}
+
+fn push_cells(
+    cells: &mut Vec<PatternCell>,
+    count: u64,
+    state: u8,
+    column: u64,
+    row: u64,
+) -> Result<(), AllocError>
+    requires columns { column + count ≤ 4294967296 }
+    requires row { row ≤ 4294967295 }
+    ensures { OnOk result (cells.new.items ≡ cells.old.items ++ cells_in_row count state column row) }
+{
+    for at in column..column + count {
+        cells.push(PatternCell {
+            column: at as u32,
+            row: row as u32,
+            state,
+        })?;
+    }
+    Ok(())
+}

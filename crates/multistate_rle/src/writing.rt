@@ -1,0 +1,98 @@
+//! Writing an RLE text: the two lines in front, and the tokens.
+
+ghost use Rattle.std.specs.Prelude.{◌≡◌, ◌<◌, ◌==◌, ◌++◌, ◌∷◌, [], IfOk, OnOk, true, map};
+ghost use Rattle.multistate_rle.specs.Cells.{is_sorted, are_nonzero, are_below};
+ghost use Rattle.multistate_rle.specs.Writing.{rle_text, head as head_of, body, token_text};
+ghost use Rattle.multistate_rle.specs.Bounds.{seen_from, in_box};
+ghost use Rattle.multistate_rle.specs.Tokens.{tokens_from};
+ghost use Rattle.multistate_rle.specs.Filling.{Writes};
+
+use crate::bounds::{Bounds, bounds_of};
+use crate::cell::Cell;
+use crate::letters::Letters;
+use crate::lines::{Lines, Pen};
+use crate::pattern::PatternCell;
+use generations_rule::Rule;
+use itoa::Buffer;
+use std::alloc::{AllocError, Global};
+
+/// The text of nonzero cells at a generation, in Golly's multi-state RLE under a rule: a `#CXRLE`
+/// line with the position and the generation, the header with the sides of the bounding box and the
+/// rule, and the shortest row of tokens, on lines of at most 70 bytes.
+pub fn write(
+    alloc: Global,
+    rule: &Rule,
+    generation: u64,
+    cells: &[Cell],
+) -> Result<Vec<u8>, AllocError>
+    requires sorted { is_sorted cells.now ≡ true }
+    requires nonzero { are_nonzero cells.now ≡ true }
+    requires below { are_below rule.now.states cells.now ≡ true }
+    ensures { IfOk result (λ text. text.items ≡ rle_text rule.now generation cells.now) }
+{
+    let bounds = bounds_of(cells);
+    let rule_text = rule.write_text(alloc)?;
+    let text = head(alloc, &rule_text, generation, &bounds)?;
+    let text = with_body(text, rule.states() == 2, &bounds, cells)?;
+    Ok(text)
+}
+
+/// The two lines in front.
+fn head(alloc: Global, rule: &[u8], generation: u64, bounds: &Bounds) -> Result<Vec<u8>, AllocError>
+    ensures { IfOk result (λ text. text.items ≡ head_of rule.now generation bounds.now) }
+{
+    let mut buffer = Buffer::new();
+    let mut text = Vec::from_slice(alloc, b"#CXRLE Pos=")?;
+    text.extend_from_slice(buffer.format(bounds.x).as_bytes())?;
+    text.extend_from_slice(b",")?;
+    text.extend_from_slice(buffer.format(bounds.y).as_bytes())?;
+    text.extend_from_slice(b" Gen=")?;
+    text.extend_from_slice(buffer.format(generation).as_bytes())?;
+    text.extend_from_slice(b"\nx = ")?;
+    text.extend_from_slice(buffer.format(bounds.width).as_bytes())?;
+    text.extend_from_slice(b", y = ")?;
+    text.extend_from_slice(buffer.format(bounds.height).as_bytes())?;
+    text.extend_from_slice(b", rule = ")?;
+    text.extend_from_slice(rule)?;
+    text.extend_from_slice(b"\n")?;
+    Ok(text)
+}
+
+/// The text with the tokens of the cells and the end mark behind it.
+fn with_body(
+    text: Vec<u8>,
+    two_states: bool,
+    bounds: &Bounds,
+    cells: &[Cell],
+) -> Result<Vec<u8>, AllocError>
+    requires { are_nonzero cells.now ≡ true }
+    ensures { IfOk result (λ whole. whole.items ≡ text.items ++ body two_states (tokens_from 0 0 (in_box bounds.now cells.now))) }
+{
+    let mut lines = Lines::after(text, two_states);
+    put_cells(&mut lines, bounds, cells)?;
+    lines.put(1, Letters::plain(b'!'))?;
+    lines.put_end()?;
+    Ok(lines.text)
+}
+
+fn put_cells(lines: &mut Lines, bounds: &Bounds, cells: &[Cell]) -> Result<(), AllocError>
+    requires { are_nonzero cells.now ≡ true }
+    ensures { OnOk result (Writes lines.old (map (token_text lines.old.two_states) (tokens_from 0 0 (in_box bounds.now cells.now))) lines.new) }
+{
+    let mut pen = Pen::new();
+    for cell in cells {
+        pen = lines.put_cell(pen, seen(bounds, cell))?;
+    }
+    lines.put_run(pen.run)
+}
+
+/// A cell as seen from the box's corner.
+fn seen(bounds: &Bounds, cell: &Cell) -> PatternCell
+    ensures { result ≡ seen_from bounds.now.x bounds.now.y cell.now }
+{
+    PatternCell {
+        column: cell.x.abs_diff(bounds.x),
+        row: cell.y.abs_diff(bounds.y),
+        state: cell.state,
+    }
+}
