@@ -13,3 +13,5 @@ run:
 # Measures; asserts nothing.
 bench:
 	@cd crates/edit_bench && rt run -- --time
+	@cd crates/kernel_bench && rt run -- --time
+	@cd crates/replica_bench && rt run -- --time
