@@ -4,3 +4,4 @@ pub mod Fault
 pub mod Message
 pub mod Replica
 pub mod Laws
+pub mod World

@@ -95,6 +95,8 @@ IsDraw old new meant (Err faults.Memory) = IsPartly old new (writes_drawn meant)
 IsDraw old new meant (Err faults.ClockFull) = (meant ≡ Err faults.ClockFull) × (new ≡ old)
 IsDraw old new meant (Err (faults.Edit fault)) = (meant ≡ Err (faults.Edit fault)) × (new ≡ old)
 IsDraw old new meant (Err faults.OtherRule) = ⊥
+IsDraw old new meant (Err faults.NoReplica) = ⊥
+IsDraw old new meant (Err faults.NoMessage) = ⊥
 
 -- A message is taken whole; one of another rule is refused, which leaves all as it was; nothing else is refused but
 -- want of memory.
@@ -104,6 +106,8 @@ IsTaking old new m (Err faults.OtherRule) = (m.rule ≢ old.rule) × (new ≡ ol
 IsTaking old new m (Err faults.Memory) = (m.rule ≡ old.rule) × IsPartly old new (writes_in m.content)
 IsTaking old new m (Err faults.ClockFull) = ⊥
 IsTaking old new m (Err (faults.Edit fault)) = ⊥
+IsTaking old new m (Err faults.NoReplica) = ⊥
+IsTaking old new m (Err faults.NoMessage) = ⊥
 
 -- a message's content is a map equal to p at every place
 abbrev pub IsMapOf : Writes → Content → Type 0

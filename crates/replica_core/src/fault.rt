@@ -1,4 +1,4 @@
-//! Why a replica refuses.
+//! Why a replica, or a world of replicas, refuses.
 
 ghost use Rattle.std.specs.Prelude.{◌≡◌};
 
@@ -7,7 +7,7 @@ use std::alloc::AllocError;
 use std::error::Error;
 use std::fmt;
 
-/// Why a replica refuses.
+/// Why a replica, or a world of replicas, refuses.
 #[derive(Clone, Copy, Debug, PartialEq, Eq)]
 pub enum Fault {
     /// The edit's own refusal.
@@ -16,6 +16,10 @@ pub enum Fault {
     OtherRule,
     /// The greatest counter of the plane is the last one, 2^48 - 1.
     ClockFull,
+    /// There is no replica of this number.
+    NoReplica,
+    /// There is no message of this number.
+    NoMessage,
     /// The system refused memory.
     Memory,
 }
@@ -31,6 +35,8 @@ impl Fault {
             Fault::Edit(fault) => fault.number(),
             Fault::OtherRule => 16,
             Fault::ClockFull => 24,
+            Fault::NoReplica => 26,
+            Fault::NoMessage => 27,
             Fault::Memory => 255,
         }
     }
@@ -48,6 +54,8 @@ impl fmt::Display for Fault {
             Fault::Edit(fault) => write!(f, "{fault}"),
             Fault::OtherRule => write!(f, "OtherRule"),
             Fault::ClockFull => write!(f, "ClockFull"),
+            Fault::NoReplica => write!(f, "NoReplica"),
+            Fault::NoMessage => write!(f, "NoMessage"),
             Fault::Memory => write!(f, "Memory"),
         }
     }

@@ -1,6 +1,7 @@
 //! Replicas of a shared plane: drawing, taking and showing.
 #![tactic(auto)]
 
+mod event;
 mod fault;
 mod journal;
 mod laws;
@@ -8,12 +9,15 @@ mod message;
 mod plane;
 mod replica;
 mod spec;
+mod world;
 
+pub use event::{Event, Reply, Stop};
 pub use fault::Fault;
 pub use laws::{clock_laws, journal_laws};
 pub use message::Message;
 pub use replica::Replica;
 pub use spec::{CellList, EditSpec};
+pub use world::{World, replay};
 
 #[cfg(test)]
 mod tests;

@@ -112,8 +112,16 @@ impl Replica {
         ensures { (n : ℕ) × IsGreatestStamp n (write_at self.old.map)
             × IsDraw self.old self.new (edit_drawn self.old.rule (counter_of n) self.old.number spec) result }
     {
+        self.draw_as(&spec)
+    }
+
+    /// Draws an edit, as `draw`, and leaves what is to be drawn with the caller.
+    pub fn draw_as(&mut self, spec: &EditSpec) -> Result<Edit, Fault>
+        ensures { (n : ℕ) × IsGreatestStamp n (write_at self.old.map)
+            × IsDraw self.old self.new (edit_drawn self.old.rule (counter_of n) self.old.number spec.now) result }
+    {
         let stamp = next_stamp(&self.plane, self.number)?;
-        let edit = make(self.alloc, &self.rule, stamp, &spec)?;
+        let edit = make(self.alloc, &self.rule, stamp, spec)?;
         draw_into(&mut self.plane, &mut self.journal, &edit)?;
         Ok(edit)
     }

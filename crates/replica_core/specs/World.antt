@@ -1,0 +1,178 @@
+-- Worlds of replicas as histories: which edits each replica took, which messages were sent, and what is answered to
+-- each event. The plane of a replica is no part of a history; it is the greatest writes of the edits that it took.
+use Rattle.std.specs.Prelude.{◌≡◌, ℕ, zero, suc, ◌+◌, ◌-◌, List, [], ◌∷◌, ◌++◌, length, Option, Some, None, Result, Ok, Err, slice_get, Contains, ◌⊎◌, ⊤}
+use Rattle.std.specs.Option.{ok_or}
+use Rattle.std.proofs.Math.ListN.{replicate, set}
+use Rattle.generations_rule.specs.Place.{at_place}
+use Rattle.generations_rule.specs.Refusal.{◌>>=◌}
+use Rattle.generations_rule.specs.Rule.{GenerationsRule}
+use Rattle.edit_stamps.specs.Edit.{PlaneEdit, IsEdit, greatest}
+use Rattle.edit_stamps.specs.PlaneMap.{write_at}
+use Rattle.edit_stamps.specs.Write.{AreSame}
+use Rattle.replica_core.specs.declared.event.Event.{Event}
+use Rattle.replica_core.specs.declared.event.Event.TheVariants.{Draw, SendState, Deliver, Show}
+use Rattle.replica_core.specs.declared.event.Reply.{Reply}
+use Rattle.replica_core.specs.declared.event.Reply.TheVariants as replies
+use Rattle.replica_core.specs.declared.fault.Fault.{Fault}
+use Rattle.replica_core.specs.declared.fault.Fault.TheVariants as faults
+use Rattle.replica_core.specs.declared.message.Content.{Content}
+use Rattle.replica_core.specs.declared.spec.EditSpec.{EditSpec}
+use Rattle.replica_core.specs.Laws.{greatest_counter}
+use Rattle.replica_core.specs.Message.{Shared}
+use Rattle.replica_core.specs.Replica.{ReplicaState, IsMapOf, edit_drawn}
+
+-- ---- histories
+
+-- the edits that a replica took, and those that its journal has
+pub record ReplicaHistory : Type 0 where
+  pub taken : List PlaneEdit
+  pub journal : List PlaneEdit
+
+-- a sent message: the map of the edits that its sender had taken by then
+pub data Sent : Type 0 where
+  State : List PlaneEdit → Sent
+
+-- what a world has been through: of replica 1, 2, .. and of message 1, 2, ..
+pub record History : Type 0 where
+  pub rule : GenerationsRule
+  pub replicas : List ReplicaHistory
+  pub messages : List Sent
+
+-- a replica that has taken nothing
+abbrev pub beginner : ReplicaHistory
+beginner = record { taken = []; journal = [] }
+
+-- so many replicas, and no message
+abbrev pub opening : GenerationsRule → ℕ → History
+opening rule n = record { rule = rule; replicas = replicate n beginner; messages = [] }
+
+-- ---- what an event finds, or the first refusal
+
+-- what stands at a number, counted from 1
+abbrev pub numbered : {A : Type 0} → List A → ℕ → Option A
+numbered xs zero = None
+numbered xs (suc i) = slice_get xs i
+
+abbrev pub replica : History → ℕ → Result ReplicaHistory Fault
+replica w r = ok_or (numbered w.replicas r) faults.NoReplica
+
+abbrev pub message : History → ℕ → Result Sent Fault
+message w m = ok_or (numbered w.messages m) faults.NoMessage
+
+-- a drawn edit stands in both lists
+abbrev pub after_drawing : ReplicaHistory → PlaneEdit → ReplicaHistory
+after_drawing h e = record { taken = h.taken ++ e ∷ []; journal = h.journal ++ e ∷ [] }
+
+-- the edit that a replica draws, and what it has then: its clock is the greatest counter of the edits that it took
+abbrev pub drawn : History → ℕ → EditSpec → Result (PlaneEdit × ReplicaHistory) Fault
+drawn w r spec = replica w r >>= (λ h. edit_drawn w.rule (greatest_counter h.taken) r spec >>= (λ e. Ok (e, after_drawing h e)))
+
+-- what a replica has after a message; a map adds nothing to its journal
+abbrev pub after_message : ReplicaHistory → Sent → ReplicaHistory
+after_message h (State edits) = record { taken = h.taken ++ edits; journal = h.journal }
+
+abbrev pub delivered : History → ℕ → ℕ → Result ReplicaHistory Fault
+delivered w m r = message w m >>= (λ sent. replica w r >>= (λ h. Ok (after_message h sent)))
+
+-- ---- the world after an event
+
+abbrev pub with_replica : History → ℕ → ReplicaHistory → History
+with_replica w r h = record { rule = w.rule; replicas = set w.replicas (r - 1) h; messages = w.messages }
+
+abbrev pub with_message : History → Sent → History
+with_message w sent = record { rule = w.rule; replicas = w.replicas; messages = w.messages ++ sent ∷ [] }
+
+-- what was found changes the world; a refusal leaves it
+abbrev pub changed : {A : Type 0} → History → Result A Fault → (A → History) → History
+changed w (Ok x) change = change x
+changed w (Err fault) change = w
+
+abbrev pub after : History → Event → History
+after w (Draw r spec) = changed w (drawn w r spec) (λ d. with_replica w r d.1)
+after w (SendState r) = changed w (replica w r) (λ h. with_message w (State h.taken))
+after w (Deliver m r) = changed w (delivered w m r) (λ h. with_replica w r h)
+after w (Show r x y) = w
+
+abbrev pub after_all : History → List Event → History
+after_all w [] = w
+after_all w (event ∷ events) = after_all (after w event) events
+
+-- ---- replies
+
+-- messages are numbered from 1 as they are sent
+abbrev pub next_message : History → ℕ
+next_message w = length w.messages + 1
+
+-- the refusal is the reply, or else the reply is as P says of what was found
+abbrev pub Given : {A : Type 0} → Result A Fault → Reply → (A → Type 0) → Type 0
+Given (Err fault) reply P = reply ≡ replies.Refused fault
+Given (Ok x) reply P = P x
+
+-- the reply to an event
+abbrev pub IsReply : History → Event → Reply → Type 0
+IsReply w (Draw r spec) reply = Given (drawn w r spec) reply (λ d. reply ≡ replies.Drawn d.0.stamp)
+IsReply w (SendState r) reply = Given (replica w r) reply (λ h. reply ≡ replies.Sent (next_message w))
+IsReply w (Deliver m r) reply = Given (delivered w m r) reply (λ h. reply ≡ replies.Taken)
+IsReply w (Show r x y) reply = Given (replica w r) reply (λ h. reply ≡ replies.Shown (greatest h.taken (at_place x y)))
+
+-- the replies to events one after another
+abbrev pub AreReplies : History → List Event → List Reply → Type 0
+AreReplies w [] [] = ⊤
+AreReplies w (event ∷ events) (reply ∷ more) = IsReply w event reply × AreReplies (after w event) events more
+AreReplies w [] (reply ∷ more) = ⊥
+AreReplies w (event ∷ events) [] = ⊥
+
+-- ---- the edits of a history
+
+abbrev pub edits_sent : Sent → List PlaneEdit
+edits_sent (State edits) = edits
+
+abbrev pub IsTaken : History → PlaneEdit → Type 0
+IsTaken w e = (r : ℕ) × (h : ReplicaHistory) × (replica w r ≡ Ok h) × Contains h.taken e
+
+abbrev pub IsNoted : History → PlaneEdit → Type 0
+IsNoted w e = (r : ℕ) × (h : ReplicaHistory) × (replica w r ≡ Ok h) × Contains h.journal e
+
+abbrev pub IsSent : History → PlaneEdit → Type 0
+IsSent w e = (m : ℕ) × (sent : Sent) × (message w m ≡ Ok sent) × Contains (edits_sent sent) e
+
+-- an edit stands somewhere in a history
+abbrev pub IsIn : History → PlaneEdit → Type 0
+IsIn w e = IsTaken w e ⊎ (IsNoted w e ⊎ IsSent w e)
+
+abbrev pub AreEdits : History → Type 0
+AreEdits w = (e : PlaneEdit) → IsIn w e → IsEdit e
+
+-- ---- which worlds of replicas stand for a history
+
+-- what contracts see of a world: its replicas and its messages
+pub record WorldState : Type 0 where
+  pub rule : GenerationsRule
+  pub replicas : List ReplicaState
+  pub messages : List Shared
+
+-- a replica of this rule and number, whose map has at each place the greatest write of the edits that were taken
+pub record StandsFor (rule : GenerationsRule) (number : ℕ) (h : ReplicaHistory) (r : ReplicaState) : Type 0 where
+  pub same_rule : r.rule ≡ rule
+  pub same_number : r.number ≡ number
+  pub map : AreSame (write_at r.map) (greatest h.taken)
+  pub journal : r.journal ≡ h.journal
+
+-- what a message carries for what was sent
+abbrev pub Carries : Sent → Content → Type 0
+Carries (State edits) content = IsMapOf (greatest edits) content
+
+-- a message of this rule that carries what was sent
+pub record StandsForSent (rule : GenerationsRule) (sent : Sent) (m : Shared) : Type 0 where
+  pub same_rule : m.rule ≡ rule
+  pub content : Carries sent m.content
+
+-- as many, and each stands for the one at its place
+pub record StandSideBySide {A B : Type 0} (Stands : ℕ → A → B → Type 0) (xs : List A) (ys : List B) : Type 0 where
+  pub as_many : length ys ≡ length xs
+  pub each : (i : ℕ) (x : A) (y : B) → slice_get xs i ≡ Some x → slice_get ys i ≡ Some y → Stands (suc i) x y
+
+pub record StandsForWorld (w : History) (state : WorldState) : Type 0 where
+  pub rule : state.rule ≡ w.rule
+  pub replicas : StandSideBySide (StandsFor w.rule) w.replicas state.replicas
+  pub messages : StandSideBySide (λ m. StandsForSent w.rule) w.messages state.messages

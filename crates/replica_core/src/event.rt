@@ -1,0 +1,68 @@
+//! What happens in a world of replicas, and what is answered.
+
+use crate::fault::Fault;
+use crate::spec::EditSpec;
+use edit_stamps::{Stamp, Write};
+use std::alloc::{AllocError, AllocFailed};
+
+/// What happens in a world. Replicas are named by their numbers, from 1; messages by theirs, from 1
+/// in the order in which they were sent.
+#[derive(Debug, Drop)]
+pub enum Event {
+    /// A replica draws.
+    Draw(u32, EditSpec),
+    /// A replica sends its whole map.
+    SendState(u32),
+    /// A sent message reaches a replica: any message, any replica, at any later time, and again and
+    /// again. A message that is never delivered is lost.
+    Deliver(u64, u32),
+    /// Somebody looks at a replica's cell at `x`, `y`.
+    Show(u32, i32, i32),
+}
+
+/// What is answered to an event.
+#[derive(Clone, Copy, Debug, PartialEq, Eq)]
+pub enum Reply {
+    /// The stamp of the edit that was drawn.
+    Drawn(Stamp),
+    /// The number of the message that was sent.
+    Sent(u64),
+    /// The message was taken.
+    Taken,
+    /// The write at the cell; the least write where nothing was written, and outside the plane.
+    Shown(Write),
+    /// Why nothing happened. A draw and a look are refused for want of the replica first, a
+    /// delivery for want of the message first. It is never `Fault::Memory`.
+    Refused(Fault),
+}
+
+/// Why a list of events was not run to its end. What was done by then is dropped.
+#[derive(Clone, Copy, Debug, PartialEq, Eq)]
+pub enum Stop {
+    /// The system refused memory.
+    Memory,
+    /// A store of squares was full. Replicas have no such store yet, and it is never answered.
+    StoreFull,
+}
+
+impl From<AllocError> for Stop {
+    ghost use Rattle.std.specs.Prelude.{◌≡◌};
+    ghost use Rattle.replica_core.specs.declared.event.Stop.TheVariants.{Memory};
+
+    ghost from_gives = { λ _ stop. stop ≡ Memory };
+
+    fn from(_error: AllocError) -> Stop {
+        Stop::Memory
+    }
+}
+
+impl<T: Drop> From<AllocFailed<T>> for Stop {
+    ghost use Rattle.std.specs.Prelude.{◌≡◌};
+    ghost use Rattle.replica_core.specs.declared.event.Stop.TheVariants.{Memory};
+
+    ghost from_gives = { λ _ stop. stop ≡ Memory };
+
+    fn from(_error: AllocFailed<T>) -> Stop {
+        Stop::Memory
+    }
+}

@@ -1,0 +1,256 @@
+//! Worlds of replicas: lists of events, and their replies.
+
+ghost use Rattle.std.specs.Prelude.{◌≡◌, ◌≢◌, ◌≤◌, ◌-◌, ℕ, IfOk, IfErr, SomeIff, Contains, MatchResult, option_copied};
+ghost use Rattle.edit_stamps.specs.Edit.{IsEdit, PlaneEdit};
+ghost use Rattle.generations_rule.specs.Rule.{GenerationsRule};
+ghost use Rattle.replica_core.specs.declared.event.Event.TheVariants as events;
+ghost use Rattle.replica_core.specs.declared.event.Stop.TheVariants as stops;
+ghost use Rattle.replica_core.specs.declared.event.Reply.TheVariants as replies;
+ghost use Rattle.replica_core.specs.declared.fault.Fault.TheVariants as faults;
+ghost use Rattle.replica_core.specs.Laws.{greatest_counter};
+ghost use Rattle.replica_core.specs.Replica.{edit_drawn, IsNew, IsSnapshot};
+ghost use Rattle.replica_core.specs.World.{History, ReplicaHistory, Sent, opening, after, after_all, after_drawing, after_message, numbered, AreEdits, AreReplies, IsReply, StandSideBySide, StandsFor, StandsForSent, StandsForWorld};
+
+use crate::event::{Event, Reply, Stop};
+use crate::fault::Fault;
+use crate::message::Message;
+use crate::replica::Replica;
+use crate::spec::EditSpec;
+use generations_rule::Rule;
+use std::alloc::Global;
+use std::marker::Model;
+
+/// Replicas of one rule with the numbers 1, 2, .. and the messages that they sent.
+#[derive(Debug, Drop)]
+pub struct World {
+    rule: Rule,
+    replicas: Vec<Replica>,
+    messages: Vec<Message>,
+}
+
+impl Model for World {
+    ghost use Rattle.replica_core.specs.World.{WorldState};
+
+    ghost Value = { WorldState };
+
+    ghost view = { λ w. record { rule = w.rule; replicas = w.replicas.items; messages = w.messages.items } };
+}
+
+impl World {
+    /// A world of replicas 1 to `n` that hold nothing, where no message was sent. The only error is
+    /// want of memory.
+    pub fn new(alloc: Global, rule: Rule, n: u16) -> Result<World, Stop>
+        ensures new { IfOk result (λ world. StandsForWorld (opening rule n) world) }
+        ensures err { IfErr result (λ stop. stop ≡ stops.Memory) }
+    {
+        let replicas = beginners(alloc, rule, n)?;
+        Ok(World {
+            rule,
+            replicas,
+            messages: Vec::new(alloc),
+        })
+    }
+
+    /// The replica of a number, if there is one.
+    pub fn replica(&self, number: u32) -> Option<&Replica>
+        ensures { option_copied result ≡ numbered self.now.replicas number }
+    {
+        let index = index_of(u64::from(number), self.replicas.len())?;
+        self.replicas.get(index)
+    }
+}
+
+/// Runs a world of replicas 1 to `n` through events, in order: the world behind the last event, and
+/// the reply to each. A refused event changes nothing, and the next one follows. The only error is
+/// want of memory.
+pub fn replay(
+    alloc: Global,
+    rule: Rule,
+    n: u16,
+    events: &[Event],
+) -> Result<(World, Vec<Reply>), Stop>
+    ensures replies { IfOk result (λ done. AreReplies (opening rule n) events.now done.1.items) }
+    ensures world { IfOk result (λ done. StandsForWorld (after_all (opening rule n) events.now) done.0) }
+    ensures err { IfErr result (λ stop. stop ≡ stops.Memory) }
+{
+    let mut world = World::new(alloc, rule, n)?;
+    let mut replies = Vec::with_capacity(alloc, events.len())?;
+    for event in events {
+        let reply = happen(&mut world, event)?;
+        replies.push(reply)?;
+    }
+    Ok((world, replies))
+}
+
+fn beginners(alloc: Global, rule: Rule, n: u16) -> Result<Vec<Replica>, Stop>
+    ensures new { IfOk result (λ made. StandSideBySide (StandsFor rule) (opening rule n).replicas made.items) }
+    ensures err { IfErr result (λ stop. stop ≡ stops.Memory) }
+{
+    let mut replicas = Vec::with_capacity(alloc, usize::from(n))?;
+    for index in 0..n {
+        replicas.push(beginner(alloc, rule, index + 1)?)?;
+    }
+    Ok(replicas)
+}
+
+fn beginner(alloc: Global, rule: Rule, number: u16) -> Result<Replica, Stop>
+    requires { 1 ≤ number }
+    ensures new { IfOk result (λ replica. IsNew rule number replica) }
+    ensures err { IfErr result (λ stop. stop ≡ stops.Memory) }
+{
+    match Replica::new(alloc, rule, number) {
+        Ok(replica) => Ok(replica),
+        Err(_) => Err(Stop::Memory),
+    }
+}
+
+/// The place in a list of what has a number, counted from 1.
+fn index_of(number: u64, count: usize) -> Option<usize>
+    ensures { SomeIff result ((1 ≤ number) × (number ≤ count)) (number - 1) }
+{
+    if number == 0 || number > count as u64 {
+        return None;
+    }
+    Some((number - 1) as usize)
+}
+
+/// What happens at one event.
+fn happen(world: &mut World, event: &Event) -> Result<Reply, Stop>
+    ensures step { IfOk result (λ reply. (w : History) → AreEdits w → StandsForWorld w world.old →
+        IsReply w event.now reply × StandsForWorld (after w event.now) world.new) }
+    ensures err { IfErr result (λ stop. stop ≡ stops.Memory) }
+{
+    match event {
+        Event::Draw(number, spec) => {
+            let reply = draw(&mut world.replicas, *number, spec)?;
+            Ok(reply)
+        }
+        Event::SendState(number) => {
+            let reply = send_state(&world.replicas, &mut world.messages, *number)?;
+            Ok(reply)
+        }
+        Event::Deliver(message, number) => {
+            let reply = deliver(&world.messages, &mut world.replicas, *message, *number)?;
+            Ok(reply)
+        }
+        Event::Show(number, x, y) => Ok(show(&world.replicas, *number, *x, *y)),
+    }
+}
+
+fn draw(replicas: &mut [Replica], number: u32, spec: &EditSpec) -> Result<Reply, Stop>
+    ensures step { IfOk result (λ reply. (w : History) → AreEdits w → StandSideBySide (StandsFor w.rule) w.replicas replicas.old →
+        IsReply w (events.Draw number spec.now) reply
+        × StandSideBySide (StandsFor w.rule) (after w (events.Draw number spec.now)).replicas replicas.new) }
+    ensures err { IfErr result (λ stop. stop ≡ stops.Memory) }
+{
+    match index_of(u64::from(number), replicas.len()) {
+        None => Ok(Reply::Refused(Fault::NoReplica)),
+        Some(index) => {
+            let reply = draw_at(&mut replicas[index], spec)?;
+            Ok(reply)
+        }
+    }
+}
+
+/// What a replica draws.
+fn draw_at(replica: &mut Replica, spec: &EditSpec) -> Result<Reply, Stop>
+    ensures step { IfOk result (λ reply. (rule : GenerationsRule) (h : ReplicaHistory) → ((e : PlaneEdit) → Contains h.taken e → IsEdit e)
+        → StandsFor rule replica.old.number h replica.old
+        → MatchResult (edit_drawn rule (greatest_counter h.taken) replica.old.number spec.now)
+        (λ e. (reply ≡ replies.Drawn e.stamp) × StandsFor rule replica.old.number (after_drawing h e) replica.new)
+        (λ fault. (reply ≡ replies.Refused fault) × (replica.new ≡ replica.old))) }
+    ensures err { IfErr result (λ stop. stop ≡ stops.Memory) }
+{
+    match replica.draw_as(spec) {
+        Ok(edit) => Ok(Reply::Drawn(edit.stamp())),
+        Err(fault) => {
+            let reply = refused(fault)?;
+            Ok(reply)
+        }
+    }
+}
+
+/// The reply of a refusal; want of memory is none.
+fn refused(fault: Fault) -> Result<Reply, Stop>
+    ensures reply { IfOk result (λ reply. (fault ≢ faults.Memory) × (reply ≡ replies.Refused fault)) }
+    ensures err { IfErr result (λ stop. stop ≡ stops.Memory) }
+{
+    match fault {
+        Fault::Memory => Err(Stop::Memory),
+        refusal => Ok(Reply::Refused(refusal)),
+    }
+}
+
+fn send_state(replicas: &[Replica], messages: &mut Vec<Message>, number: u32) -> Result<Reply, Stop>
+    ensures step { IfOk result (λ reply. (w : History) → StandSideBySide (StandsFor w.rule) w.replicas replicas.now
+        → StandSideBySide (λ m. StandsForSent w.rule) w.messages messages.old.items →
+        IsReply w (events.SendState number) reply
+        × StandSideBySide (λ m. StandsForSent w.rule) (after w (events.SendState number)).messages messages.new.items) }
+    ensures err { IfErr result (λ stop. stop ≡ stops.Memory) }
+{
+    match index_of(u64::from(number), replicas.len()) {
+        None => Ok(Reply::Refused(Fault::NoReplica)),
+        Some(index) => {
+            let message = snapshot_of(&replicas[index])?;
+            messages.push(message)?;
+            Ok(Reply::Sent(messages.len() as u64))
+        }
+    }
+}
+
+fn snapshot_of(replica: &Replica) -> Result<Message, Stop>
+    ensures snapshot { IfOk result (λ message. IsSnapshot replica.now message) }
+    ensures err { IfErr result (λ stop. stop ≡ stops.Memory) }
+{
+    match replica.snapshot() {
+        Ok(message) => Ok(message),
+        Err(_) => Err(Stop::Memory),
+    }
+}
+
+fn deliver(
+    messages: &[Message],
+    replicas: &mut [Replica],
+    message: u64,
+    number: u32,
+) -> Result<Reply, Stop>
+    ensures step { IfOk result (λ reply. (w : History) → StandSideBySide (StandsFor w.rule) w.replicas replicas.old
+        → StandSideBySide (λ m. StandsForSent w.rule) w.messages messages.now →
+        IsReply w (events.Deliver message number) reply
+        × StandSideBySide (StandsFor w.rule) (after w (events.Deliver message number)).replicas replicas.new) }
+    ensures err { IfErr result (λ stop. stop ≡ stops.Memory) }
+{
+    let Some(from) = index_of(message, messages.len()) else {
+        return Ok(Reply::Refused(Fault::NoMessage));
+    };
+    let Some(to) = index_of(u64::from(number), replicas.len()) else {
+        return Ok(Reply::Refused(Fault::NoReplica));
+    };
+    let reply = take_at(&mut replicas[to], &messages[from])?;
+    Ok(reply)
+}
+
+/// What a replica takes.
+fn take_at(replica: &mut Replica, message: &Message) -> Result<Reply, Stop>
+    ensures step { IfOk result (λ reply. (rule : GenerationsRule) (h : ReplicaHistory) (sent : Sent) → StandsFor rule replica.old.number h replica.old
+        → StandsForSent rule sent message.now
+        → (reply ≡ replies.Taken) × StandsFor rule replica.old.number (after_message h sent) replica.new) }
+    ensures err { IfErr result (λ stop. stop ≡ stops.Memory) }
+{
+    match replica.take(message) {
+        Ok(()) => Ok(Reply::Taken),
+        Err(fault) => {
+            let reply = refused(fault)?;
+            Ok(reply)
+        }
+    }
+}
+
+fn show(replicas: &[Replica], number: u32, x: i32, y: i32) -> Reply
+    ensures { (w : History) → StandSideBySide (StandsFor w.rule) w.replicas replicas.now → IsReply w (events.Show number x y) result }
+{
+    match index_of(u64::from(number), replicas.len()) {
+        None => Reply::Refused(Fault::NoReplica),
+        Some(index) => Reply::Shown(replicas[index].get(x, y)),
+    }
+}
