@@ -1,3 +1,4 @@
+pub mod Device
 pub mod Plane
 pub mod Journal
 pub mod Fault
