@@ -7,3 +7,6 @@ pub mod EditWrites
 pub mod EntryLaws
 pub mod StateLaws
 pub mod ClockLaws
+pub mod SideBySide
+pub mod StandingLaws
+pub mod EventLaws
