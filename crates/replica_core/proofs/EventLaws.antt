@@ -165,7 +165,7 @@ goes_by_drawing w event r spec reply old new is stands rule messages rs replicas
       stands_for w (after w (Draw r spec)) new (keeps_rule w (Draw r spec)) (rule ∙ stands.rule)
           (subst (StandSideBySide (StandsFor w.rule) (after w (Draw r spec)).replicas) (sym replicas) told.1)
           (subst (λ ms. StandSideBySide (λ k. StandsForSent w.rule) ms new.messages) (sym (draw_keeps_messages w r spec))
-              (subst (λ ms. StandSideBySide (λ k. StandsForSent w.rule) w.messages ms) (sym messages) stands.messages)),
+          (subst (λ ms. StandSideBySide (λ k. StandsForSent w.rule) w.messages ms) (sym messages) stands.messages)),
     )
 
 pub goes_by_delivery : (w : History) (event : Event) (m r : ℕ) (reply : Reply) (old new : WorldState) → event ≡ Deliver m r
@@ -178,7 +178,7 @@ goes_by_delivery w event m r reply old new is stands rule messages rs replicas t
       stands_for w (after w (Deliver m r)) new (keeps_rule w (Deliver m r)) (rule ∙ stands.rule)
           (subst (StandSideBySide (StandsFor w.rule) (after w (Deliver m r)).replicas) (sym replicas) told.1)
           (subst (λ ms. StandSideBySide (λ k. StandsForSent w.rule) ms new.messages) (sym (delivery_keeps_messages w m r))
-              (subst (λ ms. StandSideBySide (λ k. StandsForSent w.rule) w.messages ms) (sym messages) stands.messages)),
+          (subst (λ ms. StandSideBySide (λ k. StandsForSent w.rule) w.messages ms) (sym messages) stands.messages)),
     )
 
 pub goes_by_sending : (w : History) (event : Event) (r : ℕ) (reply : Reply) (old new : WorldState) → event ≡ SendState r
@@ -190,5 +190,5 @@ goes_by_sending w event r reply old new is stands rule replicas told =
       told.0,
       stands_for w (after w (SendState r)) new (keeps_rule w (SendState r)) (rule ∙ stands.rule)
           (subst (λ rs. StandSideBySide (StandsFor w.rule) rs new.replicas) (sym (sending_keeps_replicas w r))
-              (subst (λ rs. StandSideBySide (StandsFor w.rule) w.replicas rs) (sym replicas) stands.replicas)) told.1,
+          (subst (λ rs. StandSideBySide (StandsFor w.rule) w.replicas rs) (sym replicas) stands.replicas)) told.1,
     )

@@ -10,3 +10,5 @@ pub mod ClockLaws
 pub mod SideBySide
 pub mod StandingLaws
 pub mod EventLaws
+pub mod HistoryLaws
+pub mod HeadlineLaws

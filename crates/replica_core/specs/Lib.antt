@@ -6,3 +6,4 @@ pub mod Message
 pub mod Replica
 pub mod Laws
 pub mod World
+pub mod Headline

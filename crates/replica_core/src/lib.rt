@@ -15,7 +15,7 @@ mod world;
 pub use device::{Failed, ReadSource, Sink, Source, WriteSink};
 pub use event::{Event, Reply, Stop};
 pub use fault::Fault;
-pub use laws::{clock_laws, journal_laws};
+pub use laws::{clock_laws, journal_laws, world_laws};
 pub use message::Message;
 pub use replica::Replica;
 pub use spec::{CellList, EditSpec};

@@ -16,7 +16,7 @@ returns-in_ok-push-in-Some-clause-step c = λ w side sides.
     let at : c.in-Some.index ≡ c.args.number - 1 = r.1 ∙ ap (λ n. n - 1) c.from.ensures in
     let pushed = c.in_ok-push-in-Some.ensures.items in
     subst (λ ms. IsReply w (SendState c.args.number) (replies.Sent c.len.result)
-        × StandSideBySide (λ k. StandsForSent w.rule) (after w (SendState c.args.number)).messages ms) (sym pushed)
+    × StandSideBySide (λ k. StandsForSent w.rule) (after w (SendState c.args.number)).messages ms) (sym pushed)
     (sends_in_world w c.args.replicas.now c.args.messages.now.items c.args.number c.in-Some.index sender c.in_ok-message-in-Some.message (replies.Sent c.len.result)
     side sides one at
     (slice_get_read c.args.replicas.now (length c.args.replicas.now) c.in-Some.index sender refl (omega (arith, r.0.0, r.0.1, r.1)) c.index-replicas-index.is)
