@@ -1,5 +1,5 @@
 -- A world that stands for a history stands for the history after an event, and the reply is the history's.
-use Rattle.std.proofs.Common.{◌≡◌, ℕ, zero, suc, ◌-◌, ◌<◌, ◌≤◌, List, [], ◌∷◌, ◌++◌, length, refl, sym, ◌∙◌, ap, subst, arith, inl, length-append}
+use Rattle.std.proofs.Common.{◌≡◌, ℕ, suc, ◌-◌, ◌≤◌, List, [], ◌∷◌, ◌++◌, length, refl, sym, ◌∙◌, ap, subst, arith, inl, length-append}
 use Rattle.std.specs.Prelude.{Contains, Some, slice_get, slice_set, Result, Ok, Err, MatchResult}
 use Rattle.std.specs.Option.{ok_or}
 use Rattle.generations_rule.specs.Refusal.{◌>>=◌}

@@ -1,18 +1,18 @@
 -- What holds of every world after every list of events.
-use Rattle.std.proofs.Common.{◌≡◌, ◌⊎◌, ℕ, ◌^◌, ◌<◌, ◌≤◌, List, [], ◌∷◌, ◌++◌, refl, sym, ◌∙◌, ap, subst, arith, inl, inr, suc, zero, length, ◌-◌}
-use Rattle.std.specs.Prelude.{Contains, IsTrue, Some, Ok, Bool, true, false, if◌then◌else◌, slice_get, slice_index_or, Option, None}
+use Rattle.std.proofs.Common.{◌≡◌, ◌⊎◌, ℕ, ◌<◌, ◌≤◌, List, [], ◌∷◌, ◌++◌, refl, sym, ◌∙◌, ap, subst, arith, inl, inr, suc, zero, length, ◌-◌}
+use Rattle.std.specs.Prelude.{Contains, IsTrue, Some, Bool, true, false, if◌then◌else◌, slice_get, slice_index_or, Option, None}
 use Rattle.generations_rule.specs.Place.{Place}
 use Rattle.generations_rule.specs.Rule.{GenerationsRule}
 use Rattle.edit_stamps.specs.declared.write.Write.{Write}
 use Rattle.edit_stamps.specs.Edit.{PlaneEdit, greatest, is_covered, listed, writes_of, write_by}
 use Rattle.edit_stamps.specs.PlaneMap.{write_at}
-use Rattle.edit_stamps.specs.Write.{unwritten, at_most, greater, AreSame, IsBelow}
+use Rattle.edit_stamps.specs.Write.{unwritten, at_most, greater, AreSame}
 use Rattle.edit_stamps.proofs.WriteLaws.{depends_on_members, is_least_upper_bound, is_total, joins_lists}
 use Rattle.replica_core.specs.declared.event.Event.{Event}
 use Rattle.replica_core.specs.declared.fault.Fault.TheVariants as faults
 use Rattle.replica_core.specs.Replica.{ReplicaState}
-use Rattle.replica_core.specs.Headline.{Agrees, HasOneEditAStamp, HasOneWinner, HaveSameEdits, HoldsGreatest, IsAt, IsGreatestOf, NeverGoesDown}
-use Rattle.replica_core.specs.World.{History, ReplicaHistory, StandsFor, StandSideBySide, after, after_all, numbered, opening, replica}
+use Rattle.replica_core.specs.Headline.{Agrees, HasOneEditAStamp, HasOneWinner, HoldsGreatest, IsAt, IsGreatestOf, NeverGoesDown}
+use Rattle.replica_core.specs.World.{History, ReplicaHistory, after, after_all, numbered, opening, replica}
 use Rattle.replica_core.proofs.HistoryLaws.{at_least_one, grows_along, same_ok, some_of_ok, sound_along, sound_opening}
 use Rattle.replica_core.proofs.SideBySide.{numbered_at}
 
@@ -79,7 +79,7 @@ pub has_one_winner : HasOneWinner
 has_one_winner rule n events r h held c e f few at e_here f_here e_wins f_wins some =
     let w : History = after_all (opening rule n) events in
     let own : (x : PlaneEdit) → writes_of x c ≡ write_at held.map c → x.stamp ≡ (write_at held.map c).stamp =
-        λ x wins. sym (stamp_written x.stamp (listed x.cells c) (is_covered x.area c) (subst (λ v. 0 < v.stamp) (sym wins) some)) ∙ ap (λ v. v.stamp) wins in
+    λ x wins. sym (stamp_written x.stamp (listed x.cells c) (is_covered x.area c) (subst (λ v. 0 < v.stamp) (sym wins) some)) ∙ ap (λ v. v.stamp) wins in
     has_one_edit_a_stamp.one rule n events e f few (inl (r, h, at.history, e_here)) (inl (r, h, at.history, f_here)) (own e e_wins ∙ sym (own f f_wins))
 
 along_both : (w : History) (events more : List Event) → after_all w (events ++ more) ≡ after_all (after_all w events) more
@@ -93,6 +93,6 @@ never_goes_down rule n events more r h k held later at after_more c =
     let now_is : k ≡ grown.now = same_ok (replica (after_all w more) r) k grown.now (ap (λ v. replica v r) (sym (along_both (opening rule n) events more)) ∙ after_more.history) grown.there in
     let taken_is : k.taken ≡ h.taken ++ grown.more = ap (λ x. x.taken) now_is ∙ grown.grown in
     let upper : write_at later.map c ≡ greater (greatest h.taken c) (greatest grown.more c) =
-        map_of rule n (events ++ more) r k later after_more c ∙ ap (λ l. greatest l c) taken_is ∙ joins_lists h.taken grown.more c in
+    map_of rule n (events ++ more) r k later after_more c ∙ ap (λ l. greatest l c) taken_is ∙ joins_lists h.taken grown.more c in
     subst (λ v. IsTrue (at_most v (write_at later.map c))) (sym (map_of rule n events r h held at c))
     (subst (λ v. IsTrue (at_most (greatest h.taken c) v)) (sym upper) (is_least_upper_bound.left (greatest h.taken) (greatest grown.more) c))

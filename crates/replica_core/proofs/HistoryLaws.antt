@@ -1,5 +1,5 @@
 -- What histories obey: every edit in one is an edit, has the only one of its stamp, and its replica has taken it.
-use Rattle.std.proofs.Common.{◌≡◌, ◌≢◌, ◌⊎◌, ℕ, zero, suc, ◌+◌, ◌-◌, ◌*◌, ◌/◌, ◌%◌, ◌^◌, ◌<◌, ◌≤◌, Bool, true, false, List, [], ◌∷◌, ◌++◌, length, max, refl, sym, ◌∙◌, ap, subst, arith, inl, inr, length-set, append_assoc}
+use Rattle.std.proofs.Common.{◌≡◌, ◌≢◌, ◌⊎◌, ℕ, zero, suc, ◌+◌, ◌-◌, ◌^◌, ◌<◌, ◌≤◌, Bool, true, false, List, [], ◌∷◌, ◌++◌, length, max, refl, sym, ◌∙◌, ap, subst, arith, inl, inr, length-set, append_assoc}
 use Rattle.std.specs.Prelude.{Contains, IsTrue, IfOk, Option, Some, None, slice_get, slice_set, Result, Ok, Err, fold, nat_lt, not, slice_index_or}
 use Rattle.std.specs.Option.{ok_or}
 use Rattle.std.proofs.Math.ListN.{replicate}
@@ -23,8 +23,8 @@ use Rattle.replica_core.specs.declared.fault.Fault.TheVariants as faults
 use Rattle.replica_core.specs.declared.spec.EditSpec.{EditSpec}
 use Rattle.replica_core.specs.declared.spec.EditSpec.TheVariants.{Cells}
 use Rattle.replica_core.specs.Laws.{greatest_counter}
-use Rattle.replica_core.specs.Replica.{edit_drawn, made, or_edit_fault, stamp_after}
-use Rattle.replica_core.specs.World.{History, ReplicaHistory, Sent, State, AreEdits, IsIn, IsTaken, IsNoted, IsSent, after, after_all, after_drawing, after_message, beginner, changed, delivered, drawn, edits_sent, message, numbered, opening, replica, with_message, with_replica}
+use Rattle.replica_core.specs.Replica.{edit_drawn, made, or_edit_fault}
+use Rattle.replica_core.specs.World.{History, ReplicaHistory, Sent, State, AreEdits, IsIn, after, after_all, after_drawing, after_message, beginner, changed, delivered, drawn, edits_sent, message, opening, replica, with_message, with_replica}
 use Rattle.replica_core.proofs.SideBySide.{get_pushed, get_replicate, get_set_elsewhere, get_set_here, some_is}
 
 -- ---- what stands at a number
@@ -326,8 +326,8 @@ drawn_is_taken w event e d = Contains-append_right d.held.taken (e ∷ []) e (0,
 drawn_is_there : (w : History) (event : Event) (e : PlaneEdit) (d : IsDrawnAt w event e) → replica (after w event) d.number ≡ Ok (after_drawing d.held e)
 drawn_is_there w event e d =
     let met : drawn w d.number d.spec ≡ Ok (e, after_drawing d.held e) =
-        ap (λ (o : Result ReplicaHistory Fault). o >>= (λ h. edit_drawn w.rule (greatest_counter h.taken) d.number d.spec >>= (λ x. Ok (x, after_drawing h x)))) d.replica_is
-        ∙ ap (λ (o : Result PlaneEdit Fault). o >>= (λ x. Ok (x, after_drawing d.held x))) d.edit_is in
+    ap (λ (o : Result ReplicaHistory Fault). o >>= (λ h. edit_drawn w.rule (greatest_counter h.taken) d.number d.spec >>= (λ x. Ok (x, after_drawing h x)))) d.replica_is
+    ∙ ap (λ (o : Result PlaneEdit Fault). o >>= (λ x. Ok (x, after_drawing d.held x))) d.edit_is in
     ap (λ v. replica (after w v) d.number) d.event_is
     ∙ ap (λ (o : Result (PlaneEdit × ReplicaHistory) Fault). replica (changed w o (λ p. with_replica w d.number p.1)) d.number) met
     ∙ here_changed w d.number d.held (after_drawing d.held e) d.replica_is
@@ -338,6 +338,7 @@ draw_parts r s spec other is = (ap number_drawn is, ap spec_drawn is)
     number_drawn : Event → ℕ
     number_drawn (Draw k x) = k
     number_drawn _ = 0
+
     spec_drawn : Event → EditSpec
     spec_drawn (Draw k x) = x
     spec_drawn _ = spec
@@ -349,7 +350,7 @@ one_drawn w event e f d c =
     let held : d.held ≡ c.held = same_ok (replica w c.number) d.held c.held (ap (replica w) (sym parts.0) ∙ d.replica_is) c.replica_is in
     same_ok (edit_drawn w.rule (greatest_counter c.held.taken) c.number c.spec) e f
     (sym (ap (λ h. edit_drawn w.rule (greatest_counter h.taken) d.number d.spec) held ∙ ap (λ k. edit_drawn w.rule (greatest_counter c.held.taken) k d.spec) parts.0
-        ∙ ap (edit_drawn w.rule (greatest_counter c.held.taken) c.number) parts.1) ∙ d.edit_is) c.edit_is
+    ∙ ap (edit_drawn w.rule (greatest_counter c.held.taken) c.number) parts.1) ∙ d.edit_is) c.edit_is
 
 pub sound_after : (w : History) (event : Event) → IsSound w → IsSound (after w event)
 sound_after w event sound = record {

@@ -12,3 +12,4 @@ pub mod StandingLaws
 pub mod EventLaws
 pub mod HistoryLaws
 pub mod HeadlineLaws
+pub mod RunLaws

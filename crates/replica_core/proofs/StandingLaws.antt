@@ -2,7 +2,6 @@
 use Rattle.std.proofs.Common.{◌≡◌, ◌≢◌, ℕ, ◌≤◌, List, [], ◌∷◌, ◌++◌, refl, sym, ◌∙◌, ap, subst, suc, arith}
 use Rattle.std.specs.Prelude.{Contains, Result, Ok, Err, MatchResult, pos}
 use Rattle.std.specs.List.{AllByRecursion}
-use Rattle.generations_rule.specs.Place.{Place}
 use Rattle.generations_rule.specs.Rule.{GenerationsRule}
 use Rattle.edit_stamps.specs.declared.write.Write.{Write}
 use Rattle.edit_stamps.specs.Edit.{PlaneEdit, IsEdit, greatest, writes_of}
@@ -10,14 +9,13 @@ use Rattle.edit_stamps.specs.PlaneMap.{write_at}
 use Rattle.edit_stamps.specs.Stamp.{counter_of}
 use Rattle.edit_stamps.specs.Write.{unwritten, greater, Writes, AreSame, joined}
 use Rattle.edit_stamps.proofs.WriteLaws.{is_lattice, is_least_upper_bound, is_total, joins_lists}
-use Rattle.replica_core.specs.declared.event.Reply.{Reply}
 use Rattle.replica_core.specs.declared.fault.Fault.{Fault}
 use Rattle.replica_core.specs.declared.fault.Fault.TheVariants as faults
 use Rattle.replica_core.specs.declared.message.Content.{Content}
 use Rattle.replica_core.specs.declared.message.Content.TheVariants as contents
 use Rattle.replica_core.specs.declared.spec.EditSpec.{EditSpec}
 use Rattle.replica_core.specs.Laws.{greatest_counter}
-use Rattle.replica_core.specs.Message.{Shared, writes_in, edits_in}
+use Rattle.replica_core.specs.Message.{Shared}
 use Rattle.replica_core.specs.Plane.{IsGreatestStamp}
 use Rattle.replica_core.specs.Replica.{ReplicaState, DrawsAs, Takes, IsMapOf, IsSnapshot, IsDraw, edit_drawn}
 use Rattle.replica_core.specs.World.{ReplicaHistory, Sent, State, Carries, StandsFor, StandsForSent, after_drawing, after_message}

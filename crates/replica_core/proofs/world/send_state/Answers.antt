@@ -2,7 +2,6 @@ use Rattle.std.proofs.Common.{◌≡◌, ◌≤◌, ◌-◌, ◌∙◌, suc, ap,
 use Rattle.std.proofs.lemmas.Option.{slice_get_read}
 use Rattle.replica_core.specs.declared.event.Event.TheVariants.{SendState}
 use Rattle.replica_core.specs.declared.event.Reply.TheVariants as replies
-use Rattle.replica_core.specs.Message.{Shared}
 use Rattle.replica_core.specs.World.{IsReply, StandSideBySide, StandsForSent, after}
 use Rattle.replica_core.proofs.EventLaws.{sends_in_world}
 use Rattle.replica_core.proofs.StandingLaws.{sends_taken}
