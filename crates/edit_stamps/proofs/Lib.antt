@@ -4,3 +4,4 @@ pub mod SortedCells
 pub mod MakingLaws
 pub mod SettleLaws
 pub mod OneEdit
+pub mod PastingLaws

@@ -4,6 +4,7 @@ pub mod Plane
 pub mod Edit
 pub mod EditFault
 pub mod Making
+pub mod Pasting
 pub mod PlaneMap
 pub mod Laws
 pub mod Rows

@@ -7,10 +7,10 @@ ghost use Rattle.std.specs.Cmp.Lexicographic.{pointwise};
 
 use crate::fault::EditFault;
 use crate::rect::Rect;
-use crate::settle;
 use crate::stamp::Stamp;
+use crate::{paste, settle};
 use generations_rule::Rule;
-use multistate_rle::Cell;
+use multistate_rle::{Cell, Pattern};
 use std::alloc::{AllocError, Global};
 use std::marker::Model;
 
@@ -38,6 +38,7 @@ impl Edit {
     ghost use Rattle.edit_stamps.specs.Edit.{IsEdit, has_states_below, is_edit};
     ghost use Rattle.edit_stamps.specs.EditFault.{IsWant};
     ghost use Rattle.edit_stamps.specs.Making.{edit_of_cells};
+    ghost use Rattle.edit_stamps.specs.Pasting.{edit_of_clear, edit_of_copy, edit_of_or};
 
     /// The edit that writes these cells, in any order; of the entries at one coordinate the last
     /// wins. Refused are, in this order: no cell, more than 2^20 entries, an entry outside the
@@ -61,6 +62,77 @@ impl Edit {
             stamp,
             area: None,
             cells,
+        })
+    }
+
+    /// The edit that writes every cell of a pattern's box, dead ones too, with the upper left corner
+    /// of the box at `x` and `y`; the pattern's own position is not added. Refused are, in this
+    /// order: an empty box, one that leaves the plane, a state that the rule does not have, and a
+    /// side above 4096.
+    pub fn paste_copy(
+        alloc: Global,
+        rule: &Rule,
+        stamp: Stamp,
+        pattern: &Pattern,
+        x: i32,
+        y: i32,
+    ) -> Result<Edit, EditFault>
+        ensures edit { Answers IsWant result (edit_of_copy rule.now stamp pattern.now x y) }
+        ensures states { IfOk result (λ edit. IsTrue (has_states_below rule.now.states edit)) }
+    {
+        let corner = paste::corner_at(x, y);
+        if let Some(fault) = paste::fault_of_copy(rule, pattern, corner) {
+            return Err(fault);
+        }
+        let cells = paste::placed_cells(alloc, pattern.cells(), corner)?;
+        let _in_range = stamp.number();
+        Ok(Edit {
+            stamp,
+            area: Some(paste::box_at(pattern, corner)),
+            cells,
+        })
+    }
+
+    /// The edit that writes a pattern's nonzero cells only, with the upper left corner of its box at
+    /// `x` and `y`; the pattern's own position is not added. Refused are, in this order: no nonzero
+    /// cell, one outside the plane, and one whose state the rule does not have.
+    pub fn paste_or(
+        alloc: Global,
+        rule: &Rule,
+        stamp: Stamp,
+        pattern: &Pattern,
+        x: i32,
+        y: i32,
+    ) -> Result<Edit, EditFault>
+        ensures edit { Answers IsWant result (edit_of_or rule.now stamp pattern.now x y) }
+        ensures states { IfOk result (λ edit. IsTrue (has_states_below rule.now.states edit)) }
+    {
+        let corner = paste::corner_at(x, y);
+        if let Some(fault) = paste::fault_of_or(rule, pattern, corner) {
+            return Err(fault);
+        }
+        let cells = paste::placed_cells(alloc, pattern.cells(), corner)?;
+        let _in_range = stamp.number();
+        Ok(Edit {
+            stamp,
+            area: None,
+            cells,
+        })
+    }
+
+    /// The edit that writes state 0 at every coordinate of an area. Refused are, in this order: an
+    /// empty area, one that leaves the plane, and a side above 4096.
+    pub fn clear(alloc: Global, stamp: Stamp, area: Rect) -> Result<Edit, EditFault>
+        ensures { Answers IsWant result (edit_of_clear stamp area) }
+    {
+        if let Some(fault) = paste::fault_of_clear(area) {
+            return Err(fault);
+        }
+        let _in_range = stamp.number();
+        Ok(Edit {
+            stamp,
+            area: Some(area),
+            cells: Vec::new(alloc),
         })
     }
 

@@ -17,6 +17,8 @@ pub enum EditFault {
     OutOfPlane,
     /// A state is not below the rule's number of states.
     StateRange,
+    /// A side of the area is above 4096.
+    AreaSide,
     /// The system refused memory.
     Memory,
 }
@@ -33,6 +35,7 @@ impl EditFault {
             EditFault::Nothing => 9,
             EditFault::OutOfPlane => 10,
             EditFault::StateRange => 11,
+            EditFault::AreaSide => 12,
             EditFault::Memory => 255,
         }
     }
@@ -51,6 +54,7 @@ impl fmt::Display for EditFault {
             EditFault::Nothing => write!(f, "Nothing"),
             EditFault::OutOfPlane => write!(f, "OutOfPlane"),
             EditFault::StateRange => write!(f, "StateRange"),
+            EditFault::AreaSide => write!(f, "AreaSide"),
             EditFault::Memory => write!(f, "Memory"),
         }
     }

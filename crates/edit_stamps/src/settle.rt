@@ -54,7 +54,8 @@ fn are_below(states: u16, cells: &[Cell]) -> bool
     cells.iter().all(|cell| u16::from(cell.state) < states)
 }
 
-fn is_side(n: i32) -> bool
+/// Whether a coordinate is one of the plane's.
+pub fn is_side(n: i32) -> bool
     ensures { result ≡ side n }
 {
     -0x4000_0000 <= n && n < 0x4000_0000

@@ -1,0 +1,189 @@
+//! Pastes and clears, checked and put in place.
+
+ghost use Rattle.std.specs.Prelude.{◌≡◌, ◌≤◌, ◌<◌, ◌^◌, ◌+ℤ◌, pos, ℤ, int_le, nat_lt, ◌||◌, ◌&&◌, ◌==◌, IfOk, IsTrue};
+ghost use Rattle.std.specs.List.{list_all};
+ghost use Rattle.multistate_rle.specs.Cells.{place_of};
+ghost use Rattle.multistate_rle.specs.Pattern.{IsPattern};
+ghost use Rattle.edit_stamps.specs.Making.{are_in_plane};
+ghost use Rattle.edit_stamps.specs.Pasting.{box_of, clear_fault, copy_fault, most_side, or_fault, placed, placed_cell as cell_placed};
+ghost use Rattle.edit_stamps.specs.Plane.{is_in_plane, is_side as side, past, is_area_in_plane};
+
+use crate::fault::EditFault;
+use crate::rect::Rect;
+use crate::settle::is_side;
+use generations_rule::Rule;
+use multistate_rle::{Cell, Pattern, PatternCell};
+use std::alloc::{AllocError, Global};
+
+/// The greatest side of an edit's area.
+const MOST_SIDE: u64 = 4096;
+
+/// One past the greatest coordinate of the plane.
+const PAST: i64 = 0x4000_0000;
+
+/// Where the upper left corner of a pattern's box, or of an area, is put.
+#[derive(Clone, Copy)]
+pub struct Corner {
+    pub x: i32,
+    pub y: i32,
+}
+
+pub fn corner_at(x: i32, y: i32) -> Corner
+    ensures { result ≡ record { x = x; y = y } }
+{
+    Corner { x, y }
+}
+
+fn corner_of(area: Rect) -> Corner
+    ensures { result ≡ record { x = area.x; y = area.y } }
+{
+    Corner {
+        x: area.x,
+        y: area.y,
+    }
+}
+
+/// The first refusal of a copy of a pattern.
+pub fn fault_of_copy(rule: &Rule, pattern: &Pattern, at: Corner) -> Option<EditFault>
+    ensures { result ≡ copy_fault rule.now.states (box_of pattern.now at.x at.y) (placed at.x at.y pattern.now.cells) }
+{
+    let cells = pattern.cells();
+    let (width, height) = (pattern.width(), pattern.height());
+    if is_empty(width, height) {
+        Some(EditFault::Nothing)
+    } else if !is_area_in_plane(at, width, height) {
+        Some(EditFault::OutOfPlane)
+    } else if !are_below(rule.states(), cells) {
+        Some(EditFault::StateRange)
+    } else if is_too_wide(width, height) {
+        Some(EditFault::AreaSide)
+    } else {
+        None
+    }
+}
+
+/// The first refusal of an edit of a pattern's nonzero cells.
+pub fn fault_of_or(rule: &Rule, pattern: &Pattern, at: Corner) -> Option<EditFault>
+    ensures { result ≡ or_fault rule.now.states (placed at.x at.y pattern.now.cells) }
+{
+    let cells = pattern.cells();
+    if cells.is_empty() {
+        Some(EditFault::Nothing)
+    } else if !are_in_plane(cells, at) {
+        Some(EditFault::OutOfPlane)
+    } else if !are_below(rule.states(), cells) {
+        Some(EditFault::StateRange)
+    } else {
+        None
+    }
+}
+
+/// The first refusal of a clear.
+pub fn fault_of_clear(area: Rect) -> Option<EditFault>
+    ensures { result ≡ clear_fault area }
+{
+    let (width, height) = (u64::from(area.width), u64::from(area.height));
+    if is_empty(width, height) {
+        Some(EditFault::Nothing)
+    } else if !is_area_in_plane(corner_of(area), width, height) {
+        Some(EditFault::OutOfPlane)
+    } else if is_too_wide(width, height) {
+        Some(EditFault::AreaSide)
+    } else {
+        None
+    }
+}
+
+/// A pattern's box put there.
+pub fn box_at(pattern: &Pattern, at: Corner) -> Rect
+    requires width { pattern.now.width < 2 ^ 32 }
+    requires height { pattern.now.height < 2 ^ 32 }
+    ensures { result ≡ box_of pattern.now at.x at.y }
+{
+    Rect {
+        x: at.x,
+        y: at.y,
+        width: pattern.width() as u32,
+        height: pattern.height() as u32,
+    }
+}
+
+/// A pattern's cells put there.
+pub fn placed_cells(
+    alloc: Global,
+    cells: &[PatternCell],
+    at: Corner,
+) -> Result<Vec<Cell>, AllocError>
+    requires { IsTrue (are_in_plane (placed at.x at.y cells.now)) }
+    ensures { IfOk result (λ v. v.items ≡ placed at.x at.y cells.now) }
+{
+    let mut placed = Vec::with_capacity(alloc, cells.len())?;
+    for cell in cells {
+        placed.push(placed_cell(cell, at))?;
+    }
+    Ok(placed)
+}
+
+fn placed_cell(cell: &PatternCell, at: Corner) -> Cell
+    requires { IsTrue (is_in_plane (place_of (cell_placed at.x at.y cell.now))) }
+    ensures { result ≡ cell_placed at.x at.y cell.now }
+{
+    Cell {
+        x: moved(at.x, cell.column),
+        y: moved(at.y, cell.row),
+        state: cell.state,
+    }
+}
+
+fn moved(n: i32, by: u32) -> i32
+    requires { IsTrue (side (n +ℤ pos by)) }
+    ensures { result ≡ n +ℤ pos by }
+{
+    (i64::from(n) + i64::from(by)) as i32
+}
+
+fn are_below(states: u16, cells: &[PatternCell]) -> bool
+    ensures { result ≡ list_all (λ cell. nat_lt cell.state states) cells.now }
+{
+    cells.iter().all(|cell| u16::from(cell.state) < states)
+}
+
+fn are_in_plane(cells: &[PatternCell], at: Corner) -> bool
+    ensures { result ≡ list_all (λ cell. side (at.x +ℤ pos cell.column) && side (at.y +ℤ pos cell.row)) cells.now }
+{
+    cells.iter().all(|cell| is_moved_side(at.x, cell.column) && is_moved_side(at.y, cell.row))
+}
+
+fn is_moved_side(n: i32, by: u32) -> bool
+    ensures { result ≡ side (n +ℤ pos by) }
+{
+    let at = i64::from(n) + i64::from(by);
+    -PAST <= at && at < PAST
+}
+
+fn is_area_in_plane(at: Corner, width: u64, height: u64) -> bool
+    requires width { width ≤ 2 ^ 32 }
+    requires height { height ≤ 2 ^ 32 }
+    ensures { result ≡ is_area_in_plane (record { x = at.x; y = at.y; width = width; height = height }) }
+{
+    is_side(at.x) && is_side(at.y) && ends_in_plane(at.x, width) && ends_in_plane(at.y, height)
+}
+
+fn ends_in_plane(n: i32, side: u64) -> bool
+    requires { side ≤ 2 ^ 32 }
+    ensures { result ≡ int_le (n +ℤ pos side) past }
+{
+    i64::from(n) + side as i64 <= PAST
+}
+
+fn is_empty(width: u64, height: u64) -> bool
+    ensures { result ≡ (width == 0 || height == 0) }
+{
+    width == 0 || height == 0
+}
+
+fn is_too_wide(width: u64, height: u64) -> bool
+    ensures { result ≡ (nat_lt most_side width || nat_lt most_side height) }
+{
+    width > MOST_SIDE || height > MOST_SIDE
+}
