@@ -3,6 +3,8 @@ use Rattle.std.specs.Prelude.{ℕ, List, codes, ⊤}
 use Rattle.edit_stamps.specs.EditFault.{fault_number as edit_fault_number, fault_text as edit_fault_text}
 use Rattle.edit_stamps.specs.declared.fault.EditFault.{EditFault}
 use Rattle.edit_stamps.specs.declared.fault.EditFault.TheVariants as edit_faults
+use Rattle.replica_core.specs.declared.event.Stop.{Stop}
+use Rattle.replica_core.specs.declared.event.Stop.TheVariants as stops
 use Rattle.replica_core.specs.declared.fault.Fault.{Fault}
 use Rattle.replica_core.specs.declared.fault.Fault.TheVariants.{Edit, OtherRule, ClockFull, NoReplica, NoMessage, Memory}
 
@@ -39,3 +41,13 @@ fault_of_edit edit_faults.Nothing = Edit edit_faults.Nothing
 fault_of_edit edit_faults.TooMany = Edit edit_faults.TooMany
 fault_of_edit edit_faults.OutOfPlane = Edit edit_faults.OutOfPlane
 fault_of_edit edit_faults.StateRange = Edit edit_faults.StateRange
+
+-- ---- why a list of events is not run to its end
+
+abbrev pub stop_number : Stop → ℕ
+stop_number stops.Memory = 255
+stop_number stops.StoreFull = 13
+
+abbrev pub stop_text : Stop → List ℕ
+stop_text stops.Memory = codes "Memory"
+stop_text stops.StoreFull = codes "StoreFull"

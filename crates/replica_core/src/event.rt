@@ -4,6 +4,8 @@ use crate::fault::Fault;
 use crate::spec::EditSpec;
 use edit_stamps::{Stamp, Write};
 use std::alloc::{AllocError, AllocFailed};
+use std::error::Error;
+use std::fmt;
 
 /// What happens in a world. Replicas are named by their numbers, from 1; messages by theirs, from 1
 /// in the order in which they were sent.
@@ -44,6 +46,38 @@ pub enum Stop {
     /// A store of squares was full. Replicas have no such store yet, and it is never answered.
     StoreFull,
 }
+
+impl Stop {
+    ghost use Rattle.std.specs.Prelude.{◌≡◌};
+    ghost use Rattle.replica_core.specs.Fault.{stop_number};
+
+    /// Its number in the table of faults: 13 for a full store, 255 for want of memory.
+    pub fn number(self) -> u8
+        ensures { result ≡ stop_number self }
+    {
+        match self {
+            Stop::Memory => 255,
+            Stop::StoreFull => 13,
+        }
+    }
+}
+
+/// Its name.
+impl fmt::Display for Stop {
+    ghost use Rattle.std.specs.Prelude.{Some};
+    ghost use Rattle.replica_core.specs.Fault.{stop_text};
+
+    ghost output = { λ stop. Some (stop_text stop) };
+
+    fn fmt<W: fmt::Write>(&self, f: &mut fmt::Formatter<W>) -> fmt::Result {
+        match self {
+            Stop::Memory => write!(f, "Memory"),
+            Stop::StoreFull => write!(f, "StoreFull"),
+        }
+    }
+}
+
+impl Error for Stop {}
 
 impl From<AllocError> for Stop {
     ghost use Rattle.std.specs.Prelude.{◌≡◌};

@@ -47,7 +47,10 @@ fn random_event(alloc: Global, random: &mut Pcg32, sent: u32) -> Result<Event, A
     let replica = number(random);
     Ok(match random.next_word() % 100 {
         0 => Event::SendState(replica),
-        1..=9 => Event::Deliver(u64::from(random.next_word() % (sent + 1)), replica),
+        1..=9 => Event::Deliver(
+            u64::from(random.next_word() % sent.saturating_add(1)),
+            replica,
+        ),
         10..=39 => Event::Draw(replica, random_cells(alloc, random)?),
         _ => Event::Show(replica, coordinate(random), coordinate(random)),
     })
@@ -58,7 +61,7 @@ fn random_events(alloc: Global, count: u32) -> Result<Vec<Event>, AllocError> {
     let mut events = Vec::with_capacity(alloc, count as usize)?;
     let mut sent = 0u32;
     for _ in 0..count {
-        let event = random_event(alloc, &mut random, sent % 0x1_0000)?;
+        let event = random_event(alloc, &mut random, sent)?;
         if let Event::SendState(_) = event {
             sent = sent.saturating_add(1);
         }
