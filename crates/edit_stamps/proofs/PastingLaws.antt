@@ -66,11 +66,11 @@ pub copy_tested : (states given_states : ℕ) (x y : ℤ) (p : RlePattern) (widt
 copy_tested states given_states x y p width height given a b c d same_states same_width same_height same_cells none inside below wide =
     let area : Rect = record { x = x; y = y; width = width; height = height } in
     let box : area ≡ box_of p x y =
-        ap (λ w. record { x = x; y = y; width = w; height = height }) same_width ∙ ap (λ h. record { x = x; y = y; width = p.width; height = h }) same_height in
+    ap (λ w. record { x = x; y = y; width = w; height = height }) same_width ∙ ap (λ h. record { x = x; y = y; width = p.width; height = h }) same_height in
     ap (λ t. first_of (when t Nothing ∷ when (not b) OutOfPlane ∷ when (not c) StateRange ∷ when d AreaSide ∷ [])) none
     ∙ ap (λ t. first_of (when (is_empty area) Nothing ∷ when (not t) OutOfPlane ∷ when (not c) StateRange ∷ when d AreaSide ∷ [])) inside
     ∙ ap (λ t. first_of (when (is_empty area) Nothing ∷ when (not (is_area_in_plane area)) OutOfPlane ∷ when (not t) StateRange ∷ when d AreaSide ∷ []))
-        (below ∙ ap (λ n. list_all (λ cell. nat_lt cell.state n) given) same_states ∙ ap (list_all (λ cell. nat_lt cell.state states)) same_cells ∙ sym (below_placed states x y p.cells))
+    (below ∙ ap (λ n. list_all (λ cell. nat_lt cell.state n) given) same_states ∙ ap (list_all (λ cell. nat_lt cell.state states)) same_cells ∙ sym (below_placed states x y p.cells))
     ∙ ap (λ t. first_of (when (is_empty area) Nothing ∷ when (not (is_area_in_plane area)) OutOfPlane ∷ when (not (are_below states (placed x y p.cells))) StateRange ∷ when t AreaSide ∷ [])) wide
     ∙ ap (λ r. copy_fault states r (placed x y p.cells)) box
 

@@ -86,11 +86,8 @@ impl Edit {
         }
         let cells = paste::placed_cells(alloc, pattern.cells(), corner)?;
         let _in_range = stamp.number();
-        Ok(Edit {
-            stamp,
-            area: Some(paste::box_at(pattern, corner)),
-            cells,
-        })
+        let area = Some(paste::box_at(pattern, corner));
+        Ok(Edit { stamp, area, cells })
     }
 
     /// The edit that writes a pattern's nonzero cells only, with the upper left corner of its box at
@@ -113,11 +110,8 @@ impl Edit {
         }
         let cells = paste::placed_cells(alloc, pattern.cells(), corner)?;
         let _in_range = stamp.number();
-        Ok(Edit {
-            stamp,
-            area: None,
-            cells,
-        })
+        let area = None;
+        Ok(Edit { stamp, area, cells })
     }
 
     /// The edit that writes state 0 at every coordinate of an area. Refused are, in this order: an

@@ -25,4 +25,6 @@ pub use stamp::Stamp;
 pub use write::Write;
 
 #[cfg(test)]
+mod paste_tests;
+#[cfg(test)]
 mod tests;

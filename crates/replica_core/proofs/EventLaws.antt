@@ -1,5 +1,5 @@
 -- A world that stands for a history stands for the history after an event, and the reply is the history's.
-use Rattle.std.proofs.Common.{◌≡◌, ℕ, suc, ◌-◌, ◌≤◌, List, [], ◌∷◌, ◌++◌, length, refl, sym, ◌∙◌, ap, subst, arith, inl, length-append}
+use Rattle.std.proofs.Common.{ℤ, ◌≡◌, ℕ, suc, ◌-◌, ◌≤◌, List, [], ◌∷◌, ◌++◌, length, refl, sym, ◌∙◌, ap, subst, arith, inl, length-append}
 use Rattle.std.specs.Prelude.{Contains, Some, slice_get, slice_set, Result, Ok, Err, MatchResult}
 use Rattle.std.specs.Option.{ok_or}
 use Rattle.generations_rule.specs.Refusal.{◌>>=◌}
@@ -15,7 +15,8 @@ use Rattle.replica_core.specs.Laws.{greatest_counter}
 use Rattle.replica_core.specs.Message.{Shared}
 use Rattle.replica_core.specs.Replica.{ReplicaState, edit_drawn}
 use Rattle.replica_core.specs.World.{History, ReplicaHistory, Sent, State, AreEdits, Given, IsReply, StandSideBySide, StandsFor, StandsForSent, StandsForWorld, WorldState, after, after_drawing, after_message, changed, delivered, drawn, message, next_message, numbered, replica, with_message, with_replica}
-use Rattle.replica_core.proofs.SideBySide.{beside, numbered_at, set_same, side_set, side_push}
+use Rattle.replica_core.proofs.HistoryLaws.{edits_drawn}
+use Rattle.replica_core.proofs.SideBySide.{beside, numbered_at, numbered_past, set_same, side_set, side_push}
 
 -- what stands at a number, found by its place
 pub found : {A : Type 0} (xs : List A) (r i : ℕ) (x : A) (fault : Fault) → 1 ≤ r → i ≡ r - 1 → slice_get xs i ≡ Some x → ok_or (numbered xs r) fault ≡ Ok x
@@ -31,31 +32,35 @@ abbrev Answered : History → List ReplicaState → ℕ → ℕ → ReplicaState
 Answered w rs r i new reply meant =
     Given meant reply (λ d. reply ≡ replies.Drawn d.0.stamp)
     × StandSideBySide (StandsFor w.rule) (changed w meant (λ d. with_replica w r d.1)).replicas (slice_set rs i new)
+    × AreEdits (changed w meant (λ d. with_replica w r d.1))
 
 answered_draw : (w : History) (rs : List ReplicaState) (r i : ℕ) (h : ReplicaHistory) (old new : ReplicaState) (reply : Reply) (d : Result PlaneEdit Fault)
     → i ≡ r - 1 → 1 ≤ r → slice_get rs i ≡ Some old → StandSideBySide (StandsFor w.rule) w.replicas rs → old.number ≡ r
+    → replica w r ≡ Ok h → AreEdits w
     → MatchResult d
-    (λ e. (reply ≡ replies.Drawn e.stamp) × StandsFor w.rule old.number (after_drawing h e) new)
+    (λ e. (reply ≡ replies.Drawn e.stamp) × StandsFor w.rule old.number (after_drawing h e) new × IsEdit e)
     (λ fault. (reply ≡ replies.Refused fault) × (new ≡ old))
     → Answered w rs r i new reply (d >>= (λ e. Ok (e, after_drawing h e)))
-answered_draw w rs r i h old new reply (Ok e) at one there side number told = (
+answered_draw w rs r i h old new reply (Ok e) at one there side number is valid told = (
   told.0,
   subst (λ j. StandSideBySide (StandsFor w.rule) (slice_set w.replicas j (after_drawing h e)) (slice_set rs i new)) at
       (side_set (StandsFor w.rule) w.replicas rs i (after_drawing h e) new side
       (subst (λ k. StandsFor w.rule k (after_drawing h e) new) (number ∙ sym (same_number r i one at)) told.1)),
+  edits_drawn w r h e is valid told.2,
 )
-answered_draw w rs r i h old new reply (Err fault) at one there side number told = (
+answered_draw w rs r i h old new reply (Err fault) at one there side number is valid told = (
   told.0,
   subst (λ ys. StandSideBySide (StandsFor w.rule) w.replicas ys) (sym (ap (slice_set rs i) told.1 ∙ set_same rs i old there)) side,
+  valid,
 )
 
 pub draws_in_world : (w : History) (rs : List ReplicaState) (r i : ℕ) (old new : ReplicaState) (spec : EditSpec) (reply : Reply)
     → AreEdits w → StandSideBySide (StandsFor w.rule) w.replicas rs → 1 ≤ r → i ≡ r - 1 → slice_get rs i ≡ Some old
     → ((h : ReplicaHistory) → ((e : PlaneEdit) → Contains h.taken e → IsEdit e) → StandsFor w.rule old.number h old
     → MatchResult (edit_drawn w.rule (greatest_counter h.taken) old.number spec)
-    (λ e. (reply ≡ replies.Drawn e.stamp) × StandsFor w.rule old.number (after_drawing h e) new)
+    (λ e. (reply ≡ replies.Drawn e.stamp) × StandsFor w.rule old.number (after_drawing h e) new × IsEdit e)
     (λ fault. (reply ≡ replies.Refused fault) × (new ≡ old)))
-    → IsReply w (Draw r spec) reply × StandSideBySide (StandsFor w.rule) (after w (Draw r spec)).replicas (slice_set rs i new)
+    → IsReply w (Draw r spec) reply × StandSideBySide (StandsFor w.rule) (after w (Draw r spec)).replicas (slice_set rs i new) × AreEdits (after w (Draw r spec))
 draws_in_world w rs r i old new spec reply valid side one at there step =
     let near = beside (StandsFor w.rule) w.replicas rs i old side there in
     let h : ReplicaHistory = near.other in
@@ -64,8 +69,21 @@ draws_in_world w rs r i old new spec reply valid side one at there step =
     let stands : StandsFor w.rule old.number h old = subst (λ k. StandsFor w.rule k h old) (sym near.stands.same_number) near.stands in
     subst (λ (o : Result ReplicaHistory Fault). Answered w rs r i new reply (o >>= (λ k. edit_drawn w.rule (greatest_counter k.taken) r spec >>= (λ e. Ok (e, after_drawing k e))))) (sym is)
     (subst (λ k. Answered w rs r i new reply (edit_drawn w.rule (greatest_counter h.taken) k spec >>= (λ e. Ok (e, after_drawing h e)))) number
-    (answered_draw w rs r i h old new reply (edit_drawn w.rule (greatest_counter h.taken) old.number spec) at one there side number
+    (answered_draw w rs r i h old new reply (edit_drawn w.rule (greatest_counter h.taken) old.number spec) at one there side number is valid
     (step h (λ e here. valid e (inl (r, h, is, here))) stands)))
+
+-- a draw of no replica
+pub draws_nowhere : (w : History) (rs : List ReplicaState) (r : ℕ) (spec : EditSpec) → AreEdits w → StandSideBySide (StandsFor w.rule) w.replicas rs
+    → (1 ≤ r → r ≤ length rs → ⊥)
+    → IsReply w (Draw r spec) (replies.Refused faults.NoReplica) × StandSideBySide (StandsFor w.rule) (after w (Draw r spec)).replicas rs × AreEdits (after w (Draw r spec))
+draws_nowhere w rs r spec valid side none =
+    subst (λ (o : Result ReplicaHistory Fault). Unanswered (o >>= (λ k. edit_drawn w.rule (greatest_counter k.taken) r spec >>= (λ e. Ok (e, after_drawing k e)))))
+    (sym (ap (λ o. ok_or o faults.NoReplica) (numbered_past w.replicas r (length rs) (sym side.as_many) none))) (refl, side, valid)
+  where
+    Unanswered : Result (PlaneEdit × ReplicaHistory) Fault → Type 0
+    Unanswered meant = Given meant (replies.Refused faults.NoReplica) (λ d. replies.Refused faults.NoReplica ≡ replies.Drawn d.0.stamp)
+        × StandSideBySide (StandsFor w.rule) (changed w meant (λ d. with_replica w r d.1)).replicas rs
+        × AreEdits (changed w meant (λ d. with_replica w r d.1))
 
 -- ---- deliveries
 
@@ -157,7 +175,8 @@ Goes w event reply new = IsReply w event reply × StandsForWorld (after w event)
 
 pub goes_by_drawing : (w : History) (event : Event) (r : ℕ) (spec : EditSpec) (reply : Reply) (old new : WorldState) → event ≡ Draw r spec
     → StandsForWorld w old → new.rule ≡ old.rule → new.messages ≡ old.messages
-    → (rs : List ReplicaState) → new.replicas ≡ rs → IsReply w (Draw r spec) reply × StandSideBySide (StandsFor w.rule) (after w (Draw r spec)).replicas rs
+    → (rs : List ReplicaState) → new.replicas ≡ rs
+    → IsReply w (Draw r spec) reply × StandSideBySide (StandsFor w.rule) (after w (Draw r spec)).replicas rs
     → Goes w event reply new
 goes_by_drawing w event r spec reply old new is stands rule messages rs replicas told =
     subst (λ e. Goes w e reply new) (sym is) (

@@ -65,10 +65,7 @@ agrees rule other_rule n m events others r s h k held other at there same c =
     map_of rule n events r h held at c ∙ depends_on_members h.taken k.taken same c ∙ sym (map_of other_rule m others s k other there c)
 
 pub has_one_edit_a_stamp : HasOneEditAStamp
-has_one_edit_a_stamp = record {
-  edits = λ rule n events e few inside. (sound_along (opening rule n) events (sound_opening rule n few)).edits e inside;
-  one = λ rule n events e f few inside also same. (sound_along (opening rule n) events (sound_opening rule n few)).one e f inside also same;
-}
+has_one_edit_a_stamp rule n events e f few inside also same = (sound_along (opening rule n) events (sound_opening rule n few)).one e f inside also same
 
 stamp_written : (stamp : ℕ) (o : Option ℕ) (covered : Bool) → 0 < (write_by stamp o covered).stamp → (write_by stamp o covered).stamp ≡ stamp
 stamp_written stamp (Some state) covered some = refl
@@ -80,7 +77,7 @@ has_one_winner rule n events r h held c e f few at e_here f_here e_wins f_wins s
     let w : History = after_all (opening rule n) events in
     let own : (x : PlaneEdit) → writes_of x c ≡ write_at held.map c → x.stamp ≡ (write_at held.map c).stamp =
     λ x wins. sym (stamp_written x.stamp (listed x.cells c) (is_covered x.area c) (subst (λ v. 0 < v.stamp) (sym wins) some)) ∙ ap (λ v. v.stamp) wins in
-    has_one_edit_a_stamp.one rule n events e f few (inl (r, h, at.history, e_here)) (inl (r, h, at.history, f_here)) (own e e_wins ∙ sym (own f f_wins))
+    has_one_edit_a_stamp rule n events e f few (inl (r, h, at.history, e_here)) (inl (r, h, at.history, f_here)) (own e e_wins ∙ sym (own f f_wins))
 
 along_both : (w : History) (events more : List Event) → after_all w (events ++ more) ≡ after_all (after_all w events) more
 along_both w [] more = refl

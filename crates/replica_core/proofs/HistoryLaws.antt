@@ -13,7 +13,7 @@ use Rattle.generations_rule.specs.Rule.{GenerationsRule}
 use Rattle.multistate_rle.specs.declared.cell.Cell.{Cell}
 use Rattle.edit_stamps.specs.declared.fault.EditFault.{EditFault}
 use Rattle.edit_stamps.specs.Edit.{PlaneEdit, IsEdit}
-use Rattle.edit_stamps.specs.Making.{cells_fault, edit_of_cells, settled}
+use Rattle.edit_stamps.specs.Making.{cells_fault, settled}
 use Rattle.edit_stamps.specs.Stamp.{counter_of, is_stamp, last_counter, replica_of, stamp_of}
 use Rattle.edit_stamps.proofs.MakingLaws.{makes_edits}
 use Rattle.replica_core.specs.declared.event.Event.{Event}
@@ -169,31 +169,17 @@ comes_from w (Show r x y) e inside = inl inside
 
 -- ---- a drawn edit
 
--- a drawn edit is an edit, and its stamp is the next one
-record IsNext (counter r : ℕ) (e : PlaneEdit) : Type 0 where
-  stamp : e.stamp ≡ stamp_of (counter + 1) r
-  edit : IsEdit e
+-- what is made, where nothing is refused
+made_is : (fault : Option EditFault) (kept e : PlaneEdit) → or_edit_fault (unless fault kept) ≡ Ok e → kept ≡ e
+made_is None kept e is = same_ok (Ok kept) kept e refl is
+made_is (Some fault) kept e is = absurd (cc)
 
-stamp_fits : (counter r : ℕ) → counter < last_counter → 1 ≤ r → r < 2 ^ 16 → IsTrue (is_stamp (stamp_of (counter + 1) r))
-stamp_fits counter r below one few = grind (arith, nat_tests, below, one, few)
-
-made_next : (g : GenerationsRule) (stamp : ℕ) (cells : List Cell) (e : PlaneEdit) (fault : Option EditFault) → cells_fault g.states cells ≡ fault
-    → or_edit_fault (unless fault (record { stamp = stamp; area = None; cells = settled cells })) ≡ Ok e → (edit_of_cells g stamp cells ≡ Ok e) × (e.stamp ≡ stamp)
-made_next g stamp cells e None is drawn_is =
-    let e_is : record { stamp = stamp; area = None; cells = settled cells } ≡ e = same_ok _ _ e refl drawn_is in
-    (ap (λ f. unless f (record { stamp = stamp; area = None; cells = settled cells })) is ∙ ap Ok e_is, sym (ap (λ x. x.stamp) e_is))
-made_next g stamp cells e (Some fault) is drawn_is = absurd (cc)
-
-next_edit : (g : GenerationsRule) (counter r : ℕ) (spec : EditSpec) (e : PlaneEdit) (b : Bool) → nat_lt counter last_counter ≡ b → 1 ≤ r → r < 2 ^ 16
-    → (unless (when (not b) faults.ClockFull) (stamp_of (counter + 1) r) >>= (λ stamp. or_edit_fault (made g stamp spec))) ≡ Ok e → IsNext counter r e
-next_edit g counter r spec e false clock one few is = absurd (cc)
-next_edit g counter r (Cells cells) e true clock one few is =
-    let below : counter < last_counter = grind (arith, nat_tests, clock) in
-    let next = made_next g (stamp_of (counter + 1) r) cells e (cells_fault g.states cells) refl is in
-    record {
-      stamp = next.1;
-      edit = subst (λ (o : Result PlaneEdit EditFault). IfOk o (λ x. IsEdit x)) next.0 (makes_edits.edit g (stamp_of (counter + 1) r) cells (stamp_fits counter r below one few));
-    }
+-- the stamp of a drawn edit is the next one
+next_stamp : (g : GenerationsRule) (counter r : ℕ) (spec : EditSpec) (e : PlaneEdit) (b : Bool)
+    → (unless (when (not b) faults.ClockFull) (stamp_of (counter + 1) r) >>= (λ stamp. or_edit_fault (made g stamp spec))) ≡ Ok e → e.stamp ≡ stamp_of (counter + 1) r
+next_stamp g counter r spec e false is = absurd (cc)
+next_stamp g counter r (Cells cells) e true is =
+    sym (ap (λ x. x.stamp) (made_is (cells_fault g.states cells) (record { stamp = stamp_of (counter + 1) r; area = None; cells = settled cells }) e is))
 
 -- ---- what every history obeys
 
@@ -204,14 +190,12 @@ pub record IsOwned (w : History) (e : PlaneEdit) : Type 0 where
 
 pub record IsSound (w : History) : Type 0 where
   pub few : length w.replicas < 2 ^ 16
-  pub edits : AreEdits w
   pub owned : (e : PlaneEdit) → IsIn w e → IsOwned w e
   pub one : (e f : PlaneEdit) → IsIn w e → IsIn w f → e.stamp ≡ f.stamp → e ≡ f
 
-drawn_next : (w : History) (event : Event) (e : PlaneEdit) → length w.replicas < 2 ^ 16 → (d : IsDrawnAt w event e) → IsNext (greatest_counter d.held.taken) d.number e
-drawn_next w event e few d =
-    next_edit w.rule (greatest_counter d.held.taken) d.number d.spec e (nat_lt (greatest_counter d.held.taken) last_counter) refl
-    (at_least_one w d.number d.held d.replica_is) (omega (arith, within w d.number d.held d.replica_is, few)) d.edit_is
+drawn_next : (w : History) (event : Event) (e : PlaneEdit) (d : IsDrawnAt w event e) → e.stamp ≡ stamp_of (greatest_counter d.held.taken + 1) d.number
+drawn_next w event e d =
+    next_stamp w.rule (greatest_counter d.held.taken) d.number d.spec e (nat_lt (greatest_counter d.held.taken) last_counter) d.edit_is
 
 owner_of : (counter r : ℕ) → r < 2 ^ 16 → replica_of (stamp_of (counter + 1) r) ≡ r
 owner_of counter r few = omega (arith, few)
@@ -233,13 +217,13 @@ counter_below edits e here = subst (λ x. counter_of x.stamp ≤ greatest_counte
 -- a drawn edit has a stamp that no edit of the history has
 is_new : (w : History) (event : Event) (e f : PlaneEdit) → IsSound w → IsDrawnAt w event e → IsIn w f → e.stamp ≢ f.stamp
 is_new w event e f sound d inside same =
-    let next = drawn_next w event e sound.few d in
+    let next = drawn_next w event e d in
     let own = sound.owned f inside in
     let few : d.number < 2 ^ 16 = omega (arith, within w d.number d.held d.replica_is, sound.few) in
-    let owner : replica_of f.stamp ≡ d.number = ap replica_of (sym same ∙ next.stamp) ∙ owner_of (greatest_counter d.held.taken) d.number few in
+    let owner : replica_of f.stamp ≡ d.number = ap replica_of (sym same ∙ next) ∙ owner_of (greatest_counter d.held.taken) d.number few in
     let held : own.owner ≡ d.held = same_ok (replica w d.number) own.owner d.held (ap (replica w) (sym owner) ∙ own.there) d.replica_is in
     let below : counter_of f.stamp ≤ greatest_counter d.held.taken = counter_below d.held.taken f (subst (λ h. Contains h.taken f) held own.taken) in
-    absurd (omega (arith, below, same, next.stamp))
+    absurd (omega (arith, below, same, next))
 
 -- ---- an event keeps all that
 
@@ -355,10 +339,6 @@ one_drawn w event e f d c =
 pub sound_after : (w : History) (event : Event) → IsSound w → IsSound (after w event)
 sound_after w event sound = record {
   few = omega (arith, keeps_count w event, sound.few);
-  edits = λ e inside. elim (comes_from w event e inside) [
-    | inl old ↦ sound.edits e old
-    | inr new ↦ (drawn_next w event e sound.few new).edit
-  ];
   owned = λ e inside. elim (comes_from w event e inside) [
     | inl old ↦
         let own = sound.owned e old in
@@ -366,7 +346,7 @@ sound_after w event sound = record {
         record { owner = grown.now; there = grown.there; taken = subst (λ l. Contains l e) (sym grown.grown) (Contains-append_left own.owner.taken grown.more e own.taken) }
     | inr new ↦
         let few : new.number < 2 ^ 16 = omega (arith, within w new.number new.held new.replica_is, sound.few) in
-        let owner : replica_of e.stamp ≡ new.number = ap replica_of (drawn_next w event e sound.few new).stamp ∙ owner_of (greatest_counter new.held.taken) new.number few in
+        let owner : replica_of e.stamp ≡ new.number = ap replica_of (drawn_next w event e new) ∙ owner_of (greatest_counter new.held.taken) new.number few in
         record {
           owner = after_drawing new.held e;
           there = ap (replica (after w event)) owner ∙ drawn_is_there w event e new;
@@ -400,7 +380,6 @@ nothing_in rule n e (inr (inr (suc i, sent, is, here))) = absurd (cc)
 pub sound_opening : (rule : GenerationsRule) (n : ℕ) → n < 2 ^ 16 → IsSound (opening rule n)
 sound_opening rule n few = record {
   few = omega (arith, length-replicate n beginner, few);
-  edits = λ e inside. absurd (nothing_in rule n e inside);
   owned = λ e inside. absurd (nothing_in rule n e inside);
   one = λ e f inside also same. absurd (nothing_in rule n e inside);
 }
@@ -408,3 +387,23 @@ sound_opening rule n few = record {
 pub sound_along : (w : History) (events : List Event) → IsSound w → IsSound (after_all w events)
 sound_along w [] sound = sound
 sound_along w (event ∷ events) sound = sound_along (after w event) events (sound_after w event sound)
+
+-- ---- every edit of a history is an edit
+
+pub edits_opening : (rule : GenerationsRule) (n : ℕ) → AreEdits (opening rule n)
+edits_opening rule n e inside = absurd (nothing_in rule n e inside)
+
+pub edits_drawn : (w : History) (r : ℕ) (h : ReplicaHistory) (e : PlaneEdit) → replica w r ≡ Ok h → AreEdits w → IsEdit e → AreEdits (with_replica w r (after_drawing h e))
+edits_drawn w r h e is valid edit x inside = elim (from_changed w r h (after_drawing h e) x (x ≡ e) is
+    (λ here. elim (Contains-append_cases h.taken (e ∷ []) x here) [ inl old ↦ inl (in_replica w r h x is old) | inr last ↦ inr (only_one e x last) ])
+    (λ here. elim (Contains-append_cases h.journal (e ∷ []) x here) [ inl old ↦ inl (in_journal w r h x is old) | inr last ↦ inr (only_one e x last) ])
+    inside) [
+      | inl old ↦ valid x old
+      | inr new ↦ subst IsEdit (sym new) edit
+    ]
+
+pub edits_sent_on : (w : History) (r : ℕ) → AreEdits w → AreEdits (after w (SendState r))
+edits_sent_on w r valid e inside = valid e (from_sending w r e (replica w r) refl inside)
+
+pub edits_delivered : (w : History) (m r : ℕ) → AreEdits w → AreEdits (after w (Deliver m r))
+edits_delivered w m r valid e inside = valid e (from_delivery w m r e (message w m) (replica w r) refl refl inside)

@@ -31,15 +31,17 @@ pub record IsRunning (start : History) (events rest : List Event) (told : List R
   pub now : History
   pub sound : IsSound now
   pub stands : StandsForWorld now state
+  pub edits : AreEdits now
   pub replies : (more : List Reply) → AreReplies now rest more → AreReplies start events (told ++ more)
   pub ahead : after_all now rest ≡ after_all start events
 
-pub running_begins : (start : History) (events rest : List Event) (state : WorldState) → rest ≡ events → IsSound start → StandsForWorld start state
+pub running_begins : (start : History) (events rest : List Event) (state : WorldState) → rest ≡ events → IsSound start → AreEdits start → StandsForWorld start state
     → IsRunning start events rest [] state
-running_begins start events rest state all sound stands = record {
+running_begins start events rest state all sound edits stands = record {
   now = start;
   sound = sound;
   stands = stands;
+  edits = edits;
   replies = λ more told. subst (λ l. AreReplies start l more) all told;
   ahead = ap (after_all start) all;
 }
@@ -47,13 +49,15 @@ running_begins start events rest state all sound stands = record {
 pub running_goes : (start : History) (events rest more : List Event) (event : Event) (told : List Reply) (reply : Reply) (state new : WorldState)
     → rest ≡ event ∷ more → IsRunning start events rest told state
     → ((w : History) → AreEdits w → StandsForWorld w state → IsReply w event reply × StandsForWorld (after w event) new)
+    → ((w : History) → AreEdits w → StandsForWorld w state → AreEdits (after w event))
     → IsRunning start events more (told ++ reply ∷ []) new
-running_goes start events rest more event told reply state new first run step =
-    let stepped = step run.now run.sound.edits run.stands in
+running_goes start events rest more event told reply state new first run step keeps =
+    let stepped = step run.now run.edits run.stands in
     record {
       now = after run.now event;
       sound = sound_after run.now event run.sound;
       stands = stepped.1;
+      edits = keeps run.now run.edits run.stands;
       replies = λ others later. subst (AreReplies start events) (sym (append_assoc told (reply ∷ []) others))
           (run.replies (reply ∷ others) (subst (λ l. AreReplies run.now l (reply ∷ others)) (sym first) (stepped.0, later)));
       ahead = sym (ap (after_all run.now) first) ∙ run.ahead;
@@ -68,3 +72,7 @@ pub world_at_end : (start : History) (events rest : List Event) (told : List Rep
     → IsRunning start events rest told state → StandsForWorld (after_all start events) state
 world_at_end start events rest told state over run =
     subst (λ w. StandsForWorld w state) (sym (ap (after_all run.now) over) ∙ run.ahead) run.stands
+
+pub edits_at_end : (start : History) (events rest : List Event) (told : List Reply) (state : WorldState) → rest ≡ []
+    → IsRunning start events rest told state → AreEdits (after_all start events)
+edits_at_end start events rest told state over run = subst AreEdits (sym (ap (after_all run.now) over) ∙ run.ahead) run.edits

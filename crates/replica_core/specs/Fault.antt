@@ -41,6 +41,7 @@ fault_of_edit edit_faults.Nothing = Edit edit_faults.Nothing
 fault_of_edit edit_faults.TooMany = Edit edit_faults.TooMany
 fault_of_edit edit_faults.OutOfPlane = Edit edit_faults.OutOfPlane
 fault_of_edit edit_faults.StateRange = Edit edit_faults.StateRange
+fault_of_edit edit_faults.AreaSide = Edit edit_faults.AreaSide
 
 -- ---- why a list of events is not run to its end
 

@@ -3,7 +3,7 @@ use Rattle.std.specs.Prelude.{◌≡◌, ◌⊎◌, ◌↔◌, ℕ, ◌^◌, ◌
 use Rattle.generations_rule.specs.Place.{Place}
 use Rattle.generations_rule.specs.Rule.{GenerationsRule}
 use Rattle.edit_stamps.specs.declared.write.Write.{Write}
-use Rattle.edit_stamps.specs.Edit.{PlaneEdit, IsEdit, writes_of}
+use Rattle.edit_stamps.specs.Edit.{PlaneEdit, writes_of}
 use Rattle.edit_stamps.specs.PlaneMap.{write_at}
 use Rattle.edit_stamps.specs.Write.{unwritten, at_most, AreSame, IsBelow}
 use Rattle.replica_core.specs.declared.event.Event.{Event}
@@ -39,12 +39,10 @@ Agrees = (rule other_rule : GenerationsRule) (n m : ℕ) (events others : List E
     → IsAt rule n events r h held → IsAt other_rule m others s k other → HaveSameEdits h.taken k.taken
     → AreSame (write_at held.map) (write_at other.map)
 
--- whatever a replica took, noted or sent is an edit; two edits of one stamp in one world are one edit
-pub record HasOneEditAStamp : Type 0 where
-  pub edits : (rule : GenerationsRule) (n : ℕ) (events : List Event) (e : PlaneEdit) → n < 2 ^ 16
-      → IsIn (after_all (opening rule n) events) e → IsEdit e
-  pub one : (rule : GenerationsRule) (n : ℕ) (events : List Event) (e f : PlaneEdit) → n < 2 ^ 16
-      → IsIn (after_all (opening rule n) events) e → IsIn (after_all (opening rule n) events) f → e.stamp ≡ f.stamp → e ≡ f
+-- two edits of one stamp in one world are one edit
+abbrev pub HasOneEditAStamp : Type 0
+HasOneEditAStamp = (rule : GenerationsRule) (n : ℕ) (events : List Event) (e f : PlaneEdit) → n < 2 ^ 16
+    → IsIn (after_all (opening rule n) events) e → IsIn (after_all (opening rule n) events) f → e.stamp ≡ f.stamp → e ≡ f
 
 -- so what a replica holds at a place where something was written is one edit's write
 abbrev pub HasOneWinner : Type 0

@@ -74,6 +74,7 @@ pub fn replay(
 ) -> Result<(World, Vec<Reply>), Stop>
     ensures replies { IfOk result (λ done. AreReplies (opening rule n) events.now done.1.items) }
     ensures world { IfOk result (λ done. StandsForWorld (after_all (opening rule n) events.now) done.0) }
+    ensures edits { IfOk result (λ done. AreEdits (after_all (opening rule n) events.now)) }
     ensures err { IfErr result (λ stop. stop ≡ stops.Memory) }
 {
     let mut world = World::new(alloc, rule, n)?;
@@ -121,6 +122,7 @@ fn index_of(number: u64, count: usize) -> Option<usize>
 fn happen(world: &mut World, event: &Event) -> Result<Reply, Stop>
     ensures step { IfOk result (λ reply. (w : History) → AreEdits w → StandsForWorld w world.old →
         IsReply w event.now reply × StandsForWorld (after w event.now) world.new) }
+    ensures edits { IfOk result (λ _. (w : History) → AreEdits w → StandsForWorld w world.old → AreEdits (after w event.now)) }
     ensures err { IfErr result (λ stop. stop ≡ stops.Memory) }
 {
     match event {
@@ -144,6 +146,7 @@ fn draw(replicas: &mut [Replica], number: u32, spec: &EditSpec) -> Result<Reply,
     ensures step { IfOk result (λ reply. (w : History) → AreEdits w → StandSideBySide (StandsFor w.rule) w.replicas replicas.old →
         IsReply w (events.Draw number spec.now) reply
         × StandSideBySide (StandsFor w.rule) (after w (events.Draw number spec.now)).replicas replicas.new) }
+    ensures edits { IfOk result (λ _. (w : History) → AreEdits w → StandSideBySide (StandsFor w.rule) w.replicas replicas.old → AreEdits (after w (events.Draw number spec.now))) }
     ensures as_many { length replicas.new ≡ length replicas.old }
     ensures err { IfErr result (λ stop. stop ≡ stops.Memory) }
 {
@@ -161,7 +164,7 @@ fn draw_at(replica: &mut Replica, spec: &EditSpec) -> Result<Reply, Stop>
     ensures step { IfOk result (λ reply. (rule : GenerationsRule) (h : ReplicaHistory) → ((e : PlaneEdit) → Contains h.taken e → IsEdit e)
         → StandsFor rule replica.old.number h replica.old
         → MatchResult (edit_drawn rule (greatest_counter h.taken) replica.old.number spec.now)
-        (λ e. (reply ≡ replies.Drawn e.stamp) × StandsFor rule replica.old.number (after_drawing h e) replica.new)
+        (λ e. (reply ≡ replies.Drawn e.stamp) × StandsFor rule replica.old.number (after_drawing h e) replica.new × IsEdit e)
         (λ fault. (reply ≡ replies.Refused fault) × (replica.new ≡ replica.old))) }
     ensures err { IfErr result (λ stop. stop ≡ stops.Memory) }
 {

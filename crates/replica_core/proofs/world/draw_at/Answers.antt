@@ -1,4 +1,5 @@
-use Rattle.std.proofs.Common.{◌∙◌, sym, ap}
+use Rattle.std.proofs.Common.{◌∙◌, sym, ap, subst}
+use Rattle.edit_stamps.specs.Edit.{IsEdit}
 use Rattle.replica_core.specs.Laws.{greatest_counter}
 use Rattle.replica_core.specs.Replica.{edit_drawn}
 use Rattle.replica_core.specs.declared.event.Reply.TheVariants as replies
@@ -9,8 +10,11 @@ pub returns-in-Ok-clause-step : goal.returns-in-Ok-clause-step
 returns-in-Ok-clause-step c = λ rule h valid stands.
     let told = c.in-Ok.ensures in
     given_ok _ _ (edit_drawn rule (greatest_counter h.taken) c.args.replica.now.number c.args.spec.now) c.in-Ok.edit
-    (sym (draws_at_clock rule c.args.replica.now.number told.0 h c.args.replica.now c.args.spec.now valid stands told.1) ∙ told.2.0)
-    (ap replies.Drawn c.stamp.ensures, draws_edit rule c.args.replica.now.number h c.args.replica.now c.draw_as.new.self c.in-Ok.edit stands told.2.1)
+    (sym (draws_at_clock rule c.args.replica.now.number told.0 h c.args.replica.now c.args.spec.now valid stands told.1) ∙ told.2.0) (
+      ap replies.Drawn c.stamp.ensures,
+      draws_edit rule c.args.replica.now.number h c.args.replica.now c.draw_as.new.self c.in-Ok.edit stands told.2.1,
+      subst IsEdit c.edit.view_is c.edit.invariant,
+    )
 
 pub returns-in_ok-reply-in-Err-clause-step : goal.returns-in_ok-reply-in-Err-clause-step
 returns-in_ok-reply-in-Err-clause-step c = λ rule h valid stands.

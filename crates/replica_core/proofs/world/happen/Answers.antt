@@ -1,6 +1,7 @@
 use Rattle.std.proofs.Common.{refl, sym, subst, length, ap, ◌∙◌}
 use Rattle.std.proofs.lemmas.List.{with_items_is}
-use Rattle.replica_core.specs.World.{StandSideBySide, StandsForSent, StandsFor, StandsForWorld}
+use Rattle.replica_core.specs.World.{AreEdits, after, StandSideBySide, StandsForSent, StandsFor, StandsForWorld}
+use Rattle.replica_core.proofs.HistoryLaws.{edits_delivered, edits_sent_on}
 use Rattle.replica_core.proofs.EventLaws.{goes_by_drawing, goes_by_delivery, goes_by_sending}
 use Rattle.replica_core.proofs.world.happen.Goals as goal
 
@@ -26,3 +27,21 @@ returns-in_ok-reply-in-Deliver-clause-step c = λ w valid stands.
     (with_items_is replicas c.deliver.new.replicas (c.deliver.ensures.as_many ∙ ap length c.deref_mut-in-Deliver.ensures.value ∙ sym replicas.ok.0))
     (c.in_ok-reply-in-Deliver.ensures.step w (subst (StandSideBySide (StandsFor w.rule) w.replicas) (sym c.deref_mut-in-Deliver.ensures.value) inside.replicas)
     (subst (StandSideBySide (λ k. StandsForSent w.rule) w.messages) (sym c.deref-in-Deliver.ensures.value) inside.messages))
+
+pub returns-in_ok-reply-in-Draw-clause-edits : goal.returns-in_ok-reply-in-Draw-clause-edits
+returns-in_ok-reply-in-Draw-clause-edits c = λ w valid stands.
+    let inside = subst (StandsForWorld w) (sym c.world.view_is) stands in
+    subst (λ e. AreEdits (after w e)) (sym c.in-Draw.is)
+    (c.in_ok-reply-in-Draw.ensures.edits w valid (subst (StandSideBySide (StandsFor w.rule) w.replicas) (sym c.deref_mut.ensures.value) inside.replicas))
+
+pub returns-in_ok-reply-in-SendState-clause-edits : goal.returns-in_ok-reply-in-SendState-clause-edits
+returns-in_ok-reply-in-SendState-clause-edits c = λ w valid stands.
+    subst (λ e. AreEdits (after w e)) (sym c.in-SendState.is) (edits_sent_on w c.in-SendState.number valid)
+
+pub returns-in_ok-reply-in-Deliver-clause-edits : goal.returns-in_ok-reply-in-Deliver-clause-edits
+returns-in_ok-reply-in-Deliver-clause-edits c = λ w valid stands.
+    subst (λ e. AreEdits (after w e)) (sym c.in-Deliver.is) (edits_delivered w c.in-Deliver.message c.in-Deliver.number valid)
+
+pub returns-in-Show-clause-edits : goal.returns-in-Show-clause-edits
+returns-in-Show-clause-edits c = λ w valid stands.
+    subst (λ e. AreEdits (after w e)) (sym c.in-Show.is) valid
