@@ -15,3 +15,4 @@ bench:
 	@cd crates/edit_bench && rt run -- --time
 	@cd crates/kernel_bench && rt run -- --time
 	@cd crates/replica_bench && rt run -- --time
+	@cd crates/rle_bench && rt run -- --time

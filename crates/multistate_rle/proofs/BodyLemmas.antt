@@ -1,20 +1,18 @@
 -- The tokens of a text, read byte by byte from its lines.
-use Rattle.std.proofs.Common.{◌≡◌, ℕ, ◌+◌, ◌<◌, ◌≤◌, Bool, true, false, List, [], ◌∷◌, ◌++◌, refl, sym, ◌∙◌, ap, arith, drop, length, get_or, drop-cons, add-one, append-nil, inl, inr, ◌⊎◌}
-use Rattle.std.specs.Prelude.{Option, Some, None, Result, Ok, Err}
+use Rattle.std.proofs.Common.{◌≡◌, ℕ, ◌+◌, ◌<◌, ◌≤◌, true, false, List, [], ◌∷◌, ◌++◌, sym, ◌∙◌, ap, drop, length, get_or, drop-cons, add-one, append-nil, inl, inr, ◌⊎◌}
+use Rattle.std.specs.Prelude.{Result, Ok, Err}
 use Rattle.std.specs.List.{enumerate_from}
 use Rattle.std.proofs.lemmas.List.{drop_all}
 use Rattle.generations_rule.specs.Refusal.{◌>>=◌, AnswersAs}
 use Rattle.multistate_rle.specs.declared.fault.RleFault.{RleFault}
 use Rattle.multistate_rle.specs.declared.fault.RleFault.TheVariants.{Memory}
-use Rattle.multistate_rle.specs.declared.pattern.PatternCell.{PatternCell}
 use Rattle.multistate_rle.specs.declared.tokens.Reader.{Reader}
-use Rattle.multistate_rle.specs.declared.tokens.Begun.{Begun}
 use Rattle.multistate_rle.specs.declared.line.Line.{Line}
 use Rattle.multistate_rle.specs.declared.line.Line.TheVariants.{Start}
 use Rattle.multistate_rle.specs.Tokens.{Token, drawn}
 use Rattle.multistate_rle.specs.Lines.{line_after, is_dropped}
-use Rattle.multistate_rle.specs.Reading.{Mark, Pen, tokens_of, fresh, start, ended, lines_of, bare, cells_read}
-use Rattle.multistate_rle.specs.Steps.{pen_of, cells_with, EndsAt}
+use Rattle.multistate_rle.specs.Reading.{Mark, tokens_of, fresh, ended, lines_of, bare, cells_read}
+use Rattle.multistate_rle.specs.Steps.{cells_with}
 use Rattle.multistate_rle.proofs.LineLemmas.{left, left_drops, left_keeps, left_nothing, left_is_bare}
 
 pub byte_at : (text : List ℕ) (place : ℕ) → place < length text →

@@ -1,11 +1,10 @@
 -- The lines of a text, and the bytes that are left of them, told from left to right.
-use Rattle.std.proofs.Common.{◌≡◌, ◌≢◌, ℕ, zero, suc, ◌+◌, ◌≤◌, ◌<◌, Bool, true, false, List, [], ◌∷◌, ◌++◌, refl, sym, ◌∙◌, ap, arith, take, drop, length, map, one-add, add-one, get_or, drop-drop}
-use Rattle.std.specs.Prelude.{Option, Some, None, Result, Ok, Err, not, filter, cond, if◌then◌else◌, ◌==◌, ◌||◌, unwrap_or}
-use Rattle.std.specs.List.{slice_split, onto_first, position_or_len, prefix_len, enumerate_from, list_all, flat_map}
+use Rattle.std.proofs.Common.{◌≡◌, ℕ, zero, suc, ◌+◌, ◌≤◌, Bool, true, false, List, [], ◌∷◌, ◌++◌, refl, sym, ◌∙◌, ap, arith, take, drop, length, drop-drop}
+use Rattle.std.specs.Prelude.{Option, Some, None, Result, Err, not, filter, if◌then◌else◌, ◌==◌, ◌||◌, unwrap_or}
+use Rattle.std.specs.List.{onto_first, position_or_len, enumerate_from, list_all, flat_map}
 use Rattle.std.proofs.lemmas.List.{drop_all}
 use Rattle.std.proofs.lemmas.List.Splits.{slice_split-cons_yes, slice_split-cons_no}
 use Rattle.std.proofs.lemmas.List.Folds.{length-prefix_len}
-use Rattle.generations_rule.specs.Refusal.{◌>>=◌}
 use Rattle.multistate_rle.specs.declared.fault.RleFault.{RleFault}
 use Rattle.multistate_rle.specs.declared.fault.RleFault.TheVariants.{Header}
 use Rattle.multistate_rle.specs.declared.origin.Origin.{Origin}

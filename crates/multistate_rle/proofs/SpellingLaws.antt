@@ -1,26 +1,23 @@
 -- Texts that spell tokens, with any digits for their counts, are read as the tokens.
-use Rattle.std.proofs.Common.{◌≡◌, ◌≢◌, ℕ, zero, suc, ◌+◌, ◌*◌, ◌-◌, ◌/◌, ◌%◌, ◌≤◌, ◌<◌, ◌^◌, Bool, true, false, List, [], ◌∷◌, ◌++◌, refl, sym, ◌∙◌, ap, arith, subst, inl, inr, ◌⊎◌, append_assoc, append-nil, eq-eqb}
-use Rattle.std.specs.Prelude.{Option, Some, None, Result, Ok, Err, unwrap_or, ◌==◌, ◌&&◌, ◌||◌, nat_lt, nat_le, if◌then◌else◌, ⊤, codes}
+use Rattle.std.proofs.Common.{◌≡◌, ◌≢◌, ℕ, zero, suc, ◌+◌, ◌*◌, ◌-◌, ◌/◌, ◌%◌, ◌≤◌, ◌<◌, ◌^◌, Bool, true, false, List, [], ◌∷◌, ◌++◌, refl, sym, ◌∙◌, ap, arith, inl, inr, append_assoc}
+use Rattle.std.specs.Prelude.{Option, Some, None, Ok, unwrap_or, ◌==◌, ◌||◌, nat_lt, nat_le}
 use Rattle.std.specs.List.{list_all}
-use Rattle.std.specs.Str.Parse.{digits_value, digits_value_after}
+use Rattle.std.specs.Str.Parse.{digits_value_after}
 use Rattle.std.specs.Char.{digit_value}
 use Rattle.std.proofs.lemmas.Bool.{ne_eqb, eqb-true, eqb-false}
 use Rattle.std.proofs.lemmas.Bool.Decides.{nat_tests}
-use Rattle.generations_rule.specs.Refusal.{when, first_of, ◌>>=◌}
-use Rattle.multistate_rle.specs.declared.fault.RleFault.{RleFault}
+use Rattle.generations_rule.specs.Refusal.{◌>>=◌}
 use Rattle.multistate_rle.specs.declared.fault.RleFault.TheVariants.{State, Count, TooMany}
-use Rattle.multistate_rle.specs.declared.role.Role.{Role}
 use Rattle.multistate_rle.specs.declared.role.Role.TheVariants as role
 use Rattle.multistate_rle.specs.declared.tokens.Begun.{Begun}
-use Rattle.multistate_rle.specs.declared.letters.Letters.{Letters}
 use Rattle.multistate_rle.specs.Bytes.{is_digit}
 use Rattle.multistate_rle.specs.Letters.{letters, letters_text}
 use Rattle.multistate_rle.specs.Tokens.{Token, Cells, Rows, drawn, count_of}
-use Rattle.multistate_rle.specs.Reading.{Mark, Pen, bytes_of, is_letter, is_prefix, bare_role, role_of, start, fresh, with_digit, with_prefix, ended, fault_of, followed, moved, cells_of, tokens_of, AreFine, bare, body_read, pattern_of}
+use Rattle.multistate_rle.specs.Reading.{Mark, Pen, bytes_of, bare_role, role_of, start, fresh, with_digit, with_prefix, fault_of, followed, moved, cells_of, tokens_of, AreFine, bare, pattern_of}
 use Rattle.multistate_rle.specs.Laws.{IsCount, IsTag, IsSpelling, EndsTokens, ReadsSpellings}
 use Rattle.multistate_rle.proofs.NumberLemmas.{digit_is}
-use Rattle.multistate_rle.proofs.ReadLemmas.{by_role, step_is}
-use Rattle.multistate_rle.proofs.PatternLaws.{and_parts, none_of_three, none_of_one, FineRun, fine_run}
+use Rattle.multistate_rle.proofs.ReadLemmas.{step_is}
+use Rattle.multistate_rle.proofs.PatternLaws.{and_parts, none_of_three, none_of_one, fine_run}
 
 -- ---- what bytes are
 

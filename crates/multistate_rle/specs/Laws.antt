@@ -1,11 +1,11 @@
 -- What the definitions obey.
-use Rattle.std.specs.Prelude.{◌≡◌, ◌⊎◌, ℕ, ◌≤◌, ◌<◌, ◌^◌, ℤ, pos, negsuc, not, Bool, List, [], ◌∷◌, ◌++◌, true, false, nat_le, if◌then◌else◌, length, Ok, IfOk, ⊤, codes}
+use Rattle.std.specs.Prelude.{◌≡◌, ◌⊎◌, ℕ, ◌≤◌, ◌<◌, ◌^◌, ℤ, pos, negsuc, not, Bool, List, [], ◌∷◌, ◌++◌, true, false, nat_le, if◌then◌else◌, length, Ok, ⊤, codes}
 use Rattle.generations_rule.specs.Rule.{GenerationsRule, IsRule}
 use Rattle.multistate_rle.specs.declared.pattern.PatternCell.{PatternCell}
 use Rattle.multistate_rle.specs.declared.cell.Cell.{Cell}
 use Rattle.multistate_rle.specs.Cells.{is_sorted, are_nonzero, are_below}
 use Rattle.multistate_rle.specs.Bounds.{box_of, in_box}
-use Rattle.multistate_rle.specs.Pattern.{RlePattern, IsPattern, are_sorted, are_alive, are_within}
+use Rattle.multistate_rle.specs.Pattern.{are_sorted, are_alive, are_within}
 use Rattle.std.specs.List.{list_all, enumerate_from}
 use Rattle.std.specs.Str.Parse.{digits_value}
 use Rattle.multistate_rle.specs.declared.origin.Origin.{Origin}

@@ -1,5 +1,5 @@
 -- The bytes that are left of the lines, told from left to right.
-use Rattle.std.specs.Prelude.{ℕ, Bool, true, ◌||◌, List, [], ◌∷◌, ◌==◌, if◌then◌else◌}
+use Rattle.std.specs.Prelude.{ℕ, Bool, true, ◌||◌, ◌==◌, if◌then◌else◌}
 use Rattle.multistate_rle.specs.declared.line.Line.{Line}
 use Rattle.multistate_rle.specs.declared.line.Line.TheVariants.{Start, Inside, Comment}
 use Rattle.multistate_rle.specs.Bytes.{is_blank, is_line_end}

@@ -1,14 +1,14 @@
 -- What one byte does to a reader of tokens.
-use Rattle.std.specs.Prelude.{◌≡◌, ◌⊎◌, ℕ, ◌+◌, List, [], ◌∷◌, ◌++◌, length, Option, Some, None, Result, Ok, Err}
+use Rattle.std.specs.Prelude.{◌≡◌, ◌⊎◌, ℕ, List, [], ◌∷◌, ◌++◌, length, Some, None, Result, Ok, Err}
 use Rattle.generations_rule.specs.Refusal.{◌>>=◌}
 use Rattle.multistate_rle.specs.declared.fault.RleFault.{RleFault}
-use Rattle.multistate_rle.specs.declared.fault.RleFault.TheVariants.{Tag, Memory}
+use Rattle.multistate_rle.specs.declared.fault.RleFault.TheVariants.{Memory}
 use Rattle.multistate_rle.specs.declared.pattern.PatternCell.{PatternCell}
 use Rattle.multistate_rle.specs.declared.tokens.Reader.{Reader}
 use Rattle.multistate_rle.specs.declared.tokens.Begun.{Begun}
 use Rattle.multistate_rle.specs.declared.tokens.Step.{Step}
 use Rattle.multistate_rle.specs.declared.tokens.Step.TheVariants.{Goes, Ends}
-use Rattle.multistate_rle.specs.Tokens.{Token, Cells, Rows, drawn}
+use Rattle.multistate_rle.specs.Tokens.{Token, drawn}
 use Rattle.multistate_rle.specs.Reading.{Mark, Pen, fresh, moved, fault_of, tokens_of, ended}
 
 abbrev pub pen_of : Reader → Pen

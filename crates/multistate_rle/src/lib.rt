@@ -20,6 +20,7 @@ mod reading;
 mod role;
 mod scan;
 mod tokens;
+mod writable;
 mod writing;
 
 pub use cell::Cell;
@@ -27,6 +28,7 @@ pub use fault::RleFault;
 pub use laws::{reading_laws, token_laws};
 pub use pattern::{Pattern, PatternCell};
 pub use reading::parse;
+pub use writable::are_writable;
 pub use writing::write;
 
 #[cfg(test)]

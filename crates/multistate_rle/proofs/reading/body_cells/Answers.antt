@@ -1,9 +1,8 @@
-use Rattle.std.proofs.Common.{◌≡◌, ◌∙◌, sym, ap, inl, inr, ◌⊎◌, length, drop, get_or, Vec, Global, List}
+use Rattle.std.proofs.Common.{◌∙◌, sym, inr, length, drop, Vec, Global}
 use Rattle.std.proofs.Common.{◌+◌}
 use Rattle.std.specs.List.{enumerate_from}
 use Rattle.multistate_rle.proofs.LineLemmas.{left}
 use Rattle.multistate_rle.specs.declared.pattern.PatternCell.{PatternCell}
-use Rattle.multistate_rle.specs.declared.fault.RleFault.TheVariants.{Memory}
 use Rattle.multistate_rle.proofs.BodyLemmas.{begins, passes, meets, ends_well, ends_ill, answered, refused, refused_by}
 use Rattle.multistate_rle.proofs.reading.body_cells.Goals as goal
 

@@ -1,4 +1,4 @@
-use Rattle.std.proofs.Common.{◌≡◌, length, drop, ℕ, List}
+use Rattle.std.proofs.Common.{◌≡◌, length, drop}
 use Rattle.std.specs.List.{enumerate_from}
 use Rattle.multistate_rle.specs.Reading.{lines_of, bare, cells_read}
 use Rattle.multistate_rle.specs.Steps.{cells_with}

@@ -1,4 +1,4 @@
-use Rattle.std.proofs.Common.{◌≡◌, ◌∙◌, [], ◌∷◌, ap, subst, map, sym}
+use Rattle.std.proofs.Common.{◌∙◌, [], ◌∷◌, subst, map}
 use Rattle.multistate_rle.specs.Writing.{token_text, spelling}
 use Rattle.multistate_rle.specs.Letters.{plain}
 use Rattle.multistate_rle.specs.Bounds.{in_box}
