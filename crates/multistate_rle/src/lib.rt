@@ -32,4 +32,6 @@ pub use writable::are_writable;
 pub use writing::write;
 
 #[cfg(test)]
+mod round_trips;
+#[cfg(test)]
 mod tests;
