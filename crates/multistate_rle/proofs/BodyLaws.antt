@@ -1,5 +1,5 @@
 -- What is written of cells, behind any header, is read as the cells.
-use Rattle.std.proofs.Common.{◌≡◌, ◌≢◌, ℕ, zero, suc, ◌+◌, ◌-◌, ◌/◌, ◌%◌, ◌≤◌, ◌<◌, ◌^◌, Bool, true, false, List, [], ◌∷◌, ◌++◌, refl, sym, ◌∙◌, ap, arith, subst, inl, inr, append_assoc, append-nil, length, length-append, map}
+use Rattle.std.proofs.Common.{◌≡◌, ◌≢◌, ℕ, zero, suc, ◌+◌, ◌-◌, ◌/◌, ◌%◌, ◌≤◌, ◌<◌, ◌^◌, Bool, true, false, List, [], ◌∷◌, ◌++◌, refl, sym, ◌∙◌, ap, arith, subst, append_assoc, append-nil, length, length-append, map}
 use Rattle.std.specs.Prelude.{Some, None, Ok, ◌==◌, ◌&&◌, ◌||◌, not, nat_lt, nat_le, if◌then◌else◌, ⊤, codes, decimal}
 use Rattle.std.specs.List.{list_all, enumerate_from}
 use Rattle.std.specs.Str.Parse.{digits_value, AllDigits}
@@ -14,6 +14,7 @@ use Rattle.multistate_rle.specs.Letters.{letters, letters_text, plain}
 use Rattle.multistate_rle.specs.Tokens.{Token, Cells, Rows, run, cells_in_row, drawn, IsCanonical, count_of, skip, with_run, tokens_from, IsTokensOf}
 use Rattle.multistate_rle.specs.Reading.{Pen, bytes_of, start, fault_of, moved, cells_of, AreFine, bare, lines_of, pattern_of}
 use Rattle.multistate_rle.specs.Writing.{count_text, spelling, token_text, filled, body}
+use Rattle.multistate_rle.proofs.LetterLaws.{written_letters}
 use Rattle.multistate_rle.specs.Laws.{IsCount, IsTag, IsSpelling, ReadsBodiesBack}
 use Rattle.multistate_rle.proofs.SpellingLaws.{reads_spellings}
 use Rattle.multistate_rle.proofs.StepLemmas.{length_run}
@@ -167,8 +168,7 @@ most_state two = if two then 1 else 255
 
 tag_spelt : (two : Bool) (n s : ℕ) → s ≤ most_state two → IsTag (Cells n s) (letters_text (letters two s))
 unfolding most_state
-tag_spelt true n s le = inr (le, refl)
-tag_spelt false n s le = inl refl
+tag_spelt two n s le = written_letters two s le
 
 small_count : (pen : Pen) (token : Token) → fault_of 0 pen token ≡ None → count_of token < 2 ^ 64
 small_count pen (Cells n s) fine = omega (arith, (fine_run 0 pen n s fine).near)
