@@ -18,7 +18,8 @@ use Rattle.multistate_rle.proofs.LetterLaws.{written_letters}
 use Rattle.multistate_rle.specs.Laws.{IsCount, IsTag, IsSpelling, ReadsBodiesBack}
 use Rattle.multistate_rle.proofs.SpellingLaws.{reads_spellings}
 use Rattle.multistate_rle.proofs.StepLemmas.{length_run}
-use Rattle.multistate_rle.proofs.LineLemmas.{left, left_drops, left_keeps, left_nothing, left_is_bare}
+use Rattle.multistate_rle.proofs.LineLemmas.{left_drops, left_keeps, left_nothing, left_is_bare}
+use Rattle.multistate_rle.specs.Lines.{left}
 use Rattle.multistate_rle.proofs.PatternLaws.{and_parts, fine_run, fine_rows}
 use Rattle.multistate_rle.proofs.TokenLaws.{DrawsFirst, some_first, rest_canonical, counted, if_dead, has_tokens}
 

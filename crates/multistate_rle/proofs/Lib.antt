@@ -16,3 +16,4 @@ pub mod TextBackLaws
 pub mod BoxLaws
 pub mod WholeTextLaws
 pub mod LetterLaws
+pub mod RunLemmas

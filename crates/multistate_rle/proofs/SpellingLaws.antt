@@ -35,7 +35,7 @@ no_letter c high =
     let last : nat_le c 88 ≡ false = grind (arith, nat_tests) in
     rw (mark, first, last) refl
 
-prefix_role : (c : ℕ) → 112 ≤ c → c ≤ 121 → role_of None c ≡ role.Prefix (c - 111)
+pub prefix_role : (c : ℕ) → 112 ≤ c → c ≤ 121 → role_of None c ≡ role.Prefix (c - 111)
 prefix_role c low high =
     let past : nat_le c 57 ≡ false = grind (arith, nat_tests) in
     let digit : nat_le 48 c ≡ true = grind (arith, nat_tests) in
@@ -43,7 +43,7 @@ prefix_role c low high =
     let last : nat_le c 121 ≡ true = grind (arith, nat_tests) in
     no_letter c (omega arith) ∙ rw (digit, past, first, last) refl
 
-digit_role : (c : ℕ) → is_digit c ≡ true → role_of None c ≡ role.Digit (c - 48)
+pub digit_role : (c : ℕ) → is_digit c ≡ true → role_of None c ≡ role.Digit (c - 48)
 digit_role c digit =
     let parts = and_parts (nat_le 48 c) (nat_le c 57) digit in
     let low : 48 ≤ c = grind (arith, nat_tests, parts.0) in

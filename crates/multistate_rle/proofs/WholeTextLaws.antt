@@ -15,7 +15,8 @@ use Rattle.multistate_rle.specs.Tokens.{drawn}
 use Rattle.multistate_rle.specs.Lines.{line_after, is_dropped}
 use Rattle.multistate_rle.specs.Reading.{bytes_of, bare, pattern_of, lines_of, lines_read, is_comment, or_else}
 use Rattle.multistate_rle.specs.Laws.{IsLine, IsFront, with_lines, first_origin, bare_text, ReadsTexts}
-use Rattle.multistate_rle.proofs.LineLemmas.{line_step, line_read, comment_read, blank_read, header_is_read, left, left_is_bare}
+use Rattle.multistate_rle.proofs.LineLemmas.{line_step, line_read, comment_read, blank_read, header_is_read, left_is_bare}
+use Rattle.multistate_rle.specs.Lines.{left}
 use Rattle.multistate_rle.proofs.HeadLaws.{front_is, past_is, past_all}
 use Rattle.multistate_rle.proofs.SpellingLaws.{reads_spellings}
 

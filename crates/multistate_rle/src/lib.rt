@@ -5,6 +5,7 @@
 //! the format.
 #![tactic(auto)]
 
+mod ahead;
 mod bounds;
 mod cell;
 mod fault;

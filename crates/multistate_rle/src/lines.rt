@@ -197,11 +197,12 @@ impl Lines {
         })
     }
 
-    /// The end of the last line.
-    pub fn put_end(&mut self) -> Result<(), AllocError>
-        ensures { OnOk result (self.new.text.items ≡ self.old.text.items ++ codes "\n") }
+    /// The text, its last line ended.
+    pub fn ended(self) -> Result<Vec<u8>, AllocError>
+        ensures { IfOk result (λ text. text.items ≡ self.text.items ++ codes "\n") }
     {
-        self.text.push(b'\n')?;
-        Ok(())
+        let Lines { mut text, .. } = self;
+        text.push(b'\n')?;
+        Ok(text)
     }
 }

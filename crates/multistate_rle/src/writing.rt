@@ -73,8 +73,8 @@ fn with_body(
     let mut lines = Lines::after(text, two_states);
     put_cells(&mut lines, bounds, cells)?;
     lines.put(1, Letters::plain(b'!'))?;
-    lines.put_end()?;
-    Ok(lines.text)
+    let text = lines.ended()?;
+    Ok(text)
 }
 
 fn put_cells(lines: &mut Lines, bounds: &Bounds, cells: &[Cell]) -> Result<(), AllocError>
