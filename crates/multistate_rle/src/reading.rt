@@ -19,8 +19,8 @@ use std::alloc::Global;
 /// The pattern that a text in Golly's multi-state RLE spells, or what is wrong with the text; the
 /// fault is `Memory` only where memory was refused.
 ///
-/// Not proved, but so by its code: the text is passed over once, and memory is taken for nonzero
-/// cells alone.
+/// Not proved, but so by its code: the time grows with the text's length and the number of its
+/// cells, and memory is taken for nonzero cells alone.
 pub fn parse(alloc: Global, text: &[u8]) -> Result<Pattern, RleFault>
     ensures { Answers (λ fault. fault ≡ RleFault.Memory) result (parsed text.now) }
 {

@@ -17,10 +17,10 @@ struct Run {
 /// How many runs there are, half of them dead.
 const RUNS: u32 = 1 << 20;
 
-/// How long every fourth of the runs is; two cells in the mean.
+/// The lengths of runs, in turn; two cells in the mean.
 const LENGTHS: [u8; 4] = [1, 2, 3, 2];
 
-/// Live states of the rule.
+/// How many live states the rule has.
 const STATES: u32 = 63;
 
 /// How wide the box is.
