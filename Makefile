@@ -16,3 +16,4 @@ bench:
 	@cd crates/kernel_bench && rt run -- --time
 	@cd crates/replica_bench && rt run -- --time
 	@cd crates/world_bench && rt run -- --time
+	@cd crates/rle_bench && rt run -- --time

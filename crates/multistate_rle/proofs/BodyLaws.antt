@@ -1,29 +1,26 @@
 -- What is written of cells, behind any header, is read as the cells.
-use Rattle.std.proofs.Common.{◌≡◌, ◌≢◌, ℕ, zero, suc, ◌+◌, ◌*◌, ◌-◌, ◌/◌, ◌%◌, ◌≤◌, ◌<◌, ◌^◌, Bool, true, false, List, [], ◌∷◌, ◌++◌, refl, sym, ◌∙◌, ap, arith, subst, inl, inr, ◌⊎◌, append_assoc, append-nil, eq-eqb, length, length-append, map}
-use Rattle.std.specs.Prelude.{Option, Some, None, Result, Ok, Err, ◌==◌, ◌&&◌, ◌||◌, not, nat_lt, nat_le, if◌then◌else◌, ⊤, codes, filter, decimal}
+use Rattle.std.proofs.Common.{◌≡◌, ◌≢◌, ℕ, zero, suc, ◌+◌, ◌-◌, ◌/◌, ◌%◌, ◌≤◌, ◌<◌, ◌^◌, Bool, true, false, List, [], ◌∷◌, ◌++◌, refl, sym, ◌∙◌, ap, arith, subst, append_assoc, append-nil, length, length-append, map}
+use Rattle.std.specs.Prelude.{Some, None, Ok, ◌==◌, ◌&&◌, ◌||◌, not, nat_lt, nat_le, if◌then◌else◌, ⊤, codes, decimal}
 use Rattle.std.specs.List.{list_all, enumerate_from}
 use Rattle.std.specs.Str.Parse.{digits_value, AllDigits}
-use Rattle.std.specs.Char.{digit_value}
 use Rattle.std.proofs.lemmas.Fmt.{decimal_is_IsNumeral}
 use Rattle.std.proofs.lemmas.List.Folds.{list_all-append}
 use Rattle.std.proofs.lemmas.Bool.{ne_eqb, eqb-true, eqb-false}
 use Rattle.std.proofs.lemmas.Bool.Decides.{nat_tests}
-use Rattle.generations_rule.specs.Refusal.{when, first_of}
 use Rattle.multistate_rle.specs.declared.pattern.PatternCell.{PatternCell}
-use Rattle.multistate_rle.specs.declared.letters.Letters.{Letters}
-use Rattle.multistate_rle.specs.declared.line.Line.{Line}
 use Rattle.multistate_rle.specs.declared.line.Line.TheVariants.{Start, Inside}
 use Rattle.multistate_rle.specs.Bytes.{is_digit, is_blank, is_line_end}
-use Rattle.multistate_rle.specs.Pattern.{are_sorted, are_alive, are_within}
 use Rattle.multistate_rle.specs.Letters.{letters, letters_text, plain}
-use Rattle.multistate_rle.specs.Tokens.{Token, Cells, Rows, run, cells_in_row, drawn, IsCanonical, count_of, skip, gap, with_run, tokens_from, IsTokensOf}
-use Rattle.multistate_rle.specs.Reading.{Mark, Pen, bytes_of, start, fault_of, moved, cells_of, AreFine, bare, lines_of, pattern_of}
+use Rattle.multistate_rle.specs.Tokens.{Token, Cells, Rows, run, cells_in_row, drawn, IsCanonical, count_of, skip, with_run, tokens_from, IsTokensOf}
+use Rattle.multistate_rle.specs.Reading.{Pen, bytes_of, start, fault_of, moved, cells_of, AreFine, bare, lines_of, pattern_of}
 use Rattle.multistate_rle.specs.Writing.{count_text, spelling, token_text, filled, body}
+use Rattle.multistate_rle.proofs.LetterLaws.{written_letters}
 use Rattle.multistate_rle.specs.Laws.{IsCount, IsTag, IsSpelling, ReadsBodiesBack}
 use Rattle.multistate_rle.proofs.SpellingLaws.{reads_spellings}
 use Rattle.multistate_rle.proofs.StepLemmas.{length_run}
-use Rattle.multistate_rle.proofs.LineLemmas.{left, left_drops, left_keeps, left_nothing, left_is_bare}
-use Rattle.multistate_rle.proofs.PatternLaws.{and_parts, fine_run, fine_rows, FineRun, FineRows}
+use Rattle.multistate_rle.proofs.LineLemmas.{left_drops, left_keeps, left_nothing, left_is_bare}
+use Rattle.multistate_rle.specs.Lines.{left}
+use Rattle.multistate_rle.proofs.PatternLaws.{and_parts, fine_run, fine_rows}
 use Rattle.multistate_rle.proofs.TokenLaws.{DrawsFirst, some_first, rest_canonical, counted, if_dead, has_tokens}
 
 -- ---- states
@@ -172,8 +169,7 @@ most_state two = if two then 1 else 255
 
 tag_spelt : (two : Bool) (n s : ℕ) → s ≤ most_state two → IsTag (Cells n s) (letters_text (letters two s))
 unfolding most_state
-tag_spelt true n s le = inr (le, refl)
-tag_spelt false n s le = inl refl
+tag_spelt two n s le = written_letters two s le
 
 small_count : (pen : Pen) (token : Token) → fault_of 0 pen token ≡ None → count_of token < 2 ^ 64
 small_count pen (Cells n s) fine = omega (arith, (fine_run 0 pen n s fine).near)

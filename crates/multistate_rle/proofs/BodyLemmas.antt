@@ -1,21 +1,20 @@
 -- The tokens of a text, read byte by byte from its lines.
-use Rattle.std.proofs.Common.{◌≡◌, ℕ, ◌+◌, ◌<◌, ◌≤◌, Bool, true, false, List, [], ◌∷◌, ◌++◌, refl, sym, ◌∙◌, ap, arith, drop, length, get_or, drop-cons, add-one, append-nil, inl, inr, ◌⊎◌}
-use Rattle.std.specs.Prelude.{Option, Some, None, Result, Ok, Err}
+use Rattle.std.proofs.Common.{◌≡◌, ℕ, ◌+◌, ◌<◌, ◌≤◌, true, false, List, [], ◌∷◌, ◌++◌, sym, ◌∙◌, ap, drop, length, get_or, drop-cons, add-one, arith, append-nil, inl, inr, ◌⊎◌}
+use Rattle.std.specs.Prelude.{Result, Ok, Err}
 use Rattle.std.specs.List.{enumerate_from}
 use Rattle.std.proofs.lemmas.List.{drop_all}
 use Rattle.generations_rule.specs.Refusal.{◌>>=◌, AnswersAs}
 use Rattle.multistate_rle.specs.declared.fault.RleFault.{RleFault}
 use Rattle.multistate_rle.specs.declared.fault.RleFault.TheVariants.{Memory}
-use Rattle.multistate_rle.specs.declared.pattern.PatternCell.{PatternCell}
 use Rattle.multistate_rle.specs.declared.tokens.Reader.{Reader}
-use Rattle.multistate_rle.specs.declared.tokens.Begun.{Begun}
 use Rattle.multistate_rle.specs.declared.line.Line.{Line}
 use Rattle.multistate_rle.specs.declared.line.Line.TheVariants.{Start}
 use Rattle.multistate_rle.specs.Tokens.{Token, drawn}
 use Rattle.multistate_rle.specs.Lines.{line_after, is_dropped}
-use Rattle.multistate_rle.specs.Reading.{Mark, Pen, tokens_of, fresh, start, ended, lines_of, bare, cells_read}
-use Rattle.multistate_rle.specs.Steps.{pen_of, cells_with, EndsAt}
-use Rattle.multistate_rle.proofs.LineLemmas.{left, left_drops, left_keeps, left_nothing, left_is_bare}
+use Rattle.multistate_rle.specs.Reading.{Mark, tokens_of, fresh, ended, lines_of, bare, cells_read}
+use Rattle.multistate_rle.specs.Steps.{cells_with, ReadsOn}
+use Rattle.multistate_rle.proofs.LineLemmas.{left_drops, left_keeps, left_nothing, left_is_bare}
+use Rattle.multistate_rle.specs.Lines.{left}
 
 pub byte_at : (text : List ℕ) (place : ℕ) → place < length text →
     enumerate_from place (drop place text) ≡ (place, get_or text place 0) ∷ enumerate_from (place + 1) (drop (place + 1) text)
@@ -45,6 +44,13 @@ pub meets : (end : ℕ) (text : List ℕ) (place : ℕ) (line now : Line) (r : R
 meets end text place line now r within is keeps =
     ap (λ marks. cells_with end marks r)
     (sym (ap (left line) (byte_at text place within) ∙ left_keeps line now (place, get_or text place 0) (enumerate_from (place + 1) (drop (place + 1) text)) is keeps))
+
+-- where no run was read
+pub not_moved : (end : ℕ) (text : List ℕ) (place next : ℕ) (line : Line) (old new : Reader) → ReadsOn line text place old (Ok next) new → next ≤ place →
+    cells_with end (left line (enumerate_from place (drop place text))) new ≡ cells_with end (left line (enumerate_from place (drop place text))) old
+not_moved end text place next line old new reads le =
+    let same : place ≡ next = omega (arith, reads.0) in
+    ap (λ k. cells_with end (left line (enumerate_from k (drop k text))) new) same ∙ reads.2 end
 
 -- the end of the text
 ends_with : (end : ℕ) (text : List ℕ) (place : ℕ) (line : Line) (r : Reader) (o : Result (List Token) RleFault) → length text ≤ place → ended end r.begun ≡ o →

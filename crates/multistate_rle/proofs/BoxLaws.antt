@@ -1,6 +1,6 @@
 -- Cells in their bounding box.
-use Rattle.std.proofs.Common.{◌≡◌, ◌≢◌, ℕ, zero, suc, ◌+◌, ◌-◌, ◌≤◌, ◌<◌, ◌^◌, Bool, true, false, List, [], ◌∷◌, ◌++◌, refl, sym, ◌∙◌, ap, arith, subst, length, map, ℤ, pos, negsuc, ◌≤ℤ◌, ◌<ℤ◌, ◌-ℤ◌, eq-eqb}
-use Rattle.std.specs.Prelude.{◌==◌, ◌&&◌, ◌||◌, not, nat_lt, nat_le, int_lt, fold, nat_abs, if◌then◌else◌, Ok, filter, decimal, ⊤, cond}
+use Rattle.std.proofs.Common.{◌≡◌, ℕ, ◌+◌, ◌≤◌, ◌<◌, Bool, true, false, List, [], ◌∷◌, ◌++◌, refl, sym, ap, arith, subst, map, ℤ, pos, ◌≤ℤ◌, ◌<ℤ◌, ◌-ℤ◌, eq-eqb}
+use Rattle.std.specs.Prelude.{◌==◌, ◌&&◌, ◌||◌, not, nat_lt, nat_le, int_lt, nat_abs, if◌then◌else◌, filter, decimal, ⊤, cond}
 use Rattle.std.specs.Ordering.{int_eq}
 use Rattle.std.specs.Int.{int_min, int_max}
 use Rattle.std.specs.List.{list_all}
@@ -13,13 +13,11 @@ use Rattle.std.proofs.Math.Dec.{T}
 use Rattle.generations_rule.specs.Rule.{GenerationsRule, IsRule, has}
 use Rattle.generations_rule.specs.RuleText.{text_of, text_of_set, slash, glyph, counts}
 use Rattle.multistate_rle.specs.Bytes.{is_line_end}
-use Rattle.multistate_rle.specs.Laws.{ReadsBack, FitsPlane}
+use Rattle.multistate_rle.specs.Laws.{ReadsBack}
 use Rattle.multistate_rle.proofs.HeadLaws.{both_pass, digits_pass, digit_no_end, printed}
 use Rattle.multistate_rle.proofs.TextBackLaws.{text_back}
 use Rattle.multistate_rle.specs.declared.cell.Cell.{Cell}
-use Rattle.multistate_rle.specs.declared.bounds.Bounds.{Bounds}
-use Rattle.multistate_rle.specs.declared.pattern.PatternCell.{PatternCell}
-use Rattle.multistate_rle.specs.Cells.{is_sorted, are_nonzero, are_below, place_of}
+use Rattle.multistate_rle.specs.Cells.{is_sorted, are_nonzero, are_below}
 use Rattle.multistate_rle.specs.Pattern.{precedes, are_sorted, are_alive, are_within}
 use Rattle.multistate_rle.specs.Bounds.{least, greatest, span, box_of, seen_from, in_box}
 use Rattle.multistate_rle.proofs.PatternLaws.{and_parts}

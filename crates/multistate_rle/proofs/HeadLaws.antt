@@ -1,15 +1,13 @@
 -- The two lines in front of a written text are read back.
-use Rattle.std.proofs.Common.{◌≡◌, ◌≢◌, ℕ, zero, suc, ◌+◌, ◌*◌, ◌-◌, ◌≤◌, ◌<◌, ◌^◌, Bool, true, false, List, [], ◌∷◌, ◌++◌, refl, sym, ◌∙◌, ap, arith, subst, append_assoc, append-nil, length, take, drop, map, ℤ, pos, negsuc, one-add}
-use Rattle.std.specs.Prelude.{Option, Some, None, Result, Ok, Err, ◌==◌, ◌&&◌, ◌||◌, not, nat_lt, nat_le, if◌then◌else◌, codes, filter, decimal, option_map, neg_ℤ, unwrap_or}
-use Rattle.std.specs.List.{list_all, enumerate_from, prefix_len, position_or_len, before_first, slice_split}
+use Rattle.std.proofs.Common.{◌≡◌, ℕ, suc, ◌≤◌, ◌<◌, ◌^◌, Bool, true, false, List, [], ◌∷◌, ◌++◌, refl, sym, ◌∙◌, ap, arith, subst, length, take, drop, ℤ, pos, negsuc, one-add}
+use Rattle.std.specs.Prelude.{Some, None, ◌==◌, not, nat_le, if◌then◌else◌, codes, filter, decimal, option_map, neg_ℤ}
+use Rattle.std.specs.List.{list_all, prefix_len, slice_split}
 use Rattle.std.specs.Str.Parse.{digits_value}
 use Rattle.std.specs.Fmt.{signed_decimal}
 use Rattle.std.proofs.lemmas.Fmt.{decimal_is_IsNumeral}
 use Rattle.std.proofs.lemmas.Bool.{ne_eqb}
 use Rattle.std.proofs.lemmas.Bool.Decides.{nat_tests}
-use Rattle.multistate_rle.specs.declared.origin.Origin.{Origin}
-use Rattle.multistate_rle.specs.declared.origin.Items.{Items}
-use Rattle.multistate_rle.specs.Bytes.{is_digit, is_blank, is_line_end, front, past, ◌>=>◌, behind, number}
+use Rattle.multistate_rle.specs.Bytes.{is_digit, is_blank, is_line_end, past, ◌>=>◌, behind, number}
 use Rattle.std.proofs.lemmas.List.Folds.{list_all-append}
 use Rattle.multistate_rle.specs.Header.{most_side, symbol, number_in_front, side, may_end, header_of}
 use Rattle.multistate_rle.specs.Position.{words, signed, is_comma, position_in, generation_in, with_item, items_in, no_items, origin_from, origin_in_words, origin_of, item_by}

@@ -14,3 +14,6 @@ pub mod BodyLaws
 pub mod HeadLaws
 pub mod TextBackLaws
 pub mod BoxLaws
+pub mod WholeTextLaws
+pub mod LetterLaws
+pub mod RunLemmas

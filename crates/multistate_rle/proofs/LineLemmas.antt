@@ -1,11 +1,10 @@
 -- The lines of a text, and the bytes that are left of them, told from left to right.
-use Rattle.std.proofs.Common.{◌≡◌, ◌≢◌, ℕ, zero, suc, ◌+◌, ◌≤◌, ◌<◌, Bool, true, false, List, [], ◌∷◌, ◌++◌, refl, sym, ◌∙◌, ap, arith, take, drop, length, map, one-add, add-one, get_or, drop-drop}
-use Rattle.std.specs.Prelude.{Option, Some, None, Result, Ok, Err, not, filter, cond, if◌then◌else◌, ◌==◌, ◌||◌, unwrap_or}
-use Rattle.std.specs.List.{slice_split, onto_first, position_or_len, prefix_len, enumerate_from, list_all, flat_map}
+use Rattle.std.proofs.Common.{◌≡◌, ℕ, zero, suc, ◌+◌, ◌≤◌, Bool, true, false, List, [], ◌∷◌, ◌++◌, refl, sym, ◌∙◌, ap, arith, take, drop, length, drop-drop}
+use Rattle.std.specs.Prelude.{Option, Some, None, Result, Err, not, filter, if◌then◌else◌, ◌==◌, ◌||◌, unwrap_or}
+use Rattle.std.specs.List.{onto_first, position_or_len, enumerate_from, list_all, flat_map}
 use Rattle.std.proofs.lemmas.List.{drop_all}
 use Rattle.std.proofs.lemmas.List.Splits.{slice_split-cons_yes, slice_split-cons_no}
 use Rattle.std.proofs.lemmas.List.Folds.{length-prefix_len}
-use Rattle.generations_rule.specs.Refusal.{◌>>=◌}
 use Rattle.multistate_rle.specs.declared.fault.RleFault.{RleFault}
 use Rattle.multistate_rle.specs.declared.fault.RleFault.TheVariants.{Header}
 use Rattle.multistate_rle.specs.declared.origin.Origin.{Origin}
@@ -16,7 +15,7 @@ use Rattle.multistate_rle.specs.Header.{header_of}
 use Rattle.multistate_rle.specs.Position.{origin_of, origin_from, no_items}
 use Rattle.multistate_rle.specs.Pattern.{RlePattern}
 use Rattle.multistate_rle.specs.Reading.{Mark, lines_of, bytes_of, is_comment, bare, body_read, header_read, lines_read, or_else}
-use Rattle.multistate_rle.specs.Lines.{line_after, is_dropped}
+use Rattle.multistate_rle.specs.Lines.{line_after, is_dropped, left}
 use Rattle.multistate_rle.proofs.SplitLemmas.{split_at, later_parts}
 
 -- ---- bytes with their places
@@ -136,11 +135,6 @@ pub nothing_left : (end : ℕ) (origin : Option Origin) (text : List ℕ) (start
 nothing_left end origin text start past = ap (λ rest. lines_read end origin (lines_of (enumerate_from start rest))) (drop_all start text past)
 
 -- ---- the bytes that are left
-
--- what is left of a text, from where its line is so far read
-unfoldable pub left : Line → List Mark → List Mark
-left line [] = []
-left line (m ∷ marks) = if is_dropped (line_after line m.1) m.1 then left (line_after line m.1) marks else m ∷ left (line_after line m.1) marks
 
 pub left_nothing : (line : Line) → left line [] ≡ []
 unfolding left

@@ -1,6 +1,6 @@
 -- Decimal numbers that are read up to a limit.
 use Rattle.std.proofs.Common.{◌≡◌, ℕ, ◌+◌, ◌-◌, ◌*◌, ap, ◌<◌, ◌≤◌, Bool, true, false, List, [], ◌∷◌, refl, arith, length, take, get_or}
-use Rattle.std.specs.Prelude.{◌&&◌, nat_le, Some, None, cond, Option}
+use Rattle.std.specs.Prelude.{nat_le, Some, None, cond, Option}
 use Rattle.std.specs.List.{list_all}
 use Rattle.std.specs.Str.Parse.{digits_value}
 use Rattle.std.specs.Char.{digit_value}

@@ -1,16 +1,15 @@
 -- Tokens that are read byte by byte, with counts that are kept in 64 bits.
-use Rattle.std.proofs.Common.{◌≡◌, ◌≢◌, ℕ, zero, suc, ◌+◌, ◌*◌, ◌^◌, ◌-◌, ◌≤◌, ◌<◌, Bool, true, false, List, [], ◌∷◌, ◌++◌, refl, sym, ◌∙◌, ap, arith, append_assoc, append-nil, inl, inr}
-use Rattle.std.specs.Prelude.{Option, Some, None, Result, Ok, Err, unwrap_or, option_map, min, ◌||◌, ◌==◌, nat_lt, not, ◌⊎◌, if◌then◌else◌}
-use Rattle.std.proofs.lemmas.Bool.{ne_eqb}
+use Rattle.std.proofs.Common.{◌≡◌, ℕ, zero, suc, ◌+◌, ◌*◌, ◌^◌, ◌-◌, ◌≤◌, Bool, true, false, List, [], ◌∷◌, refl, sym, ◌∙◌, ap, arith, inl, inr}
+use Rattle.std.specs.Prelude.{Option, Some, None, Result, Err, unwrap_or, option_map, min, ◌||◌, ◌==◌, nat_lt, ◌⊎◌, if◌then◌else◌}
 use Rattle.std.proofs.lemmas.Bool.Decides.{nat_tests}
-use Rattle.generations_rule.specs.Refusal.{when, first_of, ◌>>=◌}
+use Rattle.generations_rule.specs.Refusal.{when, first_of}
 use Rattle.multistate_rle.specs.declared.fault.RleFault.{RleFault}
-use Rattle.multistate_rle.specs.declared.fault.RleFault.TheVariants.{State, Count, TooMany, Tag}
+use Rattle.multistate_rle.specs.declared.fault.RleFault.TheVariants.{State, Count, Tag}
 use Rattle.multistate_rle.specs.declared.role.Role.{Role}
 use Rattle.multistate_rle.specs.declared.role.Role.TheVariants as role
 use Rattle.multistate_rle.specs.declared.tokens.Begun.{Begun}
-use Rattle.multistate_rle.specs.Tokens.{Token, Cells, Rows, drawn}
-use Rattle.multistate_rle.specs.Reading.{Mark, Pen, role_of, fresh, with_digit, with_prefix, ended, fault_of, followed, moved, cells_of, tokens_of}
+use Rattle.multistate_rle.specs.Tokens.{Token, Cells, Rows}
+use Rattle.multistate_rle.specs.Reading.{Mark, Pen, role_of, fresh, with_digit, with_prefix, ended, fault_of, followed, moved, tokens_of}
 use Rattle.multistate_rle.specs.Begun.{capped}
 
 -- ---- a count above the limit is as faulty as the limit

@@ -1,5 +1,5 @@
 -- The cells of a run.
-use Rattle.std.proofs.Common.{◌≡◌, ℕ, suc, ◌+◌, ◌-◌, ◌<◌, ◌≤◌, List, [], ◌∷◌, refl, arith}
+use Rattle.std.proofs.Common.{◌≡◌, ℕ, suc, ◌+◌, ◌-◌, ◌<◌, ◌≤◌, [], ◌∷◌, refl, arith}
 use Rattle.multistate_rle.specs.Tokens.{cells_in_row}
 
 pub row_step : (end at s row : ℕ) → at < end →

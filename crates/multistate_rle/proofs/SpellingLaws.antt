@@ -1,26 +1,23 @@
 -- Texts that spell tokens, with any digits for their counts, are read as the tokens.
-use Rattle.std.proofs.Common.{◌≡◌, ◌≢◌, ℕ, zero, suc, ◌+◌, ◌*◌, ◌-◌, ◌/◌, ◌%◌, ◌≤◌, ◌<◌, ◌^◌, Bool, true, false, List, [], ◌∷◌, ◌++◌, refl, sym, ◌∙◌, ap, arith, subst, inl, inr, ◌⊎◌, append_assoc, append-nil, eq-eqb}
-use Rattle.std.specs.Prelude.{Option, Some, None, Result, Ok, Err, unwrap_or, ◌==◌, ◌&&◌, ◌||◌, nat_lt, nat_le, if◌then◌else◌, ⊤, codes}
+use Rattle.std.proofs.Common.{◌≡◌, ℕ, ◌+◌, ◌*◌, ◌-◌, ◌≤◌, ◌<◌, ◌^◌, true, false, List, [], ◌∷◌, ◌++◌, refl, sym, ◌∙◌, ap, arith, inl, inr, append_assoc}
+use Rattle.std.specs.Prelude.{◌⊎◌, Option, Some, None, Ok, unwrap_or, ◌==◌, ◌||◌, nat_lt, nat_le}
 use Rattle.std.specs.List.{list_all}
-use Rattle.std.specs.Str.Parse.{digits_value, digits_value_after}
+use Rattle.std.specs.Str.Parse.{digits_value_after}
 use Rattle.std.specs.Char.{digit_value}
-use Rattle.std.proofs.lemmas.Bool.{ne_eqb, eqb-true, eqb-false}
+use Rattle.std.proofs.lemmas.Bool.{ne_eqb}
 use Rattle.std.proofs.lemmas.Bool.Decides.{nat_tests}
-use Rattle.generations_rule.specs.Refusal.{when, first_of, ◌>>=◌}
-use Rattle.multistate_rle.specs.declared.fault.RleFault.{RleFault}
+use Rattle.generations_rule.specs.Refusal.{◌>>=◌}
 use Rattle.multistate_rle.specs.declared.fault.RleFault.TheVariants.{State, Count, TooMany}
-use Rattle.multistate_rle.specs.declared.role.Role.{Role}
 use Rattle.multistate_rle.specs.declared.role.Role.TheVariants as role
 use Rattle.multistate_rle.specs.declared.tokens.Begun.{Begun}
-use Rattle.multistate_rle.specs.declared.letters.Letters.{Letters}
 use Rattle.multistate_rle.specs.Bytes.{is_digit}
-use Rattle.multistate_rle.specs.Letters.{letters, letters_text}
+use Rattle.multistate_rle.specs.Letters.{IsPlain, IsLetter}
 use Rattle.multistate_rle.specs.Tokens.{Token, Cells, Rows, drawn, count_of}
-use Rattle.multistate_rle.specs.Reading.{Mark, Pen, bytes_of, is_letter, is_prefix, bare_role, role_of, start, fresh, with_digit, with_prefix, ended, fault_of, followed, moved, cells_of, tokens_of, AreFine, bare, body_read, pattern_of}
+use Rattle.multistate_rle.specs.Reading.{Mark, Pen, bytes_of, bare_role, role_of, start, fresh, with_digit, with_prefix, fault_of, followed, moved, cells_of, tokens_of, AreFine, bare, pattern_of}
 use Rattle.multistate_rle.specs.Laws.{IsCount, IsTag, IsSpelling, EndsTokens, ReadsSpellings}
 use Rattle.multistate_rle.proofs.NumberLemmas.{digit_is}
-use Rattle.multistate_rle.proofs.ReadLemmas.{by_role, step_is}
-use Rattle.multistate_rle.proofs.PatternLaws.{and_parts, none_of_three, none_of_one, FineRun, fine_run}
+use Rattle.multistate_rle.proofs.ReadLemmas.{step_is}
+use Rattle.multistate_rle.proofs.PatternLaws.{and_parts, none_of_three, none_of_one}
 
 -- ---- what bytes are
 
@@ -38,7 +35,7 @@ no_letter c high =
     let last : nat_le c 88 ≡ false = grind (arith, nat_tests) in
     rw (mark, first, last) refl
 
-prefix_role : (c : ℕ) → 112 ≤ c → c ≤ 121 → role_of None c ≡ role.Prefix (c - 111)
+pub prefix_role : (c : ℕ) → 112 ≤ c → c ≤ 121 → role_of None c ≡ role.Prefix (c - 111)
 prefix_role c low high =
     let past : nat_le c 57 ≡ false = grind (arith, nat_tests) in
     let digit : nat_le 48 c ≡ true = grind (arith, nat_tests) in
@@ -46,7 +43,7 @@ prefix_role c low high =
     let last : nat_le c 121 ≡ true = grind (arith, nat_tests) in
     no_letter c (omega arith) ∙ rw (digit, past, first, last) refl
 
-digit_role : (c : ℕ) → is_digit c ≡ true → role_of None c ≡ role.Digit (c - 48)
+pub digit_role : (c : ℕ) → is_digit c ≡ true → role_of None c ≡ role.Digit (c - 48)
 digit_role c digit =
     let parts = and_parts (nat_le 48 c) (nat_le c 57) digit in
     let low : 48 ≤ c = grind (arith, nat_tests, parts.0) in
@@ -162,42 +159,25 @@ row_byte end n more (m ∷ marks) b pen tokens bytes none count fine rest =
     let behind : bytes_of marks ≡ more = cc in
     rows_end end m marks b pen n tokens (λ i. role_of (none i) (byte i)) count fine (rest marks behind)
 
--- a state's letters, where there are more than two states
-many_tag : (dead small : Bool) (end n s : ℕ) (more : List ℕ) (marks : List Mark) (b : Begun) (pen : Pen) (tokens : List Token) → (s == 0) ≡ dead → nat_le s 24 ≡ small →
-    bytes_of marks ≡ letters_text (letters false s) ++ more → b.prefix ≡ None → unwrap_or b.count 1 ≡ n →
-    fault_of 0 pen (Cells n s) ≡ None → ((later : List Mark) → bytes_of later ≡ more → tokens_of end later fresh (moved (Cells n s) pen) ≡ Ok tokens) → tokens_of end marks b pen ≡ Ok (Cells n s ∷ tokens)
-many_tag true small end n s more marks b pen tokens d l bytes none count fine rest =
-    let is : 0 ≡ s = sym (eqb-true s 0 d) in
-    one_byte end 46 n s more marks b pen tokens (rw d at bytes) none (ap (λ t. role.State t) is) count fine rest
-many_tag false true end n s more marks b pen tokens d l bytes none count fine rest =
-    let low : s ≢ 0 = eqb-false s 0 d in
-    let high : s ≤ 24 = grind (arith, nat_tests) in
-    let is : 24 * 0 + (64 + s - 64) ≡ s = omega arith in
-    one_byte end (64 + s) n s more marks b pen tokens (rw (d, l) at bytes) none
-    (letter_role None (64 + s) (omega arith) (omega arith) ∙ ap (λ t. role.State t) is) count fine rest
-many_tag false false end n s more marks b pen tokens d l bytes none count fine rest =
-    let low : 24 < s = grind (arith, nat_tests) in
-    let high : s ≤ 255 = (fine_run 0 pen n s fine).state in
-    let is : 24 * (111 + (s - 1) / 24 - 111) + (65 + (s - 1) % 24 - 64) ≡ s = omega arith in
-    two_bytes end (111 + (s - 1) / 24) (65 + (s - 1) % 24) (111 + (s - 1) / 24 - 111) n s more marks b pen tokens (rw (d, l) at bytes) none
-    (prefix_role (111 + (s - 1) / 24) (omega arith) (omega arith))
-    (letter_role (Some (111 + (s - 1) / 24 - 111)) (65 + (s - 1) % 24) (omega arith) (omega arith) ∙ ap (λ t. role.State t) is) count fine rest
-
--- and where there are two
-two_tag : (end n s : ℕ) (more : List ℕ) (marks : List Mark) (b : Begun) (pen : Pen) (tokens : List Token) → s ≤ 1 →
-    bytes_of marks ≡ letters_text (letters true s) ++ more → b.prefix ≡ None → unwrap_or b.count 1 ≡ n →
-    fault_of 0 pen (Cells n s) ≡ None → ((later : List Mark) → bytes_of later ≡ more → tokens_of end later fresh (moved (Cells n s) pen) ≡ Ok tokens) → tokens_of end marks b pen ≡ Ok (Cells n s ∷ tokens)
-two_tag end n zero more marks b pen tokens le bytes none count fine rest = one_byte end 98 n 0 more marks b pen tokens bytes none refl count fine rest
-two_tag end n (suc zero) more marks b pen tokens le bytes none count fine rest = one_byte end 111 n 1 more marks b pen tokens bytes none refl count fine rest
-two_tag end n (suc (suc s)) more marks b pen tokens le bytes none count fine rest = absurd (omega arith)
+-- a state's one byte
+byte_role : (c s : ℕ) → IsPlain s c ⊎ IsLetter s c → role_of None c ≡ role.State s
+byte_role c s (inl (inl is)) = let none : s ≡ 0 = is.0 in let dot : c ≡ 46 = is.1 in rw (none, dot) refl
+byte_role c s (inl (inr (inl is))) = let none : s ≡ 0 = is.0 in let b : c ≡ 98 = is.1 in rw (none, b) refl
+byte_role c s (inl (inr (inr is))) = let one : s ≡ 1 = is.0 in let o : c ≡ 111 = is.1 in rw (one, o) refl
+byte_role c s (inr is) =
+    let worth : 24 * 0 + (c - 64) ≡ s = omega arith in
+    letter_role None c is.least is.most ∙ ap (λ t. role.State t) worth
 
 tag_read : (end : ℕ) (token : Token) (tag more : List ℕ) (marks : List Mark) (b : Begun) (pen : Pen) (tokens : List Token) → IsTag token tag →
     bytes_of marks ≡ tag ++ more → b.prefix ≡ None → unwrap_or b.count 1 ≡ count_of token →
     fault_of 0 pen token ≡ None → ((later : List Mark) → bytes_of later ≡ more → tokens_of end later fresh (moved token pen) ≡ Ok tokens) → tokens_of end marks b pen ≡ Ok (token ∷ tokens)
-tag_read end (Cells n s) tag more marks b pen tokens (inl is) bytes none count fine rest =
-    many_tag (s == 0) (nat_le s 24) end n s more marks b pen tokens refl refl (bytes ∙ ap (λ t. t ++ more) is) none count fine rest
-tag_read end (Cells n s) tag more marks b pen tokens (inr is) bytes none count fine rest =
-    two_tag end n s more marks b pen tokens is.0 (bytes ∙ ap (λ t. t ++ more) is.1) none count fine rest
+tag_read end (Cells n s) [] more marks b pen tokens is bytes none count fine rest = absurd is
+tag_read end (Cells n s) (c ∷ []) more marks b pen tokens is bytes none count fine rest =
+    one_byte end c n s more marks b pen tokens bytes none (byte_role c s is) count fine rest
+tag_read end (Cells n s) (p ∷ c ∷ []) more marks b pen tokens is bytes none count fine rest =
+    two_bytes end p c (p - 111) n s more marks b pen tokens bytes none (prefix_role p is.least_prefix is.most_prefix)
+    (letter_role (Some (p - 111)) c is.least is.most ∙ ap (λ t. role.State t) (sym is.state)) count fine rest
+tag_read end (Cells n s) (a ∷ c ∷ d ∷ others) more marks b pen tokens is bytes none count fine rest = absurd is
 tag_read end (Rows n) tag more marks b pen tokens is bytes none count fine rest =
     row_byte end n more marks b pen tokens (bytes ∙ ap (λ t. t ++ more) is) none count fine rest
 

@@ -1,10 +1,9 @@
 -- Lists that are cut at each element that passes a test: lines and words.
-use Rattle.std.proofs.Common.{◌≡◌, ℕ, zero, suc, ◌+◌, ◌<◌, ◌≤◌, Bool, true, false, List, [], ◌∷◌, ◌++◌, refl, sym, ◌∙◌, ap, arith, take, drop, length, length-drop, one-add, add-one, ◌≢◌}
-use Rattle.std.specs.Prelude.{not, ◌==◌, filter, cond, option_map, Option, Some, None, if◌then◌else◌, codes}
+use Rattle.std.proofs.Common.{◌≡◌, ℕ, ◌<◌, ◌≤◌, Bool, true, false, List, [], ◌∷◌, refl, sym, ◌∙◌, ap, arith, take, drop, length, length-drop, one-add, ◌≢◌}
+use Rattle.std.specs.Prelude.{not, ◌==◌, filter, option_map, None, if◌then◌else◌, codes}
 use Rattle.std.specs.List.{slice_split, onto_first, position_or_len, prefix_len}
 use Rattle.std.specs.Str.{bytes_eq}
 use Rattle.std.proofs.lemmas.Bool.{ne_eqb}
-use Rattle.multistate_rle.specs.declared.origin.Origin.{Origin}
 use Rattle.multistate_rle.specs.declared.origin.Items.{Items}
 use Rattle.multistate_rle.specs.Bytes.{is_blank, past, ◌>=>◌}
 use Rattle.multistate_rle.specs.Position.{words, origin_in_words, origin_from, items_in, no_items, with_item}

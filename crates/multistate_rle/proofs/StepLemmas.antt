@@ -1,10 +1,10 @@
 -- What a token does to a reader.
-use Rattle.std.proofs.Common.{◌≡◌, ◌≢◌, ℕ, zero, suc, ◌+◌, ◌≤◌, Bool, true, false, List, [], ◌∷◌, ◌++◌, refl, sym, ◌∙◌, ap, arith, length, append-nil, length-append, add-zero}
-use Rattle.std.specs.Prelude.{Option, Some, None, Result, Ok, Err, ◌==◌, if◌then◌else◌, cond}
+use Rattle.std.proofs.Common.{◌≡◌, ℕ, zero, suc, ◌+◌, Bool, true, false, [], ◌++◌, refl, sym, ◌∙◌, ap, arith, length, append-nil, length-append}
+use Rattle.std.specs.Prelude.{Option, Some, None, ◌==◌, if◌then◌else◌}
 use Rattle.multistate_rle.specs.declared.tokens.Reader.{Reader}
-use Rattle.multistate_rle.specs.Tokens.{Token, Cells, Rows, drawn, run, cells_in_row}
-use Rattle.multistate_rle.specs.Reading.{Pen, fresh, moved, cells_of}
-use Rattle.multistate_rle.specs.Steps.{pen_of, Draws}
+use Rattle.multistate_rle.specs.Tokens.{Cells, run, cells_in_row}
+use Rattle.multistate_rle.specs.Reading.{fresh, cells_of}
+use Rattle.multistate_rle.specs.Steps.{Draws}
 
 length_row : (n s column row : ℕ) → length (cells_in_row n s column row) ≡ n
 length_row zero s column row = refl

@@ -1,6 +1,6 @@
 -- A whole written text is read back.
-use Rattle.std.proofs.Common.{◌≡◌, ◌≢◌, ℕ, zero, suc, ◌+◌, ◌-◌, ◌≤◌, ◌<◌, ◌^◌, Bool, true, false, List, [], ◌∷◌, ◌++◌, refl, sym, ◌∙◌, ap, arith, subst, append_assoc, length, take, drop, map, ℤ}
-use Rattle.std.specs.Prelude.{Option, Some, None, Result, Ok, Err, ◌==◌, ◌&&◌, not, nat_lt, nat_le, if◌then◌else◌, codes, decimal, unwrap_or}
+use Rattle.std.proofs.Common.{◌≡◌, ℕ, ◌+◌, ◌≤◌, ◌<◌, ◌^◌, Bool, true, List, [], ◌∷◌, ◌++◌, refl, ◌∙◌, ap, arith, append_assoc, length, drop, ℤ}
+use Rattle.std.specs.Prelude.{Option, Some, None, Result, Ok, ◌&&◌, not, nat_lt, codes, decimal}
 use Rattle.std.specs.List.{list_all, enumerate_from, position_or_len}
 use Rattle.std.specs.Fmt.{signed_decimal}
 use Rattle.std.proofs.lemmas.Bool.Decides.{nat_tests}
@@ -8,11 +8,10 @@ use Rattle.multistate_rle.specs.declared.origin.Origin.{Origin}
 use Rattle.multistate_rle.specs.declared.fault.RleFault.{RleFault}
 use Rattle.multistate_rle.specs.declared.bounds.Bounds.{Bounds}
 use Rattle.multistate_rle.specs.declared.pattern.PatternCell.{PatternCell}
-use Rattle.multistate_rle.specs.Bytes.{is_blank, is_line_end}
-use Rattle.multistate_rle.specs.Pattern.{RlePattern, are_sorted, are_alive, are_within}
-use Rattle.multistate_rle.specs.Position.{origin_of}
+use Rattle.multistate_rle.specs.Bytes.{is_line_end}
+use Rattle.multistate_rle.specs.Pattern.{RlePattern, are_within}
 use Rattle.multistate_rle.specs.Tokens.{tokens_from}
-use Rattle.multistate_rle.specs.Reading.{lines_of, lines_read, header_read, body_read, parsed, pattern_of, width_of, height_of}
+use Rattle.multistate_rle.specs.Reading.{lines_of, lines_read, body_read, pattern_of}
 use Rattle.multistate_rle.specs.Writing.{head, body}
 use Rattle.multistate_rle.specs.Laws.{FitsPlane, ReadsBoxesBack}
 use Rattle.multistate_rle.proofs.LineLemmas.{line_step, line_read, comment_read, header_is_read}

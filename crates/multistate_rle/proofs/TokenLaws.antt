@@ -1,12 +1,11 @@
 -- The canonical token list of a finite set of cells: one exists, and only one.
-use Rattle.std.proofs.Common.{◌≡◌, ◌≢◌, ℕ, zero, suc, ◌+◌, ◌≤◌, ◌<◌, ◌-◌, Bool, true, false, List, [], ◌∷◌, ◌++◌, refl, sym, ◌∙◌, ap, arith, inl, inr, ◌⊎◌, eq-eqb, subst, append_assoc, append-nil, one-add}
-use Rattle.std.specs.Prelude.{◌==◌, ◌&&◌, ◌||◌, nat_lt, not, if◌then◌else◌, ⊤}
-use Rattle.std.specs.List.{list_all}
+use Rattle.std.proofs.Common.{◌≡◌, ◌≢◌, ℕ, zero, suc, ◌+◌, ◌≤◌, ◌-◌, Bool, true, false, List, [], ◌∷◌, ◌++◌, refl, sym, ◌∙◌, ap, arith, inl, inr, eq-eqb, subst, one-add}
+use Rattle.std.specs.Prelude.{◌==◌, ◌&&◌, ◌||◌, nat_lt, not, if◌then◌else◌}
 use Rattle.std.proofs.lemmas.Bool.{ne_eqb, eqb-true, eqb-false}
 use Rattle.std.proofs.lemmas.Bool.Decides.{nat_tests}
 use Rattle.multistate_rle.specs.declared.pattern.PatternCell.{PatternCell}
 use Rattle.multistate_rle.specs.Pattern.{precedes, are_sorted, are_alive}
-use Rattle.multistate_rle.specs.Tokens.{Token, Cells, Rows, run, cells_in_row, drawn, MayFollow, MayEnd, IsCanonical, IsTokensOf, count_of, skip, gap, with_run, tokens_from}
+use Rattle.multistate_rle.specs.Tokens.{Token, Cells, Rows, cells_in_row, drawn, IsCanonical, skip, gap, with_run, tokens_from}
 use Rattle.generations_rule.specs.RuleText.{text_of}
 use Rattle.multistate_rle.specs.Bounds.{box_of, in_box}
 use Rattle.multistate_rle.specs.Writing.{head, body}

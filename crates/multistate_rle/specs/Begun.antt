@@ -1,5 +1,5 @@
 -- A count of any number of digits, kept in 64 bits.
-use Rattle.std.specs.Prelude.{ℕ, option_map, min}
+use Rattle.std.specs.Prelude.{option_map, min}
 use Rattle.multistate_rle.specs.declared.tokens.Begun.{Begun}
 
 -- The count, or 2^32 + 1 if it is more: both lead too far, wherever they stand.

@@ -1,5 +1,5 @@
 -- Lists of cells.
-use Rattle.std.specs.Prelude.{ℕ, Bool, true, ◌&&◌, ◌==◌, not, List, [], ◌∷◌, Option, Some, None, nat_lt}
+use Rattle.std.specs.Prelude.{ℕ, Bool, true, ◌&&◌, ◌==◌, not, List, [], ◌∷◌, nat_lt}
 use Rattle.std.specs.List.{list_all}
 use Rattle.generations_rule.specs.Place.{Place, is_before}
 use Rattle.multistate_rle.specs.declared.cell.Cell.{Cell}
@@ -21,3 +21,7 @@ are_nonzero cells = list_all (λ cell. not (cell.state == 0)) cells
 -- each state is below a number of states
 abbrev pub are_below : ℕ → List Cell → Bool
 are_below states cells = list_all (λ cell. nat_lt cell.state states) cells
+
+-- what can be written under a rule of so many states
+abbrev pub are_writable : ℕ → List Cell → Bool
+are_writable states cells = is_sorted cells && (are_nonzero cells && are_below states cells)

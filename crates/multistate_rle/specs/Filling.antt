@@ -1,5 +1,5 @@
 -- What is written so far, and what is still to come.
-use Rattle.std.specs.Prelude.{◌≡◌, ◌≢◌, ℕ, ◌+◌, ◌≤◌, ◌^◌, Bool, true, ◌&&◌, nat_le, ◌==◌, if◌then◌else◌, List, [], ◌∷◌, ◌++◌, map, Option, Some, None, unwrap_or, option_map, IfSome}
+use Rattle.std.specs.Prelude.{◌≡◌, ◌≢◌, ℕ, ◌+◌, ◌≤◌, ◌^◌, ◌&&◌, nat_le, ◌==◌, if◌then◌else◌, List, ◌∷◌, ◌++◌, map, Option, Some, None, unwrap_or, option_map, IfSome}
 use Rattle.multistate_rle.specs.declared.lines.Lines.{Lines}
 use Rattle.multistate_rle.specs.declared.lines.Pen.{Pen}
 use Rattle.multistate_rle.specs.declared.lines.Run.{Run}

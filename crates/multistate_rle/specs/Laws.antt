@@ -1,19 +1,21 @@
 -- What the definitions obey.
-use Rattle.std.specs.Prelude.{◌≡◌, ◌⊎◌, ℕ, ◌≤◌, ◌<◌, ◌^◌, ℤ, pos, negsuc, not, Bool, List, [], ◌∷◌, ◌++◌, true, false, nat_le, if◌then◌else◌, length, Ok, IfOk, ⊤, codes}
+use Rattle.std.specs.Prelude.{◌↔◌, Option, Some, None, unwrap_or, ◌||◌, ◌≡◌, ◌⊎◌, ℕ, ◌≤◌, ◌<◌, ◌^◌, ℤ, pos, negsuc, not, Bool, List, [], ◌∷◌, ◌++◌, true, false, nat_le, if◌then◌else◌, length, Ok, ⊤, codes}
 use Rattle.generations_rule.specs.Rule.{GenerationsRule, IsRule}
 use Rattle.multistate_rle.specs.declared.pattern.PatternCell.{PatternCell}
 use Rattle.multistate_rle.specs.declared.cell.Cell.{Cell}
 use Rattle.multistate_rle.specs.Cells.{is_sorted, are_nonzero, are_below}
 use Rattle.multistate_rle.specs.Bounds.{box_of, in_box}
-use Rattle.multistate_rle.specs.Pattern.{RlePattern, IsPattern, are_sorted, are_alive, are_within}
+use Rattle.multistate_rle.specs.Pattern.{are_sorted, are_alive, are_within}
 use Rattle.std.specs.List.{list_all, enumerate_from}
 use Rattle.std.specs.Str.Parse.{digits_value}
 use Rattle.multistate_rle.specs.declared.origin.Origin.{Origin}
-use Rattle.multistate_rle.specs.Bytes.{is_digit, is_line_end}
+use Rattle.multistate_rle.specs.Bytes.{is_digit, is_blank, is_line_end}
+use Rattle.multistate_rle.specs.Header.{header_of}
+use Rattle.multistate_rle.specs.Position.{origin_of, origin_from, no_items}
 use Rattle.multistate_rle.specs.declared.bounds.Bounds.{Bounds}
-use Rattle.multistate_rle.specs.Letters.{letters, letters_text}
+use Rattle.multistate_rle.specs.Letters.{letters, letters_text, IsStateTag}
 use Rattle.multistate_rle.specs.Tokens.{Token, Cells, Rows, IsTokensOf, count_of, drawn, tokens_from}
-use Rattle.multistate_rle.specs.Reading.{parsed, Mark, bytes_of, bare, start, AreFine, body_read, pattern_of, lines_of}
+use Rattle.multistate_rle.specs.Reading.{parsed, Mark, bytes_of, bare, start, AreFine, body_read, pattern_of, lines_of, is_comment, or_else}
 use Rattle.multistate_rle.specs.Writing.{rle_text, IsRleText, head, body}
 
 -- a finite set of nonzero cells, as its sorted list, has a canonical token list
@@ -28,6 +30,11 @@ HasOneTokenList = (cells : List PatternCell) (tokens : List Token) → IsTokensO
 abbrev pub HasOneText : Type 0
 HasOneText = (r : GenerationsRule) (g : ℕ) (cells : List Cell) (text : List ℕ) → IsRleText r g cells text → text ≡ rle_text r g cells
 
+-- the letters that are written of a state are letters of that state, and there are no others
+abbrev pub HasLetters : Type 0
+HasLetters = (s : ℕ) (tag : List ℕ) → s ≤ 255 →
+    (IsStateTag s tag ↔ ((tag ≡ letters_text (letters false s)) ⊎ ((s ≤ 1) × (tag ≡ letters_text (letters true s)))))
+
 -- ---- texts by hand
 
 -- the digits of a count: none for 1, or any that write it
@@ -35,9 +42,9 @@ abbrev pub IsCount : ℕ → List ℕ → Type 0
 IsCount n [] = n ≡ 1
 IsCount n (c ∷ digits) = (list_all is_digit (c ∷ digits) ≡ true) × (digits_value 10 (c ∷ digits) ≡ n)
 
--- the letters of a tag: `.` or `b`, `o` or `A`, `B` to `X`, and `p` to `y` before a letter; `$`
+-- the letters of a state, or `$`
 abbrev pub IsTag : Token → List ℕ → Type 0
-IsTag (Cells n s) tag = (tag ≡ letters_text (letters false s)) ⊎ ((s ≤ 1) × (tag ≡ letters_text (letters true s)))
+IsTag (Cells n s) tag = IsStateTag s tag
 IsTag (Rows n) tag = tag ≡ codes "$"
 
 -- bytes spell tokens: each is a count and a tag
@@ -57,6 +64,39 @@ abbrev pub ReadsSpellings : Type 0
 ReadsSpellings = (end : ℕ) (origin : Origin) (sides : ℕ × ℕ) (lines : List (List Mark)) (tokens : List Token) (spelt tail : List ℕ) →
     bytes_of (bare lines) ≡ spelt ++ tail → IsSpelling tokens spelt → EndsTokens tail → AreFine start tokens →
     body_read end origin sides lines ≡ Ok (pattern_of origin sides (drawn tokens 0 0))
+
+-- a line without its end
+abbrev pub IsLine : List ℕ → Type 0
+IsLine line = list_all (λ c. not (is_line_end c)) line ≡ true
+
+-- lines in front of a header, each with the byte that ends it: comments and blank lines
+abbrev pub IsFront : List (List ℕ × ℕ) → Type 0
+IsFront [] = ⊤
+IsFront (line ∷ lines) =
+    IsLine line.0 × ((is_line_end line.1 ≡ true) × (((is_comment line.0 || list_all is_blank line.0) ≡ true) × IsFront lines))
+
+-- lines and their ends, and the text behind them
+abbrev pub with_lines : List (List ℕ × ℕ) → List ℕ → List ℕ
+with_lines [] rest = rest
+with_lines (line ∷ lines) rest = line.0 ++ line.1 ∷ with_lines lines rest
+
+-- the first origin that lines name, or an earlier one
+abbrev pub first_origin : Option Origin → List (List ℕ × ℕ) → Option Origin
+first_origin found [] = found
+first_origin found (line ∷ lines) = first_origin (if is_comment line.0 then or_else found (origin_of line.0) else found) lines
+
+-- the bytes of a text that are left without comment lines, line ends and blanks
+abbrev pub bare_text : List ℕ → List ℕ
+bare_text text = bytes_of (bare (lines_of (enumerate_from 0 text)))
+
+-- A whole text: comments and blank lines, a header, and a text that without comment lines, line ends and blanks spells
+-- tokens that are not faulty. It is read as what the tokens draw, with the first origin that a comment names.
+abbrev pub ReadsTexts : Type 0
+ReadsTexts = (front : List (List ℕ × ℕ)) (header : List ℕ) (end : ℕ) (sides : ℕ × ℕ) (text : List ℕ) (tokens : List Token) (spelt tail : List ℕ) →
+    IsFront front → IsLine header → header_of header ≡ Some sides → is_line_end end ≡ true →
+    bare_text text ≡ spelt ++ tail → IsSpelling tokens spelt → EndsTokens tail → AreFine start tokens →
+    parsed (with_lines front (header ++ end ∷ text))
+    ≡ Ok (pattern_of (unwrap_or (first_origin None front) (origin_from no_items)) sides (drawn tokens 0 0))
 
 -- The body that is written of cells is read as the cells, behind any header and from any place of a text on.
 abbrev pub ReadsBodiesBack : Type 0

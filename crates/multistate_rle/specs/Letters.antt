@@ -1,5 +1,5 @@
 -- How a token's tag is spelt.
-use Rattle.std.specs.Prelude.{ℕ, ◌+◌, ◌-◌, ◌/◌, ◌%◌, Bool, nat_le, ◌==◌, if◌then◌else◌, Some, None, List, [], ◌∷◌, ◌++◌, option_to_list}
+use Rattle.std.specs.Prelude.{◌≡◌, ◌⊎◌, ◌*◌, ◌≤◌, ℕ, ◌+◌, ◌-◌, ◌/◌, ◌%◌, Bool, nat_le, ◌==◌, if◌then◌else◌, Some, None, List, [], ◌∷◌, ◌++◌, option_to_list}
 use Rattle.multistate_rle.specs.declared.letters.Letters.{Letters}
 
 -- a tag of one byte
@@ -16,3 +16,29 @@ letters two s =
 
 abbrev pub letters_text : Letters → List ℕ
 letters_text l = option_to_list l.prefix ++ l.last ∷ []
+
+-- ---- the letters of a state, as Golly's help has them
+
+-- `A` to `X` are 1 to 24
+pub record IsLetter (s c : ℕ) : Type 0 where
+  pub least : 65 ≤ c
+  pub most : c ≤ 88
+  pub state : s ≡ c - 64
+
+-- above 24 stands a prefix before the letter: `p` adds 24, `q` 48, and so on to `y`
+pub record IsPrefixed (s p c : ℕ) : Type 0 where
+  pub least_prefix : 112 ≤ p
+  pub most_prefix : p ≤ 121
+  pub least : 65 ≤ c
+  pub most : c ≤ 88
+  pub state : s ≡ 24 * (p - 111) + (c - 64)
+
+-- `.` and `b` are 0, and `o` is 1
+abbrev pub IsPlain : ℕ → ℕ → Type 0
+IsPlain s c = ((s ≡ 0) × (c ≡ 46)) ⊎ (((s ≡ 0) × (c ≡ 98)) ⊎ ((s ≡ 1) × (c ≡ 111)))
+
+abbrev pub IsStateTag : ℕ → List ℕ → Type 0
+IsStateTag s [] = ⊥
+IsStateTag s (c ∷ []) = IsPlain s c ⊎ IsLetter s c
+IsStateTag s (p ∷ c ∷ []) = IsPrefixed s p c
+IsStateTag s (a ∷ b ∷ c ∷ more) = ⊥

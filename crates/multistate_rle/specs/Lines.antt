@@ -1,5 +1,7 @@
 -- The bytes that are left of the lines, told from left to right.
-use Rattle.std.specs.Prelude.{ℕ, Bool, true, ◌||◌, List, [], ◌∷◌, ◌==◌, if◌then◌else◌}
+use Rattle.std.specs.Prelude.{drop, List, [], ◌∷◌, if◌then◌else◌, ℕ, Bool, true, ◌||◌, ◌==◌, if◌then◌else◌}
+use Rattle.std.specs.List.{enumerate_from}
+use Rattle.multistate_rle.specs.Reading.{Mark}
 use Rattle.multistate_rle.specs.declared.line.Line.{Line}
 use Rattle.multistate_rle.specs.declared.line.Line.TheVariants.{Start, Inside, Comment}
 use Rattle.multistate_rle.specs.Bytes.{is_blank, is_line_end}
@@ -11,3 +13,12 @@ line_after line c = if is_line_end c then Start else elim line [ Start ↦ if c 
 -- the byte is a blank, a line's end, or in a comment
 abbrev pub is_dropped : Line → ℕ → Bool
 is_dropped line c = elim line [ Start ↦ is_blank c || is_line_end c | Inside ↦ is_blank c || is_line_end c | Comment ↦ true ]
+
+-- what is left of a text, from where its line is so far read
+unfoldable pub left : Line → List Mark → List Mark
+left line [] = []
+left line (m ∷ marks) = if is_dropped (line_after line m.1) m.1 then left (line_after line m.1) marks else m ∷ left (line_after line m.1) marks
+
+-- what is left of a text from a place on, inside a line that counts
+abbrev pub left_from : List ℕ → ℕ → List Mark
+left_from text place = left Inside (enumerate_from place (drop place text))

@@ -1,5 +1,5 @@
 -- A pattern: a box, a position, a generation, and the nonzero cells in the box, by row, then column.
-use Rattle.std.specs.Prelude.{◌≡◌, ℕ, ◌+◌, ◌≤◌, ◌^◌, ℤ, Bool, true, not, ◌||◌, ◌&&◌, List, [], ◌∷◌, length, nat_lt, ◌==◌}
+use Rattle.std.specs.Prelude.{◌≡◌, ℕ, ◌≤◌, ◌^◌, ℤ, Bool, true, not, ◌||◌, ◌&&◌, List, [], ◌∷◌, length, nat_lt, ◌==◌}
 use Rattle.std.specs.List.{list_all}
 use Rattle.multistate_rle.specs.declared.pattern.PatternCell.{PatternCell}
 

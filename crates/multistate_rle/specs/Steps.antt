@@ -1,14 +1,17 @@
 -- What one byte does to a reader of tokens.
-use Rattle.std.specs.Prelude.{◌≡◌, ◌⊎◌, ℕ, ◌+◌, List, [], ◌∷◌, ◌++◌, length, Option, Some, None, Result, Ok, Err}
+use Rattle.std.specs.Prelude.{◌≤◌, drop, ◌≡◌, ◌⊎◌, ℕ, List, [], ◌∷◌, ◌++◌, length, Some, None, Result, Ok, Err}
 use Rattle.generations_rule.specs.Refusal.{◌>>=◌}
 use Rattle.multistate_rle.specs.declared.fault.RleFault.{RleFault}
-use Rattle.multistate_rle.specs.declared.fault.RleFault.TheVariants.{Tag, Memory}
+use Rattle.multistate_rle.specs.declared.fault.RleFault.TheVariants.{Memory}
 use Rattle.multistate_rle.specs.declared.pattern.PatternCell.{PatternCell}
 use Rattle.multistate_rle.specs.declared.tokens.Reader.{Reader}
 use Rattle.multistate_rle.specs.declared.tokens.Begun.{Begun}
 use Rattle.multistate_rle.specs.declared.tokens.Step.{Step}
 use Rattle.multistate_rle.specs.declared.tokens.Step.TheVariants.{Goes, Ends}
-use Rattle.multistate_rle.specs.Tokens.{Token, Cells, Rows, drawn}
+use Rattle.multistate_rle.specs.Lines.{left, left_from}
+use Rattle.std.specs.List.{enumerate_from}
+use Rattle.multistate_rle.specs.declared.line.Line.{Line}
+use Rattle.multistate_rle.specs.Tokens.{Token, drawn}
 use Rattle.multistate_rle.specs.Reading.{Mark, Pen, fresh, moved, fault_of, tokens_of, ended}
 
 abbrev pub pen_of : Reader → Pen
@@ -38,3 +41,17 @@ pub record Draws (token : Token) (old new : Reader) : Type 0 where
 abbrev pub Puts : ℕ → Token → Reader → Result (Unit {0}) RleFault → Reader → Type 0
 Puts place token old (Ok x) new = (fault_of place (pen_of old) token ≡ None) × Draws token old new
 Puts place token old (Err fault) new = (fault ≡ Memory) ⊎ (fault_of place (pen_of old) token ≡ Some fault)
+
+-- bytes of a token, read from a place on: the tokens are what they would be with the bytes in front
+pub record Begins (text : List ℕ) (start : ℕ) (old : Begun) (place : ℕ) (new : Begun) : Type 0 where
+  pub behind : start ≤ place
+  pub within : place ≤ length text
+  pub same : (end : ℕ) (pen : Pen) → tokens_of end (left_from text place) new pen ≡ tokens_of end (left_from text start) old pen
+
+-- Bytes of a line, read from a place on: what is read then is what would have been read with the bytes in front.
+abbrev pub ReadsOn : Line → List ℕ → ℕ → Reader → Result ℕ RleFault → Reader → Type 0
+ReadsOn line text start old (Ok place) new =
+    (start ≤ place)
+    × (place ≤ length text)
+    × ((end : ℕ) → cells_with end (left line (enumerate_from place (drop place text))) new ≡ cells_with end (left line (enumerate_from start (drop start text))) old)
+ReadsOn line text start old (Err fault) new = (fault ≡ Memory) ⊎ ((end : ℕ) → Err fault ≡ cells_with end (left line (enumerate_from start (drop start text))) old)

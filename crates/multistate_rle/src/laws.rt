@@ -1,13 +1,15 @@
 //! What the definitions obey, for all cells and texts: the contracts of functions that do nothing.
 
-ghost use Rattle.multistate_rle.specs.Laws.{HasTokens, HasOneTokenList, HasOneText, ReadsSpellings, ReadsBodiesBack, ReadsBoxesBack, ReadsBack};
+ghost use Rattle.multistate_rle.specs.Laws.{HasTokens, HasOneTokenList, HasOneText, HasLetters, ReadsSpellings, ReadsTexts, ReadsBodiesBack, ReadsBoxesBack, ReadsBack};
 
 /// A finite set of nonzero cells, as its sorted list, has a canonical token list, and only one; so
-/// a rule, a generation and cells have only one text.
+/// a rule, a generation and cells have only one text. The letters of a state in it are those of
+/// Golly's help.
 pub fn token_laws()
     ensures tokens { HasTokens }
     ensures only { HasOneTokenList }
     ensures text { HasOneText }
+    ensures letters { HasLetters }
 {}
 
 /// A text that spells tokens, with any digits for their counts, and with blanks, line ends and
@@ -15,6 +17,7 @@ pub fn token_laws()
 /// read as the cells, with their box, position and generation.
 pub fn reading_laws()
     ensures spellings { ReadsSpellings }
+    ensures whole { ReadsTexts }
     ensures bodies { ReadsBodiesBack }
     ensures texts { ReadsBoxesBack }
     ensures back { ReadsBack }

@@ -5,6 +5,7 @@
 //! the format.
 #![tactic(auto)]
 
+mod ahead;
 mod bounds;
 mod cell;
 mod fault;
@@ -20,6 +21,7 @@ mod reading;
 mod role;
 mod scan;
 mod tokens;
+mod writable;
 mod writing;
 
 pub use cell::Cell;
@@ -27,7 +29,10 @@ pub use fault::RleFault;
 pub use laws::{reading_laws, token_laws};
 pub use pattern::{Pattern, PatternCell};
 pub use reading::parse;
+pub use writable::are_writable;
 pub use writing::write;
 
+#[cfg(test)]
+mod round_trips;
 #[cfg(test)]
 mod tests;

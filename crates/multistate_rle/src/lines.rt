@@ -67,8 +67,9 @@ pub struct Lines {
 }
 
 impl Lines {
-    ghost use Rattle.std.specs.Prelude.{◌≡◌, ◌≢◌, ◌∷◌, ◌++◌, [], OnOk, IfOk, map, codes};
+    ghost use Rattle.std.specs.Prelude.{◌≡◌, ◌≢◌, ◌≤◌, ◌∷◌, ◌++◌, [], OnOk, IfOk, map, length, codes};
     ghost use Rattle.multistate_rle.specs.Writing.{spelling, token_text};
+    ghost use Rattle.multistate_rle.specs.Letters.{letters_text};
     ghost use Rattle.multistate_rle.specs.Tokens.{Cells, Rows, gap, skip};
     ghost use Rattle.multistate_rle.specs.Filling.{Writes, no_pen, run_tokens, IsPen, WritesCell, extends};
 
@@ -87,23 +88,40 @@ impl Lines {
     pub fn put(&mut self, count: u64, letters: Letters) -> Result<(), AllocError>
         ensures { OnOk result (Writes self.old (spelling count letters ∷ []) self.new) }
     {
-        let mut buffer = Buffer::new();
-        let digits: &[u8] = if count == 1 {
-            &[]
-        } else {
-            buffer.format(count).as_bytes()
-        };
+        match count {
+            1 => self.put_piece(&[], letters),
+            2..=9 => self.put_piece(&[b'0' + count as u8], letters),
+            _ => self.put_piece(Buffer::new().format(count).as_bytes(), letters),
+        }
+    }
+
+    /// Digits, most often one or none, and a tag.
+    fn put_piece(&mut self, digits: &[u8], letters: Letters) -> Result<(), AllocError>
+        requires { length digits.now ≤ 20 }
+        ensures { OnOk result (Writes self.old ((digits.now ++ letters_text letters) ∷ []) self.new) }
+    {
         let len = digits.len() + letters.len();
         if self.used + len > LINE_LIMIT {
             self.text.push(b'\n')?;
             self.used = 0;
         }
-        self.text.extend_from_slice(digits)?;
+        self.put_digits(digits)?;
         if let Some(prefix) = letters.prefix {
             self.text.push(prefix)?;
         }
         self.text.push(letters.last)?;
         self.used += len;
+        Ok(())
+    }
+
+    fn put_digits(&mut self, digits: &[u8]) -> Result<(), AllocError>
+        ensures text { OnOk result (self.new.text.items ≡ self.old.text.items ++ digits.now) }
+        ensures used { self.new.used ≡ self.old.used }
+        ensures two_states { self.new.two_states ≡ self.old.two_states }
+    {
+        for digit in digits {
+            self.text.push(*digit)?;
+        }
         Ok(())
     }
 
@@ -179,11 +197,12 @@ impl Lines {
         })
     }
 
-    /// The end of the last line.
-    pub fn put_end(&mut self) -> Result<(), AllocError>
-        ensures { OnOk result (self.new.text.items ≡ self.old.text.items ++ codes "\n") }
+    /// The text, its last line ended.
+    pub fn ended(self) -> Result<Vec<u8>, AllocError>
+        ensures { IfOk result (λ text. text.items ≡ self.text.items ++ codes "\n") }
     {
-        self.text.push(b'\n')?;
-        Ok(())
+        let Lines { mut text, .. } = self;
+        text.push(b'\n')?;
+        Ok(text)
     }
 }

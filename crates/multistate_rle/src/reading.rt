@@ -5,6 +5,7 @@ ghost use Rattle.std.specs.List.{enumerate_from, position_or_len};
 ghost use Rattle.multistate_rle.specs.Bytes.{is_line_end};
 ghost use Rattle.generations_rule.specs.Refusal.{Answers, AnswersAs};
 ghost use Rattle.multistate_rle.specs.Reading.{parsed, lines_of, body_read, is_comment as begins_comment, cells_read, bare, or_else, width_of, height_of};
+ghost use Rattle.multistate_rle.specs.Steps.{ReadsOn};
 
 use crate::fault::RleFault;
 use crate::header::header;
@@ -16,8 +17,10 @@ use crate::tokens::{Reader, Step};
 use std::alloc::Global;
 
 /// The pattern that a text in Golly's multi-state RLE spells, or what is wrong with the text; the
-/// fault is `Memory` only where memory was refused. Memory is taken for nonzero cells alone, and a
-/// text is read once, in time that grows with its length and the number of its cells.
+/// fault is `Memory` only where memory was refused.
+///
+/// Not proved, but so by its code: the time grows with the text's length and the number of its
+/// cells, and memory is taken for nonzero cells alone.
 pub fn parse(alloc: Global, text: &[u8]) -> Result<Pattern, RleFault>
     ensures { Answers (λ fault. fault ≡ RleFault.Memory) result (parsed text.now) }
 {
@@ -103,14 +106,21 @@ fn body_cells(alloc: Global, text: &[u8], start: usize) -> Result<Vec<PatternCel
 {
     let mut reader = Reader::new(alloc);
     let mut line = Line::Start;
-    for place in start..text.len() {
+    let mut place = start;
+    while place < text.len() {
+        let next = past_run(&mut reader, line, text, place)?;
+        if next > place {
+            place = next;
+            continue;
+        }
         let byte = text[place];
         line = line.after(byte);
         if line.drops(byte) {
+            place += 1;
             continue;
         }
         match reader.read(place as u64, byte) {
-            Ok(Step::Goes) => {}
+            Ok(Step::Goes) => place += 1,
             Ok(Step::Ends) => return Ok(reader.cells),
             Err(fault) => return Err(fault),
         }
@@ -118,6 +128,18 @@ fn body_cells(alloc: Global, text: &[u8], start: usize) -> Result<Vec<PatternCel
     match reader.end(text.len() as u64) {
         Ok(()) => Ok(reader.cells),
         Err(fault) => Err(fault),
+    }
+}
+
+/// Reads a run whose bytes stand together, if one begins at this place, and tells the place behind
+/// it; else this place.
+fn past_run(reader: &mut Reader, line: Line, text: &[u8], place: usize) -> Result<usize, RleFault>
+    requires { place ≤ length text.now }
+    ensures { ReadsOn line text.now place reader.old result reader.new }
+{
+    match line {
+        Line::Inside if reader.is_between() => reader.read_run(text, place),
+        _ => Ok(place),
     }
 }
 

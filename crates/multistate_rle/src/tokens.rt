@@ -6,6 +6,7 @@ ghost use Rattle.std.specs.Prelude.{[]};
 ghost use Rattle.multistate_rle.specs.Begun.{capped};
 ghost use Rattle.multistate_rle.specs.Tokens.{Cells, Rows, run, cells_in_row};
 
+use crate::ahead::token_at;
 use crate::fault::RleFault;
 use crate::pattern::PatternCell;
 use crate::role::Role;
@@ -26,7 +27,7 @@ pub struct Begun {
 }
 
 impl Begun {
-    fn new() -> Begun
+    pub fn new() -> Begun
         ensures { result ≡ fresh }
     {
         Begun {
@@ -36,7 +37,7 @@ impl Begun {
         }
     }
 
-    fn with_digit(self, place: u64, digit: u8) -> Begun
+    pub fn with_digit(self, place: u64, digit: u8) -> Begun
         requires count { unwrap_or self.count 0 ≤ 4294967297 }
         requires digit { digit ≤ 9 }
         ensures { result ≡ capped (with_digit place digit self) }
@@ -49,7 +50,7 @@ impl Begun {
         }
     }
 
-    fn with_prefix(self, place: u64, prefix: u8) -> Begun
+    pub fn with_prefix(self, place: u64, prefix: u8) -> Begun
         ensures { result ≡ with_prefix place prefix self }
     {
         Begun {
@@ -81,8 +82,9 @@ pub struct Reader {
 }
 
 impl Reader {
-    ghost use Rattle.multistate_rle.specs.Steps.{pen_of, Reads, EndsAt, Puts};
-    ghost use Rattle.std.specs.Prelude.{◌≡◌, ◌+◌, ◌*◌, ◌≤◌, ◌<◌, ◌^◌, ◌++◌, ◌⊎◌, Some, None, [], length, OnOk, IfErr, IfOk, OnErr, unwrap_or};
+    ghost use Rattle.multistate_rle.specs.declared.line.Line.TheVariants.{Inside};
+    ghost use Rattle.multistate_rle.specs.Steps.{pen_of, Reads, ReadsOn, EndsAt, Puts};
+    ghost use Rattle.std.specs.Prelude.{◌≡◌, ◌+◌, ◌*◌, ◌≤◌, ◌<◌, ◌^◌, ◌++◌, ◌⊎◌, Some, None, [], length, OnOk, IfErr, IfOk, OnErr, IsTrue, unwrap_or};
     ghost use Rattle.multistate_rle.specs.Reading.{fresh, fault_of};
     ghost use Rattle.multistate_rle.specs.Tokens.{Cells, Rows};
 
@@ -108,11 +110,39 @@ impl Reader {
             }
             Role::Digit(digit) => self.begun = self.begun.with_digit(place, digit),
             Role::Prefix(prefix) => self.begun = self.begun.with_prefix(place, prefix),
-            Role::State(state) => self.put_run(place, state)?,
+            Role::State(state) => self.put_run(self.begun, place, state)?,
             Role::RowEnd => self.put_rows(place)?,
             Role::Stray => return Err(RleFault::Tag(place)),
         }
         Ok(Step::Goes)
+    }
+
+    /// Reads a run whose bytes stand together from this place of a line on, and tells the place behind
+    /// it; the same place, if there is none.
+    pub fn read_run(&mut self, text: &[u8], start: usize) -> Result<usize, RleFault>
+        requires begun { self.old.begun ≡ fresh }
+        requires within { start ≤ length text.now }
+        ensures { ReadsOn Inside text.now start self.old result self.new }
+    {
+        let ahead = token_at(text, start);
+        let place = ahead.place;
+        if place == text.len() {
+            return Ok(start);
+        }
+        match Role::of(ahead.begun.prefix, text[place]) {
+            Role::State(state) => match self.put_run(ahead.begun, place as u64, state) {
+                Ok(()) => Ok(place + 1),
+                Err(fault) => Err(fault),
+            },
+            _ => Ok(start),
+        }
+    }
+
+    /// Whether nothing is read of the next token.
+    pub fn is_between(&self) -> bool
+        ensures { IsTrue result → self.now.begun ≡ fresh }
+    {
+        self.begun.place.is_none() && self.begun.count.is_none() && self.begun.prefix.is_none()
     }
 
     /// The end of the tokens, at a place: no prefix may stand alone.
@@ -125,11 +155,12 @@ impl Reader {
         }
     }
 
-    fn put_run(&mut self, place: u64, state: u16) -> Result<(), RleFault>
-        ensures { Puts (unwrap_or self.old.begun.place place) (Cells (unwrap_or self.old.begun.count 1) state) self.old result self.new }
+    fn put_run(&mut self, begun: Begun, place: u64, state: u16) -> Result<(), RleFault>
+        requires { unwrap_or begun.count 0 ≤ 4294967297 }
+        ensures { Puts (unwrap_or begun.place place) (Cells (unwrap_or begun.count 1) state) self.old result self.new }
     {
-        let place = self.begun.place.unwrap_or(place);
-        let count = self.begun.count.unwrap_or(1);
+        let place = begun.place.unwrap_or(place);
+        let count = begun.count.unwrap_or(1);
         if let Some(fault) = self.run_fault(place, count, state) {
             return Err(fault);
         }

@@ -18,7 +18,9 @@ use std::alloc::{AllocError, Global};
 
 /// The text of nonzero cells at a generation, in Golly's multi-state RLE under a rule: a `#CXRLE`
 /// line with the position and the generation, the header with the sides of the bounding box and the
-/// rule, and the shortest row of tokens, on lines of at most 70 bytes.
+/// rule, and the canonical tokens (maximal runs, no dead cells at a row's end, no count of 1), on
+/// lines of at most 70 bytes. What it asks for, `are_writable` tests. A side of 2^32 is written as
+/// such, though `parse` refuses it.
 pub fn write(
     alloc: Global,
     rule: &Rule,
@@ -71,8 +73,8 @@ fn with_body(
     let mut lines = Lines::after(text, two_states);
     put_cells(&mut lines, bounds, cells)?;
     lines.put(1, Letters::plain(b'!'))?;
-    lines.put_end()?;
-    Ok(lines.text)
+    let text = lines.ended()?;
+    Ok(text)
 }
 
 fn put_cells(lines: &mut Lines, bounds: &Bounds, cells: &[Cell]) -> Result<(), AllocError>

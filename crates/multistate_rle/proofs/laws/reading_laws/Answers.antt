@@ -2,10 +2,14 @@ use Rattle.multistate_rle.proofs.SpellingLaws.{reads_spellings}
 use Rattle.multistate_rle.proofs.BodyLaws.{reads_bodies_back}
 use Rattle.multistate_rle.proofs.TextBackLaws.{text_back}
 use Rattle.multistate_rle.proofs.BoxLaws.{reads_back}
+use Rattle.multistate_rle.proofs.WholeTextLaws.{reads_texts}
 use Rattle.multistate_rle.proofs.laws.reading_laws.Goals as goal
 
 pub returns-clause-spellings : goal.returns-clause-spellings
 returns-clause-spellings c = reads_spellings
+
+pub returns-clause-whole : goal.returns-clause-whole
+returns-clause-whole c = reads_texts
 
 pub returns-clause-bodies : goal.returns-clause-bodies
 returns-clause-bodies c = reads_bodies_back

@@ -1,11 +1,10 @@
-use Rattle.std.proofs.Common.{◌≡◌, ◌∙◌, ◌+◌, ℕ, List, sym, ap, arith, length, drop, refl, true, false}
-use Rattle.std.specs.Prelude.{None, Some, unwrap_or}
+use Rattle.std.proofs.Common.{◌∙◌, ◌+◌, ℕ, sym, ap, arith, length, drop}
+use Rattle.std.specs.Prelude.{unwrap_or}
 use Rattle.std.specs.List.{enumerate_from}
-use Rattle.multistate_rle.specs.declared.origin.Origin.{Origin}
-use Rattle.multistate_rle.specs.Position.{origin_from, no_items}
+use Rattle.multistate_rle.specs.Position.{origin_from}
 use Rattle.multistate_rle.specs.Reading.{lines_of, lines_read, body_read, or_else}
 use Rattle.multistate_rle.proofs.HeaderLemmas.{header_small}
-use Rattle.multistate_rle.proofs.LineLemmas.{line_at_step, comment_read, blank_read, header_is_read, no_header_read, nothing_left}
+use Rattle.multistate_rle.proofs.LineLemmas.{line_at_step, comment_read, blank_read, header_is_read, no_header_read}
 use Rattle.multistate_rle.proofs.reading.front_of.Goals as goal
 
 pub loop-start-preserved-then-is_comment : goal.loop-start-preserved-then-is_comment

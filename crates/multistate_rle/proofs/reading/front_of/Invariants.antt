@@ -1,7 +1,6 @@
 use Rattle.std.proofs.Common.{◌≡◌, length, drop, ◌-◌}
 use Rattle.std.specs.List.{enumerate_from}
 use Rattle.multistate_rle.specs.Reading.{parsed, lines_of, lines_read}
-use Rattle.multistate_rle.proofs.LineLemmas.{line_step}
 use Rattle.multistate_rle.proofs.reading.front_of.Given as goal
 
 abbrev pub invariant-loop-start : goal.invariant-loop-start

@@ -1,4 +1,4 @@
-use Rattle.std.proofs.Common.{◌≡◌, ◌∙◌, sym, ap, subst, length, drop, Vec, Global}
+use Rattle.std.proofs.Common.{◌∙◌, sym, ap, subst, length, drop, Vec, Global}
 use Rattle.std.specs.List.{enumerate_from}
 use Rattle.multistate_rle.specs.declared.pattern.PatternCell.{PatternCell}
 use Rattle.multistate_rle.specs.Pattern.{IsPattern, RlePattern}

@@ -1,7 +1,5 @@
-use Rattle.std.proofs.Common.{◌≡◌, ◌∙◌, ap, sym, ◌∷◌, [], ◌++◌, append_assoc}
+use Rattle.std.proofs.Common.{◌∙◌, ap, sym, ◌++◌, append_assoc}
 use Rattle.multistate_rle.proofs.RowLemmas.{row_step}
-use Rattle.multistate_rle.specs.Tokens.{cells_in_row}
-use Rattle.std.proofs.Common.{◌+◌, ◌-◌}
 use Rattle.multistate_rle.proofs.tokens.push_cells.Goals as goal
 
 pub loop-at-preserved : goal.loop-at-preserved

@@ -1,5 +1,4 @@
-use Rattle.std.proofs.Common.{◌≡◌, ◌≢◌, arith, rules}
-use Rattle.multistate_rle.proofs.FillLemmas.{cell_written, all_written, alive_at}
+use Rattle.multistate_rle.proofs.FillLemmas.{cell_written, all_written}
 use Rattle.multistate_rle.proofs.writing.put_cells.Goals as goal
 
 pub loop-cell-preserved : goal.loop-cell-preserved

@@ -1,7 +1,6 @@
-use Rattle.std.proofs.Common.{◌≡◌, ◌∙◌, ◌++◌, ap, List, ℕ}
+use Rattle.std.proofs.Common.{◌≡◌, ◌∙◌, ◌++◌}
 use Rattle.std.specs.Prelude.{◌==◌}
 use Rattle.generations_rule.specs.RuleText.{text_of}
-use Rattle.multistate_rle.specs.declared.bounds.Bounds.{Bounds}
 use Rattle.multistate_rle.specs.Writing.{head, body}
 use Rattle.multistate_rle.specs.Bounds.{in_box, box_of}
 use Rattle.multistate_rle.specs.Tokens.{tokens_from}

@@ -1,6 +1,5 @@
-use Rattle.std.proofs.Common.{◌≡◌, refl, sym, ◌∙◌, ap, subst, ◌≤◌, ◌+◌, ◌++◌, arith, map, List, [], ◌≢◌}
-use Rattle.std.specs.Prelude.{Some, unwrap_or, option_map, IfSome}
-use Rattle.multistate_rle.specs.declared.lines.Lines.{Lines}
+use Rattle.std.proofs.Common.{refl, sym, ◌∙◌, ap, subst, ◌++◌, arith, map, List, [], ◌≢◌}
+use Rattle.std.specs.Prelude.{IfSome}
 use Rattle.multistate_rle.specs.declared.lines.Run.{Run}
 use Rattle.multistate_rle.specs.Tokens.{Token, gap}
 use Rattle.multistate_rle.specs.Writing.{token_text}

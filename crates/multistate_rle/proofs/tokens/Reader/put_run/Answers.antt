@@ -1,4 +1,4 @@
-use Rattle.std.proofs.Common.{◌≡◌, ◌∙◌, ap, sym, refl, ◌+◌, ◌++◌}
+use Rattle.std.proofs.Common.{◌∙◌, ap, sym, refl, ◌+◌, ◌++◌}
 use Rattle.multistate_rle.specs.Tokens.{Cells, run}
 use Rattle.multistate_rle.specs.Reading.{fault_of}
 use Rattle.multistate_rle.specs.Steps.{pen_of}

@@ -1,4 +1,4 @@
-use Rattle.std.proofs.Common.{◌≡◌, ◌∙◌, sym, ap, ◌++◌}
+use Rattle.std.proofs.Common.{sym, ap, ◌++◌}
 use Rattle.std.specs.Prelude.{Ok}
 use Rattle.generations_rule.specs.Refusal.{◌>>=◌}
 use Rattle.multistate_rle.specs.Tokens.{drawn}
