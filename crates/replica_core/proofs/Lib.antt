@@ -13,3 +13,5 @@ pub mod EventLaws
 pub mod HistoryLaws
 pub mod HeadlineLaws
 pub mod RunLaws
+pub mod AheadLaws
+pub mod MergeLaws

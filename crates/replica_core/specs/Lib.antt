@@ -1,5 +1,6 @@
 pub mod Device
 pub mod Plane
+pub mod Merge
 pub mod Journal
 pub mod Fault
 pub mod Message

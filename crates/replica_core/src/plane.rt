@@ -1,5 +1,8 @@
 //! The writes that a replica holds.
 
+mod ahead;
+mod merge;
+
 ghost use Rattle.std.specs.Prelude.{◌≡◌, ◌<◌, ◌+ℤ◌, pos, IfOk, IsTrue, OnOk, OnErr, ⊤};
 ghost use Rattle.edit_stamps.specs.Plane.{is_area_in_plane};
 ghost use Rattle.generations_rule.specs.Place.{at_place};
@@ -68,6 +71,7 @@ fn column_of(row: Rect, column: u32) -> Coordinate
 pub struct Plane {
     writes: BTreeMap<Coordinate, Write>,
     greatest_stamp: u64,
+    alloc: Global,
 }
 
 impl Model for Plane {
@@ -92,6 +96,7 @@ impl Plane {
         Plane {
             writes: BTreeMap::new(alloc),
             greatest_stamp: 0,
+            alloc,
         }
     }
 
@@ -121,6 +126,7 @@ impl Plane {
         Ok(Plane {
             writes,
             greatest_stamp: self.greatest_stamp,
+            alloc: self.alloc,
         })
     }
 
@@ -157,9 +163,11 @@ impl Plane {
         ensures err { OnErr result (IsBetween (write_at self.old) (write_at other.now) (write_at self.new)) }
         ensures states { KeepsStates (λ states. HasStatesBelow states (write_at other.now)) (write_at self.old) (write_at self.new) }
     {
-        for (at, write) in other.writes.iter() {
-            self.join_write(*at, *write)?;
+        if merge::join_writes(self.alloc, &mut self.writes, &other.writes).is_err() {
+            self.greatest_stamp = merge::greatest_stamp(&self.writes);
+            return Err(AllocError);
         }
+        self.greatest_stamp = self.greatest_stamp.max(other.greatest_stamp);
         Ok(())
     }
 
