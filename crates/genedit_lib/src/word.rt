@@ -2,7 +2,7 @@
 
 ghost use Rattle.std.specs.Prelude.{◌≡◌, ◌+◌, ◌*◌, ◌<◌, ◌≤◌, [], ◌∷◌, length, MatchOption, IfSome};
 ghost use Rattle.std.specs.List.{prefix_len, position_or_len};
-ghost use Rattle.multistate_rle.specs.Bytes.{is_blank as is_space_or_tab, at_most, number as number_of};
+ghost use Rattle.multistate_rle.specs.Bytes.{is_blank as is_space_or_tab, past, at_most, number as number_of};
 ghost use Rattle.multistate_rle.specs.Position.{words, signed as signed_of};
 
 /// The first word of a line, and what stands behind it.
@@ -10,7 +10,7 @@ pub fn split_word(line: &[u8]) -> Option<(&[u8], &[u8])>
     ensures word { MatchOption result (words line.now ≡ []) (λ p. words line.now ≡ p.0.now ∷ words p.1.now) }
     ensures shorter { IfSome result (λ p. length p.1.now < length line.now) }
 {
-    let rest = &line[blanks_in_front(line)..];
+    let rest = without_blanks(line);
     if rest.is_empty() {
         return None;
     }
@@ -71,6 +71,14 @@ fn is_blank(byte: u8) -> bool
     ensures { result ≡ is_space_or_tab byte }
 {
     byte == b' ' || byte == b'\t'
+}
+
+/// The text without the blanks in front of it.
+fn without_blanks(text: &[u8]) -> &[u8]
+    ensures rest { result.now ≡ past is_space_or_tab text.now }
+    ensures within { length result.now ≤ length text.now }
+{
+    &text[blanks_in_front(text)..]
 }
 
 fn blanks_in_front(text: &[u8]) -> usize
