@@ -4,6 +4,7 @@
 mod command;
 mod fault;
 mod line;
+mod output;
 mod script;
 mod word;
 
