@@ -5,8 +5,10 @@ mod command;
 mod fault;
 mod line;
 mod output;
+mod run;
 mod script;
 mod word;
 
-pub use fault::ScriptFault;
+pub use fault::{RunFault, ScriptFault};
+
 pub use script::{Script, read_script};
