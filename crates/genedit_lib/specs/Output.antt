@@ -1,5 +1,5 @@
 -- What a script prints: a line for each reply.
-use Rattle.std.specs.Prelude.{◌≡◌, ℕ, List, ◌∷◌, [], ◌++◌, codes, decimal}
+use Rattle.std.specs.Prelude.{◌≡◌, ℕ, List, ◌++◌, codes, decimal}
 use Rattle.std.specs.List.{flat_map}
 use Rattle.edit_stamps.specs.Stamp.{counter_of, replica_of}
 use Rattle.replica_core.specs.declared.event.Reply.{Reply}

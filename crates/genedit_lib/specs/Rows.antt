@@ -1,10 +1,9 @@
 -- Worked values of the definitions.
-use Rattle.std.specs.Prelude.{◌≡◌, ℕ, ◌+◌, List, [], ◌∷◌, Option, Some, None, Result, Ok, Err, codes, refl, pos, negsuc}
+use Rattle.std.specs.Prelude.{◌≡◌, [], ◌∷◌, Some, None, Ok, Err, codes, refl, pos, negsuc}
 use Rattle.std.specs.Fmt.{digits}
 use Rattle.std.specs.Str.Lines.{lines}
 use Rattle.generations_rule.specs.RuleText.{rule_of_text}
 use Rattle.multistate_rle.specs.Position.{words, signed}
-use Rattle.multistate_rle.specs.Bytes.{number}
 use Rattle.replica_core.specs.declared.event.Event.TheVariants.{Draw, SendState, Deliver, Show}
 use Rattle.replica_core.specs.declared.spec.EditSpec.TheVariants.{Cells}
 use Rattle.edit_stamps.specs.declared.fault.EditFault.TheVariants.{OutOfPlane}

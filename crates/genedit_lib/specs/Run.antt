@@ -1,5 +1,5 @@
 -- What a run of a script does to the source that it is pulled from and to the sink that its output is pushed to.
-use Rattle.std.specs.Prelude.{◌≡◌, ℕ, ◌≤◌, List, length, Option, Result, Ok, Err, ⊤}
+use Rattle.std.specs.Prelude.{◌≡◌, ℕ, ◌≤◌, List, length, Option, Ok, Err, ⊤}
 use Rattle.std.specs.Io.KnownBytes.{Consumes, IsAtEnd}
 use Rattle.replica_core.specs.Device.{one_more}
 use Rattle.genedit_lib.specs.Script.{ScriptValue, script_of}

@@ -10,5 +10,5 @@ mod script;
 mod word;
 
 pub use fault::{RunFault, ScriptFault};
-
+pub use run::{run_script, run_script_within};
 pub use script::{Script, read_script};

@@ -43,14 +43,17 @@ impl<'a> Lines<'a> {
         ensures line { MatchOption result
             (spoken self.old.number (lines self.old.rest.now) ≡ [])
             (λ line. spoken self.old.number (lines self.old.rest.now)
-                ≡ record { number = line.number; words = words line.text.now } ∷ spoken self.new.number (lines self.new.rest.now)) }
+            ≡ record { number = line.number; words = words line.text.now } ∷ spoken self.new.number (lines self.new.rest.now)) }
         ensures end { IfNone result (lines self.new.rest.now ≡ []) }
         ensures all { self.new.number + length (lines self.new.rest.now) ≡ self.old.number + length (lines self.old.rest.now) }
         ensures shorter { IfSome result (λ line. length self.new.rest.now < length self.old.rest.now) }
     {
         while let Some((text, rest)) = split_line(self.rest) {
             let number = self.number;
-            *self = Lines { number: number + 1, rest };
+            *self = Lines {
+                number: number + 1,
+                rest,
+            };
             if says_something(text) {
                 return Some(Line { number, text });
             }

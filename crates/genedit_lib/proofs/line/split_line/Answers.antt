@@ -1,4 +1,4 @@
-use Rattle.std.proofs.Common.{◌≡◌, ◌∙◌, sym, ap, arith, ◌∷◌, ◌+◌, ◌≢◌, length}
+use Rattle.std.proofs.Common.{◌∙◌, sym, arith, ◌∷◌, ◌+◌, ◌≢◌, length}
 use Rattle.std.specs.Str.Lines.{lines}
 use Rattle.std.proofs.lemmas.Bool.Decides.{nat_tests}
 use Rattle.genedit_lib.proofs.LineLemmas.{ended_line, only_line, rest_whole}

@@ -1,6 +1,5 @@
-use Rattle.std.proofs.Common.{◌≡◌, ◌∙◌, sym, ap, List, [], ◌∷◌, ◌++◌}
+use Rattle.std.proofs.Common.{◌≡◌, ◌∙◌, sym, ap, List}
 use Rattle.std.specs.Str.Lines.{lines}
-use Rattle.generations_rule.specs.Refusal.{◌>>=◌}
 use Rattle.replica_core.specs.declared.event.Event.{Event}
 use Rattle.std.specs.Prelude.{ℕ, Option, Result, Ok}
 use Rattle.std.specs.Option.{ok_or}

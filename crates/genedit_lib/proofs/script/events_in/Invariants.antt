@@ -1,4 +1,4 @@
-use Rattle.std.proofs.Common.{◌≡◌, ◌++◌, length}
+use Rattle.std.proofs.Common.{◌≡◌, length}
 use Rattle.std.specs.Str.Lines.{lines}
 use Rattle.genedit_lib.specs.Script.{events_in, spoken}
 use Rattle.genedit_lib.proofs.ScriptLemmas.{with_front}

@@ -1,7 +1,5 @@
-use Rattle.std.proofs.Common.{◌≡◌, ◌≤◌, ◌<◌, ℕ, arith, take, length, ◌+◌, ◌*◌, ◌-◌, get_or, sym, ◌∙◌, true}
-use Rattle.std.specs.List.{list_all}
-use Rattle.std.specs.Str.Parse.{digits_value}
-use Rattle.multistate_rle.specs.Bytes.{is_digit, at_most}
+use Rattle.std.proofs.Common.{◌≡◌, ◌<◌, ℕ, arith, length, ◌+◌, get_or, sym, ◌∙◌, true}
+use Rattle.multistate_rle.specs.Bytes.{is_digit}
 use Rattle.multistate_rle.proofs.NumberLemmas.{too_great, past_most, within_most, next_digit, all_digits_more}
 use Rattle.genedit_lib.proofs.word.number.Goals as goal
 

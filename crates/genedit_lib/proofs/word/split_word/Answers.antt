@@ -1,4 +1,4 @@
-use Rattle.std.proofs.Common.{◌+◌, ◌≡◌, ◌≤◌, ◌<◌, arith, length}
+use Rattle.std.proofs.Common.{◌≤◌, ◌<◌, arith, length}
 use Rattle.std.proofs.lemmas.Bool.Decides.{nat_tests}
 use Rattle.genedit_lib.proofs.WordLemmas.{no_word, first_word, word_has_bytes}
 use Rattle.genedit_lib.proofs.word.split_word.Goals as goal
