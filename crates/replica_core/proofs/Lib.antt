@@ -7,3 +7,9 @@ pub mod EditWrites
 pub mod EntryLaws
 pub mod StateLaws
 pub mod ClockLaws
+pub mod SideBySide
+pub mod StandingLaws
+pub mod EventLaws
+pub mod HistoryLaws
+pub mod HeadlineLaws
+pub mod RunLaws

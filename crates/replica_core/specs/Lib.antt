@@ -1,3 +1,4 @@
+pub mod Device
 pub mod Plane
 pub mod Journal
 pub mod Fault
@@ -5,3 +6,4 @@ pub mod Message
 pub mod Replica
 pub mod Laws
 pub mod World
+pub mod Headline

@@ -1,8 +1,8 @@
 -- Worlds of replicas as histories: which edits each replica took, which messages were sent, and what is answered to
 -- each event. The plane of a replica is no part of a history; it is the greatest writes of the edits that it took.
-use Rattle.std.specs.Prelude.{◌≡◌, ℕ, zero, suc, ◌+◌, ◌-◌, List, [], ◌∷◌, ◌++◌, length, Option, Some, None, Result, Ok, Err, slice_get, Contains, ◌⊎◌, ⊤}
+use Rattle.std.specs.Prelude.{◌≡◌, ℕ, zero, suc, ◌+◌, ◌-◌, List, [], ◌∷◌, ◌++◌, length, Option, Some, None, Result, Ok, Err, slice_get, slice_set, Contains, ◌⊎◌, ⊤}
 use Rattle.std.specs.Option.{ok_or}
-use Rattle.std.proofs.Math.ListN.{replicate, set}
+use Rattle.std.proofs.Math.ListN.{replicate}
 use Rattle.generations_rule.specs.Place.{at_place}
 use Rattle.generations_rule.specs.Refusal.{◌>>=◌}
 use Rattle.generations_rule.specs.Rule.{GenerationsRule}
@@ -77,7 +77,7 @@ delivered w m r = message w m >>= (λ sent. replica w r >>= (λ h. Ok (after_mes
 -- ---- the world after an event
 
 abbrev pub with_replica : History → ℕ → ReplicaHistory → History
-with_replica w r h = record { rule = w.rule; replicas = set w.replicas (r - 1) h; messages = w.messages }
+with_replica w r h = record { rule = w.rule; replicas = slice_set w.replicas (r - 1) h; messages = w.messages }
 
 abbrev pub with_message : History → Sent → History
 with_message w sent = record { rule = w.rule; replicas = w.replicas; messages = w.messages ++ sent ∷ [] }

@@ -1,6 +1,7 @@
 //! What the clocks and journals of replicas obey, for all edits: the contracts of functions that do
 //! nothing.
 
+ghost use Rattle.replica_core.specs.Headline.{Agrees, HasOneEditAStamp, HasOneWinner, HoldsGreatest, NeverGoesDown, RefusalsChangeNothing};
 ghost use Rattle.replica_core.specs.Laws.{NotesEdits, TellsCounter};
 
 /// The greatest counter of edits is that of the greatest stamp in the map of their greatest writes:
@@ -13,4 +14,14 @@ pub fn clock_laws()
 /// again changes nothing.
 pub fn journal_laws()
     ensures { NotesEdits }
+{}
+
+/// What holds of every world after every list of events.
+pub fn world_laws()
+    ensures holds { HoldsGreatest }
+    ensures agrees { Agrees }
+    ensures stamps { HasOneEditAStamp }
+    ensures winner { HasOneWinner }
+    ensures rises { NeverGoesDown }
+    ensures refusals { RefusalsChangeNothing }
 {}

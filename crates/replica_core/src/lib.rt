@@ -1,6 +1,7 @@
 //! Replicas of a shared plane: drawing, taking and showing.
 #![tactic(auto)]
 
+mod device;
 mod event;
 mod fault;
 mod journal;
@@ -11,9 +12,10 @@ mod replica;
 mod spec;
 mod world;
 
+pub use device::{Failed, ReadSource, Sink, Source, WriteSink};
 pub use event::{Event, Reply, Stop};
 pub use fault::Fault;
-pub use laws::{clock_laws, journal_laws};
+pub use laws::{clock_laws, journal_laws, world_laws};
 pub use message::Message;
 pub use replica::Replica;
 pub use spec::{CellList, EditSpec};

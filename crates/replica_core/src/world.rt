@@ -1,6 +1,6 @@
 //! Worlds of replicas: lists of events, and their replies.
 
-ghost use Rattle.std.specs.Prelude.{◌≡◌, ◌≢◌, ◌≤◌, ◌-◌, ℕ, IfOk, IfErr, SomeIff, Contains, MatchResult, option_copied};
+ghost use Rattle.std.specs.Prelude.{◌≡◌, ◌≢◌, ◌≤◌, ◌-◌, ℕ, IfOk, IfErr, SomeIff, Contains, length, MatchResult, option_copied};
 ghost use Rattle.edit_stamps.specs.Edit.{IsEdit, PlaneEdit};
 ghost use Rattle.generations_rule.specs.Rule.{GenerationsRule};
 ghost use Rattle.replica_core.specs.declared.event.Event.TheVariants as events;
@@ -141,6 +141,7 @@ fn draw(replicas: &mut [Replica], number: u32, spec: &EditSpec) -> Result<Reply,
     ensures step { IfOk result (λ reply. (w : History) → AreEdits w → StandSideBySide (StandsFor w.rule) w.replicas replicas.old →
         IsReply w (events.Draw number spec.now) reply
         × StandSideBySide (StandsFor w.rule) (after w (events.Draw number spec.now)).replicas replicas.new) }
+    ensures as_many { length replicas.new ≡ length replicas.old }
     ensures err { IfErr result (λ stop. stop ≡ stops.Memory) }
 {
     match index_of(u64::from(number), replicas.len()) {
@@ -218,6 +219,7 @@ fn deliver(
         → StandSideBySide (λ m. StandsForSent w.rule) w.messages messages.now →
         IsReply w (events.Deliver message number) reply
         × StandSideBySide (StandsFor w.rule) (after w (events.Deliver message number)).replicas replicas.new) }
+    ensures as_many { length replicas.new ≡ length replicas.old }
     ensures err { IfErr result (λ stop. stop ≡ stops.Memory) }
 {
     let Some(from) = index_of(message, messages.len()) else {

@@ -1,0 +1,194 @@
+-- A world that stands for a history stands for the history after an event, and the reply is the history's.
+use Rattle.std.proofs.Common.{◌≡◌, ℕ, suc, ◌-◌, ◌≤◌, List, [], ◌∷◌, ◌++◌, length, refl, sym, ◌∙◌, ap, subst, arith, inl, length-append}
+use Rattle.std.specs.Prelude.{Contains, Some, slice_get, slice_set, Result, Ok, Err, MatchResult}
+use Rattle.std.specs.Option.{ok_or}
+use Rattle.generations_rule.specs.Refusal.{◌>>=◌}
+use Rattle.edit_stamps.specs.Edit.{PlaneEdit, IsEdit}
+use Rattle.replica_core.specs.declared.event.Event.{Event}
+use Rattle.replica_core.specs.declared.event.Event.TheVariants.{Draw, SendState, Deliver, Show}
+use Rattle.replica_core.specs.declared.event.Reply.{Reply}
+use Rattle.replica_core.specs.declared.event.Reply.TheVariants as replies
+use Rattle.replica_core.specs.declared.fault.Fault.{Fault}
+use Rattle.replica_core.specs.declared.fault.Fault.TheVariants as faults
+use Rattle.replica_core.specs.declared.spec.EditSpec.{EditSpec}
+use Rattle.replica_core.specs.Laws.{greatest_counter}
+use Rattle.replica_core.specs.Message.{Shared}
+use Rattle.replica_core.specs.Replica.{ReplicaState, edit_drawn}
+use Rattle.replica_core.specs.World.{History, ReplicaHistory, Sent, State, AreEdits, Given, IsReply, StandSideBySide, StandsFor, StandsForSent, StandsForWorld, WorldState, after, after_drawing, after_message, changed, delivered, drawn, message, next_message, numbered, replica, with_message, with_replica}
+use Rattle.replica_core.proofs.SideBySide.{beside, numbered_at, set_same, side_set, side_push}
+
+-- what stands at a number, found by its place
+pub found : {A : Type 0} (xs : List A) (r i : ℕ) (x : A) (fault : Fault) → 1 ≤ r → i ≡ r - 1 → slice_get xs i ≡ Some x → ok_or (numbered xs r) fault ≡ Ok x
+found xs r i x fault one at there = ap (λ o. ok_or o fault) (numbered_at xs r one ∙ ap (slice_get xs) (sym at) ∙ there)
+
+same_number : (r i : ℕ) → 1 ≤ r → i ≡ r - 1 → suc i ≡ r
+same_number r i one at = omega (arith, one, at)
+
+-- ---- draws
+
+-- what is answered to a draw, and the histories behind it
+abbrev Answered : History → List ReplicaState → ℕ → ℕ → ReplicaState → Reply → Result (PlaneEdit × ReplicaHistory) Fault → Type 0
+Answered w rs r i new reply meant =
+    Given meant reply (λ d. reply ≡ replies.Drawn d.0.stamp)
+    × StandSideBySide (StandsFor w.rule) (changed w meant (λ d. with_replica w r d.1)).replicas (slice_set rs i new)
+
+answered_draw : (w : History) (rs : List ReplicaState) (r i : ℕ) (h : ReplicaHistory) (old new : ReplicaState) (reply : Reply) (d : Result PlaneEdit Fault)
+    → i ≡ r - 1 → 1 ≤ r → slice_get rs i ≡ Some old → StandSideBySide (StandsFor w.rule) w.replicas rs → old.number ≡ r
+    → MatchResult d
+    (λ e. (reply ≡ replies.Drawn e.stamp) × StandsFor w.rule old.number (after_drawing h e) new)
+    (λ fault. (reply ≡ replies.Refused fault) × (new ≡ old))
+    → Answered w rs r i new reply (d >>= (λ e. Ok (e, after_drawing h e)))
+answered_draw w rs r i h old new reply (Ok e) at one there side number told = (
+  told.0,
+  subst (λ j. StandSideBySide (StandsFor w.rule) (slice_set w.replicas j (after_drawing h e)) (slice_set rs i new)) at
+      (side_set (StandsFor w.rule) w.replicas rs i (after_drawing h e) new side
+      (subst (λ k. StandsFor w.rule k (after_drawing h e) new) (number ∙ sym (same_number r i one at)) told.1)),
+)
+answered_draw w rs r i h old new reply (Err fault) at one there side number told = (
+  told.0,
+  subst (λ ys. StandSideBySide (StandsFor w.rule) w.replicas ys) (sym (ap (slice_set rs i) told.1 ∙ set_same rs i old there)) side,
+)
+
+pub draws_in_world : (w : History) (rs : List ReplicaState) (r i : ℕ) (old new : ReplicaState) (spec : EditSpec) (reply : Reply)
+    → AreEdits w → StandSideBySide (StandsFor w.rule) w.replicas rs → 1 ≤ r → i ≡ r - 1 → slice_get rs i ≡ Some old
+    → ((h : ReplicaHistory) → ((e : PlaneEdit) → Contains h.taken e → IsEdit e) → StandsFor w.rule old.number h old
+    → MatchResult (edit_drawn w.rule (greatest_counter h.taken) old.number spec)
+    (λ e. (reply ≡ replies.Drawn e.stamp) × StandsFor w.rule old.number (after_drawing h e) new)
+    (λ fault. (reply ≡ replies.Refused fault) × (new ≡ old)))
+    → IsReply w (Draw r spec) reply × StandSideBySide (StandsFor w.rule) (after w (Draw r spec)).replicas (slice_set rs i new)
+draws_in_world w rs r i old new spec reply valid side one at there step =
+    let near = beside (StandsFor w.rule) w.replicas rs i old side there in
+    let h : ReplicaHistory = near.other in
+    let is : replica w r ≡ Ok h = found w.replicas r i h faults.NoReplica one at near.there in
+    let number : old.number ≡ r = near.stands.same_number ∙ same_number r i one at in
+    let stands : StandsFor w.rule old.number h old = subst (λ k. StandsFor w.rule k h old) (sym near.stands.same_number) near.stands in
+    subst (λ (o : Result ReplicaHistory Fault). Answered w rs r i new reply (o >>= (λ k. edit_drawn w.rule (greatest_counter k.taken) r spec >>= (λ e. Ok (e, after_drawing k e))))) (sym is)
+    (subst (λ k. Answered w rs r i new reply (edit_drawn w.rule (greatest_counter h.taken) k spec >>= (λ e. Ok (e, after_drawing h e)))) number
+    (answered_draw w rs r i h old new reply (edit_drawn w.rule (greatest_counter h.taken) old.number spec) at one there side number
+    (step h (λ e here. valid e (inl (r, h, is, here))) stands)))
+
+-- ---- deliveries
+
+pub takes_in_world : (w : History) (rs : List ReplicaState) (ms : List Shared) (m j r i : ℕ) (old new : ReplicaState) (shared : Shared) (reply : Reply)
+    → StandSideBySide (StandsFor w.rule) w.replicas rs → StandSideBySide (λ k. StandsForSent w.rule) w.messages ms
+    → 1 ≤ m → j ≡ m - 1 → slice_get ms j ≡ Some shared → 1 ≤ r → i ≡ r - 1 → slice_get rs i ≡ Some old
+    → ((h : ReplicaHistory) (sent : Sent) → StandsFor w.rule old.number h old → StandsForSent w.rule sent shared
+    → (reply ≡ replies.Taken) × StandsFor w.rule old.number (after_message h sent) new)
+    → IsReply w (Deliver m r) reply × StandSideBySide (StandsFor w.rule) (after w (Deliver m r)).replicas (slice_set rs i new)
+takes_in_world w rs ms m j r i old new shared reply side sides one_m at_m there_m one at there step =
+    let near = beside (StandsFor w.rule) w.replicas rs i old side there in
+    let near_m = beside (λ k. StandsForSent w.rule) w.messages ms j shared sides there_m in
+    let h : ReplicaHistory = near.other in
+    let sent : Sent = near_m.other in
+    let is : replica w r ≡ Ok h = found w.replicas r i h faults.NoReplica one at near.there in
+    let is_m : message w m ≡ Ok sent = found w.messages m j sent faults.NoMessage one_m at_m near_m.there in
+    let stands : StandsFor w.rule old.number h old = subst (λ k. StandsFor w.rule k h old) (sym near.stands.same_number) near.stands in
+    let told = step h sent stands near_m.stands in
+    subst (λ (o : Result Sent Fault). Delivers (o >>= (λ s. replica w r >>= (λ k. Ok (after_message k s))))) (sym is_m)
+    (subst (λ (o : Result ReplicaHistory Fault). Delivers (o >>= (λ k. Ok (after_message k sent)))) (sym is) (
+      told.0,
+      subst (λ n. StandSideBySide (StandsFor w.rule) (slice_set w.replicas n (after_message h sent)) (slice_set rs i new)) at
+          (side_set (StandsFor w.rule) w.replicas rs i (after_message h sent) new side
+          (subst (λ k. StandsFor w.rule k (after_message h sent) new) near.stands.same_number told.1)),
+    ))
+  where
+    Delivers : Result ReplicaHistory Fault → Type 0
+    Delivers meant = Given meant reply (λ d. reply ≡ replies.Taken)
+        × StandSideBySide (StandsFor w.rule) (changed w meant (λ d. with_replica w r d)).replicas (slice_set rs i new)
+
+-- ---- sent maps
+
+pub sends_in_world : (w : History) (rs : List ReplicaState) (ms : List Shared) (r i : ℕ) (sender : ReplicaState) (shared : Shared) (reply : Reply)
+    → StandSideBySide (StandsFor w.rule) w.replicas rs → StandSideBySide (λ k. StandsForSent w.rule) w.messages ms
+    → 1 ≤ r → i ≡ r - 1 → slice_get rs i ≡ Some sender → reply ≡ replies.Sent (length (ms ++ shared ∷ []))
+    → ((h : ReplicaHistory) → StandsFor w.rule (suc i) h sender → StandsForSent w.rule (State h.taken) shared)
+    → IsReply w (SendState r) reply × StandSideBySide (λ k. StandsForSent w.rule) (after w (SendState r)).messages (ms ++ shared ∷ [])
+sends_in_world w rs ms r i sender shared reply side sides one at there numbers step =
+    let near = beside (StandsFor w.rule) w.replicas rs i sender side there in
+    let h : ReplicaHistory = near.other in
+    let is : replica w r ≡ Ok h = found w.replicas r i h faults.NoReplica one at near.there in
+    subst (λ (o : Result ReplicaHistory Fault). Sends o) (sym is) (
+      numbers ∙ ap replies.Sent (omega (arith, length-append ms (shared ∷ []), sides.as_many)),
+      side_push (λ k. StandsForSent w.rule) w.messages ms (State h.taken) shared sides (step h near.stands),
+    )
+  where
+    Sends : Result ReplicaHistory Fault → Type 0
+    Sends meant = Given meant reply (λ d. reply ≡ replies.Sent (next_message w))
+        × StandSideBySide (λ k. StandsForSent w.rule) (changed w meant (λ d. with_message w (State d.taken))).messages (ms ++ shared ∷ [])
+
+-- ---- what an event leaves as it was
+
+-- what no change touches stays
+unchanged : {A B : Type 0} (look : History → B) (w : History) (meant : Result A Fault) (change : A → History)
+    → ((x : A) → look (change x) ≡ look w) → look (changed w meant change) ≡ look w
+unchanged look w (Ok x) change same = same x
+unchanged look w (Err fault) change same = refl
+
+pub keeps_rule : (w : History) (event : Event) → (after w event).rule ≡ w.rule
+keeps_rule w (Draw r spec) = unchanged (λ v. v.rule) w (drawn w r spec) (λ d. with_replica w r d.1) (λ d. refl)
+keeps_rule w (SendState r) = unchanged (λ v. v.rule) w (replica w r) (λ h. with_message w (State h.taken)) (λ h. refl)
+keeps_rule w (Deliver m r) = unchanged (λ v. v.rule) w (delivered w m r) (λ h. with_replica w r h) (λ h. refl)
+keeps_rule w (Show r x y) = refl
+
+draw_keeps_messages : (w : History) (r : ℕ) (spec : EditSpec) → (after w (Draw r spec)).messages ≡ w.messages
+draw_keeps_messages w r spec = unchanged (λ v. v.messages) w (drawn w r spec) (λ d. with_replica w r d.1) (λ d. refl)
+
+delivery_keeps_messages : (w : History) (m r : ℕ) → (after w (Deliver m r)).messages ≡ w.messages
+delivery_keeps_messages w m r = unchanged (λ v. v.messages) w (delivered w m r) (λ h. with_replica w r h) (λ h. refl)
+
+sending_keeps_replicas : (w : History) (r : ℕ) → (after w (SendState r)).replicas ≡ w.replicas
+sending_keeps_replicas w r = unchanged (λ v. v.replicas) w (replica w r) (λ h. with_message w (State h.taken)) (λ h. refl)
+
+-- a world stands for what came of another of its rule
+stands_for : (w v : History) (state : WorldState) → v.rule ≡ w.rule → state.rule ≡ w.rule
+    → StandSideBySide (StandsFor w.rule) v.replicas state.replicas → StandSideBySide (λ k. StandsForSent w.rule) v.messages state.messages
+    → StandsForWorld v state
+stands_for w v state same rule replicas messages = record {
+  rule = rule ∙ sym same;
+  replicas = subst (λ g. StandSideBySide (StandsFor g) v.replicas state.replicas) (sym same) replicas;
+  messages = subst (λ g. StandSideBySide (λ k. StandsForSent g) v.messages state.messages) (sym same) messages;
+}
+
+-- ---- what an event does to a world that stands for a history
+
+-- the reply to an event, and a world behind it
+abbrev pub Goes : History → Event → Reply → WorldState → Type 0
+Goes w event reply new = IsReply w event reply × StandsForWorld (after w event) new
+
+pub goes_by_drawing : (w : History) (event : Event) (r : ℕ) (spec : EditSpec) (reply : Reply) (old new : WorldState) → event ≡ Draw r spec
+    → StandsForWorld w old → new.rule ≡ old.rule → new.messages ≡ old.messages
+    → (rs : List ReplicaState) → new.replicas ≡ rs → IsReply w (Draw r spec) reply × StandSideBySide (StandsFor w.rule) (after w (Draw r spec)).replicas rs
+    → Goes w event reply new
+goes_by_drawing w event r spec reply old new is stands rule messages rs replicas told =
+    subst (λ e. Goes w e reply new) (sym is) (
+      told.0,
+      stands_for w (after w (Draw r spec)) new (keeps_rule w (Draw r spec)) (rule ∙ stands.rule)
+          (subst (StandSideBySide (StandsFor w.rule) (after w (Draw r spec)).replicas) (sym replicas) told.1)
+          (subst (λ ms. StandSideBySide (λ k. StandsForSent w.rule) ms new.messages) (sym (draw_keeps_messages w r spec))
+          (subst (λ ms. StandSideBySide (λ k. StandsForSent w.rule) w.messages ms) (sym messages) stands.messages)),
+    )
+
+pub goes_by_delivery : (w : History) (event : Event) (m r : ℕ) (reply : Reply) (old new : WorldState) → event ≡ Deliver m r
+    → StandsForWorld w old → new.rule ≡ old.rule → new.messages ≡ old.messages
+    → (rs : List ReplicaState) → new.replicas ≡ rs → IsReply w (Deliver m r) reply × StandSideBySide (StandsFor w.rule) (after w (Deliver m r)).replicas rs
+    → Goes w event reply new
+goes_by_delivery w event m r reply old new is stands rule messages rs replicas told =
+    subst (λ e. Goes w e reply new) (sym is) (
+      told.0,
+      stands_for w (after w (Deliver m r)) new (keeps_rule w (Deliver m r)) (rule ∙ stands.rule)
+          (subst (StandSideBySide (StandsFor w.rule) (after w (Deliver m r)).replicas) (sym replicas) told.1)
+          (subst (λ ms. StandSideBySide (λ k. StandsForSent w.rule) ms new.messages) (sym (delivery_keeps_messages w m r))
+          (subst (λ ms. StandSideBySide (λ k. StandsForSent w.rule) w.messages ms) (sym messages) stands.messages)),
+    )
+
+pub goes_by_sending : (w : History) (event : Event) (r : ℕ) (reply : Reply) (old new : WorldState) → event ≡ SendState r
+    → StandsForWorld w old → new.rule ≡ old.rule → new.replicas ≡ old.replicas
+    → IsReply w (SendState r) reply × StandSideBySide (λ k. StandsForSent w.rule) (after w (SendState r)).messages new.messages
+    → Goes w event reply new
+goes_by_sending w event r reply old new is stands rule replicas told =
+    subst (λ e. Goes w e reply new) (sym is) (
+      told.0,
+      stands_for w (after w (SendState r)) new (keeps_rule w (SendState r)) (rule ∙ stands.rule)
+          (subst (λ rs. StandSideBySide (StandsFor w.rule) rs new.replicas) (sym (sending_keeps_replicas w r))
+          (subst (λ rs. StandSideBySide (StandsFor w.rule) w.replicas rs) (sym replicas) stands.replicas)) told.1,
+    )

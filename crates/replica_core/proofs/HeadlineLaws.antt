@@ -1,0 +1,98 @@
+-- What holds of every world after every list of events.
+use Rattle.std.proofs.Common.{◌≡◌, ◌⊎◌, ℕ, ◌<◌, ◌≤◌, List, [], ◌∷◌, ◌++◌, refl, sym, ◌∙◌, ap, subst, arith, inl, inr, suc, zero, length, ◌-◌}
+use Rattle.std.specs.Prelude.{Contains, IsTrue, Some, Bool, true, false, if◌then◌else◌, slice_get, slice_index_or, Option, None}
+use Rattle.generations_rule.specs.Place.{Place}
+use Rattle.generations_rule.specs.Rule.{GenerationsRule}
+use Rattle.edit_stamps.specs.declared.write.Write.{Write}
+use Rattle.edit_stamps.specs.Edit.{PlaneEdit, greatest, is_covered, listed, writes_of, write_by}
+use Rattle.edit_stamps.specs.PlaneMap.{write_at}
+use Rattle.edit_stamps.specs.Write.{unwritten, at_most, greater, AreSame}
+use Rattle.edit_stamps.proofs.WriteLaws.{depends_on_members, is_least_upper_bound, is_total, joins_lists}
+use Rattle.replica_core.specs.declared.event.Event.{Event}
+use Rattle.replica_core.specs.declared.fault.Fault.TheVariants as faults
+use Rattle.replica_core.specs.Replica.{ReplicaState}
+use Rattle.replica_core.specs.Headline.{Agrees, HasOneEditAStamp, HasOneWinner, HoldsGreatest, IsAt, IsGreatestOf, NeverGoesDown}
+use Rattle.replica_core.specs.World.{History, ReplicaHistory, after, after_all, numbered, opening, replica}
+use Rattle.replica_core.proofs.HistoryLaws.{at_least_one, grows_along, same_ok, some_of_ok, sound_along, sound_opening}
+use Rattle.replica_core.proofs.SideBySide.{numbered_at}
+
+-- the map of a replica is that of the edits that it took
+map_of : (rule : GenerationsRule) (n : ℕ) (events : List Event) (r : ℕ) (h : ReplicaHistory) (held : ReplicaState)
+    → IsAt rule n events r h held → AreSame (write_at held.map) (greatest h.taken)
+map_of rule n events r h held at =
+    let w : History = after_all (opening rule n) events in
+    let one : 1 ≤ r = at_least_one w r h at.history in
+    let left : slice_get w.replicas (r - 1) ≡ Some h = sym (numbered_at w.replicas r one) ∙ some_of_ok (numbered w.replicas r) faults.NoReplica h at.history in
+    let right : slice_get at.world.replicas (r - 1) ≡ Some held = sym (numbered_at at.world.replicas r one) ∙ at.state in
+    (at.stands.replicas.each (r - 1) h held left right).map
+
+-- the greatest write of edits is one of theirs, and none is above it
+above_each : (edits : List PlaneEdit) (c : Place) (k : ℕ) (d : PlaneEdit) → k < length edits → IsTrue (at_most (writes_of (slice_index_or edits k d) c) (greatest edits c))
+above_each [] c k d below = absurd (omega (arith, below))
+above_each (e ∷ edits) c zero d below = is_least_upper_bound.left (writes_of e) (greatest edits) c
+above_each (e ∷ edits) c (suc k) d below =
+    is_total.transitive (writes_of (slice_index_or edits k d) c) (greatest edits c) (greater (writes_of e c) (greatest edits c))
+    (above_each edits c k d (omega (arith, below))) (is_least_upper_bound.right (writes_of e) (greatest edits) c)
+
+one_of_two : (v w : Write) → (greater v w ≡ v) ⊎ (greater v w ≡ w)
+one_of_two v w = by_test (at_most v w)
+  where
+    by_test : (b : Bool) → ((if b then w else v) ≡ v) ⊎ ((if b then w else v) ≡ w)
+    by_test true = inr refl
+    by_test false = inl refl
+
+made_by_one : (edits : List PlaneEdit) (c : Place) → (greatest edits c ≡ unwritten) ⊎ ((e : PlaneEdit) × Contains edits e × (writes_of e c ≡ greatest edits c))
+made_by_one [] c = inl refl
+made_by_one (e ∷ edits) c = elim (one_of_two (writes_of e c) (greatest edits c)) [
+  | inl first ↦ inr (e, (0, omega arith, refl), sym first)
+  | inr rest ↦ elim (made_by_one edits c) [
+    | inl nothing ↦ inl (rest ∙ nothing)
+    | inr (f, there, is) ↦ inr (f, (suc there.0, omega (arith, there.1), there.2), is ∙ sym rest)
+  ]
+]
+
+greatest_of : (edits : List PlaneEdit) (c : Place) → IsGreatestOf edits c (greatest edits c)
+greatest_of edits c = record {
+  above = λ e here. subst (λ x. IsTrue (at_most (writes_of x c) (greatest edits c))) here.2 (above_each edits c here.0 e here.1);
+  made = made_by_one edits c;
+}
+
+pub holds_greatest : HoldsGreatest
+holds_greatest rule n events r h held at c = subst (IsGreatestOf h.taken c) (sym (map_of rule n events r h held at c)) (greatest_of h.taken c)
+
+pub agrees : Agrees
+agrees rule other_rule n m events others r s h k held other at there same c =
+    map_of rule n events r h held at c ∙ depends_on_members h.taken k.taken same c ∙ sym (map_of other_rule m others s k other there c)
+
+pub has_one_edit_a_stamp : HasOneEditAStamp
+has_one_edit_a_stamp = record {
+  edits = λ rule n events e few inside. (sound_along (opening rule n) events (sound_opening rule n few)).edits e inside;
+  one = λ rule n events e f few inside also same. (sound_along (opening rule n) events (sound_opening rule n few)).one e f inside also same;
+}
+
+stamp_written : (stamp : ℕ) (o : Option ℕ) (covered : Bool) → 0 < (write_by stamp o covered).stamp → (write_by stamp o covered).stamp ≡ stamp
+stamp_written stamp (Some state) covered some = refl
+stamp_written stamp None true some = refl
+stamp_written stamp None false some = absurd (omega (arith, some))
+
+pub has_one_winner : HasOneWinner
+has_one_winner rule n events r h held c e f few at e_here f_here e_wins f_wins some =
+    let w : History = after_all (opening rule n) events in
+    let own : (x : PlaneEdit) → writes_of x c ≡ write_at held.map c → x.stamp ≡ (write_at held.map c).stamp =
+    λ x wins. sym (stamp_written x.stamp (listed x.cells c) (is_covered x.area c) (subst (λ v. 0 < v.stamp) (sym wins) some)) ∙ ap (λ v. v.stamp) wins in
+    has_one_edit_a_stamp.one rule n events e f few (inl (r, h, at.history, e_here)) (inl (r, h, at.history, f_here)) (own e e_wins ∙ sym (own f f_wins))
+
+along_both : (w : History) (events more : List Event) → after_all w (events ++ more) ≡ after_all (after_all w events) more
+along_both w [] more = refl
+along_both w (event ∷ events) more = along_both (after w event) events more
+
+pub never_goes_down : NeverGoesDown
+never_goes_down rule n events more r h k held later at after_more c =
+    let w : History = after_all (opening rule n) events in
+    let grown = grows_along w more r h at.history in
+    let now_is : k ≡ grown.now = same_ok (replica (after_all w more) r) k grown.now (ap (λ v. replica v r) (sym (along_both (opening rule n) events more)) ∙ after_more.history) grown.there in
+    let taken_is : k.taken ≡ h.taken ++ grown.more = ap (λ x. x.taken) now_is ∙ grown.grown in
+    let upper : write_at later.map c ≡ greater (greatest h.taken c) (greatest grown.more c) =
+    map_of rule n (events ++ more) r k later after_more c ∙ ap (λ l. greatest l c) taken_is ∙ joins_lists h.taken grown.more c in
+    subst (λ v. IsTrue (at_most v (write_at later.map c))) (sym (map_of rule n events r h held at c))
+    (subst (λ v. IsTrue (at_most (greatest h.taken c) v)) (sym upper) (is_least_upper_bound.left (greatest h.taken) (greatest grown.more) c))

@@ -1,0 +1,105 @@
+-- A replica that stands for what it took still does after a draw and after a message.
+use Rattle.std.proofs.Common.{◌≡◌, ◌≢◌, ℕ, ◌≤◌, List, [], ◌∷◌, ◌++◌, refl, sym, ◌∙◌, ap, subst, suc, arith}
+use Rattle.std.specs.Prelude.{Contains, Result, Ok, Err, MatchResult, pos}
+use Rattle.std.specs.List.{AllByRecursion}
+use Rattle.generations_rule.specs.Rule.{GenerationsRule}
+use Rattle.edit_stamps.specs.declared.write.Write.{Write}
+use Rattle.edit_stamps.specs.Edit.{PlaneEdit, IsEdit, greatest, writes_of}
+use Rattle.edit_stamps.specs.PlaneMap.{write_at}
+use Rattle.edit_stamps.specs.Stamp.{counter_of}
+use Rattle.edit_stamps.specs.Write.{unwritten, greater, Writes, AreSame, joined}
+use Rattle.edit_stamps.proofs.WriteLaws.{is_lattice, is_least_upper_bound, is_total, joins_lists}
+use Rattle.replica_core.specs.declared.fault.Fault.{Fault}
+use Rattle.replica_core.specs.declared.fault.Fault.TheVariants as faults
+use Rattle.replica_core.specs.declared.message.Content.{Content}
+use Rattle.replica_core.specs.declared.message.Content.TheVariants as contents
+use Rattle.replica_core.specs.declared.spec.EditSpec.{EditSpec}
+use Rattle.replica_core.specs.Laws.{greatest_counter}
+use Rattle.replica_core.specs.Message.{Shared}
+use Rattle.replica_core.specs.Plane.{IsGreatestStamp}
+use Rattle.replica_core.specs.Replica.{ReplicaState, DrawsAs, Takes, IsMapOf, IsSnapshot, IsDraw, edit_drawn}
+use Rattle.replica_core.specs.World.{ReplicaHistory, Sent, State, Carries, StandsFor, StandsForSent, after_drawing, after_message}
+use Rattle.replica_core.proofs.ClockLaws.{tells_counter}
+
+-- ---- messages
+
+-- a map in the place of the same map
+pub map_of_same : (p q : Writes) (content : Content) → AreSame p q → IsMapOf p content → IsMapOf q content
+map_of_same p q (contents.State plane) same map = λ c. map c ∙ same c
+map_of_same p q (contents.Edits edits) same map = map
+
+joins_taken : (taken edits : List PlaneEdit) (old new added : Writes) → AreSame old (greatest taken) → AreSame added (greatest edits)
+    → AreSame new (joined old added) → AreSame new (greatest (taken ++ edits))
+joins_taken taken edits old new added held more join c =
+    join c ∙ ap (λ w. greater w (added c)) (held c) ∙ ap (greater (greatest taken c)) (more c) ∙ sym (joins_lists taken edits c)
+
+takes_content : (rule : GenerationsRule) (number : ℕ) (h : ReplicaHistory) (sent : Sent) (old new : ReplicaState) (content : Content)
+    → StandsFor rule number h old → Carries sent content → Takes old new content → StandsFor rule number (after_message h sent) new
+takes_content rule number h (State edits) old new (contents.State plane) stands carries takes = record {
+  same_rule = takes.one.rule ∙ stands.same_rule;
+  same_number = takes.one.number ∙ stands.same_number;
+  map = joins_taken h.taken edits (write_at old.map) (write_at new.map) (write_at plane) stands.map carries takes.map;
+  journal = takes.journal ∙ stands.journal;
+}
+takes_content rule number h (State edits) old new (contents.Edits given) stands carries takes = absurd carries
+
+pub takes_sent : (rule : GenerationsRule) (number : ℕ) (h : ReplicaHistory) (sent : Sent) (old new : ReplicaState) (m : Shared)
+    → StandsFor rule number h old → StandsForSent rule sent m → Takes old new m.content → StandsFor rule number (after_message h sent) new
+takes_sent rule number h sent old new m stands sends takes = takes_content rule number h sent old new m.content stands sends.content takes
+
+-- a snapshot is sent as the map of what was taken
+pub sends_taken : (rule : GenerationsRule) (number : ℕ) (h : ReplicaHistory) (r : ReplicaState) (m : Shared)
+    → StandsFor rule number h r → IsSnapshot r m → StandsForSent rule (State h.taken) m
+sends_taken rule number h r m stands snapshot = record {
+  same_rule = snapshot.rule ∙ stands.same_rule;
+  content = map_of_same (write_at r.map) (greatest h.taken) m.content stands.map snapshot.map;
+}
+
+-- ---- draws
+
+all_recursively : (edits : List PlaneEdit) → ((e : PlaneEdit) → Contains edits e → IsEdit e) → AllByRecursion (λ e. IsEdit e) edits
+all_recursively [] each = tt
+all_recursively (e ∷ edits) each = (each e (0, omega arith, refl), all_recursively edits (λ x there. each x (suc there.0, omega (arith, there.1), there.2)))
+
+-- the clock that is read of the map is that of the edits
+pub draws_at_clock : (rule : GenerationsRule) (number n : ℕ) (h : ReplicaHistory) (r : ReplicaState) (spec : EditSpec)
+    → ((e : PlaneEdit) → Contains h.taken e → IsEdit e) → StandsFor rule number h r → IsGreatestStamp n (write_at r.map)
+    → edit_drawn r.rule (counter_of n) r.number spec ≡ edit_drawn rule (greatest_counter h.taken) number spec
+draws_at_clock rule number n h r spec valid stands clock =
+    let in_edits : IsGreatestStamp n (greatest h.taken) = record {
+      above = λ c. subst (λ w. w.stamp ≤ n) (stands.map c) (clock.above c);
+      least = λ m bound. clock.least m (λ c. subst (λ w. w.stamp ≤ m) (sym (stands.map c)) (bound c));
+    } in
+    ap (λ g. edit_drawn g (counter_of n) r.number spec) stands.same_rule
+    ∙ ap (λ k. edit_drawn rule (counter_of n) k spec) stands.same_number
+    ∙ ap (λ k. edit_drawn rule k number spec) (tells_counter h.taken n (all_recursively h.taken valid) in_edits)
+
+greater-unwritten : (w : Write) → greater w unwritten ≡ w
+greater-unwritten w = is_lattice.commutative w unwritten ∙ (is_least_upper_bound.absorbs (λ _. unwritten) (λ _. w)).0 (λ _. is_total.least w) (record { x = pos 0; y = pos 0 })
+
+pub draws_edit : (rule : GenerationsRule) (number : ℕ) (h : ReplicaHistory) (old new : ReplicaState) (e : PlaneEdit)
+    → StandsFor rule number h old → DrawsAs old new e → StandsFor rule number (after_drawing h e) new
+draws_edit rule number h old new e stands draws = record {
+  same_rule = draws.one.rule ∙ stands.same_rule;
+  same_number = draws.one.number ∙ stands.same_number;
+  map = joins_taken h.taken (e ∷ []) (write_at old.map) (write_at new.map) (writes_of e) stands.map (λ c. sym (greater-unwritten (writes_of e c))) draws.map;
+  journal = draws.journal ∙ ap (λ j. j ++ e ∷ []) stands.journal;
+}
+
+-- ---- what is answered where the meaning is known
+
+pub given_ok : {A F : Type 0} (P : A → Type 0) (Q : F → Type 0) (meant : Result A F) (x : A) → meant ≡ Ok x → P x → MatchResult meant P Q
+given_ok P Q meant x is p = subst (λ r. MatchResult r P Q) (sym is) p
+
+pub given_err : {A F : Type 0} (P : A → Type 0) (Q : F → Type 0) (meant : Result A F) (fault : F) → meant ≡ Err fault → Q fault → MatchResult meant P Q
+given_err P Q meant fault is q = subst (λ r. MatchResult r P Q) (sym is) q
+
+-- a draw that was refused, and not for want of memory
+pub refused_as_meant : (old new : ReplicaState) (meant : Result PlaneEdit Fault) (fault : Fault)
+    → IsDraw old new meant (Err fault) → fault ≢ faults.Memory → (meant ≡ Err fault) × (new ≡ old)
+refused_as_meant old new meant faults.Memory draw other = absurd (other refl)
+refused_as_meant old new meant faults.ClockFull draw other = draw
+refused_as_meant old new meant (faults.Edit fault) draw other = draw
+refused_as_meant old new meant faults.OtherRule draw other = absurd draw
+refused_as_meant old new meant faults.NoReplica draw other = absurd draw
+refused_as_meant old new meant faults.NoMessage draw other = absurd draw

@@ -1,0 +1,21 @@
+use Rattle.std.proofs.Common.{◌∙◌, sym, ap}
+use Rattle.replica_core.specs.Laws.{greatest_counter}
+use Rattle.replica_core.specs.Replica.{edit_drawn}
+use Rattle.replica_core.specs.declared.event.Reply.TheVariants as replies
+use Rattle.replica_core.proofs.StandingLaws.{draws_at_clock, draws_edit, given_ok, given_err, refused_as_meant}
+use Rattle.replica_core.proofs.world.draw_at.Goals as goal
+
+pub returns-in-Ok-clause-step : goal.returns-in-Ok-clause-step
+returns-in-Ok-clause-step c = λ rule h valid stands.
+    let told = c.in-Ok.ensures in
+    given_ok _ _ (edit_drawn rule (greatest_counter h.taken) c.args.replica.now.number c.args.spec.now) c.in-Ok.edit
+    (sym (draws_at_clock rule c.args.replica.now.number told.0 h c.args.replica.now c.args.spec.now valid stands told.1) ∙ told.2.0)
+    (ap replies.Drawn c.stamp.ensures, draws_edit rule c.args.replica.now.number h c.args.replica.now c.draw_as.new.self c.in-Ok.edit stands told.2.1)
+
+pub returns-in_ok-reply-in-Err-clause-step : goal.returns-in_ok-reply-in-Err-clause-step
+returns-in_ok-reply-in-Err-clause-step c = λ rule h valid stands.
+    let told = c.in-Err.ensures in
+    let is = refused_as_meant c.args.replica.now c.draw_as.new.self _ c.in-Err.fault told.2 c.in_ok-reply-in-Err.ensures.reply.0 in
+    given_err _ _ (edit_drawn rule (greatest_counter h.taken) c.args.replica.now.number c.args.spec.now) c.in-Err.fault
+    (sym (draws_at_clock rule c.args.replica.now.number told.0 h c.args.replica.now c.args.spec.now valid stands told.1) ∙ is.0)
+    (c.in_ok-reply-in-Err.ensures.reply.1, is.1)

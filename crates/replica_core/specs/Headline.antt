@@ -1,0 +1,62 @@
+-- What holds of every world after every list of events: whatever is sent, lost, repeated or reordered.
+use Rattle.std.specs.Prelude.{◌≡◌, ◌⊎◌, ◌↔◌, ℕ, ◌^◌, ◌<◌, IsTrue, List, ◌++◌, Contains, Ok, Some}
+use Rattle.generations_rule.specs.Place.{Place}
+use Rattle.generations_rule.specs.Rule.{GenerationsRule}
+use Rattle.edit_stamps.specs.declared.write.Write.{Write}
+use Rattle.edit_stamps.specs.Edit.{PlaneEdit, IsEdit, writes_of}
+use Rattle.edit_stamps.specs.PlaneMap.{write_at}
+use Rattle.edit_stamps.specs.Write.{unwritten, at_most, AreSame, IsBelow}
+use Rattle.replica_core.specs.declared.event.Event.{Event}
+use Rattle.replica_core.specs.declared.event.Reply.TheVariants.{Refused}
+use Rattle.replica_core.specs.declared.fault.Fault.{Fault}
+use Rattle.replica_core.specs.Replica.{ReplicaState}
+use Rattle.replica_core.specs.World.{History, ReplicaHistory, WorldState, IsIn, IsReply, StandsForWorld, after, after_all, numbered, opening, replica}
+
+-- a replica of a world that was run through events, and what it took
+pub record IsAt (rule : GenerationsRule) (n : ℕ) (events : List Event) (r : ℕ) (h : ReplicaHistory) (held : ReplicaState) : Type 0 where
+  pub world : WorldState
+  pub stands : StandsForWorld (after_all (opening rule n) events) world
+  pub history : replica (after_all (opening rule n) events) r ≡ Ok h
+  pub state : numbered world.replicas r ≡ Some held
+
+-- a write that one of the edits makes at a place, or that none of them makes, and that no other's is above
+pub record IsGreatestOf (edits : List PlaneEdit) (c : Place) (w : Write) : Type 0 where
+  pub above : (e : PlaneEdit) → Contains edits e → IsTrue (at_most (writes_of e c) w)
+  pub made : (w ≡ unwritten) ⊎ ((e : PlaneEdit) × Contains edits e × (writes_of e c ≡ w))
+
+-- two lists have the same edits, in whatever order and however often
+abbrev pub HaveSameEdits : List PlaneEdit → List PlaneEdit → Type 0
+HaveSameEdits es fs = (e : PlaneEdit) → Contains es e ↔ Contains fs e
+
+-- each replica holds at each place the greatest write of the edits that it took
+abbrev pub HoldsGreatest : Type 0
+HoldsGreatest = (rule : GenerationsRule) (n : ℕ) (events : List Event) (r : ℕ) (h : ReplicaHistory) (held : ReplicaState)
+    → IsAt rule n events r h held → (c : Place) → IsGreatestOf h.taken c (write_at held.map c)
+
+-- two replicas that took the same edits hold the same write at every place, whichever worlds and events brought them there
+abbrev pub Agrees : Type 0
+Agrees = (rule other_rule : GenerationsRule) (n m : ℕ) (events others : List Event) (r s : ℕ) (h k : ReplicaHistory) (held other : ReplicaState)
+    → IsAt rule n events r h held → IsAt other_rule m others s k other → HaveSameEdits h.taken k.taken
+    → AreSame (write_at held.map) (write_at other.map)
+
+-- whatever a replica took, noted or sent is an edit; two edits of one stamp in one world are one edit
+pub record HasOneEditAStamp : Type 0 where
+  pub edits : (rule : GenerationsRule) (n : ℕ) (events : List Event) (e : PlaneEdit) → n < 2 ^ 16
+      → IsIn (after_all (opening rule n) events) e → IsEdit e
+  pub one : (rule : GenerationsRule) (n : ℕ) (events : List Event) (e f : PlaneEdit) → n < 2 ^ 16
+      → IsIn (after_all (opening rule n) events) e → IsIn (after_all (opening rule n) events) f → e.stamp ≡ f.stamp → e ≡ f
+
+-- so what a replica holds at a place where something was written is one edit's write
+abbrev pub HasOneWinner : Type 0
+HasOneWinner = (rule : GenerationsRule) (n : ℕ) (events : List Event) (r : ℕ) (h : ReplicaHistory) (held : ReplicaState) (c : Place) (e f : PlaneEdit)
+    → n < 2 ^ 16 → IsAt rule n events r h held → Contains h.taken e → Contains h.taken f
+    → writes_of e c ≡ write_at held.map c → writes_of f c ≡ write_at held.map c → 0 < (write_at held.map c).stamp → e ≡ f
+
+-- what a replica holds never goes down as more happens
+abbrev pub NeverGoesDown : Type 0
+NeverGoesDown = (rule : GenerationsRule) (n : ℕ) (events more : List Event) (r : ℕ) (h k : ReplicaHistory) (held later : ReplicaState)
+    → IsAt rule n events r h held → IsAt rule n (events ++ more) r k later → IsBelow (write_at held.map) (write_at later.map)
+
+-- a refused event changes nothing
+abbrev pub RefusalsChangeNothing : Type 0
+RefusalsChangeNothing = (w : History) (event : Event) (fault : Fault) → IsReply w event (Refused fault) → after w event ≡ w
