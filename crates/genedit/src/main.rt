@@ -24,7 +24,7 @@ fn main(rt: HostRuntime) -> ExitCode {
 fn work<R: Env + Input + Print + AllocGlobal>(rt: &R) -> Result<(), Ending> {
     let alloc = rt.alloc();
     let words = words::given(rt)?;
-    match words::task(alloc, &words)? {
+    match words::asked(alloc, &words)? {
         Task::Run => run_script(
             alloc,
             &mut ReadSource::new(rt.reader()),

@@ -33,7 +33,7 @@ pub fn given<R: Env + AllocGlobal>(rt: &R) -> Result<Vec<String>, Ending> {
 }
 
 /// What the words ask for. Help and the version come as an error, too.
-pub fn task(alloc: Global, words: &[String]) -> Result<Task, Error> {
+pub fn asked(alloc: Global, words: &[String]) -> Result<Task, Error> {
     command(alloc)?.try_get_matches_from(words)?;
     Ok(Task::Run)
 }

@@ -8,7 +8,7 @@ ghost use Rattle.genedit_lib.specs.Run.{IsFaultOfPulls, IsFaultOfRun, IsFaultOfT
 use crate::fault::RunFault;
 use crate::output::reply_lines;
 use crate::script::{Script, read_script};
-use replica_core::{Reply, Sink, Source, Stop};
+use replica_core::{Reply, Sink, Source, Stop, replay};
 use std::alloc::Global;
 
 /// How many pulls a script has, at most.
@@ -30,8 +30,8 @@ pub fn run_script<S: Source, K: Sink>(
     ensures printed { OnOk result ((out : List ℕ) × Prints (S.left source.old) (S.left source.new) out × Appends (K.held sink.old) (K.held sink.new) out) }
     ensures works { OnOk result ((S.failures source.new ≡ S.failures source.old) × (K.failures sink.new ≡ K.failures sink.old)) }
     ensures fault { IfErr result (λ fault. IsFaultOfRun (2 ^ 32) fault (S.left source.old) (S.left source.new)) }
-    ensures failed { IfErr result (λ fault. S.failures source.new ≡ source_failures fault (S.failures source.old)) }
-    ensures refused { IfErr result (λ fault. K.failures sink.new ≡ sink_failures fault (K.failures sink.old)) }
+    ensures source_failures { IfErr result (λ fault. S.failures source.new ≡ source_failures fault (S.failures source.old)) }
+    ensures sink_failures { IfErr result (λ fault. K.failures sink.new ≡ sink_failures fault (K.failures sink.old)) }
     ensures kept { IfErr result (λ fault. LeavesSink fault sink.old sink.new) }
 {
     run_script_within(alloc, source, sink, TURNS)
@@ -47,8 +47,8 @@ pub fn run_script_within<S: Source, K: Sink>(
     ensures printed { OnOk result ((out : List ℕ) × Prints (S.left source.old) (S.left source.new) out × Appends (K.held sink.old) (K.held sink.new) out) }
     ensures works { OnOk result ((S.failures source.new ≡ S.failures source.old) × (K.failures sink.new ≡ K.failures sink.old)) }
     ensures fault { IfErr result (λ fault. IsFaultOfRun turns fault (S.left source.old) (S.left source.new)) }
-    ensures failed { IfErr result (λ fault. S.failures source.new ≡ source_failures fault (S.failures source.old)) }
-    ensures refused { IfErr result (λ fault. K.failures sink.new ≡ sink_failures fault (K.failures sink.old)) }
+    ensures source_failures { IfErr result (λ fault. S.failures source.new ≡ source_failures fault (S.failures source.old)) }
+    ensures sink_failures { IfErr result (λ fault. K.failures sink.new ≡ sink_failures fault (K.failures sink.old)) }
     ensures kept { IfErr result (λ fault. LeavesSink fault sink.old sink.new) }
 {
     let text = pull_all(alloc, source, turns)?;
@@ -74,7 +74,8 @@ fn printed(alloc: Global, text: &[u8]) -> Result<Vec<u8>, RunFault>
 fn replies_to(alloc: Global, script: &Script) -> Result<Vec<Reply>, Stop>
     ensures { IfOk result (λ replies. AreReplies (opening script.now.rule script.now.replicas) script.now.events replies.items) }
 {
-    Err(Stop::Memory)
+    let (_world, replies) = replay(alloc, script.rule(), script.replicas(), script.events())?;
+    Ok(replies)
 }
 
 /// All bytes of a source, in at most so many pulls.
