@@ -38,7 +38,7 @@ pub fn asked(alloc: Global, words: &[String]) -> Result<Task, Error> {
     Ok(Task::Run)
 }
 
-fn command(alloc: Global) -> Result<Command<'static>, AllocError> {
+fn command<'a>(alloc: Global) -> Result<Command<'a>, AllocError> {
     let run = Command::new(alloc, "run")
         .about("Runs a script from standard input and prints what happened")
         .after_help(SCRIPT_HELP);
