@@ -12,3 +12,6 @@ mod word;
 pub use fault::{RunFault, ScriptFault};
 pub use run::{run_script, run_script_within};
 pub use script::{Script, read_script};
+
+#[cfg(test)]
+mod tests;
