@@ -39,7 +39,7 @@ impl<'a> Lines<'a> {
     }
 
     /// The next line that is not skipped.
-    pub fn next(&mut self) -> Option<Line<'a>>
+    pub fn next_line(&mut self) -> Option<Line<'a>>
         ensures line { MatchOption result
             (spoken self.old.number (lines self.old.rest.now) ≡ [])
             (λ line. spoken self.old.number (lines self.old.rest.now)

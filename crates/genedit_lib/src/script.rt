@@ -64,9 +64,9 @@ pub fn read_script(alloc: Global, text: &[u8]) -> Result<Script, ScriptFault>
     ensures fault { IfErr result (λ fault. IsFaultOf fault (script_of text.now)) }
 {
     let mut lines = Lines::of(text);
-    let line = next_line(&mut lines)?;
+    let line = required_line(&mut lines)?;
     let rule = rule_in(line.text).ok_or(ScriptFault::Line(line.number))?;
-    let line = next_line(&mut lines)?;
+    let line = required_line(&mut lines)?;
     let replicas = replicas_in(line.text).ok_or(ScriptFault::Line(line.number))?;
     let events = events_in(alloc, lines)?;
     Ok(Script {
@@ -77,14 +77,14 @@ pub fn read_script(alloc: Global, text: &[u8]) -> Result<Script, ScriptFault>
 }
 
 /// The next line that is not skipped; without one, the fault is at the line behind the last.
-fn next_line<'a>(lines: &mut Lines<'a>) -> Result<Line<'a>, ScriptFault>
+fn required_line<'a>(lines: &mut Lines<'a>) -> Result<Line<'a>, ScriptFault>
     ensures line { IfOk result (λ line. spoken lines.old.number (lines_of lines.old.rest.now)
         ≡ record { number = line.number; words = words line.text.now } ∷ spoken lines.new.number (lines_of lines.new.rest.now)) }
     ensures all { lines.new.number + length (lines_of lines.new.rest.now) ≡ lines.old.number + length (lines_of lines.old.rest.now) }
     ensures none { IfErr result (λ fault. (spoken lines.old.number (lines_of lines.old.rest.now) ≡ [])
         × (fault ≡ ScriptFault.Line (lines.old.number + length (lines_of lines.old.rest.now)))) }
 {
-    match lines.next() {
+    match lines.next_line() {
         Some(line) => Ok(line),
         None => Err(ScriptFault::Line(lines.number)),
     }
@@ -96,7 +96,7 @@ fn events_in(alloc: Global, mut lines: Lines<'_>) -> Result<Vec<Event>, ScriptFa
     ensures fault { IfErr result (λ fault. IsFaultOf fault (events_of (spoken lines.entry.number (lines_of lines.entry.rest.now)))) }
 {
     let mut events = Vec::new(alloc);
-    while let Some(line) = lines.next() {
+    while let Some(line) = lines.next_line() {
         let event = event_in(alloc, line.text)?.ok_or(ScriptFault::Line(line.number))?;
         events.push(event)?;
     }

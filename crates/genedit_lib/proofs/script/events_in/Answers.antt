@@ -11,7 +11,7 @@ use Rattle.genedit_lib.proofs.script.events_in.Goals as goal
 
 pub loop-line-preserved : goal.loop-line-preserved
 loop-line-preserved c =
-    let more : Result (List Event) ℕ = events_in (spoken c.next.new.self.number (lines c.next.new.self.rest.now)) in
+    let more : Result (List Event) ℕ = events_in (spoken c.next_line.new.self.number (lines c.next_line.new.self.rest.now)) in
     let found : Ok c.in_ok-event.event ≡ ok_or (event_in (words c.in-Some.line.text.now)) (Line c.in-Some.line.number) =
     c.in_ok-event.ensures.value ∙ ap (λ (o : Option Event). ok_or o (Line c.in-Some.line.number)) c.in_ok-event_in.ensures in
     ap (λ (events : List Event). with_front events more) c.in_ok-push.ensures.items

@@ -1,7 +1,7 @@
 use Rattle.std.proofs.Common.{◌≡◌, ◌+◌, ◌≤◌, length}
 use Rattle.std.specs.Str.Lines.{lines}
 use Rattle.genedit_lib.specs.Script.{spoken}
-use Rattle.genedit_lib.proofs.line.Lines.next.Given as goal
+use Rattle.genedit_lib.proofs.line.Lines.next_line.Given as goal
 
 -- skipped lines are counted, and say nothing
 abbrev pub invariant-loop-text : goal.invariant-loop-text
