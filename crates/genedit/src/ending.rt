@@ -1,5 +1,8 @@
 //! Why the program ends, and what it says of it.
 
+ghost use Rattle.std.specs.Prelude.{◌≡◌};
+ghost use Rattle.genedit_lib.specs.RunFault.{exit_status};
+
 use clap::Error;
 use clap::error::ErrorKind;
 use genedit_lib::RunFault;
@@ -51,7 +54,9 @@ impl From<RunFault> for Ending {
     }
 }
 
-fn tell_fault<R: Eprint>(rt: &R, fault: RunFault) -> u8 {
+fn tell_fault<R: Eprint>(rt: &R, fault: RunFault) -> u8
+    ensures { result ≡ exit_status fault }
+{
     let _ = eprintln!(rt; "genedit: {fault}");
     fault.exit_status()
 }
