@@ -1,0 +1,100 @@
+//! Scripts, from a source's bytes to a sink's.
+
+ghost use Rattle.std.specs.Prelude.{◌≡◌, ◌^◌, ℕ, List, OnOk, IfOk, IfErr};
+ghost use Rattle.std.specs.Io.KnownBytes.{Appends};
+ghost use Rattle.replica_core.specs.World.{opening, AreReplies};
+ghost use Rattle.genedit_lib.specs.Run.{IsFaultOfPulls, IsFaultOfRun, IsFaultOfText, LeavesSink, Prints, PrintsAs, PullsAll, sink_failures, source_failures};
+
+use crate::fault::RunFault;
+use crate::output::reply_lines;
+use crate::script::{Script, read_script};
+use replica_core::{Reply, Sink, Source, Stop, replay};
+use std::alloc::Global;
+
+/// How many pulls a script has, at most.
+const TURNS: u64 = 1 << 32;
+
+/// How many bytes are pulled at once, at most.
+const PIECE: usize = 8192;
+
+/// Pulls a script to its source's end, checks it whole, runs it, and pushes all that it prints at
+/// once: a line for each reply. A refused event prints its refusal, and the run goes on.
+///
+/// No fault but a failed push comes after the first byte was pushed. `RunFault::Turns` comes after
+/// 2^32 pulls that each gave something; `RunFault::Refused` never comes.
+pub fn run_script<S: Source, K: Sink>(
+    alloc: Global,
+    source: &mut S,
+    sink: &mut K,
+) -> Result<(), RunFault>
+    ensures printed { OnOk result ((out : List ℕ) × Prints (S.left source.old) (S.left source.new) out × Appends (K.held sink.old) (K.held sink.new) out) }
+    ensures works { OnOk result ((S.failures source.new ≡ S.failures source.old) × (K.failures sink.new ≡ K.failures sink.old)) }
+    ensures fault { IfErr result (λ fault. IsFaultOfRun (2 ^ 32) fault (S.left source.old) (S.left source.new)) }
+    ensures source_failures { IfErr result (λ fault. S.failures source.new ≡ source_failures fault (S.failures source.old)) }
+    ensures sink_failures { IfErr result (λ fault. K.failures sink.new ≡ sink_failures fault (K.failures sink.old)) }
+    ensures kept { IfErr result (λ fault. LeavesSink fault sink.old sink.new) }
+{
+    run_script_within(alloc, source, sink, TURNS)
+}
+
+/// The same with another number of pulls, at most.
+pub fn run_script_within<S: Source, K: Sink>(
+    alloc: Global,
+    source: &mut S,
+    sink: &mut K,
+    turns: u64,
+) -> Result<(), RunFault>
+    ensures printed { OnOk result ((out : List ℕ) × Prints (S.left source.old) (S.left source.new) out × Appends (K.held sink.old) (K.held sink.new) out) }
+    ensures works { OnOk result ((S.failures source.new ≡ S.failures source.old) × (K.failures sink.new ≡ K.failures sink.old)) }
+    ensures fault { IfErr result (λ fault. IsFaultOfRun turns fault (S.left source.old) (S.left source.new)) }
+    ensures source_failures { IfErr result (λ fault. S.failures source.new ≡ source_failures fault (S.failures source.old)) }
+    ensures sink_failures { IfErr result (λ fault. K.failures sink.new ≡ sink_failures fault (K.failures sink.old)) }
+    ensures kept { IfErr result (λ fault. LeavesSink fault sink.old sink.new) }
+{
+    let text = pull_all(alloc, source, turns)?;
+    let out = printed(alloc, &text)?;
+    match sink.push_all(&out) {
+        Ok(()) => Ok(()),
+        Err(_) => Err(RunFault::Write),
+    }
+}
+
+/// What the script of a text prints.
+fn printed(alloc: Global, text: &[u8]) -> Result<Vec<u8>, RunFault>
+    ensures out { IfOk result (λ out. PrintsAs text.now out.items) }
+    ensures fault { IfErr result (λ fault. IsFaultOfText fault text.now) }
+{
+    let script = read_script(alloc, text)?;
+    let replies = replies_to(alloc, &script)?;
+    let out = reply_lines(alloc, &replies)?;
+    Ok(out)
+}
+
+/// The replies to a script's events, in its world.
+fn replies_to(alloc: Global, script: &Script) -> Result<Vec<Reply>, Stop>
+    ensures { IfOk result (λ replies. AreReplies (opening script.now.rule script.now.replicas) script.now.events replies.items) }
+{
+    let (_world, replies) = replay(alloc, script.rule(), script.replicas(), script.events())?;
+    Ok(replies)
+}
+
+/// All bytes of a source, in at most so many pulls.
+fn pull_all<S: Source>(alloc: Global, source: &mut S, turns: u64) -> Result<Vec<u8>, RunFault>
+    ensures all { IfOk result (λ text. PullsAll (S.left source.old) (S.left source.new) text.items) }
+    ensures works { OnOk result (S.failures source.new ≡ S.failures source.old) }
+    ensures fault { IfErr result (λ fault. IsFaultOfPulls turns fault (S.left source.old) (S.left source.new)) }
+    ensures failures { IfErr result (λ fault. S.failures source.new ≡ source_failures fault (S.failures source.old)) }
+{
+    let mut text = Vec::new(alloc);
+    let mut piece = [0; PIECE];
+    for _turn in 0..turns {
+        let Ok(count) = source.pull(&mut piece) else {
+            return Err(RunFault::Read);
+        };
+        if count == 0 {
+            return Ok(text);
+        }
+        text.extend_from_slice(&piece[..count])?;
+    }
+    Err(RunFault::Turns)
+}
