@@ -1,4 +1,5 @@
-//! One map joined into another: both are gone through once, side by side.
+//! One map joined into another: both are gone through once, side by side, and only what wins is moved.
+//! `append` merges many winners in linear time, and inserts a few one by one.
 
 ghost use Rattle.std.specs.Prelude.{◌≡◌, IfOk, OnOk, filter};
 ghost use Rattle.std.specs.BTreeMap.{IsFromIterResult};
