@@ -19,7 +19,7 @@ pub record PrintsAs (text out : List ℕ) : Type 0 where
 abbrev pub IsFaultOfText : RunFault → List ℕ → Type 0
 IsFaultOfText (Script line) text = script_of text ≡ Err line
 IsFaultOfText Memory text = ⊤
-IsFaultOfText StoreFull text = ⊤
+IsFaultOfText StoreFull text = ⊥
 IsFaultOfText (Refused number place) text = ⊥
 IsFaultOfText Read text = ⊥
 IsFaultOfText Turns text = ⊥
@@ -70,7 +70,7 @@ IsFaultOfRun turns Read old new = ⊤
 IsFaultOfRun turns Turns old new = PullsOn turns old new
 IsFaultOfRun turns Write old new = (out : List ℕ) × Prints old new out
 IsFaultOfRun turns Memory old new = ⊤
-IsFaultOfRun turns StoreFull old new = ⊤
+IsFaultOfRun turns StoreFull old new = ⊥
 
 -- how often a source has failed after a fault
 abbrev pub source_failures : RunFault → ℕ → ℕ

@@ -3,6 +3,7 @@
 ghost use Rattle.std.specs.Prelude.{◌≡◌, ◌^◌, ℕ, List, OnOk, IfOk, IfErr};
 ghost use Rattle.std.specs.Io.KnownBytes.{Appends};
 ghost use Rattle.replica_core.specs.World.{opening, AreReplies};
+ghost use Rattle.replica_core.specs.declared.event.Stop.TheVariants as stops;
 ghost use Rattle.genedit_lib.specs.Run.{IsFaultOfPulls, IsFaultOfRun, IsFaultOfText, LeavesSink, Prints, PrintsAs, PullsAll, sink_failures, source_failures};
 
 use crate::fault::RunFault;
@@ -21,7 +22,8 @@ const PIECE: usize = 8192;
 /// once: a line for each reply. A refused event prints its refusal, and the run goes on.
 ///
 /// No fault but a failed push comes after the first byte was pushed. `RunFault::Turns` comes after
-/// 2^32 pulls that each gave something; `RunFault::Refused` never comes.
+/// 2^32 pulls that each gave something; `RunFault::Refused` and `RunFault::StoreFull`
+/// never come.
 pub fn run_script<S: Source, K: Sink>(
     alloc: Global,
     source: &mut S,
@@ -72,7 +74,8 @@ fn printed(alloc: Global, text: &[u8]) -> Result<Vec<u8>, RunFault>
 
 /// The replies to a script's events, in its world.
 fn replies_to(alloc: Global, script: &Script) -> Result<Vec<Reply>, Stop>
-    ensures { IfOk result (λ replies. AreReplies (opening script.now.rule script.now.replicas) script.now.events replies.items) }
+    ensures replies { IfOk result (λ replies. AreReplies (opening script.now.rule script.now.replicas) script.now.events replies.items) }
+    ensures stop { IfErr result (λ stop. stop ≡ stops.Memory) }
 {
     let (_world, replies) = replay(alloc, script.rule(), script.replicas(), script.events())?;
     Ok(replies)
