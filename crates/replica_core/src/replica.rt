@@ -57,6 +57,7 @@ impl Replica {
         ensures new { IfOk result (λ replica. IsNew rule number replica) }
         ensures err { IfErr result IsWant }
     {
+        // For the proof alone: the call tells that what is held is a rule.
         let _rule = rule.states();
         Ok(Replica {
             alloc,
@@ -92,6 +93,7 @@ impl Replica {
         ensures value { result ≡ write_at self.now.map (at_place x y) }
         ensures outside { is_in_plane (at_place x y) ≡ false → result ≡ unwritten }
     {
+        // For the proof alone: the call tells that nothing is written outside the plane.
         let _map = self.plane.greatest_stamp();
         self.plane.get(x, y)
     }
