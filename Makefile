@@ -17,3 +17,4 @@ bench:
 	@cd crates/kernel_bench && rt run -- --time
 	@cd crates/replica_bench && rt run -- --time
 	@cd crates/world_bench && rt run -- --time
+	@examples/measure
