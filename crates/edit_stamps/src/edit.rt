@@ -1,6 +1,6 @@
 //! Edits: what one drawing writes.
 
-ghost use Rattle.std.specs.Prelude.{◌≡◌, IsTrue, IfOk, None};
+ghost use Rattle.std.specs.Prelude.{◌≡◌, ℕ, IsTrue, IfOk, None};
 ghost use Rattle.generations_rule.specs.Refusal.{Answers};
 ghost use Rattle.edit_stamps.specs.Edit.{is_area, is_cell};
 ghost use Rattle.std.specs.Cmp.Lexicographic.{pointwise};
@@ -115,9 +115,10 @@ impl Edit {
     }
 
     /// The edit that writes state 0 at every coordinate of an area. Refused are, in this order: an
-    /// empty area, one that leaves the plane, and a side above 4096.
+    /// empty area, one that leaves the plane, and a side above 4096. It takes no memory.
     pub fn clear(alloc: Global, stamp: Stamp, area: Rect) -> Result<Edit, EditFault>
-        ensures { Answers IsWant result (edit_of_clear stamp area) }
+        ensures edit { result ≡ edit_of_clear stamp area }
+        ensures states { IfOk result (λ edit. (states : ℕ) → IsTrue (has_states_below states edit)) }
     {
         if let Some(fault) = paste::fault_of_clear(area) {
             return Err(fault);
