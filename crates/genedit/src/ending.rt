@@ -1,11 +1,11 @@
 //! Why the program ends, and what it says of it.
 
 ghost use Rattle.std.specs.Prelude.{◌≡◌};
-ghost use Rattle.genedit_lib.specs.RunFault.{exit_status};
+ghost use Rattle.genedit_io.specs.RunFault.{exit_status};
 
 use clap::Error;
 use clap::error::ErrorKind;
-use genedit_lib::RunFault;
+use genedit_io::RunFault;
 use std::alloc::{AllocError, AllocGlobal, Global};
 
 /// The status of a fault of the words.

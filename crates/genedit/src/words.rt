@@ -2,7 +2,7 @@
 
 use crate::ending::Ending;
 use clap::{Command, Error};
-use genedit_lib::RunFault;
+use genedit_io::RunFault;
 use std::alloc::{AllocError, AllocGlobal, Global};
 use std::io::ErrorKind;
 use std::rt::Env;

@@ -8,7 +8,7 @@ use Rattle.replica_core.specs.declared.fault.Fault.{Fault}
 use Rattle.edit_stamps.specs.declared.write.Write.{Write}
 use Rattle.replica_core.specs.Fault.{fault_number, fault_text}
 use Rattle.replica_core.specs.World.{opening, AreReplies}
-use Rattle.genedit_lib.specs.Script.{ScriptValue}
+use Rattle.genedit_script.specs.Script.{ScriptValue}
 
 -- counter and replica of a stamp; 0 and 0 of no stamp
 abbrev pub stamp_text : ℕ → List ℕ

@@ -4,19 +4,17 @@ ghost use Rattle.std.specs.Prelude.{◌≡◌, ◌^◌, ℕ, List, OnOk, IfOk, I
 ghost use Rattle.std.specs.Io.KnownBytes.{Appends};
 ghost use Rattle.replica_core.specs.World.{opening, AreReplies};
 ghost use Rattle.replica_core.specs.declared.event.Stop.TheVariants as stops;
-ghost use Rattle.genedit_lib.specs.Run.{IsFaultOfPulls, IsFaultOfRun, IsFaultOfText, LeavesSink, Prints, PrintsAs, PullsAll, sink_failures, source_failures};
+ghost use Rattle.genedit_io.specs.Devices.{LeavesSink, sink_failures, source_failures};
+ghost use Rattle.genedit_lib.specs.Run.{IsFaultOfRun, IsFaultOfText, Prints, PrintsAs, run_fault_of};
 
-use crate::fault::RunFault;
 use crate::output::reply_lines;
-use crate::script::{Script, read_script};
+use genedit_io::{RunFault, pull_all};
+use genedit_script::{Script, ScriptFault, read_script};
 use replica_core::{Reply, Sink, Source, Stop, replay};
 use std::alloc::Global;
 
 /// How many pulls a script has, at most.
 const TURNS: u64 = 1 << 32;
-
-/// How many bytes are pulled at once, at most.
-const PIECE: usize = 8192;
 
 /// Pulls a script to its source's end, checks it whole, runs it, and pushes all that it prints at
 /// once: a line for each reply. A refused event prints its refusal, and the run goes on.
@@ -66,7 +64,7 @@ fn printed(alloc: Global, text: &[u8]) -> Result<Vec<u8>, RunFault>
     ensures out { IfOk result (λ out. PrintsAs text.now out.items) }
     ensures fault { IfErr result (λ fault. IsFaultOfText fault text.now) }
 {
-    let script = read_script(alloc, text)?;
+    let script = read_script(alloc, text).map_err(fault_of_script)?;
     let replies = replies_to(alloc, &script)?;
     let out = reply_lines(alloc, &replies)?;
     Ok(out)
@@ -81,23 +79,11 @@ fn replies_to(alloc: Global, script: &Script) -> Result<Vec<Reply>, Stop>
     Ok(replies)
 }
 
-/// All bytes of a source, in at most so many pulls.
-fn pull_all<S: Source>(alloc: Global, source: &mut S, turns: u64) -> Result<Vec<u8>, RunFault>
-    ensures all { IfOk result (λ text. PullsAll (S.left source.old) (S.left source.new) text.items) }
-    ensures works { OnOk result (S.failures source.new ≡ S.failures source.old) }
-    ensures fault { IfErr result (λ fault. IsFaultOfPulls turns fault (S.left source.old) (S.left source.new)) }
-    ensures failures { IfErr result (λ fault. S.failures source.new ≡ source_failures fault (S.failures source.old)) }
+fn fault_of_script(fault: ScriptFault) -> RunFault
+    ensures { result ≡ run_fault_of fault }
 {
-    let mut text = Vec::new(alloc);
-    let mut piece = [0; PIECE];
-    for _turn in 0..turns {
-        let Ok(count) = source.pull(&mut piece) else {
-            return Err(RunFault::Read);
-        };
-        if count == 0 {
-            return Ok(text);
-        }
-        text.extend_from_slice(&piece[..count])?;
+    match fault {
+        ScriptFault::Line(line) => RunFault::Script(line),
+        ScriptFault::Memory => RunFault::Memory,
     }
-    Err(RunFault::Turns)
 }

@@ -1,10 +1,10 @@
 -- What holds of every world after every list of events.
 use Rattle.std.proofs.Common.{◌≡◌, ◌⊎◌, ℕ, ◌<◌, ◌≤◌, List, [], ◌∷◌, ◌++◌, refl, sym, ◌∙◌, ap, subst, arith, inl, inr, suc, zero, length, ◌-◌}
-use Rattle.std.specs.Prelude.{Contains, IsTrue, Some, Bool, true, false, if◌then◌else◌, slice_get, slice_index_or, Option, None}
+use Rattle.std.specs.Prelude.{Contains, IsTrue, Some, Bool, true, false, if◌then◌else◌, slice_get, slice_index_or}
 use Rattle.generations_rule.specs.Place.{Place}
 use Rattle.generations_rule.specs.Rule.{GenerationsRule}
 use Rattle.edit_stamps.specs.declared.write.Write.{Write}
-use Rattle.edit_stamps.specs.Edit.{PlaneEdit, greatest, is_covered, listed, writes_of, write_by}
+use Rattle.edit_stamps.specs.Edit.{PlaneEdit, greatest, is_covered, listed, writes_of}
 use Rattle.edit_stamps.specs.PlaneMap.{write_at}
 use Rattle.edit_stamps.specs.Write.{unwritten, at_most, greater, AreSame}
 use Rattle.edit_stamps.proofs.WriteLaws.{depends_on_members, is_least_upper_bound, is_total, joins_lists}
@@ -13,6 +13,7 @@ use Rattle.replica_core.specs.declared.fault.Fault.TheVariants as faults
 use Rattle.replica_core.specs.Replica.{ReplicaState}
 use Rattle.replica_core.specs.Headline.{Agrees, HasOneEditAStamp, HasOneWinner, HoldsGreatest, IsAt, IsGreatestOf, NeverGoesDown}
 use Rattle.replica_core.specs.World.{History, ReplicaHistory, after, after_all, numbered, opening, replica}
+use Rattle.replica_core.proofs.DrawLaws.{stamp_written}
 use Rattle.replica_core.proofs.HistoryLaws.{at_least_one, grows_along, same_ok, some_of_ok, sound_along, sound_opening}
 use Rattle.replica_core.proofs.SideBySide.{numbered_at}
 
@@ -66,11 +67,6 @@ agrees rule other_rule n m events others r s h k held other at there same c =
 
 pub has_one_edit_a_stamp : HasOneEditAStamp
 has_one_edit_a_stamp rule n events e f few inside also same = (sound_along (opening rule n) events (sound_opening rule n few)).one e f inside also same
-
-stamp_written : (stamp : ℕ) (o : Option ℕ) (covered : Bool) → 0 < (write_by stamp o covered).stamp → (write_by stamp o covered).stamp ≡ stamp
-stamp_written stamp (Some state) covered some = refl
-stamp_written stamp None true some = refl
-stamp_written stamp None false some = absurd (omega (arith, some))
 
 pub has_one_winner : HasOneWinner
 has_one_winner rule n events r h held c e f few at e_here f_here e_wins f_wins some =

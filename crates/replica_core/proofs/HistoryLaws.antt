@@ -1,30 +1,25 @@
 -- What histories obey: every edit in one is an edit, has the only one of its stamp, and its replica has taken it.
 use Rattle.std.proofs.Common.{◌≡◌, ◌≢◌, ◌⊎◌, ℕ, zero, suc, ◌+◌, ◌-◌, ◌^◌, ◌<◌, ◌≤◌, Bool, true, false, List, [], ◌∷◌, ◌++◌, length, max, refl, sym, ◌∙◌, ap, subst, arith, inl, inr, length-set, append_assoc}
-use Rattle.std.specs.Prelude.{Contains, IsTrue, IfOk, Option, Some, None, slice_get, slice_set, Result, Ok, Err, fold, nat_lt, not, slice_index_or}
+use Rattle.std.specs.Prelude.{Contains, Option, Some, None, slice_get, slice_set, Result, Ok, Err, fold, nat_lt, not, slice_index_or}
 use Rattle.std.specs.Option.{ok_or}
 use Rattle.std.proofs.Math.ListN.{replicate}
 use Rattle.std.proofs.lemmas.Bool.{cases_eq}
-use Rattle.std.proofs.lemmas.Bool.Decides.{nat_tests}
 use Rattle.std.proofs.lemmas.List.{append-nil, length-replicate}
 use Rattle.std.proofs.lemmas.List.Elements.{Contains-append_left, Contains-append_right, Contains-append_cases}
 use Rattle.std.proofs.lemmas.Option.{slice_get_within}
 use Rattle.generations_rule.specs.Refusal.{◌>>=◌, when, unless}
 use Rattle.generations_rule.specs.Rule.{GenerationsRule}
-use Rattle.multistate_rle.specs.declared.cell.Cell.{Cell}
-use Rattle.edit_stamps.specs.declared.fault.EditFault.{EditFault}
 use Rattle.edit_stamps.specs.Edit.{PlaneEdit, IsEdit}
-use Rattle.edit_stamps.specs.Making.{cells_fault, settled}
-use Rattle.edit_stamps.specs.Stamp.{counter_of, is_stamp, last_counter, replica_of, stamp_of}
-use Rattle.edit_stamps.proofs.MakingLaws.{makes_edits}
+use Rattle.edit_stamps.specs.Stamp.{counter_of, last_counter, replica_of, stamp_of}
 use Rattle.replica_core.specs.declared.event.Event.{Event}
 use Rattle.replica_core.specs.declared.event.Event.TheVariants.{Draw, SendState, Deliver, Show}
 use Rattle.replica_core.specs.declared.fault.Fault.{Fault}
 use Rattle.replica_core.specs.declared.fault.Fault.TheVariants as faults
 use Rattle.replica_core.specs.declared.spec.EditSpec.{EditSpec}
-use Rattle.replica_core.specs.declared.spec.EditSpec.TheVariants.{Cells}
-use Rattle.replica_core.specs.Laws.{greatest_counter}
+use Rattle.stamped_map.specs.Laws.{greatest_counter}
 use Rattle.replica_core.specs.Replica.{edit_drawn, made, or_edit_fault}
 use Rattle.replica_core.specs.World.{History, ReplicaHistory, Sent, State, AreEdits, IsIn, after, after_all, after_drawing, after_message, beginner, changed, delivered, drawn, edits_sent, message, opening, replica, with_message, with_replica}
+use Rattle.replica_core.proofs.DrawLaws.{made_stamp}
 use Rattle.replica_core.proofs.SideBySide.{get_pushed, get_replicate, get_set_elsewhere, get_set_here, some_is}
 
 -- ---- what stands at a number
@@ -169,17 +164,11 @@ comes_from w (Show r x y) e inside = inl inside
 
 -- ---- a drawn edit
 
--- what is made, where nothing is refused
-made_is : (fault : Option EditFault) (kept e : PlaneEdit) → or_edit_fault (unless fault kept) ≡ Ok e → kept ≡ e
-made_is None kept e is = same_ok (Ok kept) kept e refl is
-made_is (Some fault) kept e is = absurd (cc)
-
 -- the stamp of a drawn edit is the next one
 next_stamp : (g : GenerationsRule) (counter r : ℕ) (spec : EditSpec) (e : PlaneEdit) (b : Bool)
     → (unless (when (not b) faults.ClockFull) (stamp_of (counter + 1) r) >>= (λ stamp. or_edit_fault (made g stamp spec))) ≡ Ok e → e.stamp ≡ stamp_of (counter + 1) r
 next_stamp g counter r spec e false is = absurd (cc)
-next_stamp g counter r (Cells cells) e true is =
-    sym (ap (λ x. x.stamp) (made_is (cells_fault g.states cells) (record { stamp = stamp_of (counter + 1) r; area = None; cells = settled cells }) e is))
+next_stamp g counter r spec e true is = made_stamp g (stamp_of (counter + 1) r) spec e is
 
 -- ---- what every history obeys
 

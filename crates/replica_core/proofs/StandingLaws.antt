@@ -14,12 +14,12 @@ use Rattle.replica_core.specs.declared.fault.Fault.TheVariants as faults
 use Rattle.replica_core.specs.declared.message.Content.{Content}
 use Rattle.replica_core.specs.declared.message.Content.TheVariants as contents
 use Rattle.replica_core.specs.declared.spec.EditSpec.{EditSpec}
-use Rattle.replica_core.specs.Laws.{greatest_counter}
+use Rattle.stamped_map.specs.Laws.{greatest_counter}
 use Rattle.replica_core.specs.Message.{Shared}
-use Rattle.replica_core.specs.Plane.{IsGreatestStamp}
+use Rattle.stamped_map.specs.Plane.{IsGreatestStamp}
 use Rattle.replica_core.specs.Replica.{ReplicaState, DrawsAs, Takes, IsMapOf, IsSnapshot, IsDraw, edit_drawn}
 use Rattle.replica_core.specs.World.{ReplicaHistory, Sent, State, Carries, StandsFor, StandsForSent, after_drawing, after_message}
-use Rattle.replica_core.proofs.ClockLaws.{tells_counter}
+use Rattle.stamped_map.proofs.ClockLaws.{tells_counter}
 
 -- ---- messages
 

@@ -1,10 +1,6 @@
 pub mod Device
-pub mod Plane
-pub mod Merge
-pub mod Journal
 pub mod Fault
 pub mod Message
 pub mod Replica
-pub mod Laws
 pub mod World
 pub mod Headline

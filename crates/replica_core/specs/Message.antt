@@ -4,7 +4,7 @@ use Rattle.generations_rule.specs.Rule.{GenerationsRule}
 use Rattle.edit_stamps.specs.Edit.{PlaneEdit, greatest}
 use Rattle.edit_stamps.specs.PlaneMap.{write_at}
 use Rattle.edit_stamps.specs.Write.{Writes}
-use Rattle.replica_core.specs.Plane.{HasStatesBelow, HaveStatesBelow}
+use Rattle.stamped_map.specs.Plane.{HasStatesBelow, HaveStatesBelow}
 use Rattle.replica_core.specs.declared.message.Content.{Content}
 use Rattle.replica_core.specs.declared.message.Content.TheVariants.{Edits, State}
 

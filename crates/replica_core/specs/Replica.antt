@@ -6,19 +6,20 @@ use Rattle.generations_rule.specs.Rule.{GenerationsRule}
 use Rattle.edit_stamps.specs.declared.fault.EditFault.{EditFault}
 use Rattle.edit_stamps.specs.Edit.{PlaneEdit, writes_of}
 use Rattle.edit_stamps.specs.Making.{edit_of_cells}
+use Rattle.edit_stamps.specs.Pasting.{edit_of_clear, edit_of_copy, edit_of_or}
 use Rattle.edit_stamps.specs.PlaneMap.{PlaneMap, write_at}
 use Rattle.edit_stamps.specs.Stamp.{stamp_of, last_counter}
 use Rattle.edit_stamps.specs.Write.{unwritten, Writes, AreSame, IsBelow, joined}
 use Rattle.replica_core.specs.declared.spec.EditSpec.{EditSpec}
-use Rattle.replica_core.specs.declared.spec.EditSpec.TheVariants.{Cells}
+use Rattle.replica_core.specs.declared.spec.EditSpec.TheVariants.{Cells, Copy, Or, Clear}
 use Rattle.replica_core.specs.declared.fault.Fault.{Fault}
 use Rattle.replica_core.specs.declared.fault.Fault.TheVariants as faults
 use Rattle.replica_core.specs.declared.message.Content.{Content}
 use Rattle.replica_core.specs.declared.message.Content.TheVariants.{Edits, State}
 use Rattle.replica_core.specs.Fault.{fault_of_edit}
-use Rattle.replica_core.specs.Journal.{noted}
+use Rattle.edit_journal.specs.Journal.{noted}
 use Rattle.replica_core.specs.Message.{Shared, writes_in, edits_in}
-use Rattle.replica_core.specs.Plane.{HasStatesBelow}
+use Rattle.stamped_map.specs.Plane.{HasStatesBelow}
 
 -- what contracts see of a replica
 pub record ReplicaState : Type 0 where
@@ -40,6 +41,9 @@ or_edit_fault (Err fault) = Err (fault_of_edit fault)
 -- the edit of a specification
 abbrev pub made : GenerationsRule → ℕ → EditSpec → Result PlaneEdit EditFault
 made r stamp (Cells cells) = edit_of_cells r stamp cells
+made r stamp (Copy pattern x y) = edit_of_copy r stamp pattern x y
+made r stamp (Or pattern x y) = edit_of_or r stamp pattern x y
+made r stamp (Clear area) = edit_of_clear stamp area
 
 -- the edit that a replica draws, whose greatest counter is given
 abbrev pub edit_drawn : GenerationsRule → ℕ → ℕ → EditSpec → Result PlaneEdit Fault

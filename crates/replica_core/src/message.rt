@@ -2,9 +2,9 @@
 
 ghost use Rattle.std.specs.Prelude.{◌≡◌, option_copied};
 
-use crate::plane::Plane;
 use edit_stamps::{Edit, EditList};
 use generations_rule::Rule;
+use stamped_map::Plane;
 use std::marker::Model;
 
 /// A rule, and either edits or a map.
@@ -36,7 +36,7 @@ impl Model for Message {
 impl Message {
     ghost use Rattle.replica_core.specs.declared.message.Content.TheVariants.{Edits, State};
     ghost use Rattle.replica_core.specs.Message.{IsBelowStates, edits_of};
-    ghost use Rattle.replica_core.specs.Plane.{HaveStatesBelow, HasStatesBelow};
+    ghost use Rattle.stamped_map.specs.Plane.{HaveStatesBelow, HasStatesBelow};
     ghost use Rattle.edit_stamps.specs.PlaneMap.{write_at};
 
     /// A message of edits whose states the rule has.

@@ -8,18 +8,18 @@ ghost use Rattle.edit_stamps.specs.PlaneMap.{write_at};
 ghost use Rattle.edit_stamps.specs.Write.{unwritten, AreSame, joined};
 ghost use Rattle.edit_stamps.specs.Edit.{greatest, has_states_below, writes_of};
 ghost use Rattle.replica_core.specs.Fault.{IsWant};
-ghost use Rattle.replica_core.specs.Journal.{noted};
+ghost use Rattle.edit_journal.specs.Journal.{noted};
 ghost use Rattle.replica_core.specs.Message.{edits_in, writes_in, IsBelowStates};
 ghost use Rattle.replica_core.specs.Replica.{made, or_edit_fault, stamp_after};
-ghost use Rattle.replica_core.specs.Plane.{HaveStatesBelow, IsBetween, IsGreatestStamp, KeepsStates};
+ghost use Rattle.stamped_map.specs.Plane.{HaveStatesBelow, IsBetween, IsGreatestStamp, KeepsStates};
 
 use crate::fault::Fault;
-use crate::journal::Journal;
 use crate::message::{Content, Message};
-use crate::plane::Plane;
 use crate::spec::EditSpec;
+use edit_journal::Journal;
 use edit_stamps::{Edit, Stamp, Write};
 use generations_rule::Rule;
+use stamped_map::Plane;
 use std::alloc::Global;
 use std::marker::Model;
 
@@ -37,7 +37,7 @@ pub struct Replica {
 impl Model for Replica {
     ghost use Rattle.std.specs.Prelude.{◌≤◌};
     ghost use Rattle.edit_stamps.specs.PlaneMap.{write_at};
-    ghost use Rattle.replica_core.specs.Plane.{HasStatesBelow};
+    ghost use Rattle.stamped_map.specs.Plane.{HasStatesBelow};
     ghost use Rattle.replica_core.specs.Replica.{ReplicaState, IsReplica};
 
     ghost Value = { ReplicaState };
@@ -151,16 +151,18 @@ fn next_stamp(plane: &Plane, number: u16) -> Result<Stamp, Fault>
     Stamp::new(counter + 1, number).ok_or(Fault::ClockFull)
 }
 
+/// The edit of a specification.
 fn make(alloc: Global, rule: &Rule, stamp: Stamp, spec: &EditSpec) -> Result<Edit, Fault>
     ensures edit { Answers IsWant result (or_edit_fault (made rule.now stamp spec.now)) }
     ensures states { IfOk result (λ edit. IsTrue (has_states_below rule.now.states edit)) }
 {
-    match spec {
-        EditSpec::Cells(cells) => {
-            let edit = Edit::cells(alloc, rule, stamp, cells.as_slice())?;
-            Ok(edit)
-        }
-    }
+    let edit = match spec {
+        EditSpec::Cells(cells) => Edit::cells(alloc, rule, stamp, cells.as_slice())?,
+        EditSpec::Copy(pattern, x, y) => Edit::paste_copy(alloc, rule, stamp, pattern, *x, *y)?,
+        EditSpec::Or(pattern, x, y) => Edit::paste_or(alloc, rule, stamp, pattern, *x, *y)?,
+        EditSpec::Clear(area) => Edit::clear(alloc, stamp, *area)?,
+    };
+    Ok(edit)
 }
 
 /// Joins an edit and notes it.

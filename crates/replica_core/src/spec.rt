@@ -2,7 +2,8 @@
 
 ghost use Rattle.std.specs.Prelude.{◌≡◌};
 
-use multistate_rle::Cell;
+use edit_stamps::Rect;
+use multistate_rle::{Cell, Pattern};
 use std::marker::Model;
 
 /// What is to be drawn.
@@ -10,6 +11,12 @@ use std::marker::Model;
 pub enum EditSpec {
     /// These cells, in any order; of the entries at one coordinate the last wins.
     Cells(CellList),
+    /// Every cell of a pattern's box, dead ones too, with the box's upper left corner at x and y.
+    Copy(Pattern, i32, i32),
+    /// The nonzero cells of a pattern alone, with its box's upper left corner at x and y.
+    Or(Pattern, i32, i32),
+    /// State 0 at every coordinate of an area.
+    Clear(Rect),
 }
 
 /// A list of cells. It is made from a `Vec` and gives it back without taking memory.

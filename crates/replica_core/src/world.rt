@@ -7,7 +7,7 @@ ghost use Rattle.replica_core.specs.declared.event.Event.TheVariants as events;
 ghost use Rattle.replica_core.specs.declared.event.Stop.TheVariants as stops;
 ghost use Rattle.replica_core.specs.declared.event.Reply.TheVariants as replies;
 ghost use Rattle.replica_core.specs.declared.fault.Fault.TheVariants as faults;
-ghost use Rattle.replica_core.specs.Laws.{greatest_counter};
+ghost use Rattle.stamped_map.specs.Laws.{greatest_counter};
 ghost use Rattle.replica_core.specs.Replica.{edit_drawn, IsNew, IsSnapshot};
 ghost use Rattle.replica_core.specs.World.{History, ReplicaHistory, Sent, opening, after, after_all, after_drawing, after_message, numbered, AreEdits, AreReplies, IsReply, StandSideBySide, StandsFor, StandsForSent, StandsForWorld};
 

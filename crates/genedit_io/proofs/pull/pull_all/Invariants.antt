@@ -1,0 +1,11 @@
+use Rattle.std.proofs.Common.{◌≡◌, ◌≤◌, length}
+use Rattle.std.specs.Io.KnownBytes.{Consumes}
+use Rattle.genedit_io.proofs.pull.pull_all.Given as goal
+
+-- the text so far is what came, a byte a turn at least
+abbrev pub invariant-loop-turn : goal.invariant-loop-turn
+invariant-loop-turn g l = record {
+  bytes : Consumes (g.S.Source.left l.fn.source) (g.S.Source.left l.source) l.text.items;
+  works : g.S.Source.failures l.source ≡ g.S.Source.failures l.fn.source;
+  many : l._turn ≤ length l.text.items;
+}

@@ -1,0 +1,47 @@
+-- Faults of programs, as users meet them.
+use Rattle.std.specs.Prelude.{ℕ, List, [], ◌∷◌, ◌++◌, ◌==◌, if◌then◌else◌, codes, decimal, Some, None}
+use Rattle.replica_core.specs.declared.event.Stop.{Stop}
+use Rattle.replica_core.specs.declared.event.Stop.TheVariants as stops
+use Rattle.genedit_io.specs.declared.fault.RunFault.{RunFault}
+use Rattle.genedit_io.specs.declared.fault.RunFault.TheVariants.{Script, Refused, Read, Turns, Write, Memory, StoreFull}
+
+-- the status of the process
+abbrev pub exit_status : RunFault → ℕ
+exit_status (Script line) = 2
+exit_status (Refused number place) = 2
+exit_status Read = 3
+exit_status Turns = 3
+exit_status Write = 4
+exit_status Memory = 5
+exit_status StoreFull = 5
+
+-- the name that a list of numbers and names has for a number
+abbrev pub named_in : List (ℕ × List ℕ) → ℕ → List ℕ
+named_in [] number = codes "?"
+named_in (entry ∷ entries) number = if number == entry.0 then entry.1 else named_in entries number
+
+-- the table of refusals
+abbrev pub names : List (ℕ × List ℕ)
+names =
+    (1, codes "Slashes") ∷ (2, codes "Digit") ∷ (3, codes "States")
+    ∷ (4, codes "Header") ∷ (5, codes "Tag") ∷ (6, codes "Count") ∷ (7, codes "State") ∷ (8, codes "TooMany")
+    ∷ (9, codes "Nothing") ∷ (10, codes "OutOfPlane") ∷ (11, codes "StateRange")
+    ∷ (16, codes "OtherRule") ∷ (24, codes "ClockFull") ∷ (26, codes "NoReplica") ∷ (27, codes "NoMessage") ∷ []
+
+abbrev pub name_of_number : ℕ → List ℕ
+name_of_number number = named_in names number
+
+-- what the program says
+abbrev pub fault_text : RunFault → List ℕ
+fault_text (Script line) = codes "script fault at line " ++ decimal line
+fault_text (Refused number None) = codes "refused " ++ (decimal number ++ (codes " " ++ name_of_number number))
+fault_text (Refused number (Some place)) = codes "refused " ++ (decimal number ++ (codes " " ++ (name_of_number number ++ (codes " " ++ decimal place))))
+fault_text Read = codes "read fault"
+fault_text Turns = codes "read fault"
+fault_text Write = codes "write fault"
+fault_text Memory = codes "out of memory"
+fault_text StoreFull = codes "store full"
+
+abbrev pub run_fault_of_stop : Stop → RunFault
+run_fault_of_stop stops.Memory = Memory
+run_fault_of_stop stops.StoreFull = StoreFull

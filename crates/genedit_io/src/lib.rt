@@ -1,0 +1,8 @@
+//! How the programs read what they are given, and how they end.
+#![tactic(auto)]
+
+mod fault;
+mod pull;
+
+pub use fault::RunFault;
+pub use pull::pull_all;

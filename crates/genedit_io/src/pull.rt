@@ -1,0 +1,32 @@
+//! All that a source gives.
+
+ghost use Rattle.std.specs.Prelude.{◌≡◌, OnOk, IfOk, IfErr};
+ghost use Rattle.genedit_io.specs.Devices.{IsFaultOfPulls, PullsAll, source_failures};
+
+use crate::fault::RunFault;
+use replica_core::Source;
+use std::alloc::Global;
+
+/// How many bytes are pulled at once, at most.
+const PIECE: usize = 8192;
+
+/// All bytes of a source, in at most so many pulls.
+pub fn pull_all<S: Source>(alloc: Global, source: &mut S, turns: u64) -> Result<Vec<u8>, RunFault>
+    ensures all { IfOk result (λ text. PullsAll (S.left source.old) (S.left source.new) text.items) }
+    ensures works { OnOk result (S.failures source.new ≡ S.failures source.old) }
+    ensures fault { IfErr result (λ fault. IsFaultOfPulls turns fault (S.left source.old) (S.left source.new)) }
+    ensures failures { IfErr result (λ fault. S.failures source.new ≡ source_failures fault (S.failures source.old)) }
+{
+    let mut text = Vec::new(alloc);
+    let mut piece = [0; PIECE];
+    for _turn in 0..turns {
+        let Ok(count) = source.pull(&mut piece) else {
+            return Err(RunFault::Read);
+        };
+        if count == 0 {
+            return Ok(text);
+        }
+        text.extend_from_slice(&piece[..count])?;
+    }
+    Err(RunFault::Turns)
+}

@@ -1,0 +1,105 @@
+-- Worked values of the definitions.
+use Rattle.std.specs.Prelude.{◌≡◌, [], ◌∷◌, Some, None, Ok, Err, codes, refl, pos, negsuc}
+use Rattle.std.specs.Str.Lines.{lines}
+use Rattle.generations_rule.specs.RuleText.{rule_of_text}
+use Rattle.multistate_rle.specs.Position.{words, signed}
+use Rattle.replica_core.specs.declared.event.Event.TheVariants.{Draw, SendState, Deliver, Show}
+use Rattle.replica_core.specs.declared.spec.EditSpec.TheVariants.{Cells}
+use Rattle.genedit_script.specs.Script.{script_of, number_in, event_in}
+
+-- ---- lines and words
+
+pub two_lines : lines (codes "a b\r\nc") ≡ codes "a b" ∷ codes "c" ∷ []
+two_lines = refl
+
+-- only a carriage return before a line feed is dropped
+pub return_at_the_end : lines (codes "a\r\r\nb\r") ≡ codes "a\r" ∷ codes "b\r" ∷ []
+return_at_the_end = refl
+
+pub no_line_behind_the_last : lines (codes "a\n\n") ≡ codes "a" ∷ [] ∷ []
+no_line_behind_the_last = refl
+
+pub three_words : words (codes "\t show 1  -2\t") ≡ codes "show" ∷ codes "1" ∷ codes "-2" ∷ []
+three_words = refl
+
+-- ---- numbers
+
+pub leading_zeros : number_in (codes "004294967295") ≡ Some 4294967295
+leading_zeros = refl
+
+pub past_32_bits : number_in (codes "4294967296") ≡ None
+past_32_bits = refl
+
+pub no_sign : number_in (codes "-1") ≡ None
+no_sign = refl
+
+pub least_coordinate : signed (codes "-2147483648") ≡ Some (negsuc 2147483647)
+least_coordinate = refl
+
+pub past_the_least_coordinate : signed (codes "-2147483649") ≡ None
+past_the_least_coordinate = refl
+
+pub past_the_greatest_coordinate : signed (codes "2147483648") ≡ None
+past_the_greatest_coordinate = refl
+
+pub no_digit : signed (codes "-") ≡ None
+no_digit = refl
+
+-- ---- commands
+
+pub two_cells : event_in (words (codes "cells 1 0 -1 255 7 8 0"))
+    ≡ Some (Draw 1 (Cells (record { x = pos 0; y = negsuc 0; state = 255 } ∷ record { x = pos 7; y = pos 8; state = 0 } ∷ [])))
+two_cells = refl
+
+pub part_of_a_cell : event_in (words (codes "cells 1 0 0 1 0 0")) ≡ None
+part_of_a_cell = refl
+
+pub no_cell : event_in (words (codes "cells 1")) ≡ None
+no_cell = refl
+
+pub past_the_states : event_in (words (codes "cells 1 0 0 256")) ≡ None
+past_the_states = refl
+
+pub delivery : event_in (words (codes "deliver 3 2")) ≡ Some (Deliver 3 2)
+delivery = refl
+
+pub one_word_too_many : event_in (words (codes "state 1 2")) ≡ None
+one_word_too_many = refl
+
+pub no_command : event_in (words (codes "State 1")) ≡ None
+no_command = refl
+
+-- ---- scripts
+
+pub whole :
+    script_of (codes "# two replicas\r\nrule /2/3\n\n\treplicas 02\ncells 1 0 0 1\nstate 1\n #\ndeliver 1 2\nshow 2 0 0")
+    ≡ Ok (record {
+      rule = rule_of_text (codes "/2/3");
+      replicas = 2;
+      events = Draw 1 (Cells (record { x = pos 0; y = pos 0; state = 1 } ∷ [])) ∷ SendState 1 ∷ Deliver 1 2 ∷ Show 2 (pos 0) (pos 0) ∷ [];
+    })
+whole = refl
+
+pub fault_in_the_third_line : script_of (codes "rule /2/3\nreplicas 1\ncells 1 0 0\n") ≡ Err 3
+fault_in_the_third_line = refl
+
+pub first_fault_counts : script_of (codes "rule /2/3\nreplicas 1\n\n# a\nrule /2/3\ncells\n") ≡ Err 5
+first_fault_counts = refl
+
+pub no_bytes : script_of [] ≡ Err 1
+no_bytes = refl
+
+pub only_comments : script_of (codes "# a\n\n# b") ≡ Err 4
+only_comments = refl
+
+pub no_replicas : script_of (codes "rule /2/3\n\n") ≡ Err 3
+no_replicas = refl
+
+pub too_many_replicas : script_of (codes "rule /2/3\nreplicas 65") ≡ Err 2
+too_many_replicas = refl
+
+pub no_rule : script_of (codes "rule 23/3\nreplicas 1") ≡ Err 1
+no_rule = refl
+
+pub return_without_line_feed : script_of (codes "rule /2/3\r\nreplicas 1\r\nstate 1\r") ≡ Err 3
+return_without_line_feed = refl

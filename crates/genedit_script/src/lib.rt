@@ -1,0 +1,11 @@
+//! Scripts of `genedit run`: which texts are scripts, and what they ask for.
+#![tactic(auto)]
+
+mod command;
+mod fault;
+mod line;
+mod script;
+mod word;
+
+pub use fault::ScriptFault;
+pub use script::{Script, read_script};

@@ -1,0 +1,127 @@
+-- A draw: the stamp of what is drawn, which cells it wins, and what a refusal says.
+use Rattle.std.proofs.Common.{◌≡◌, ◌⊎◌, ℕ, ◌+◌, ◌<◌, ◌≤◌, Bool, true, false, [], ◌∷◌, ◌++◌, refl, sym, ◌∙◌, ap, subst, arith, inl, inr}
+use Rattle.std.specs.Prelude.{Option, Some, None, Result, Ok, Err, nat_lt, not}
+use Rattle.std.proofs.lemmas.Bool.Decides.{nat_tests}
+use Rattle.generations_rule.specs.Refusal.{◌>>=◌, when, unless}
+use Rattle.generations_rule.specs.Rule.{GenerationsRule}
+use Rattle.edit_stamps.specs.declared.fault.EditFault.{EditFault}
+use Rattle.edit_stamps.specs.declared.fault.EditFault.TheVariants as edit_faults
+use Rattle.edit_stamps.specs.declared.write.Write.{Write}
+use Rattle.edit_stamps.specs.Edit.{PlaneEdit, is_covered, listed, write_by, writes_of}
+use Rattle.edit_stamps.specs.Making.{cells_fault, settled}
+use Rattle.edit_stamps.specs.Pasting.{box_of, clear_fault, copy_fault, or_fault, placed}
+use Rattle.edit_stamps.specs.PlaneMap.{write_at}
+use Rattle.edit_stamps.specs.Stamp.{counter_of, last_counter, stamp_of}
+use Rattle.edit_stamps.specs.Write.{Writes, AreSame, greater, joined}
+use Rattle.edit_stamps.proofs.WriteLaws.{is_least_upper_bound, is_total}
+use Rattle.stamped_map.specs.Plane.{IsGreatestStamp}
+use Rattle.replica_core.specs.declared.fault.Fault.{Fault}
+use Rattle.replica_core.specs.declared.fault.Fault.TheVariants as faults
+use Rattle.replica_core.specs.declared.spec.EditSpec.{EditSpec}
+use Rattle.replica_core.specs.declared.spec.EditSpec.TheVariants.{Cells, Copy, Or, Clear}
+use Rattle.replica_core.specs.Fault.{IsWant}
+use Rattle.replica_core.specs.Replica.{ReplicaState, IsDraw, IsOneReplica, IsPartly, edit_drawn, made, or_edit_fault, stamp_after, writes_drawn}
+
+-- ---- what is made
+
+-- what is made, where nothing is refused
+made_is : (fault : Option EditFault) (kept e : PlaneEdit) → or_edit_fault (unless fault kept) ≡ Ok e → kept ≡ e
+made_is None kept e is = cc
+made_is (Some fault) kept e is = absurd (cc)
+
+-- an edit has the stamp with which it was made
+pub made_stamp : (g : GenerationsRule) (stamp : ℕ) (spec : EditSpec) (e : PlaneEdit) → or_edit_fault (made g stamp spec) ≡ Ok e → e.stamp ≡ stamp
+made_stamp g stamp (Cells cells) e is =
+    sym (ap (λ x. x.stamp) (made_is (cells_fault g.states cells) (record { stamp = stamp; area = None; cells = settled cells }) e is))
+made_stamp g stamp (Copy p x y) e is =
+    sym (ap (λ x. x.stamp) (made_is (copy_fault g.states (box_of p x y) (placed x y p.cells)) (record { stamp = stamp; area = Some (box_of p x y); cells = placed x y p.cells }) e is))
+made_stamp g stamp (Or p x y) e is =
+    sym (ap (λ x. x.stamp) (made_is (or_fault g.states (placed x y p.cells)) (record { stamp = stamp; area = None; cells = placed x y p.cells }) e is))
+made_stamp g stamp (Clear area) e is =
+    sym (ap (λ x. x.stamp) (made_is (clear_fault area) (record { stamp = stamp; area = Some area; cells = [] }) e is))
+
+-- ---- which cells an edit wins
+
+-- a write of an edit has its stamp
+pub stamp_written : (stamp : ℕ) (o : Option ℕ) (covered : Bool) → 0 < (write_by stamp o covered).stamp → (write_by stamp o covered).stamp ≡ stamp
+stamp_written stamp (Some state) covered some = refl
+stamp_written stamp None true some = refl
+stamp_written stamp None false some = absurd (omega (arith, some))
+
+wins_above : (v w : Write) → v.stamp < w.stamp → greater v w ≡ w
+wins_above v w above = let less : nat_lt v.stamp w.stamp ≡ true = grind (arith, nat_tests, above) in rw less refl
+
+-- the next stamp is above the greatest
+above_greatest : (n number stamp : ℕ) (b : Bool) → unless (when (not b) faults.ClockFull) (stamp_of (counter_of n + 1) number) ≡ Ok stamp → n < stamp
+above_greatest n number stamp true is = let same : stamp_of (counter_of n + 1) number ≡ stamp = cc in omega (arith, same)
+above_greatest n number stamp false is = absurd (cc)
+
+-- ---- what a draw answers
+
+pub draws : (old new : ReplicaState) (n stamp : ℕ) (spec : EditSpec) (e : PlaneEdit)
+    → IsGreatestStamp n (write_at old.map) → stamp_after (counter_of n) old.number ≡ Ok stamp → or_edit_fault (made old.rule stamp spec) ≡ Ok e
+    → IsOneReplica old new → AreSame (write_at new.map) (joined (write_at old.map) (writes_of e)) → new.journal ≡ old.journal ++ e ∷ []
+    → IsDraw old new (edit_drawn old.rule (counter_of n) old.number spec) (Ok e)
+draws old new n stamp spec e greatest_is next is one map journal = (
+  ap (λ s. s >>= (λ stamp. or_edit_fault (made old.rule stamp spec))) next ∙ is,
+  record {
+    one = one;
+    map = map;
+    journal = journal;
+    wins = λ c some. map c ∙ wins_above (write_at old.map c) (writes_of e c) (
+        let above : n < stamp = above_greatest n old.number stamp (nat_lt (counter_of n) last_counter) next in
+        let mine : (writes_of e c).stamp ≡ stamp = stamp_written e.stamp (listed e.cells c) (is_covered e.area c) some ∙ made_stamp old.rule stamp spec e is in
+        let held : (write_at old.map c).stamp ≤ n = greatest_is.above c in
+        omega (arith, above, mine, held)
+        );
+  },
+)
+
+-- a map that gained nothing may have lost nothing
+unchanged : (r : ReplicaState) (added : Writes) → IsPartly r r added
+unchanged r added = record {
+  one = record { rule = refl; number = refl };
+  journal = refl;
+  kept = λ c. is_total.reflexive (write_at r.map c);
+  no_more = λ c. is_least_upper_bound.left (write_at r.map) added c;
+}
+
+-- which refusals an edit's maker has
+abbrev is_of_edit : Fault → Bool
+is_of_edit (faults.Edit fault) = true
+is_of_edit faults.Memory = true
+is_of_edit faults.OtherRule = false
+is_of_edit faults.ClockFull = false
+is_of_edit faults.NoReplica = false
+is_of_edit faults.NoMessage = false
+
+maker_refuses : (made_now : Result PlaneEdit EditFault) (fault : Fault) → or_edit_fault made_now ≡ Err fault → is_of_edit fault ≡ true
+maker_refuses (Ok e) fault same = absurd (cc)
+maker_refuses (Err edit_faults.Memory) fault same = let is : faults.Memory ≡ fault = cc in subst (λ f. is_of_edit f ≡ true) is refl
+maker_refuses (Err edit_faults.Nothing) fault same = let is : faults.Edit edit_faults.Nothing ≡ fault = cc in subst (λ f. is_of_edit f ≡ true) is refl
+maker_refuses (Err edit_faults.TooMany) fault same = let is : faults.Edit edit_faults.TooMany ≡ fault = cc in subst (λ f. is_of_edit f ≡ true) is refl
+maker_refuses (Err edit_faults.OutOfPlane) fault same = let is : faults.Edit edit_faults.OutOfPlane ≡ fault = cc in subst (λ f. is_of_edit f ≡ true) is refl
+maker_refuses (Err edit_faults.StateRange) fault same = let is : faults.Edit edit_faults.StateRange ≡ fault = cc in subst (λ f. is_of_edit f ≡ true) is refl
+maker_refuses (Err edit_faults.AreaSide) fault same = let is : faults.Edit edit_faults.AreaSide ≡ fault = cc in subst (λ f. is_of_edit f ≡ true) is refl
+
+-- a refusal of the maker is one of the draw
+pub refuses : (r : ReplicaState) (meant : Result PlaneEdit Fault) (made_now : Result PlaneEdit EditFault) (fault : Fault) → meant ≡ or_edit_fault made_now
+    → IsWant fault ⊎ (or_edit_fault made_now ≡ Err fault) → IsDraw r r meant (Err fault)
+refuses r meant made_now faults.Memory is told = unchanged r (writes_drawn meant)
+refuses r meant made_now faults.ClockFull is (inl want) = absurd want
+refuses r meant made_now faults.ClockFull is (inr same) = (is ∙ same, refl)
+refuses r meant made_now (faults.Edit fault) is (inl want) = absurd want
+refuses r meant made_now (faults.Edit fault) is (inr same) = (is ∙ same, refl)
+refuses r meant made_now faults.OtherRule is (inl want) = absurd want
+refuses r meant made_now faults.OtherRule is (inr same) = absurd (let no = maker_refuses made_now faults.OtherRule same in cc)
+refuses r meant made_now faults.NoReplica is (inl want) = absurd want
+refuses r meant made_now faults.NoReplica is (inr same) = absurd (let no = maker_refuses made_now faults.NoReplica same in cc)
+refuses r meant made_now faults.NoMessage is (inl want) = absurd want
+refuses r meant made_now faults.NoMessage is (inr same) = absurd (let no = maker_refuses made_now faults.NoMessage same in cc)
+
+pub refuses_made : (r : ReplicaState) (n stamp : ℕ) (spec : EditSpec) (fault : Fault)
+    → stamp_after (counter_of n) r.number ≡ Ok stamp → IsWant fault ⊎ (or_edit_fault (made r.rule stamp spec) ≡ Err fault)
+    → IsDraw r r (edit_drawn r.rule (counter_of n) r.number spec) (Err fault)
+refuses_made r n stamp spec fault next told =
+    refuses r (edit_drawn r.rule (counter_of n) r.number spec) (made r.rule stamp spec) fault
+    (ap (λ s. s >>= (λ stamp. or_edit_fault (made r.rule stamp spec))) next) told

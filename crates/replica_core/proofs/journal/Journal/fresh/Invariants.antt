@@ -1,6 +1,0 @@
-use Rattle.std.proofs.Common.{◌≡◌, ◌++◌, drop}
-use Rattle.replica_core.specs.Journal.{noted}
-use Rattle.replica_core.proofs.journal.Journal.fresh.Given as goal
-
-abbrev pub invariant-loop-edit : goal.invariant-loop-edit
-invariant-loop-edit l = noted (l.self ++ l.fresh) (drop l.edit-index l.edits) ≡ noted l.fn.self l.edits

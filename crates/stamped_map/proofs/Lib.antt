@@ -1,0 +1,9 @@
+pub mod ReadLemmas
+pub mod JoinLemmas
+pub mod JoiningLaws
+pub mod EditWrites
+pub mod EntryLaws
+pub mod StateLaws
+pub mod ClockLaws
+pub mod AheadLaws
+pub mod MergeLaws

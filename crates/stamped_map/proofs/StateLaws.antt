@@ -1,0 +1,116 @@
+-- States stay below a number as writes are joined.
+use Rattle.std.proofs.Common.{◌≡◌, ℕ, zero, suc, ◌+◌, ◌<◌, true, List, [], ◌∷◌, length, get_or, drop, drop-cons, add-one, refl, sym, ◌∙◌, ap, subst, arith, inl, inr, pos, if◌then◌else◌}
+use Rattle.std.specs.Prelude.{IsTrue, nat_lt, unwrap_or}
+use Rattle.std.proofs.lemmas.Bool.{cases_Bool, and_parts, ltb-true}
+use Rattle.generations_rule.specs.Place.{Place, is_place}
+use Rattle.multistate_rle.specs.declared.cell.Cell.{Cell}
+use Rattle.multistate_rle.specs.Cells.{are_below}
+use Rattle.edit_stamps.specs.declared.write.Write.{Write}
+use Rattle.edit_stamps.specs.Edit.{PlaneEdit, greatest, writes_of, has_states_below}
+use Rattle.edit_stamps.specs.PlaneMap.{PlaneMap, write_at}
+use Rattle.edit_stamps.specs.Write.{at_most, greater, unwritten, Writes, AreSame, joined}
+use Rattle.stamped_map.specs.declared.plane.Coordinate.{Coordinate}
+use Rattle.stamped_map.specs.Plane.{only, place_at, map_of_entries, HasStatesBelow, HaveStatesBelow, KeepsStates}
+use Rattle.std.specs.List.Sorted.{IsStrictlySortedBy}
+use Rattle.std.specs.Map.{keys_of}
+use Rattle.edit_stamps.proofs.PlaceOrder.{same_itself, one_place}
+use Rattle.stamped_map.proofs.ReadLemmas.{key_cmp}
+use Rattle.stamped_map.proofs.EntryLaws.{entries_written, same_key, not_found, written_is_found, written_is_read}
+use Rattle.stamped_map.proofs.JoinLemmas.{greater-unwritten, unwritten-greater}
+use Rattle.stamped_map.proofs.JoiningLaws.{cell_of}
+
+origin : Place
+origin = record { x = pos 0; y = pos 0 }
+
+-- some state is below the number, so 0 is
+pub zero_below : (n : ℕ) (p : Writes) → HasStatesBelow n p → 0 < n
+zero_below n p below = omega (arith, below origin)
+
+greater_below : (n : ℕ) (v w : Write) → v.state < n → w.state < n → (greater v w).state < n
+greater_below n v w h k = elim (cases_Bool (at_most v w)) [ inl t ↦ rw t k | inr f ↦ rw f h ]
+
+pub joined_below : (n : ℕ) (p q r : Writes) → HasStatesBelow n p → HasStatesBelow n q → AreSame r (joined p q) → HasStatesBelow n r
+joined_below n p q r h k same c = rw (same c) (greater_below n (p c) (q c) (h c) (k c))
+
+only_below : (n : ℕ) (c : Place) (w : Write) → w.state < n → HasStatesBelow n (only c w)
+only_below n c w h d = elim (cases_Bool (is_place c d)) [ inl t ↦ rw t h | inr f ↦ rw f (omega arith) ]
+
+-- one write
+pub write_keeps : (old new : Writes) (c : Place) (w : Write) → AreSame new (joined old (only c w)) → KeepsStates (λ n. w.state < n) old new
+write_keeps old new c w same n below own = joined_below n old (only c w) new below (only_below n c w own) same
+
+pub same_keeps : (old new : PlaneMap) (P : ℕ → Type 0) → new ≡ old → KeepsStates P (write_at old) (write_at new)
+same_keeps old new P same n below own = subst (λ (p : PlaneMap). HasStatesBelow n (write_at p)) (sym same) below
+
+-- what a step keeps
+pub keeps_on : (P Q : ℕ → Type 0) (old now later : Writes) → KeepsStates P old now → KeepsStates Q now later → ((n : ℕ) → HasStatesBelow n now → P n → Q n) → KeepsStates P old later
+keeps_on P Q old now later far step gives n below own =
+    let here : HasStatesBelow n now = far n below own in
+    step n here (gives n here own)
+
+-- each of the cells that are listed
+cells_below : (n : ℕ) (cells : List Cell) (i : ℕ) → are_below n cells ≡ true → i < length cells → (cell_of cells i).state < n
+cells_below n [] i all within = absurd (omega arith)
+cells_below n (a ∷ cells) zero all within = ltb-true a.state n (and_parts (nat_lt a.state n) (are_below n cells) all).0
+cells_below n (a ∷ cells) (suc i) all within = cells_below n cells i (and_parts (nat_lt a.state n) (are_below n cells) all).1 (omega arith)
+
+pub cell_below : (n : ℕ) (cells : List Cell) (i : ℕ) → IsTrue (are_below n cells) → i < length cells → (cell_of cells i).state < n
+cell_below n cells i all within = cells_below n cells i all within
+
+-- each write of a map's entries
+abbrev pub AllBelow : ℕ → List (Coordinate × Write) → Type 0
+AllBelow n [] = Unit {0}
+AllBelow n (e ∷ entries) = (e.1.state < n) × AllBelow n entries
+
+-- what is read at a place that has an entry
+only_here : (c : Place) (w : Write) → only c w c ≡ w
+only_here c w = rw (same_itself c) refl
+
+-- behind the first entry nothing is written at its place
+first_alone : (e : Coordinate × Write) (entries : List (Coordinate × Write)) → IsStrictlySortedBy key_cmp (keys_of (e ∷ entries)) →
+    entries_written entries (place_at e.0) ≡ unwritten
+unfolding IsStrictlySortedBy
+first_alone e entries sorted =
+    written_is_found entries e.0 sorted.1 ∙ ap (λ o. unwrap_or o unwritten) (not_found e.0 e.0 entries (same_key e.0) sorted.0)
+
+rest_below : (n : ℕ) (e : Coordinate × Write) (entries : List (Coordinate × Write)) → IsStrictlySortedBy key_cmp (keys_of (e ∷ entries)) →
+    HasStatesBelow n (entries_written (e ∷ entries)) → HasStatesBelow n (entries_written entries)
+rest_below n e entries sorted below c = elim (cases_Bool (is_place (place_at e.0) c)) [
+  | inl here ↦
+      let none : entries_written entries c ≡ unwritten = subst (λ p. entries_written entries p ≡ unwritten) (one_place (place_at e.0) c here) (first_alone e entries sorted) in
+      rw none (zero_below n (entries_written (e ∷ entries)) below)
+  | inr there ↦
+      let same : entries_written (e ∷ entries) c ≡ entries_written entries c =
+      ap (λ b. greater (if b then e.1 else unwritten) (entries_written entries c)) there ∙ unwritten-greater (entries_written entries c) in
+      subst (λ v. v.state < n) same (below c)
+]
+
+pub entries_below : (n : ℕ) (entries : List (Coordinate × Write)) → IsStrictlySortedBy key_cmp (keys_of entries) → HasStatesBelow n (entries_written entries) → AllBelow n entries
+unfolding IsStrictlySortedBy
+entries_below n [] sorted below = tt
+entries_below n (e ∷ entries) sorted below =
+    let own : entries_written (e ∷ entries) (place_at e.0) ≡ e.1 =
+    (λ i. greater (only_here (place_at e.0) e.1 i) (first_alone e entries sorted i)) ∙ greater-unwritten e.1 in
+    (subst (λ v. v.state < n) own (below (place_at e.0)), entries_below n entries sorted.1 (rest_below n e entries sorted below))
+
+-- ---- edits
+
+-- each edit from a place on
+pub edits_from : (n : ℕ) (edits : List PlaneEdit) (i : ℕ) (e : PlaneEdit) → HaveStatesBelow n edits → i < length edits → e ≡ get_or edits i e → IsTrue (has_states_below n e)
+edits_from n [] i e all within is = absurd (omega arith)
+edits_from n (d ∷ edits) zero e all within is = subst (λ x. IsTrue (has_states_below n x)) (sym is) all.0
+edits_from n (d ∷ edits) (suc i) e all within is = edits_from n edits i e all.1 (omega arith) is
+
+-- the first of the edits that are left
+pub first_edit : (edits : List PlaneEdit) (i : ℕ) (e : PlaneEdit) → i < length edits → e ≡ get_or edits i e →
+    AreSame (greatest (drop i edits)) (joined (writes_of e) (greatest (drop (i + 1) edits)))
+first_edit edits i e within is c =
+    ap (λ rest. greatest rest c) (drop-cons edits i e within)
+    ∙ (λ j. greater (writes_of (sym is j) c) (greatest (drop (sym (add-one i) j) edits) c))
+
+pub entries_all_below : (p : PlaneMap) (entries items : List (Coordinate × Write)) → items ≡ entries →
+    IsStrictlySortedBy key_cmp (keys_of entries) → map_of_entries entries ≡ p → (n : ℕ) → HasStatesBelow n (write_at p) → AllBelow n items
+entries_all_below p entries items same sorted is n below =
+    let read : HasStatesBelow n (entries_written entries) = λ c.
+    subst (λ v. v.state < n) (ap (λ q. write_at q c) (sym is) ∙ sym (written_is_read entries sorted c)) (below c) in
+    subst (AllBelow n) (sym same) (entries_below n entries sorted read)

@@ -1,0 +1,36 @@
+use Rattle.std.proofs.Common.{◌+◌, drop}
+use Rattle.std.specs.Prelude.{IsTrue}
+use Rattle.edit_stamps.specs.Edit.{greatest, writes_of, has_states_below}
+use Rattle.edit_stamps.specs.PlaneMap.{write_at}
+use Rattle.stamped_map.specs.Plane.{HaveStatesBelow}
+use Rattle.stamped_map.proofs.JoiningLaws.{joining_goes, joining_breaks, on_err}
+use Rattle.stamped_map.proofs.StateLaws.{keeps_on, edits_from, first_edit}
+use Rattle.stamped_map.proofs.plane.Plane.join_edits.Goals as goal
+
+pub loop-edit-preserved : goal.loop-edit-preserved
+loop-edit-preserved c = (
+  joining_goes (write_at c.args.self.now) (write_at c.loop-edit.self) (write_at c.join_edit.new.self)
+      (writes_of c.edit-item.result) (greatest (drop (c.loop-edit.edit-index + 1) c.args.edits.now)) (greatest (drop c.loop-edit.edit-index c.args.edits.now))
+      (greatest c.args.edits.now) c.loop-edit.invariant.0
+      (first_edit c.args.edits.now c.loop-edit.edit-index c.edit-item.result c.loop-edit-test.true c.edit-item.is)
+      c.in_ok-join_edit.ensures.ok,
+  keeps_on (λ n. HaveStatesBelow n c.args.edits.now) (λ n. IsTrue (has_states_below n c.edit-item.result))
+      (write_at c.args.self.now) (write_at c.loop-edit.self) (write_at c.join_edit.new.self)
+      c.loop-edit.invariant.1 c.join_edit.ensures.states
+      (λ n below own. edits_from n c.args.edits.now c.loop-edit.edit-index c.edit-item.result own c.loop-edit-test.true c.edit-item.is),
+)
+
+pub returns-in_err-join_edit-clause-err : goal.returns-in_err-join_edit-clause-err
+returns-in_err-join_edit-clause-err c =
+    on_err c.from_residual.result (joining_breaks (write_at c.args.self.now) (write_at c.loop-edit.self) (write_at c.join_edit.new.self)
+    (writes_of c.edit-item.result) (greatest (drop (c.loop-edit.edit-index + 1) c.args.edits.now)) (greatest (drop c.loop-edit.edit-index c.args.edits.now))
+    (greatest c.args.edits.now) c.loop-edit.invariant.0
+    (first_edit c.args.edits.now c.loop-edit.edit-index c.edit-item.result c.loop-edit-test.true c.edit-item.is)
+    c.in_err-join_edit.ensures.err)
+
+pub returns-in_err-join_edit-clause-states : goal.returns-in_err-join_edit-clause-states
+returns-in_err-join_edit-clause-states c =
+    keeps_on (λ n. HaveStatesBelow n c.args.edits.now) (λ n. IsTrue (has_states_below n c.edit-item.result))
+    (write_at c.args.self.now) (write_at c.loop-edit.self) (write_at c.join_edit.new.self)
+    c.loop-edit.invariant.1 c.join_edit.ensures.states
+    (λ n below own. edits_from n c.args.edits.now c.loop-edit.edit-index c.edit-item.result own c.loop-edit-test.true c.edit-item.is)

@@ -1,0 +1,3 @@
+pub mod Plane
+pub mod Merge
+pub mod Laws

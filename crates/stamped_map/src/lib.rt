@@ -1,0 +1,9 @@
+//! The plane as an ordered map of stamped writes: at each coordinate the greatest write that was
+//! joined into it.
+#![tactic(auto)]
+
+mod laws;
+mod plane;
+
+pub use laws::clock_laws;
+pub use plane::Plane;
