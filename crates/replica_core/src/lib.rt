@@ -20,4 +20,6 @@ pub use spec::{CellList, EditSpec};
 pub use world::{World, replay};
 
 #[cfg(test)]
+mod paste_tests;
+#[cfg(test)]
 mod tests;
