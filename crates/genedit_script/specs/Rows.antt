@@ -5,6 +5,7 @@ use Rattle.generations_rule.specs.RuleText.{rule_of_text}
 use Rattle.multistate_rle.specs.Position.{words, signed}
 use Rattle.replica_core.specs.declared.event.Event.TheVariants.{Draw, SendState, Deliver, Show}
 use Rattle.replica_core.specs.declared.spec.EditSpec.TheVariants.{Cells}
+use Rattle.genedit_script.specs.declared.command.Command.TheVariants.{Does}
 use Rattle.genedit_script.specs.Script.{script_of, number_in, event_in}
 
 -- ---- lines and words
@@ -76,7 +77,7 @@ pub whole :
     ≡ Ok (record {
       rule = rule_of_text (codes "/2/3");
       replicas = 2;
-      events = Draw 1 (Cells (record { x = pos 0; y = pos 0; state = 1 } ∷ [])) ∷ SendState 1 ∷ Deliver 1 2 ∷ Show 2 (pos 0) (pos 0) ∷ [];
+      commands = Does (Draw 1 (Cells (record { x = pos 0; y = pos 0; state = 1 } ∷ []))) ∷ Does (SendState 1) ∷ Does (Deliver 1 2) ∷ Does (Show 2 (pos 0) (pos 0)) ∷ [];
     })
 whole = refl
 

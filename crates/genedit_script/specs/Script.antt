@@ -13,12 +13,14 @@ use Rattle.multistate_rle.specs.declared.cell.Cell.{Cell}
 use Rattle.replica_core.specs.declared.event.Event.{Event}
 use Rattle.replica_core.specs.declared.event.Event.TheVariants.{Draw, SendState, Deliver, Show}
 use Rattle.replica_core.specs.declared.spec.EditSpec.TheVariants.{Cells}
+use Rattle.genedit_script.specs.declared.command.Command.{Command}
+use Rattle.genedit_script.specs.declared.command.Command.TheVariants.{Does}
 
--- a world's rule and number of replicas, and what happens in it
+-- a world's rule and number of replicas, and what is asked for in it
 pub record ScriptValue : Type 0 where
   pub rule : GenerationsRule
   pub replicas : ℕ
-  pub events : List Event
+  pub commands : List Command
 
 -- ---- words
 
@@ -110,9 +112,9 @@ spoken n lines = filter (λ line. says_something line.words) (numbered n lines)
 -- ---- the script of a text, or the line of its first fault
 
 -- each line is a command
-abbrev pub events_in : List NumberedLine → Result (List Event) ℕ
-events_in [] = Ok []
-events_in (line ∷ lines) = ok_or (event_in line.words) line.number >>= λ event. events_in lines >>= λ events. Ok (event ∷ events)
+abbrev pub commands_in : List NumberedLine → Result (List Command) ℕ
+commands_in [] = Ok []
+commands_in (line ∷ lines) = ok_or (event_in line.words) line.number >>= λ event. commands_in lines >>= λ commands. Ok (Does event ∷ commands)
 
 -- the first of some lines, or a fault at the line behind the last of all
 abbrev pub first_line : ℕ → List NumberedLine → Result (NumberedLine × List NumberedLine) ℕ
@@ -123,7 +125,7 @@ abbrev pub script_in : ℕ → List NumberedLine → Result ScriptValue ℕ
 script_in end lines =
     first_line end lines >>= λ first. ok_or (rule_in first.0.words) first.0.number >>= λ rule.
     first_line end first.1 >>= λ second. ok_or (replicas_in second.0.words) second.0.number >>= λ replicas.
-    events_in second.1 >>= λ events. Ok (record { rule = rule; replicas = replicas; events = events })
+    commands_in second.1 >>= λ commands. Ok (record { rule = rule; replicas = replicas; commands = commands })
 
 abbrev pub script_of : List ℕ → Result ScriptValue ℕ
 script_of text = script_in (length (lines text) + 1) (spoken 1 (lines text))

@@ -1,163 +1,63 @@
-//! The commands of a script, by the words of their lines.
+//! What a script asks for.
 
-ghost use Rattle.std.specs.Prelude.{◌≡◌, ◌∷◌, [], IfOk, IfSome, MatchOption, option_map, None, IsTrue, ◌↔◌, ◌≤◌, length};
-ghost use Rattle.multistate_rle.specs.Position.{words};
-ghost use Rattle.genedit_script.specs.Script.{argument_of as argument_behind, rule_in as rule_of, replicas_in as replicas_of, cell_in as cell_of, cells_in as cells_of, draw_in as draw_of, send_in as sending_of, delivery_in as delivery_of, show_in as show_of, event_in as event_of};
+ghost use Rattle.std.specs.Prelude.{◌≡◌};
 
-use crate::word::{number, signed, split_word, unsigned};
-use generations_rule::Rule;
-use multistate_rle::Cell;
-use replica_core::{CellList, EditSpec, Event};
-use std::alloc::{AllocError, Global};
+use replica_core::Event;
+use std::marker::Model;
 
-/// `rule TEXT`
-pub fn rule_in(line: &[u8]) -> Option<Rule>
-    ensures { result ≡ rule_of (words line.now) }
-{
-    let text = argument_of(b"rule", line)?;
-    Rule::parse(text).ok()
+/// What a line of a script, or a pattern's block, asks for.
+#[derive(Debug, Drop)]
+pub enum Command {
+    /// What happens in the world.
+    Does(Event),
+    /// From here on the name stands for the pattern of the text, if it is one.
+    Names(PatternName, PatternText),
+    /// `copy R NAME x y`: a replica draws every cell of the named pattern's box.
+    Copies(u32, PatternName, i32, i32),
+    /// `or R NAME x y`: a replica draws the nonzero cells of the named pattern.
+    Ors(u32, PatternName, i32, i32),
 }
 
-/// `replicas N`
-pub fn replicas_in(line: &[u8]) -> Option<u16>
-    ensures { result ≡ replicas_of (words line.now) }
-{
-    let n = number(64, argument_of(b"replicas", line)?)?;
-    Some(n as u16)
+/// The name of a pattern: in a script that was read, 1 to 16 ASCII letters and digits.
+#[derive(Debug, Drop)]
+pub struct PatternName {
+    letters: Vec<u8>,
 }
 
-/// What happens at a command, unless the line is none.
-pub fn event_in(alloc: Global, line: &[u8]) -> Result<Option<Event>, AllocError>
-    ensures { IfOk result (λ event. event ≡ event_of (words line.now)) }
-{
-    let Some((name, arguments)) = split_word(line) else {
-        return Ok(None);
-    };
-    if name == b"cells".as_slice() {
-        let event = draw_in(alloc, arguments)?;
-        Ok(event)
-    } else if name == b"state".as_slice() {
-        Ok(send_in(arguments))
-    } else if name == b"deliver".as_slice() {
-        Ok(delivery_in(arguments))
-    } else if name == b"show".as_slice() {
-        Ok(show_in(arguments))
-    } else {
-        Ok(None)
+impl Model for PatternName {
+    ghost use Rattle.std.specs.Prelude.{List, ℕ};
+
+    ghost Value = { List ℕ };
+
+    ghost view = { λ n. n.letters.items };
+}
+
+impl PatternName {
+    pub fn as_bytes(&self) -> &[u8]
+        ensures { result.now ≡ self.now }
+    {
+        &self.letters
     }
 }
 
-/// `R x y s ..`
-fn draw_in(alloc: Global, arguments: &[u8]) -> Result<Option<Event>, AllocError>
-    ensures { IfOk result (λ event. event ≡ draw_of (words arguments.now)) }
-{
-    let Some((replica, rest)) = split_word(arguments) else {
-        return Ok(None);
-    };
-    if ends(rest) {
-        return Ok(None);
+/// The RLE text between `pattern NAME` and `end`, each line with one LF behind it.
+#[derive(Debug, Drop)]
+pub struct PatternText {
+    bytes: Vec<u8>,
+}
+
+impl Model for PatternText {
+    ghost use Rattle.std.specs.Prelude.{List, ℕ};
+
+    ghost Value = { List ℕ };
+
+    ghost view = { λ t. t.bytes.items };
+}
+
+impl PatternText {
+    pub fn as_bytes(&self) -> &[u8]
+        ensures { result.now ≡ self.now }
+    {
+        &self.bytes
     }
-    let Some(replica) = unsigned(replica) else {
-        return Ok(None);
-    };
-    let Some(cells) = cells_in(alloc, rest)? else {
-        return Ok(None);
-    };
-    Ok(Some(Event::Draw(replica, EditSpec::Cells(CellList::of_vec(cells)))))
-}
-
-/// `R`
-fn send_in(arguments: &[u8]) -> Option<Event>
-    ensures { result ≡ sending_of (words arguments.now) }
-{
-    let (replica, rest) = split_word(arguments)?;
-    if !ends(rest) {
-        return None;
-    }
-    Some(Event::SendState(unsigned(replica)?))
-}
-
-/// `M R`
-fn delivery_in(arguments: &[u8]) -> Option<Event>
-    ensures { result ≡ delivery_of (words arguments.now) }
-{
-    let (message, rest) = split_word(arguments)?;
-    let (replica, rest) = split_word(rest)?;
-    if !ends(rest) {
-        return None;
-    }
-    let message = unsigned(message)?;
-    Some(Event::Deliver(u64::from(message), unsigned(replica)?))
-}
-
-/// `R x y`
-fn show_in(arguments: &[u8]) -> Option<Event>
-    ensures { result ≡ show_of (words arguments.now) }
-{
-    let (replica, rest) = split_word(arguments)?;
-    let (x, rest) = split_word(rest)?;
-    let (y, rest) = split_word(rest)?;
-    if !ends(rest) {
-        return None;
-    }
-    Some(Event::Show(unsigned(replica)?, signed(x)?, signed(y)?))
-}
-
-/// The cells of a line's words, unless they are not three for each cell.
-fn cells_in(alloc: Global, line: &[u8]) -> Result<Option<Vec<Cell>>, AllocError>
-    ensures { IfOk result (λ cells. option_map (λ v. v.items) cells ≡ cells_of (words line.now)) }
-{
-    let mut cells = Vec::new(alloc);
-    let mut rest = line;
-    while let Some((x, behind)) = split_word(rest) {
-        let Some((cell, behind)) = split_cell(x, behind) else {
-            return Ok(None);
-        };
-        cells.push(cell)?;
-        rest = behind;
-    }
-    Ok(Some(cells))
-}
-
-/// The cell of a word and the next two, and what stands behind them.
-fn split_cell<'a>(x: &[u8], rest: &'a [u8]) -> Option<(Cell, &'a [u8])>
-    ensures cell { MatchOption result (cells_of (x.now ∷ words rest.now) ≡ None)
-        (λ p. cells_of (x.now ∷ words rest.now) ≡ option_map (λ cells. p.0 ∷ cells) (cells_of (words p.1.now))) }
-    ensures within { IfSome result (λ p. length p.1.now ≤ length rest.now) }
-{
-    let (y, rest) = split_word(rest)?;
-    let (state, rest) = split_word(rest)?;
-    Some((cell_in(x, y, state)?, rest))
-}
-
-fn cell_in(x: &[u8], y: &[u8], state: &[u8]) -> Option<Cell>
-    ensures { result ≡ cell_of x.now y.now state.now }
-{
-    let x = signed(x)?;
-    let y = signed(y)?;
-    let state = number(255, state)?;
-    Some(Cell {
-        x,
-        y,
-        state: state as u8,
-    })
-}
-
-/// The word behind a name, in a line of just these two.
-fn argument_of<'a>(name: &[u8], line: &'a [u8]) -> Option<&'a [u8]>
-    ensures { option_map (λ a. a.now) result ≡ argument_behind name.now (words line.now) }
-{
-    let (first, rest) = split_word(line)?;
-    let (argument, rest) = split_word(rest)?;
-    if first != name || !ends(rest) {
-        return None;
-    }
-    Some(argument)
-}
-
-/// Whether there is no further word.
-fn ends(rest: &[u8]) -> bool
-    ensures { IsTrue result ↔ (words rest.now ≡ []) }
-{
-    split_word(rest).is_none()
 }

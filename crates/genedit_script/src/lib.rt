@@ -5,7 +5,9 @@ mod command;
 mod fault;
 mod line;
 mod script;
+mod spelling;
 mod word;
 
+pub use command::{Command, PatternName, PatternText};
 pub use fault::ScriptFault;
 pub use script::{Script, read_script};

@@ -3,23 +3,23 @@
 ghost use Rattle.std.specs.Prelude.{◌≡◌, ◌+◌, ◌∷◌, [], length, IfOk, IfErr, Ok};
 ghost use Rattle.std.specs.Str.Lines.{lines as lines_of};
 ghost use Rattle.multistate_rle.specs.Position.{words};
-ghost use Rattle.genedit_script.specs.Script.{events_in as events_of, script_of, spoken};
+ghost use Rattle.genedit_script.specs.Script.{commands_in as commands_of, script_of, spoken};
 ghost use Rattle.genedit_script.specs.ScriptFault.{IsFaultOf};
 
-use crate::command::{event_in, replicas_in, rule_in};
+use crate::command::Command;
 use crate::fault::ScriptFault;
 use crate::line::{Line, Lines};
+use crate::spelling::{event_in, replicas_in, rule_in};
 use generations_rule::Rule;
-use replica_core::Event;
 use std::alloc::Global;
 use std::marker::Model;
 
-/// A world's rule and number of replicas, and what happens in it.
+/// A world's rule and number of replicas, and what is asked for in it.
 #[derive(Debug, Drop)]
 pub struct Script {
     rule: Rule,
     replicas: u16,
-    events: Vec<Event>,
+    commands: Vec<Command>,
 }
 
 impl Model for Script {
@@ -27,7 +27,7 @@ impl Model for Script {
 
     ghost Value = { ScriptValue };
 
-    ghost view = { λ s. record { rule = s.rule; replicas = s.replicas; events = s.events.items } };
+    ghost view = { λ s. record { rule = s.rule; replicas = s.replicas; commands = s.commands.items } };
 }
 
 impl Script {
@@ -44,10 +44,11 @@ impl Script {
         self.replicas
     }
 
-    pub fn events(&self) -> &[Event]
-        ensures { result.now ≡ self.now.events }
+    /// What is asked for, in order.
+    pub fn commands(&self) -> &[Command]
+        ensures { result.now ≡ self.now.commands }
     {
-        &self.events
+        &self.commands
     }
 }
 
@@ -68,11 +69,11 @@ pub fn read_script(alloc: Global, text: &[u8]) -> Result<Script, ScriptFault>
     let rule = rule_in(line.text).ok_or(ScriptFault::Line(line.number))?;
     let line = required_line(&mut lines)?;
     let replicas = replicas_in(line.text).ok_or(ScriptFault::Line(line.number))?;
-    let events = events_in(alloc, lines)?;
+    let commands = commands_in(alloc, lines)?;
     Ok(Script {
         rule,
         replicas,
-        events,
+        commands,
     })
 }
 
@@ -90,15 +91,15 @@ fn required_line<'a>(lines: &mut Lines<'a>) -> Result<Line<'a>, ScriptFault>
     }
 }
 
-/// The events of all lines that are left.
-fn events_in(alloc: Global, mut lines: Lines<'_>) -> Result<Vec<Event>, ScriptFault>
-    ensures events { IfOk result (λ events. events_of (spoken lines.entry.number (lines_of lines.entry.rest.now)) ≡ Ok events.items) }
-    ensures fault { IfErr result (λ fault. IsFaultOf fault (events_of (spoken lines.entry.number (lines_of lines.entry.rest.now)))) }
+/// The commands of all lines that are left.
+fn commands_in(alloc: Global, mut lines: Lines<'_>) -> Result<Vec<Command>, ScriptFault>
+    ensures commands { IfOk result (λ commands. commands_of (spoken lines.entry.number (lines_of lines.entry.rest.now)) ≡ Ok commands.items) }
+    ensures fault { IfErr result (λ fault. IsFaultOf fault (commands_of (spoken lines.entry.number (lines_of lines.entry.rest.now)))) }
 {
-    let mut events = Vec::new(alloc);
+    let mut commands = Vec::new(alloc);
     while let Some(line) = lines.next_line() {
         let event = event_in(alloc, line.text)?.ok_or(ScriptFault::Line(line.number))?;
-        events.push(event)?;
+        commands.push(Command::Does(event))?;
     }
-    Ok(events)
+    Ok(commands)
 }

@@ -3,7 +3,7 @@ use Rattle.std.specs.Prelude.{Option, Some, None, option_map}
 use Rattle.multistate_rle.specs.Position.{words}
 use Rattle.multistate_rle.specs.declared.cell.Cell.{Cell}
 use Rattle.genedit_script.specs.Script.{cells_in}
-use Rattle.genedit_script.proofs.command.cells_in.Goals as goal
+use Rattle.genedit_script.proofs.spelling.cells_in.Goals as goal
 
 -- a cell at the end of those so far stands in front of those to come
 cell_between : (cells : List Cell) (cell : Cell) (more : Option (List Cell)) →

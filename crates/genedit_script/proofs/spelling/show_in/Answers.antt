@@ -3,7 +3,7 @@ use Rattle.std.specs.Prelude.{None}
 use Rattle.std.proofs.lemmas.Bool.{false≢true}
 use Rattle.multistate_rle.specs.Position.{words}
 use Rattle.genedit_script.specs.Script.{show_in}
-use Rattle.genedit_script.proofs.command.show_in.Goals as goal
+use Rattle.genedit_script.proofs.spelling.show_in.Goals as goal
 
 -- a fourth word is too many
 longer : (replica x y : List ℕ) (more : List (List ℕ)) → (more ≡ [] → ⊥) → None ≡ show_in (replica ∷ x ∷ y ∷ more)
