@@ -1,14 +1,25 @@
--- What a script prints: a line for each reply.
-use Rattle.std.specs.Prelude.{◌≡◌, ℕ, List, ◌++◌, codes, decimal}
-use Rattle.std.specs.List.{flat_map}
+-- What a script prints: a line for each command.
+use Rattle.std.specs.Prelude.{◌≡◌, ℕ, ℤ, List, [], ◌∷◌, ◌++◌, length, if◌then◌else◌, codes, decimal, bytes_eq, Option, Some, None, Result, Ok, Err}
+use Rattle.std.specs.Fmt.{signed_decimal}
+use Rattle.multistate_rle.specs.declared.fault.RleFault.{RleFault}
+use Rattle.multistate_rle.specs.Pattern.{RlePattern}
+use Rattle.multistate_rle.specs.Reading.{parsed}
+use Rattle.multistate_rle.specs.RleFault.{fault_number as text_fault_number, fault_text as text_fault_text}
+use Rattle.edit_stamps.specs.declared.write.Write.{Write}
 use Rattle.edit_stamps.specs.Stamp.{counter_of, replica_of}
+use Rattle.replica_core.specs.declared.event.Event.{Event}
+use Rattle.replica_core.specs.declared.event.Event.TheVariants.{Draw}
 use Rattle.replica_core.specs.declared.event.Reply.{Reply}
 use Rattle.replica_core.specs.declared.event.Reply.TheVariants.{Drawn, Sent, Taken, Shown, Refused}
 use Rattle.replica_core.specs.declared.fault.Fault.{Fault}
-use Rattle.edit_stamps.specs.declared.write.Write.{Write}
+use Rattle.replica_core.specs.declared.spec.EditSpec.TheVariants.{Copy, Or}
 use Rattle.replica_core.specs.Fault.{fault_number, fault_text}
 use Rattle.replica_core.specs.World.{opening, AreReplies}
+use Rattle.genedit_script.specs.declared.command.Command.{Command}
+use Rattle.genedit_script.specs.declared.command.Command.TheVariants.{Does, Names, Copies, Ors}
 use Rattle.genedit_script.specs.Script.{ScriptValue}
+
+-- ---- the line of a reply
 
 -- counter and replica of a stamp; 0 and 0 of no stamp
 abbrev pub stamp_text : ℕ → List ℕ
@@ -18,22 +29,99 @@ stamp_text stamp = decimal (counter_of stamp) ++ codes " " ++ decimal (replica_o
 abbrev pub write_text : Write → List ℕ
 write_text write = codes "cell " ++ decimal write.state ++ codes " " ++ stamp_text write.stamp
 
--- number and name
-abbrev pub refusal_text : Fault → List ℕ
-refusal_text fault = codes "refused " ++ decimal (fault_number fault) ++ codes " " ++ fault_text fault
+-- a refusal by its number and its name
+abbrev pub refused_text : ℕ → List ℕ → List ℕ
+refused_text number name = codes "refused " ++ decimal number ++ codes " " ++ name
 
 abbrev pub reply_text : Reply → List ℕ
 reply_text (Drawn stamp) = codes "drawn " ++ stamp_text stamp
 reply_text (Sent message) = codes "sent " ++ decimal message
 reply_text Taken = codes "taken"
 reply_text (Shown write) = write_text write
-reply_text (Refused fault) = refusal_text fault
+reply_text (Refused fault) = refused_text (fault_number fault) (fault_text fault)
 
 abbrev pub reply_line : Reply → List ℕ
 reply_line reply = reply_text reply ++ codes "\n"
 
--- the lines of the replies that a script's events get in its world
+-- ---- the lines of patterns
+
+-- width, height, number of nonzero cells, position and generation of a named pattern
+abbrev pub pattern_text : List ℕ → RlePattern → List ℕ
+pattern_text name p =
+    codes "pattern " ++ name ++ codes " " ++ decimal p.width ++ codes " " ++ decimal p.height ++ codes " " ++ decimal (length p.cells)
+    ++ codes " " ++ signed_decimal p.pos.0 ++ codes " " ++ signed_decimal p.pos.1 ++ codes " " ++ decimal p.generation
+
+-- what is said of a text that was given a name
+abbrev pub naming_text : List ℕ → Result RlePattern RleFault → List ℕ
+naming_text name (Ok pattern) = pattern_text name pattern
+naming_text name (Err fault) = refused_text (text_fault_number fault) (text_fault_text fault)
+
+-- no pattern has the name
+abbrev pub no_pattern_text : List ℕ
+no_pattern_text = refused_text 38 (codes "NoPattern")
+
+-- ---- names
+
+-- which pattern each name stands for
+abbrev pub Patterns : Type 0
+Patterns = List ℕ → Option RlePattern
+
+abbrev pub no_patterns : Patterns
+no_patterns name = None
+
+abbrev pub with_pattern : Patterns → List ℕ → RlePattern → Patterns
+with_pattern patterns name pattern other = if bytes_eq name other then Some pattern else patterns other
+
+-- a text that is no pattern leaves its name as it was
+abbrev pub with_text : Patterns → List ℕ → Result RlePattern RleFault → Patterns
+with_text patterns name (Ok pattern) = with_pattern patterns name pattern
+with_text patterns name (Err fault) = patterns
+
+-- ---- commands
+
+-- what a command comes to: an event of the world, or a text of its own
+pub data Step : Type 0 where
+  Happens : Event → Step
+  Says : List ℕ → Step
+
+-- the draw of a named pattern, or that there is none of the name
+abbrev pub paste_step : (RlePattern → Event) → Option RlePattern → Step
+paste_step event (Some pattern) = Happens (event pattern)
+paste_step event None = Says no_pattern_text
+
+abbrev pub step : Patterns → Command → Step
+step patterns (Does event) = Happens event
+step patterns (Names name text) = Says (naming_text name (parsed text))
+step patterns (Copies replica name x y) = paste_step (λ pattern. Draw replica (Copy pattern x y)) (patterns name)
+step patterns (Ors replica name x y) = paste_step (λ pattern. Draw replica (Or pattern x y)) (patterns name)
+
+-- the names after a command
+abbrev pub after_command : Patterns → Command → Patterns
+after_command patterns (Names name text) = with_text patterns name (parsed text)
+after_command patterns (Does event) = patterns
+after_command patterns (Copies replica name x y) = patterns
+after_command patterns (Ors replica name x y) = patterns
+
+-- the steps of commands; names are looked up as the commands go
+abbrev pub steps : Patterns → List Command → List Step
+steps patterns [] = []
+steps patterns (command ∷ commands) = step patterns command ∷ steps (after_command patterns command) commands
+
+-- the events among the steps
+abbrev pub events_among : List Step → List Event
+events_among [] = []
+events_among (Happens event ∷ steps) = event ∷ events_among steps
+events_among (Says text ∷ steps) = events_among steps
+
+-- a line for each step: of an event that of its reply, in order
+abbrev pub printed : List Step → List Reply → List ℕ
+printed [] replies = []
+printed (Happens event ∷ steps) [] = []
+printed (Happens event ∷ steps) (reply ∷ replies) = reply_line reply ++ printed steps replies
+printed (Says text ∷ steps) replies = text ++ codes "\n" ++ printed steps replies
+
+-- the lines of a script's steps, whose events get their replies in the script's world
 pub record IsScriptOutput (script : ScriptValue) (out : List ℕ) : Type 0 where
   pub replies : List Reply
-  pub answered : AreReplies (opening script.rule script.replicas) script.events replies
-  pub printed : out ≡ flat_map reply_line replies
+  pub answered : AreReplies (opening script.rule script.replicas) (events_among (steps no_patterns script.commands)) replies
+  pub printed_so : out ≡ printed (steps no_patterns script.commands) replies

@@ -4,6 +4,7 @@
 mod command;
 mod fault;
 mod line;
+mod name;
 mod script;
 mod spelling;
 mod word;

@@ -50,6 +50,14 @@ impl Script {
     {
         &self.commands
     }
+
+    /// What is asked for, in order, for one who carries it out.
+    pub fn into_commands(self) -> Vec<Command>
+        ensures { result.items ≡ self.commands }
+    {
+        let Script { commands, .. } = self;
+        commands
+    }
 }
 
 /// The script of a text, which is checked to its end, or the first line with a fault.
