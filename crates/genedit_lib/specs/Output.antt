@@ -1,5 +1,5 @@
 -- What a script prints: a line for each command.
-use Rattle.std.specs.Prelude.{◌≡◌, ℕ, ℤ, List, [], ◌∷◌, ◌++◌, length, if◌then◌else◌, codes, decimal, bytes_eq, Option, Some, None, Result, Ok, Err}
+use Rattle.std.specs.Prelude.{◌≡◌, ℕ, List, [], ◌∷◌, ◌++◌, length, if◌then◌else◌, codes, decimal, bytes_eq, Option, Some, None, Result, Ok, Err}
 use Rattle.std.specs.Fmt.{signed_decimal}
 use Rattle.multistate_rle.specs.declared.fault.RleFault.{RleFault}
 use Rattle.multistate_rle.specs.Pattern.{RlePattern}
@@ -11,13 +11,14 @@ use Rattle.replica_core.specs.declared.event.Event.{Event}
 use Rattle.replica_core.specs.declared.event.Event.TheVariants.{Draw}
 use Rattle.replica_core.specs.declared.event.Reply.{Reply}
 use Rattle.replica_core.specs.declared.event.Reply.TheVariants.{Drawn, Sent, Taken, Shown, Refused}
-use Rattle.replica_core.specs.declared.fault.Fault.{Fault}
 use Rattle.replica_core.specs.declared.spec.EditSpec.TheVariants.{Copy, Or}
 use Rattle.replica_core.specs.Fault.{fault_number, fault_text}
 use Rattle.replica_core.specs.World.{opening, AreReplies}
 use Rattle.genedit_script.specs.declared.command.Command.{Command}
 use Rattle.genedit_script.specs.declared.command.Command.TheVariants.{Does, Names, Copies, Ors}
 use Rattle.genedit_script.specs.Script.{ScriptValue}
+use Rattle.genedit_lib.specs.declared.step.Step.{Step}
+use Rattle.genedit_lib.specs.declared.step.Step.TheVariants.{Happens, Says}
 
 -- ---- the line of a reply
 
@@ -79,16 +80,12 @@ with_text patterns name (Err fault) = patterns
 
 -- ---- commands
 
--- what a command comes to: an event of the world, or a text of its own
-pub data Step : Type 0 where
-  Happens : Event → Step
-  Says : List ℕ → Step
-
 -- the draw of a named pattern, or that there is none of the name
 abbrev pub paste_step : (RlePattern → Event) → Option RlePattern → Step
 paste_step event (Some pattern) = Happens (event pattern)
 paste_step event None = Says no_pattern_text
 
+-- what a command comes to
 abbrev pub step : Patterns → Command → Step
 step patterns (Does event) = Happens event
 step patterns (Names name text) = Says (naming_text name (parsed text))
@@ -118,7 +115,7 @@ abbrev pub printed : List Step → List Reply → List ℕ
 printed [] replies = []
 printed (Happens event ∷ steps) [] = []
 printed (Happens event ∷ steps) (reply ∷ replies) = reply_line reply ++ printed steps replies
-printed (Says text ∷ steps) replies = text ++ codes "\n" ++ printed steps replies
+printed (Says text ∷ steps) replies = (text ++ codes "\n") ++ printed steps replies
 
 -- the lines of a script's steps, whose events get their replies in the script's world
 pub record IsScriptOutput (script : ScriptValue) (out : List ℕ) : Type 0 where

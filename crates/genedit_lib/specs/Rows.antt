@@ -10,6 +10,7 @@ use Rattle.edit_stamps.specs.Stamp.{stamp_of}
 use Rattle.replica_core.specs.declared.spec.EditSpec.{EditSpec}
 use Rattle.replica_core.specs.declared.event.Reply.{Reply}
 use Rattle.replica_core.specs.declared.event.Reply.TheVariants.{Drawn, Sent, Taken, Shown, Refused}
+use Rattle.genedit_script.specs.declared.command.Command.TheVariants.{Does}
 use Rattle.genedit_lib.specs.Run.{PrintsAs}
 use Rattle.replica_core.specs.declared.fault.Fault.TheVariants.{Edit}
 use Rattle.genedit_lib.specs.Output.{reply_line}
@@ -50,12 +51,13 @@ both_show_what_replica_2_drew = record {
   script = record {
     rule = rule_of_text (codes "/2/3");
     replicas = 2;
-    events = Draw 1 (one_cell 1) ∷ Draw 2 (one_cell 2) ∷ SendState 1 ∷ SendState 2 ∷ Deliver 1 2 ∷ Deliver 2 1 ∷ Show 1 (pos 0) (pos 0) ∷ Show 2 (pos 0) (pos 0) ∷ [];
+    commands = Does (Draw 1 (one_cell 1)) ∷ Does (Draw 2 (one_cell 2)) ∷ Does (SendState 1) ∷ Does (SendState 2)
+        ∷ Does (Deliver 1 2) ∷ Does (Deliver 2 1) ∷ Does (Show 1 (pos 0) (pos 0)) ∷ Does (Show 2 (pos 0) (pos 0)) ∷ [];
   };
   read = refl;
   printed = record {
     replies = Drawn (stamp_of 1 1) ∷ Drawn (stamp_of 1 2) ∷ Sent 1 ∷ Sent 2 ∷ Taken ∷ Taken ∷ seen ∷ seen ∷ [];
     answered = (refl, (refl, (refl, (refl, (refl, (refl, (refl, (refl, tt))))))));
-    printed = refl;
+    printed_so = refl;
   };
 }

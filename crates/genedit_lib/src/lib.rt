@@ -2,10 +2,16 @@
 #![tactic(auto)]
 
 mod output;
+mod patterns;
+mod plan;
 mod run;
+mod step;
+mod text;
 
 pub use genedit_io::RunFault;
 pub use run::{run_script, run_script_within};
 
+#[cfg(test)]
+mod pattern_tests;
 #[cfg(test)]
 mod tests;

@@ -1,23 +1,88 @@
-//! What is printed of replies.
+//! What is printed.
 
-ghost use Rattle.std.specs.Prelude.{◌≡◌, ◌++◌, OnOk, IfOk, decimal};
-ghost use Rattle.std.specs.List.{flat_map};
-ghost use Rattle.genedit_lib.specs.Output.{refusal_text, reply_line, reply_text, stamp_text, write_text};
+ghost use Rattle.std.specs.Prelude.{◌≡◌, ◌++◌, OnOk, IfOk, codes, decimal};
+ghost use Rattle.multistate_rle.specs.RleFault.{fault_number as text_fault_number, fault_text as text_fault_text};
+ghost use Rattle.genedit_lib.specs.Output.{no_pattern_text as no_pattern_means, pattern_text as pattern_means, refused_text, reply_line, reply_text, stamp_text, write_text};
+ghost use Rattle.genedit_lib.specs.Plan.{filled};
 
+use crate::plan::Line;
+use crate::text::Text;
 use edit_stamps::Write;
 use itoa::Buffer;
-use replica_core::{Fault, Reply};
+use multistate_rle::{Pattern, RleFault};
+use replica_core::Reply;
 use std::alloc::{AllocError, Global};
 
-/// A line for each reply.
-pub fn reply_lines(alloc: Global, replies: &[Reply]) -> Result<Vec<u8>, AllocError>
-    ensures { IfOk result (λ out. out.items ≡ flat_map reply_line replies.now) }
+/// The lines, with the replies in their places.
+pub fn output(alloc: Global, lines: &[Line], replies: &[Reply]) -> Result<Vec<u8>, AllocError>
+    ensures { IfOk result (λ out. out.items ≡ filled lines.now replies.now) }
 {
     let mut out = Vec::new(alloc);
-    for reply in replies {
-        push_line(alloc, &mut out, *reply)?;
+    let mut left = replies;
+    for line in lines {
+        match line {
+            Line::Own(text) => push_text(&mut out, text)?,
+            Line::Reply => {
+                let Some((reply, rest)) = left.split_first() else {
+                    return Ok(out);
+                };
+                push_line(alloc, &mut out, *reply)?;
+                left = rest;
+            }
+        }
     }
     Ok(out)
+}
+
+/// Width, height, number of nonzero cells, position and generation of a named pattern.
+pub fn pattern_text(alloc: Global, name: &[u8], pattern: &Pattern) -> Result<Text, AllocError>
+    ensures { IfOk result (λ text. text ≡ pattern_means name.now pattern.now) }
+{
+    let mut text = Vec::new(alloc);
+    let mut buffer = Buffer::new();
+    let (x, y) = pattern.pos();
+    text.extend_from_slice(b"pattern ")?;
+    text.extend_from_slice(name)?;
+    text.push(b' ')?;
+    text.extend_from_slice(buffer.format(pattern.width()).as_bytes())?;
+    text.push(b' ')?;
+    text.extend_from_slice(buffer.format(pattern.height()).as_bytes())?;
+    text.push(b' ')?;
+    text.extend_from_slice(buffer.format(pattern.cells().len()).as_bytes())?;
+    text.push(b' ')?;
+    text.extend_from_slice(buffer.format(x).as_bytes())?;
+    text.push(b' ')?;
+    text.extend_from_slice(buffer.format(y).as_bytes())?;
+    text.push(b' ')?;
+    text.extend_from_slice(buffer.format(pattern.generation()).as_bytes())?;
+    Ok(Text::of_vec(text))
+}
+
+/// The refusal of a text that is no pattern.
+pub fn text_refusal(alloc: Global, fault: RleFault) -> Result<Text, AllocError>
+    ensures { IfOk result (λ text. text ≡ refused_text (text_fault_number fault) (text_fault_text fault)) }
+{
+    let mut text = Vec::new(alloc);
+    let name = fault.to_string(alloc)?;
+    push_refusal(&mut text, fault.number(), name.as_bytes())?;
+    Ok(Text::of_vec(text))
+}
+
+/// That no pattern has the name.
+pub fn no_pattern_text(alloc: Global) -> Result<Text, AllocError>
+    ensures { IfOk result (λ text. text ≡ no_pattern_means) }
+{
+    let mut text = Vec::new(alloc);
+    push_refusal(&mut text, 38, b"NoPattern")?;
+    Ok(Text::of_vec(text))
+}
+
+fn push_text(out: &mut Vec<u8>, text: &Text) -> Result<(), AllocError>
+    ensures { OnOk result (out.new.items ≡ out.old.items ++ (text.now ++ codes "\n")) }
+{
+    out.extend_from_slice(text.as_bytes())?;
+    out.push(b'\n')?;
+    Ok(())
 }
 
 fn push_line(alloc: Global, out: &mut Vec<u8>, reply: Reply) -> Result<(), AllocError>
@@ -42,7 +107,10 @@ fn push_reply(alloc: Global, out: &mut Vec<u8>, reply: Reply) -> Result<(), Allo
         }
         Reply::Taken => out.extend_from_slice(b"taken"),
         Reply::Shown(write) => push_write(out, write),
-        Reply::Refused(fault) => push_refusal(alloc, out, fault),
+        Reply::Refused(fault) => {
+            let name = fault.to_string(alloc)?;
+            push_refusal(out, fault.number(), name.as_bytes())
+        }
     }
 }
 
@@ -55,14 +123,14 @@ fn push_write(out: &mut Vec<u8>, write: Write) -> Result<(), AllocError>
     push_stamp(out, write.stamp)
 }
 
-fn push_refusal(alloc: Global, out: &mut Vec<u8>, fault: Fault) -> Result<(), AllocError>
-    ensures { OnOk result (out.new.items ≡ out.old.items ++ refusal_text fault) }
+/// Number and name of a refusal.
+fn push_refusal(out: &mut Vec<u8>, number: u8, name: &[u8]) -> Result<(), AllocError>
+    ensures { OnOk result (out.new.items ≡ out.old.items ++ refused_text number name.now) }
 {
     out.extend_from_slice(b"refused ")?;
-    push_number(out, u64::from(fault.number()))?;
+    push_number(out, u64::from(number))?;
     out.push(b' ')?;
-    let name = fault.to_string(alloc)?;
-    out.extend_from_slice(name.as_bytes())
+    out.extend_from_slice(name)
 }
 
 /// Counter and replica of a stamp's number; 0 and 0 of 0.

@@ -1,26 +1,27 @@
 //! Patterns by their names.
 
-ghost use Rattle.std.specs.Prelude.{◌≡◌, List, ℕ, None, OnOk, option_copied};
+ghost use Rattle.std.specs.Prelude.{◌≡◌, List, ℕ, OnOk, IfOk, option_copied};
 ghost use Rattle.genedit_lib.specs.Output.{no_patterns, with_pattern};
 ghost use Rattle.genedit_lib.specs.Plan.{pattern_in};
 
+use genedit_script::PatternName;
 use multistate_rle::Pattern;
 use std::alloc::{AllocError, Global};
 use std::collections::BTreeMap;
 
 /// Which pattern each name stands for.
 #[derive(Debug, Drop)]
-pub struct Patterns<'a> {
-    by_name: BTreeMap<&'a [u8], Pattern>,
+pub struct Patterns {
+    by_name: BTreeMap<PatternName, Pattern>,
 }
 
-impl<'a> Patterns<'a> {
-    ghost use Rattle.std.specs.Prelude.{◌≡◌, List, ℕ, OnOk, option_copied};
+impl Patterns {
+    ghost use Rattle.std.specs.Prelude.{◌≡◌, List, ℕ, OnOk, IfOk, option_copied};
     ghost use Rattle.genedit_lib.specs.Output.{no_patterns, with_pattern};
     ghost use Rattle.genedit_lib.specs.Plan.{pattern_in};
 
     /// No name stands for a pattern.
-    pub fn new(alloc: Global) -> Patterns<'a>
+    pub fn new(alloc: Global) -> Patterns
         ensures { (name : List ℕ) → pattern_in result name ≡ no_patterns name }
     {
         Patterns {
@@ -28,15 +29,22 @@ impl<'a> Patterns<'a> {
         }
     }
 
-    pub fn named(&self, name: &[u8]) -> Option<&Pattern>
-        ensures { option_copied result ≡ pattern_in self.now name.now }
+    /// A copy of the pattern that a name stands for.
+    pub fn copy_of(&self, name: &PatternName) -> Result<Option<Pattern>, AllocError>
+        ensures { IfOk result (λ pattern. pattern ≡ pattern_in self.now name.now) }
     {
-        self.by_name.get(name)
+        match self.by_name.get(name) {
+            Some(pattern) => {
+                let copy = pattern.copy()?;
+                Ok(Some(copy))
+            }
+            None => Ok(None),
+        }
     }
 
-    /// From here on the name stands for the pattern. Where memory is refused, all stays as it was.
-    pub fn insert(&mut self, name: &'a [u8], pattern: Pattern) -> Result<(), AllocError>
-        ensures ok { OnOk result ((other : List ℕ) → pattern_in self.new other ≡ with_pattern (pattern_in self.old) name.now pattern other) }
+    /// From here on the name stands for the pattern.
+    pub fn insert(&mut self, name: PatternName, pattern: Pattern) -> Result<(), AllocError>
+        ensures { OnOk result ((other : List ℕ) → pattern_in self.new other ≡ with_pattern (pattern_in self.old) name pattern other) }
     {
         self.by_name.insert(name, pattern)?;
         Ok(())

@@ -1,14 +1,17 @@
 //! What is to be done for a script: the events of its world, and a line of output for each command.
 
-ghost use Rattle.std.specs.Prelude.{◌≡◌, ◌++◌, ◌∷◌, [], List, ℕ, map, IfOk, OnOk};
+ghost use Rattle.std.specs.Prelude.{◌≡◌, List, ℕ, map, IfOk, OnOk};
 ghost use Rattle.multistate_rle.specs.Reading.{parsed};
-ghost use Rattle.genedit_lib.specs.Output.{Step, after_command, events_among, naming_text, no_patterns, paste_step, step as step_of, steps, with_text};
+ghost use Rattle.genedit_lib.specs.declared.step.Step.TheVariants.{Says};
+ghost use Rattle.genedit_lib.specs.Output.{after_command, events_among, naming_text, no_patterns, step as step_of, steps, with_text};
 ghost use Rattle.genedit_lib.specs.Plan.{line_of, pattern_in};
 
+use crate::output::{no_pattern_text, pattern_text, text_refusal};
 use crate::patterns::Patterns;
-use crate::text::{no_pattern_text, pattern_text, refused_text};
-use genedit_script::Command;
-use multistate_rle::{Pattern, RleFault, parse};
+use crate::step::Step;
+use crate::text::Text;
+use genedit_script::{Command, PatternName, PatternText};
+use multistate_rle::{RleFault, parse};
 use replica_core::{EditSpec, Event};
 use std::alloc::{AllocError, Global};
 
@@ -17,8 +20,8 @@ use std::alloc::{AllocError, Global};
 pub enum Line {
     /// The line of the next reply.
     Reply,
-    /// A text of the command's own.
-    Text(Vec<u8>),
+    /// A line of the command's own.
+    Own(Text),
 }
 
 /// What happens in a script's world, and what is printed.
@@ -28,29 +31,62 @@ pub struct Plan {
     pub lines: Vec<Line>,
 }
 
-/// What a command comes to.
-enum Step {
-    Happens(Event),
-    Says(Vec<u8>),
-}
-
-/// The plan of a script's commands. A name is looked up where it stands: it means the last pattern
-/// that was given it before.
-pub fn plan(alloc: Global, commands: &[Command]) -> Result<Plan, AllocError>
-    ensures events { IfOk result (λ plan. plan.events.items ≡ events_among (steps no_patterns commands.now)) }
-    ensures lines { IfOk result (λ plan. plan.lines.items ≡ map line_of (steps no_patterns commands.now)) }
+/// The plan of a script's commands. A name means the last pattern that was given it before.
+pub fn planned(alloc: Global, commands: Vec<Command>) -> Result<Plan, AllocError>
+    ensures events { IfOk result (λ plan. plan.events.items ≡ events_among (steps no_patterns commands.items)) }
+    ensures lines { IfOk result (λ plan. plan.lines.items ≡ map line_of (steps no_patterns commands.items)) }
 {
     let mut patterns = Patterns::new(alloc);
     let mut events = Vec::new(alloc);
     let mut lines = Vec::new(alloc);
     for command in commands {
-        match step(alloc, &mut patterns, command)? {
+        match next_step(alloc, &mut patterns, command)? {
             Step::Happens(event) => {
                 events.push(event)?;
                 lines.push(Line::Reply)?;
             }
-            Step::Says(text) => lines.push(Line::Text(text))?,
+            Step::Says(text) => lines.push(Line::Own(text))?,
         }
     }
     Ok(Plan { events, lines })
+}
+
+/// What a command comes to, and what names stand for behind it.
+fn next_step(alloc: Global, patterns: &mut Patterns, command: Command) -> Result<Step, AllocError>
+    ensures step { IfOk result (λ step. step ≡ step_of (pattern_in patterns.old) command) }
+    ensures after { OnOk result ((name : List ℕ) → pattern_in patterns.new name ≡ after_command (pattern_in patterns.old) command name) }
+{
+    match command {
+        Command::Does(event) => Ok(Step::Happens(event)),
+        Command::Names(name, text) => give_name(alloc, patterns, name, &text),
+        Command::Copies(replica, name, x, y) => match patterns.copy_of(&name)? {
+            Some(pattern) => Ok(Step::Happens(Event::Draw(replica, EditSpec::Copy(pattern, x, y)))),
+            None => Ok(Step::Says(no_pattern_text(alloc)?)),
+        },
+        Command::Ors(replica, name, x, y) => match patterns.copy_of(&name)? {
+            Some(pattern) => Ok(Step::Happens(Event::Draw(replica, EditSpec::Or(pattern, x, y)))),
+            None => Ok(Step::Says(no_pattern_text(alloc)?)),
+        },
+    }
+}
+
+/// Lets a name stand for the pattern of a text. A text that is none leaves the name as it was.
+fn give_name(
+    alloc: Global,
+    patterns: &mut Patterns,
+    name: PatternName,
+    text: &PatternText,
+) -> Result<Step, AllocError>
+    ensures step { IfOk result (λ step. step ≡ Says (naming_text name (parsed text.now))) }
+    ensures after { OnOk result ((other : List ℕ) → pattern_in patterns.new other ≡ with_text (pattern_in patterns.old) name (parsed text.now) other) }
+{
+    match parse(alloc, text.as_bytes()) {
+        Ok(pattern) => {
+            let line = pattern_text(alloc, name.as_bytes(), &pattern)?;
+            patterns.insert(name, pattern)?;
+            Ok(Step::Says(line))
+        }
+        Err(RleFault::Memory) => Err(AllocError),
+        Err(fault) => Ok(Step::Says(text_refusal(alloc, fault)?)),
+    }
 }

@@ -2,15 +2,16 @@
 
 ghost use Rattle.std.specs.Prelude.{◌≡◌, ◌^◌, ℕ, List, OnOk, IfOk, IfErr};
 ghost use Rattle.std.specs.Io.KnownBytes.{Appends};
-ghost use Rattle.replica_core.specs.World.{opening, AreReplies};
 ghost use Rattle.replica_core.specs.declared.event.Stop.TheVariants as stops;
 ghost use Rattle.genedit_io.specs.Devices.{LeavesSink, sink_failures, source_failures};
+ghost use Rattle.genedit_lib.specs.Output.{IsScriptOutput};
 ghost use Rattle.genedit_lib.specs.Run.{IsFaultOfRun, IsFaultOfText, Prints, PrintsAs, run_fault_of};
 
-use crate::output::reply_lines;
+use crate::output::output;
+use crate::plan::planned;
 use genedit_io::{RunFault, pull_all};
 use genedit_script::{Script, ScriptFault, read_script};
-use replica_core::{Reply, Sink, Source, Stop, replay};
+use replica_core::{Sink, Source, Stop, replay};
 use std::alloc::Global;
 
 /// How many pulls a script has, at most.
@@ -65,18 +66,20 @@ fn printed(alloc: Global, text: &[u8]) -> Result<Vec<u8>, RunFault>
     ensures fault { IfErr result (λ fault. IsFaultOfText fault text.now) }
 {
     let script = read_script(alloc, text).map_err(fault_of_script)?;
-    let replies = replies_to(alloc, &script)?;
-    let out = reply_lines(alloc, &replies)?;
+    let out = script_output(alloc, script)?;
     Ok(out)
 }
 
-/// The replies to a script's events, in its world.
-fn replies_to(alloc: Global, script: &Script) -> Result<Vec<Reply>, Stop>
-    ensures replies { IfOk result (λ replies. AreReplies (opening script.now.rule script.now.replicas) script.now.events replies.items) }
+/// What a script prints.
+fn script_output(alloc: Global, script: Script) -> Result<Vec<u8>, Stop>
+    ensures out { IfOk result (λ out. IsScriptOutput script out.items) }
     ensures stop { IfErr result (λ stop. stop ≡ stops.Memory) }
 {
-    let (_world, replies) = replay(alloc, script.rule(), script.replicas(), script.events())?;
-    Ok(replies)
+    let (rule, replicas) = (script.rule(), script.replicas());
+    let plan = planned(alloc, script.into_commands())?;
+    let (_world, replies) = replay(alloc, rule, replicas, &plan.events)?;
+    let out = output(alloc, &plan.lines, &replies)?;
+    Ok(out)
 }
 
 fn fault_of_script(fault: ScriptFault) -> RunFault
