@@ -37,7 +37,9 @@ cell_in x y state = signed x >=> λ x. signed y >=> λ y. number 255 state >=> �
 
 -- a corner and two sides
 abbrev pub area_in : List ℕ → List ℕ → List ℕ → List ℕ → Option Rect
-area_in x y width height = signed x >=> λ x. signed y >=> λ y. number_in width >=> λ width. number_in height >=> λ height. Some (record { x = x; y = y; width = width; height = height })
+area_in x y width height =
+    signed x >=> λ x. signed y >=> λ y. number_in width >=> λ width. number_in height >=> λ height.
+    Some (record { x = x; y = y; width = width; height = height })
 
 -- each three words are a cell
 abbrev pub cells_in : List (List ℕ) → Option (List Cell)
@@ -88,6 +90,7 @@ event_in (name ∷ words) =
 abbrev pub is_name : List ℕ → Bool
 is_name word = nat_le 1 (length word) && nat_le (length word) 16 && list_all is_ascii_alphanumeric word
 
+-- the word, if it is a name
 abbrev pub name_in : List ℕ → Option (List ℕ)
 name_in word = if is_name word then Some word else None
 
@@ -171,7 +174,7 @@ pub record Block : Type 0 where
 abbrev pub onto : Command → Result (List Command) ℕ → Result (List Command) ℕ
 onto command commands = commands >>= λ commands. Ok (command ∷ commands)
 
--- the commands of some lines, which begin in a block or in none
+-- the commands of some lines, which begin in a block or in none; a block goes on to the first line that is `end`
 abbrev pub commands_in : Option Block → List NumberedLine → Result (List Command) ℕ
 commands_in None [] = Ok []
 commands_in (Some block) [] = Err block.line

@@ -109,7 +109,8 @@ fn commands_in(alloc: Global, mut lines: Lines<'_>) -> Result<Vec<Command>, Scri
     Ok(commands)
 }
 
-/// The command of a line that is not skipped; where the line opens a block, the lines up to its `end` are taken.
+/// The command of a line that is not skipped; where the line opens a block, the lines up to its
+/// `end` are taken.
 fn command_at(alloc: Global, line: Line<'_>, lines: &mut Lines<'_>) -> Result<Command, ScriptFault>
     ensures command { IfOk result (λ command. (all : List NumberedLine)
         → past_skipped all ≡ record { number = line.entry.number; text = line.entry.text.now } ∷ lines_from lines.old.number lines.old.rest.now
