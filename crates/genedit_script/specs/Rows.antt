@@ -4,9 +4,9 @@ use Rattle.std.specs.Str.Lines.{lines}
 use Rattle.generations_rule.specs.RuleText.{rule_of_text}
 use Rattle.multistate_rle.specs.Position.{words, signed}
 use Rattle.replica_core.specs.declared.event.Event.TheVariants.{Draw, SendState, Deliver, Show}
-use Rattle.replica_core.specs.declared.spec.EditSpec.TheVariants.{Cells}
-use Rattle.genedit_script.specs.declared.command.Command.TheVariants.{Does}
-use Rattle.genedit_script.specs.Script.{script_of, number_in, event_in}
+use Rattle.replica_core.specs.declared.spec.EditSpec.TheVariants.{Cells, Clear}
+use Rattle.genedit_script.specs.declared.command.Command.TheVariants.{Does, Names, Copies, Ors}
+use Rattle.genedit_script.specs.Script.{script_of, number_in, event_in, name_in, command_in}
 
 -- ---- lines and words
 
@@ -70,6 +70,41 @@ one_word_too_many = refl
 pub no_command : event_in (words (codes "State 1")) ≡ None
 no_command = refl
 
+pub cleared : event_in (words (codes "clear 2 -3 4 5 6")) ≡ Some (Draw 2 (Clear (record { x = negsuc 2; y = pos 4; width = 5; height = 6 })))
+cleared = refl
+
+pub clear_without_height : event_in (words (codes "clear 2 -3 4 5")) ≡ None
+clear_without_height = refl
+
+pub clear_of_a_negative_side : event_in (words (codes "clear 2 -3 4 5 -6")) ≡ None
+clear_of_a_negative_side = refl
+
+pub copied : command_in (words (codes "copy 2 Glider7 -3 4")) ≡ Some (Copies 2 (codes "Glider7") (negsuc 2) (pos 4))
+copied = refl
+
+pub drawn_over : command_in (words (codes "or 2 Glider7 -3 4")) ≡ Some (Ors 2 (codes "Glider7") (negsuc 2) (pos 4))
+drawn_over = refl
+
+pub copied_with_a_word_too_many : command_in (words (codes "copy 2 Glider7 -3 4 5")) ≡ None
+copied_with_a_word_too_many = refl
+
+pub copied_without_a_name : command_in (words (codes "copy 2 -3 4")) ≡ None
+copied_without_a_name = refl
+
+-- ---- names
+
+pub longest_name : name_in (codes "abcdefghijklmn09") ≡ Some (codes "abcdefghijklmn09")
+longest_name = refl
+
+pub name_of_17_letters : name_in (codes "abcdefghijklmno09") ≡ None
+name_of_17_letters = refl
+
+pub no_letter : name_in (codes "a_b") ≡ None
+no_letter = refl
+
+pub no_letters : name_in [] ≡ None
+no_letters = refl
+
 -- ---- scripts
 
 pub whole :
@@ -104,3 +139,44 @@ no_rule = refl
 
 pub return_without_line_feed : script_of (codes "rule /2/3\r\nreplicas 1\r\nstate 1\r") ≡ Err 3
 return_without_line_feed = refl
+
+-- ---- blocks
+
+-- comment lines, blank lines, and lines that only begin or end with `end` belong to the text
+pub block :
+    script_of (codes "rule /2/3\nreplicas 1\npattern a\r\n#C b\r\n\n \n# c\r\n end\nend \nends\nend\r\ncopy 1 a 0 0")
+    ≡ Ok (record {
+      rule = rule_of_text (codes "/2/3");
+      replicas = 1;
+      commands = Names (codes "a") (codes "#C b\n\n \n# c\n end\nend \nends\n") ∷ Copies 1 (codes "a") (pos 0) (pos 0) ∷ [];
+    })
+block = refl
+
+pub two_blocks :
+    script_of (codes "rule /2/3\nreplicas 0\npattern a\nend\npattern a\npattern b\nend")
+    ≡ Ok (record { rule = rule_of_text (codes "/2/3"); replicas = 0; commands = Names (codes "a") [] ∷ Names (codes "a") (codes "pattern b\n") ∷ [] })
+two_blocks = refl
+
+pub open_block : script_of (codes "rule /2/3\nreplicas 1\npattern a\n# b\nbo!\n") ≡ Err 3
+open_block = refl
+
+pub end_with_a_return_at_the_end : script_of (codes "rule /2/3\nreplicas 1\n\npattern a\nbo!\nend\r") ≡ Err 4
+end_with_a_return_at_the_end = refl
+
+pub fault_before_an_open_block : script_of (codes "rule /2/3\nreplicas 1\nshow\npattern a\n") ≡ Err 3
+fault_before_an_open_block = refl
+
+pub fault_behind_a_block : script_of (codes "rule /2/3\nreplicas 1\npattern a\n\n#\nend\n#\nshow\n") ≡ Err 8
+fault_behind_a_block = refl
+
+pub end_without_a_block : script_of (codes "rule /2/3\nreplicas 1\nend\n") ≡ Err 3
+end_without_a_block = refl
+
+pub pattern_without_a_name : script_of (codes "rule /2/3\nreplicas 1\npattern\nend\n") ≡ Err 3
+pattern_without_a_name = refl
+
+pub pattern_with_two_names : script_of (codes "rule /2/3\nreplicas 1\npattern a b\nend\n") ≡ Err 3
+pattern_with_two_names = refl
+
+pub block_before_the_replicas : script_of (codes "rule /2/3\npattern a\nend\nreplicas 1\n") ≡ Err 2
+block_before_the_replicas = refl

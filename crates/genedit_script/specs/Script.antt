@@ -1,5 +1,7 @@
--- Scripts: a text's lines, their words, and the command that the words of a line spell; or the line of the first fault.
-use Rattle.std.specs.Prelude.{ℕ, ◌+◌, Bool, false, not, ◌==◌, if◌then◌else◌, List, [], ◌∷◌, length, filter, codes, Option, Some, None, option_map, Result, Ok, Err}
+-- Scripts: a text's lines, their words, and the commands that they spell; or the line of the first fault.
+use Rattle.std.specs.Prelude.{ℕ, ℤ, ◌+◌, Bool, false, not, ◌&&◌, ◌==◌, nat_le, if◌then◌else◌, List, [], ◌∷◌, ◌++◌, length, codes, Option, Some, None, option_map, Result, Ok, Err}
+use Rattle.std.specs.Char.{is_ascii_alphanumeric}
+use Rattle.std.specs.List.{list_all}
 use Rattle.std.specs.Option.{ok_or}
 use Rattle.std.specs.Result.{result_ok}
 use Rattle.std.specs.Str.{bytes_eq}
@@ -10,11 +12,12 @@ use Rattle.generations_rule.specs.RuleText.{parsed}
 use Rattle.multistate_rle.specs.Bytes.{◌>=>◌, number}
 use Rattle.multistate_rle.specs.Position.{words, signed}
 use Rattle.multistate_rle.specs.declared.cell.Cell.{Cell}
+use Rattle.edit_stamps.specs.declared.rect.Rect.{Rect}
 use Rattle.replica_core.specs.declared.event.Event.{Event}
 use Rattle.replica_core.specs.declared.event.Event.TheVariants.{Draw, SendState, Deliver, Show}
-use Rattle.replica_core.specs.declared.spec.EditSpec.TheVariants.{Cells}
+use Rattle.replica_core.specs.declared.spec.EditSpec.TheVariants.{Cells, Clear}
 use Rattle.genedit_script.specs.declared.command.Command.{Command}
-use Rattle.genedit_script.specs.declared.command.Command.TheVariants.{Does}
+use Rattle.genedit_script.specs.declared.command.Command.TheVariants.{Does, Names, Copies, Ors}
 
 -- a world's rule and number of replicas, and what is asked for in it
 pub record ScriptValue : Type 0 where
@@ -31,6 +34,12 @@ number_in word = number 4294967295 word
 -- a coordinate and a state
 abbrev pub cell_in : List ℕ → List ℕ → List ℕ → Option Cell
 cell_in x y state = signed x >=> λ x. signed y >=> λ y. number 255 state >=> λ state. Some (record { x = x; y = y; state = state })
+
+-- a corner and two sides
+abbrev pub area_in : List ℕ → List ℕ → List ℕ → List ℕ → Option Rect
+area_in x y width height =
+    signed x >=> λ x. signed y >=> λ y. number_in width >=> λ width. number_in height >=> λ height.
+    Some (record { x = x; y = y; width = width; height = height })
 
 -- each three words are a cell
 abbrev pub cells_in : List (List ℕ) → Option (List Cell)
@@ -62,6 +71,11 @@ abbrev pub show_in : List (List ℕ) → Option Event
 show_in (replica ∷ x ∷ y ∷ []) = number_in replica >=> λ replica. signed x >=> λ x. option_map (Show replica x) (signed y)
 show_in _ = None
 
+-- R x y w h
+abbrev pub clear_in : List (List ℕ) → Option Event
+clear_in (replica ∷ x ∷ y ∷ width ∷ height ∷ []) = number_in replica >=> λ replica. option_map (λ area. Draw replica (Clear area)) (area_in x y width height)
+clear_in _ = None
+
 -- the event of a command
 abbrev pub event_in : List (List ℕ) → Option Event
 event_in [] = None
@@ -69,7 +83,38 @@ event_in (name ∷ words) =
     if bytes_eq name (codes "cells") then draw_in words
     else (if bytes_eq name (codes "state") then send_in words
     else (if bytes_eq name (codes "deliver") then delivery_in words
-    else (if bytes_eq name (codes "show") then show_in words else None)))
+    else (if bytes_eq name (codes "show") then show_in words
+    else (if bytes_eq name (codes "clear") then clear_in words else None))))
+
+-- 1 to 16 ASCII letters and digits
+abbrev pub is_name : List ℕ → Bool
+is_name word = nat_le 1 (length word) && nat_le (length word) 16 && list_all is_ascii_alphanumeric word
+
+-- the word, if it is a name
+abbrev pub name_in : List ℕ → Option (List ℕ)
+name_in word = if is_name word then Some word else None
+
+-- a replica, the name of a pattern, and where its box's corner goes
+pub record Paste : Type 0 where
+  pub replica : ℕ
+  pub name : List ℕ
+  pub x : ℤ
+  pub y : ℤ
+
+-- R NAME x y
+abbrev pub paste_in : List (List ℕ) → Option Paste
+paste_in (replica ∷ name ∷ x ∷ y ∷ []) =
+    number_in replica >=> λ replica. name_in name >=> λ name. signed x >=> λ x. signed y >=> λ y.
+    Some (record { replica = replica; name = name; x = x; y = y })
+paste_in _ = None
+
+-- the command of one line
+abbrev pub command_in : List (List ℕ) → Option Command
+command_in [] = None
+command_in (name ∷ words) =
+    if bytes_eq name (codes "copy") then option_map (λ paste. Copies paste.replica paste.name paste.x paste.y) (paste_in words)
+    else (if bytes_eq name (codes "or") then option_map (λ paste. Ors paste.replica paste.name paste.x paste.y) (paste_in words)
+    else option_map Does (event_in (name ∷ words)))
 
 -- the one word behind a name
 abbrev pub argument_of : List ℕ → List (List ℕ) → Option (List ℕ)
@@ -84,17 +129,24 @@ rule_in words = argument_of (codes "rule") words >=> λ text. result_ok (parsed 
 abbrev pub replicas_in : List (List ℕ) → Option ℕ
 replicas_in words = argument_of (codes "replicas") words >=> λ n. number 64 n
 
+-- `pattern NAME`
+abbrev pub opened_in : List (List ℕ) → Option (List ℕ)
+opened_in words = argument_of (codes "pattern") words >=> name_in
+
 -- ---- lines
 
--- the words of a line with its number
 pub record NumberedLine : Type 0 where
   pub number : ℕ
-  pub words : List (List ℕ)
+  pub text : List ℕ
 
--- the lines of a text, numbered from a number on
+-- lines, numbered from a number on
 abbrev pub numbered : ℕ → List (List ℕ) → List NumberedLine
 numbered n [] = []
-numbered n (line ∷ lines) = record { number = n; words = words line } ∷ numbered (n + 1) lines
+numbered n (line ∷ lines) = record { number = n; text = line } ∷ numbered (n + 1) lines
+
+-- the lines of a text, numbered from a number on
+abbrev pub lines_from : ℕ → List ℕ → List NumberedLine
+lines_from n text = numbered n (lines text)
 
 abbrev pub begins_comment : List ℕ → Bool
 begins_comment [] = false
@@ -105,16 +157,37 @@ abbrev pub says_something : List (List ℕ) → Bool
 says_something [] = false
 says_something (word ∷ words) = not (begins_comment word)
 
--- the lines that are not skipped
-abbrev pub spoken : ℕ → List (List ℕ) → List NumberedLine
-spoken n lines = filter (λ line. says_something line.words) (numbered n lines)
+-- the lines from the first on that says something
+abbrev pub past_skipped : List NumberedLine → List NumberedLine
+past_skipped [] = []
+past_skipped (line ∷ lines) = if says_something (words line.text) then line ∷ lines else past_skipped lines
+
+-- ---- commands, one after another
+
+-- a pattern's block so far: the number of its `pattern` line, its name, and its lines
+pub record Block : Type 0 where
+  pub line : ℕ
+  pub name : List ℕ
+  pub text : List ℕ
+
+-- a command, and those behind it
+abbrev pub onto : Command → Result (List Command) ℕ → Result (List Command) ℕ
+onto command commands = commands >>= λ commands. Ok (command ∷ commands)
+
+-- the commands of some lines, which begin in a block or in none; a block goes on to the first line that is `end`
+abbrev pub commands_in : Option Block → List NumberedLine → Result (List Command) ℕ
+commands_in None [] = Ok []
+commands_in (Some block) [] = Err block.line
+commands_in (Some block) (line ∷ lines) =
+    if bytes_eq line.text (codes "end") then onto (Names block.name block.text) (commands_in None lines)
+    else commands_in (Some (record { line = block.line; name = block.name; text = (block.text ++ line.text) ++ 10 ∷ [] })) lines
+commands_in None (line ∷ lines) =
+    if says_something (words line.text) then elim (opened_in (words line.text)) [
+      | Some name ↦ commands_in (Some (record { line = line.number; name = name; text = [] })) lines
+      | None ↦ ok_or (command_in (words line.text)) line.number >>= λ command. onto command (commands_in None lines)
+    ] else commands_in None lines
 
 -- ---- the script of a text, or the line of its first fault
-
--- each line is a command
-abbrev pub commands_in : List NumberedLine → Result (List Command) ℕ
-commands_in [] = Ok []
-commands_in (line ∷ lines) = ok_or (event_in line.words) line.number >>= λ event. commands_in lines >>= λ commands. Ok (Does event ∷ commands)
 
 -- the first of some lines, or a fault at the line behind the last of all
 abbrev pub first_line : ℕ → List NumberedLine → Result (NumberedLine × List NumberedLine) ℕ
@@ -123,9 +196,9 @@ first_line end (line ∷ lines) = Ok (line, lines)
 
 abbrev pub script_in : ℕ → List NumberedLine → Result ScriptValue ℕ
 script_in end lines =
-    first_line end lines >>= λ first. ok_or (rule_in first.0.words) first.0.number >>= λ rule.
-    first_line end first.1 >>= λ second. ok_or (replicas_in second.0.words) second.0.number >>= λ replicas.
-    commands_in second.1 >>= λ commands. Ok (record { rule = rule; replicas = replicas; commands = commands })
+    first_line end (past_skipped lines) >>= λ first. ok_or (rule_in (words first.0.text)) first.0.number >>= λ rule.
+    first_line end (past_skipped first.1) >>= λ second. ok_or (replicas_in (words second.0.text)) second.0.number >>= λ replicas.
+    commands_in None second.1 >>= λ commands. Ok (record { rule = rule; replicas = replicas; commands = commands })
 
 abbrev pub script_of : List ℕ → Result ScriptValue ℕ
-script_of text = script_in (length (lines text) + 1) (spoken 1 (lines text))
+script_of text = script_in (length (lines text) + 1) (lines_from 1 text)

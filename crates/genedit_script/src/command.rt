@@ -1,8 +1,9 @@
 //! What a script asks for.
 
-ghost use Rattle.std.specs.Prelude.{◌≡◌};
+ghost use Rattle.std.specs.Prelude.{◌≡◌, IfOk};
 
 use replica_core::Event;
+use std::alloc::{AllocError, Global};
 use std::marker::Model;
 
 /// What a line of a script, or a pattern's block, asks for.
@@ -33,6 +34,15 @@ impl Model for PatternName {
 }
 
 impl PatternName {
+    /// A copy of a word.
+    pub(crate) fn of(alloc: Global, word: &[u8]) -> Result<PatternName, AllocError>
+        ensures { IfOk result (λ name. name ≡ word.now) }
+    {
+        let mut letters = Vec::new(alloc);
+        letters.extend_from_slice(word)?;
+        Ok(PatternName { letters })
+    }
+
     pub fn as_bytes(&self) -> &[u8]
         ensures { result.now ≡ self.now }
     {
@@ -55,6 +65,12 @@ impl Model for PatternText {
 }
 
 impl PatternText {
+    pub(crate) fn of_vec(bytes: Vec<u8>) -> PatternText
+        ensures { result ≡ bytes.items }
+    {
+        PatternText { bytes }
+    }
+
     pub fn as_bytes(&self) -> &[u8]
         ensures { result.now ≡ self.now }
     {

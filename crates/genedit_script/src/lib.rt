@@ -12,3 +12,6 @@ mod word;
 pub use command::{Command, PatternName, PatternText};
 pub use fault::ScriptFault;
 pub use script::{Script, read_script};
+
+#[cfg(test)]
+mod tests;

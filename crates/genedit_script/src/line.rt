@@ -3,11 +3,11 @@
 ghost use Rattle.std.specs.Prelude.{◌≡◌, ◌+◌, ◌<◌, ◌^◌, ◌==◌, [], ◌∷◌, length, position, MatchOption, IfSome};
 ghost use Rattle.std.specs.Str.Lines.{lines, strip_carriage_return};
 ghost use Rattle.multistate_rle.specs.Position.{words};
-ghost use Rattle.genedit_script.specs.Script.{says_something as says_some_thing, spoken, begins_comment as is_comment_mark};
+ghost use Rattle.genedit_script.specs.Script.{says_something as says_some_thing, lines_from, past_skipped, begins_comment as is_comment_mark};
 
 use crate::word::split_word;
 
-/// A line that is not skipped.
+/// A line of a text.
 #[derive(Clone, Copy, Debug)]
 pub struct Line<'a> {
     /// Counted from 1, skipped lines included.
@@ -27,7 +27,7 @@ impl<'a> Lines<'a> {
     ghost use Rattle.std.specs.Prelude.{◌≡◌, ◌+◌, ◌<◌, [], ◌∷◌, length, MatchOption, IfSome, IfNone};
     ghost use Rattle.std.specs.Str.Lines.{lines};
     ghost use Rattle.multistate_rle.specs.Position.{words};
-    ghost use Rattle.genedit_script.specs.Script.{spoken};
+    ghost use Rattle.genedit_script.specs.Script.{lines_from, past_skipped};
 
     pub fn of(text: &'a [u8]) -> Lines<'a>
         ensures { (result.number ≡ 1) × (result.rest.now ≡ text.now) }
@@ -38,24 +38,39 @@ impl<'a> Lines<'a> {
         }
     }
 
-    /// The next line that is not skipped.
+    /// The next line, whatever it says.
     pub fn next_line(&mut self) -> Option<Line<'a>>
         ensures line { MatchOption result
-            (spoken self.old.number (lines self.old.rest.now) ≡ [])
-            (λ line. spoken self.old.number (lines self.old.rest.now)
-            ≡ record { number = line.number; words = words line.text.now } ∷ spoken self.new.number (lines self.new.rest.now)) }
+            (lines_from self.old.number self.old.rest.now ≡ [])
+            (λ line. lines_from self.old.number self.old.rest.now
+            ≡ record { number = line.number; text = line.text.now } ∷ lines_from self.new.number self.new.rest.now) }
+        ensures end { IfNone result (lines self.new.rest.now ≡ []) }
+        ensures same { IfNone result (self.new ≡ self.old) }
+        ensures all { self.new.number + length (lines self.new.rest.now) ≡ self.old.number + length (lines self.old.rest.now) }
+        ensures shorter { IfSome result (λ line. length self.new.rest.now < length self.old.rest.now) }
+    {
+        let (text, rest) = split_line(self.rest)?;
+        let number = self.number;
+        *self = Lines {
+            number: number + 1,
+            rest,
+        };
+        Some(Line { number, text })
+    }
+
+    /// The next line that is not skipped.
+    pub fn next_spoken(&mut self) -> Option<Line<'a>>
+        ensures line { MatchOption result
+            (past_skipped (lines_from self.old.number self.old.rest.now) ≡ [])
+            (λ line. past_skipped (lines_from self.old.number self.old.rest.now)
+            ≡ record { number = line.number; text = line.text.now } ∷ lines_from self.new.number self.new.rest.now) }
         ensures end { IfNone result (lines self.new.rest.now ≡ []) }
         ensures all { self.new.number + length (lines self.new.rest.now) ≡ self.old.number + length (lines self.old.rest.now) }
         ensures shorter { IfSome result (λ line. length self.new.rest.now < length self.old.rest.now) }
     {
-        while let Some((text, rest)) = split_line(self.rest) {
-            let number = self.number;
-            *self = Lines {
-                number: number + 1,
-                rest,
-            };
-            if says_something(text) {
-                return Some(Line { number, text });
+        while let Some(line) = self.next_line() {
+            if says_something(line.text) {
+                return Some(line);
             }
         }
         None

@@ -1,15 +1,14 @@
 //! Scripts, read and checked whole.
 
-ghost use Rattle.std.specs.Prelude.{◌≡◌, ◌+◌, ◌∷◌, [], length, IfOk, IfErr, Ok};
+ghost use Rattle.std.specs.Prelude.{◌≡◌, ◌+◌, ◌≤◌, ◌∷◌, [], List, Some, None, length, IfOk, IfErr, Ok};
 ghost use Rattle.std.specs.Str.Lines.{lines as lines_of};
-ghost use Rattle.multistate_rle.specs.Position.{words};
-ghost use Rattle.genedit_script.specs.Script.{commands_in as commands_of, script_of, spoken};
+ghost use Rattle.genedit_script.specs.Script.{commands_in as commands_of, script_of, lines_from, past_skipped, onto, NumberedLine};
 ghost use Rattle.genedit_script.specs.ScriptFault.{IsFaultOf};
 
-use crate::command::Command;
+use crate::command::{Command, PatternName, PatternText};
 use crate::fault::ScriptFault;
 use crate::line::{Line, Lines};
-use crate::spelling::{event_in, replicas_in, rule_in};
+use crate::spelling::{command_in, opened_in, replicas_in, rule_in};
 use generations_rule::Rule;
 use std::alloc::Global;
 use std::marker::Model;
@@ -65,9 +64,15 @@ impl Script {
 /// Lines end with LF, and a CR before it is dropped; words stand between spaces and tabs. Lines
 /// without a word, and those whose first word begins with `#`, are skipped. The first line that is
 /// not skipped is `rule TEXT`, the second `replicas N` with N up to 64, and each later one is a
-/// command: `cells R x y s ..`, `state R`, `deliver M R` or `show R x y`, with R, M and N of 32 bits,
-/// coordinates of 32 bits with a sign, and states up to 255. A text that ends before its `replicas`
-/// has its fault at the line behind its last.
+/// command: `cells R x y s ..`, `clear R x y w h`, `copy R NAME x y`, `or R NAME x y`, `state R`,
+/// `deliver M R` or `show R x y`, or it opens a block: `pattern NAME`. R, M, N, w and h have 32 bits,
+/// coordinates 32 bits with a sign, states are up to 255, and a NAME is 1 to 16 ASCII letters and
+/// digits.
+///
+/// A block's text is the lines behind its `pattern` line up to the first that is exactly `end`,
+/// none of them skipped, each with one LF behind it. A block without its `end` has its fault at its
+/// `pattern` line. Whether its text is a pattern, and whether a name stands for one, is asked when
+/// the script runs. A text that ends before its `replicas` has its fault at the line behind its last.
 pub fn read_script(alloc: Global, text: &[u8]) -> Result<Script, ScriptFault>
     ensures script { IfOk result (λ script. script_of text.now ≡ Ok script) }
     ensures fault { IfErr result (λ fault. IsFaultOf fault (script_of text.now)) }
@@ -87,13 +92,13 @@ pub fn read_script(alloc: Global, text: &[u8]) -> Result<Script, ScriptFault>
 
 /// The next line that is not skipped; without one, the fault is at the line behind the last.
 fn required_line<'a>(lines: &mut Lines<'a>) -> Result<Line<'a>, ScriptFault>
-    ensures line { IfOk result (λ line. spoken lines.old.number (lines_of lines.old.rest.now)
-        ≡ record { number = line.number; words = words line.text.now } ∷ spoken lines.new.number (lines_of lines.new.rest.now)) }
+    ensures line { IfOk result (λ line. past_skipped (lines_from lines.old.number lines.old.rest.now)
+        ≡ record { number = line.number; text = line.text.now } ∷ lines_from lines.new.number lines.new.rest.now) }
     ensures all { lines.new.number + length (lines_of lines.new.rest.now) ≡ lines.old.number + length (lines_of lines.old.rest.now) }
-    ensures none { IfErr result (λ fault. (spoken lines.old.number (lines_of lines.old.rest.now) ≡ [])
+    ensures none { IfErr result (λ fault. (past_skipped (lines_from lines.old.number lines.old.rest.now) ≡ [])
         × (fault ≡ ScriptFault.Line (lines.old.number + length (lines_of lines.old.rest.now)))) }
 {
-    match lines.next_line() {
+    match lines.next_spoken() {
         Some(line) => Ok(line),
         None => Err(ScriptFault::Line(lines.number)),
     }
@@ -101,13 +106,62 @@ fn required_line<'a>(lines: &mut Lines<'a>) -> Result<Line<'a>, ScriptFault>
 
 /// The commands of all lines that are left.
 fn commands_in(alloc: Global, mut lines: Lines<'_>) -> Result<Vec<Command>, ScriptFault>
-    ensures commands { IfOk result (λ commands. commands_of (spoken lines.entry.number (lines_of lines.entry.rest.now)) ≡ Ok commands.items) }
-    ensures fault { IfErr result (λ fault. IsFaultOf fault (commands_of (spoken lines.entry.number (lines_of lines.entry.rest.now)))) }
+    ensures commands { IfOk result (λ commands. commands_of None (lines_from lines.entry.number lines.entry.rest.now) ≡ Ok commands.items) }
+    ensures fault { IfErr result (λ fault. IsFaultOf fault (commands_of None (lines_from lines.entry.number lines.entry.rest.now))) }
 {
     let mut commands = Vec::new(alloc);
-    while let Some(line) = lines.next_line() {
-        let event = event_in(alloc, line.text)?.ok_or(ScriptFault::Line(line.number))?;
-        commands.push(Command::Does(event))?;
+    while let Some(line) = lines.next_spoken() {
+        let command = command_at(alloc, line, &mut lines)?;
+        commands.push(command)?;
     }
     Ok(commands)
+}
+
+/// The command of a line that is not skipped; where the line opens a block, the lines up to its
+/// `end` are taken.
+fn command_at(alloc: Global, line: Line<'_>, lines: &mut Lines<'_>) -> Result<Command, ScriptFault>
+    ensures command { IfOk result (λ command. (all : List NumberedLine)
+        → past_skipped all ≡ record { number = line.entry.number; text = line.entry.text.now } ∷ lines_from lines.old.number lines.old.rest.now
+        → commands_of None all ≡ onto command (commands_of None (lines_from lines.new.number lines.new.rest.now))) }
+    ensures fault { IfErr result (λ fault. (all : List NumberedLine)
+        → past_skipped all ≡ record { number = line.entry.number; text = line.entry.text.now } ∷ lines_from lines.old.number lines.old.rest.now
+        → IsFaultOf fault (commands_of None all)) }
+    ensures shorter { length lines.new.rest.now ≤ length lines.old.rest.now }
+{
+    match opened_in(line.text) {
+        Some(name) => {
+            let command = block_in(alloc, line.number, name, lines)?;
+            Ok(command)
+        }
+        None => {
+            let command = command_in(alloc, line.text)?.ok_or(ScriptFault::Line(line.number))?;
+            Ok(command)
+        }
+    }
+}
+
+/// The pattern of a name, whose text goes up to the first line that is `end`.
+fn block_in(
+    alloc: Global,
+    number: u64,
+    name: &[u8],
+    lines: &mut Lines<'_>,
+) -> Result<Command, ScriptFault>
+    ensures command { IfOk result (λ command.
+        commands_of (Some (record { line = number; name = name.now; text = [] })) (lines_from lines.old.number lines.old.rest.now)
+        ≡ onto command (commands_of None (lines_from lines.new.number lines.new.rest.now))) }
+    ensures fault { IfErr result (λ fault. IsFaultOf fault
+        (commands_of (Some (record { line = number; name = name.now; text = [] })) (lines_from lines.old.number lines.old.rest.now))) }
+    ensures shorter { length lines.new.rest.now ≤ length lines.old.rest.now }
+{
+    let mut text = Vec::new(alloc);
+    while let Some(line) = lines.next_line() {
+        if line.text == b"end".as_slice() {
+            let name = PatternName::of(alloc, name)?;
+            return Ok(Command::Names(name, PatternText::of_vec(text)));
+        }
+        text.extend_from_slice(line.text)?;
+        text.push(b'\n')?;
+    }
+    Err(ScriptFault::Line(number))
 }

@@ -1,10 +1,15 @@
 //! What the words of a line spell.
 
 ghost use Rattle.std.specs.Prelude.{◌≡◌, ◌∷◌, [], IfOk, IfSome, MatchOption, option_map, None, IsTrue, ◌↔◌, ◌≤◌, length};
+ghost use Rattle.std.specs.Char.{is_ascii_alphanumeric};
+ghost use Rattle.std.specs.List.{list_all};
 ghost use Rattle.multistate_rle.specs.Position.{words};
-ghost use Rattle.genedit_script.specs.Script.{argument_of as argument_behind, rule_in as rule_of, replicas_in as replicas_of, cell_in as cell_of, cells_in as cells_of, draw_in as draw_of, send_in as sending_of, delivery_in as delivery_of, show_in as show_of, event_in as event_of};
+ghost use Rattle.genedit_script.specs.declared.command.Command.TheVariants.{Copies, Ors};
+ghost use Rattle.genedit_script.specs.Script.{argument_of as argument_behind, rule_in as rule_of, replicas_in as replicas_of, cell_in as cell_of, cells_in as cells_of, draw_in as draw_of, send_in as sending_of, delivery_in as delivery_of, show_in as show_of, area_in as area_of, clear_in as clear_of, event_in as event_of, is_name as is_pattern_name, name_in as name_of, paste_in as paste_of, command_in as command_of, opened_in as opened_of};
 
+use crate::command::{Command, PatternName};
 use crate::word::{number, signed, split_word, unsigned};
+use edit_stamps::Rect;
 use generations_rule::Rule;
 use multistate_rle::Cell;
 use replica_core::{CellList, EditSpec, Event};
@@ -26,13 +31,110 @@ pub fn replicas_in(line: &[u8]) -> Option<u16>
     Some(n as u16)
 }
 
-/// What happens at a command, unless the line is none.
-pub fn event_in(alloc: Global, line: &[u8]) -> Result<Option<Event>, AllocError>
-    ensures { IfOk result (λ event. event ≡ event_of (words line.now)) }
+/// `pattern NAME`: the name.
+pub fn opened_in(line: &[u8]) -> Option<&[u8]>
+    ensures { option_map (λ name. name.now) result ≡ opened_of (words line.now) }
+{
+    name_in(argument_of(b"pattern", line)?)
+}
+
+/// The command of a line, unless it is none.
+pub fn command_in(alloc: Global, line: &[u8]) -> Result<Option<Command>, AllocError>
+    ensures { IfOk result (λ command. command ≡ command_of (words line.now)) }
 {
     let Some((name, arguments)) = split_word(line) else {
         return Ok(None);
     };
+    if name == b"copy".as_slice() {
+        let command = copy_in(alloc, arguments)?;
+        Ok(command)
+    } else if name == b"or".as_slice() {
+        let command = or_in(alloc, arguments)?;
+        Ok(command)
+    } else {
+        let event = event_in(alloc, name, arguments)?;
+        Ok(event.map(Command::Does))
+    }
+}
+
+/// `R NAME x y`
+fn copy_in(alloc: Global, arguments: &[u8]) -> Result<Option<Command>, AllocError>
+    ensures { IfOk result (λ command. command ≡ option_map (λ paste. Copies paste.replica paste.name paste.x paste.y) (paste_of (words arguments.now))) }
+{
+    let Some(paste) = paste_in(arguments) else {
+        return Ok(None);
+    };
+    let name = PatternName::of(alloc, paste.name)?;
+    Ok(Some(Command::Copies(paste.replica, name, paste.x, paste.y)))
+}
+
+/// `R NAME x y`
+fn or_in(alloc: Global, arguments: &[u8]) -> Result<Option<Command>, AllocError>
+    ensures { IfOk result (λ command. command ≡ option_map (λ paste. Ors paste.replica paste.name paste.x paste.y) (paste_of (words arguments.now))) }
+{
+    let Some(paste) = paste_in(arguments) else {
+        return Ok(None);
+    };
+    let name = PatternName::of(alloc, paste.name)?;
+    Ok(Some(Command::Ors(paste.replica, name, paste.x, paste.y)))
+}
+
+/// A replica, the name of a pattern, and where its box's corner goes.
+#[derive(Clone, Copy, Debug)]
+struct Paste<'a> {
+    replica: u32,
+    name: &'a [u8],
+    x: i32,
+    y: i32,
+}
+
+/// `R NAME x y`
+fn paste_in(arguments: &[u8]) -> Option<Paste<'_>>
+    ensures { option_map (λ paste. record { replica = paste.replica; name = paste.name.now; x = paste.x; y = paste.y }) result ≡ paste_of (words arguments.now) }
+{
+    let (replica, rest) = split_word(arguments)?;
+    let (name, rest) = split_word(rest)?;
+    let (x, rest) = split_word(rest)?;
+    let (y, rest) = split_word(rest)?;
+    if !ends(rest) {
+        return None;
+    }
+    let replica = unsigned(replica)?;
+    let name = name_in(name)?;
+    let x = signed(x)?;
+    let y = signed(y)?;
+    Some(Paste {
+        replica,
+        name,
+        x,
+        y,
+    })
+}
+
+/// The word, if it is a name.
+fn name_in(word: &[u8]) -> Option<&[u8]>
+    ensures { option_map (λ name. name.now) result ≡ name_of word.now }
+{
+    if is_name(word) { Some(word) } else { None }
+}
+
+/// 1 to 16 ASCII letters and digits.
+fn is_name(word: &[u8]) -> bool
+    ensures { result ≡ is_pattern_name word.now }
+{
+    1 <= word.len() && word.len() <= 16 && are_letters_or_digits(word)
+}
+
+fn are_letters_or_digits(word: &[u8]) -> bool
+    ensures { result ≡ list_all is_ascii_alphanumeric word.now }
+{
+    word.iter().all(|byte| byte.is_ascii_alphanumeric())
+}
+
+/// What happens at a command of a name, unless it is none of these.
+fn event_in(alloc: Global, name: &[u8], arguments: &[u8]) -> Result<Option<Event>, AllocError>
+    ensures { IfOk result (λ event. event ≡ event_of (name.now ∷ words arguments.now)) }
+{
     if name == b"cells".as_slice() {
         let event = draw_in(alloc, arguments)?;
         Ok(event)
@@ -42,6 +144,8 @@ pub fn event_in(alloc: Global, line: &[u8]) -> Result<Option<Event>, AllocError>
         Ok(delivery_in(arguments))
     } else if name == b"show".as_slice() {
         Ok(show_in(arguments))
+    } else if name == b"clear".as_slice() {
+        Ok(clear_in(arguments))
     } else {
         Ok(None)
     }
@@ -103,6 +207,38 @@ fn show_in(arguments: &[u8]) -> Option<Event>
     Some(Event::Show(unsigned(replica)?, signed(x)?, signed(y)?))
 }
 
+/// `R x y w h`
+fn clear_in(arguments: &[u8]) -> Option<Event>
+    ensures { result ≡ clear_of (words arguments.now) }
+{
+    let (replica, rest) = split_word(arguments)?;
+    let (x, rest) = split_word(rest)?;
+    let (y, rest) = split_word(rest)?;
+    let (width, rest) = split_word(rest)?;
+    let (height, rest) = split_word(rest)?;
+    if !ends(rest) {
+        return None;
+    }
+    let replica = unsigned(replica)?;
+    let area = area_in(x, y, width, height)?;
+    Some(Event::Draw(replica, EditSpec::Clear(area)))
+}
+
+fn area_in(x: &[u8], y: &[u8], width: &[u8], height: &[u8]) -> Option<Rect>
+    ensures { result ≡ area_of x.now y.now width.now height.now }
+{
+    let x = signed(x)?;
+    let y = signed(y)?;
+    let width = unsigned(width)?;
+    let height = unsigned(height)?;
+    Some(Rect {
+        x,
+        y,
+        width,
+        height,
+    })
+}
+
 /// The cells of a line's words, unless they are not three for each cell.
 fn cells_in(alloc: Global, line: &[u8]) -> Result<Option<Vec<Cell>>, AllocError>
     ensures { IfOk result (λ cells. option_map (λ v. v.items) cells ≡ cells_of (words line.now)) }
@@ -148,8 +284,11 @@ fn argument_of<'a>(name: &[u8], line: &'a [u8]) -> Option<&'a [u8]>
     ensures { option_map (λ a. a.now) result ≡ argument_behind name.now (words line.now) }
 {
     let (first, rest) = split_word(line)?;
+    if first != name {
+        return None;
+    }
     let (argument, rest) = split_word(rest)?;
-    if first != name || !ends(rest) {
+    if !ends(rest) {
         return None;
     }
     Some(argument)
