@@ -71,7 +71,7 @@ fn tell_words<R: Print + Eprint + AllocGlobal>(rt: &R, error: &Error) -> u8 {
             Err(_) => tell_fault(rt, RunFault::Write),
         };
     }
-    match first_line(rt.alloc(), error) {
+    match told(rt.alloc(), error) {
         Ok(line) => {
             let _ = eprintln!(rt; "genedit: {line}");
             WORDS_STATUS
@@ -80,10 +80,16 @@ fn tell_words<R: Print + Eprint + AllocGlobal>(rt: &R, error: &Error) -> u8 {
     }
 }
 
-/// The first line of an error's text, which tells the fault; what follows it is advice.
-fn first_line(alloc: Global, error: &Error) -> Result<String, AllocError> {
+/// The first paragraph of an error's text as one line, which tells the fault; what follows it is
+/// advice.
+fn told(alloc: Global, error: &Error) -> Result<String, AllocError> {
     let text = error.to_string(alloc)?;
-    let line = text.lines().next().unwrap_or("");
-    let fault = line.strip_prefix("error: ").unwrap_or(line);
-    String::from_str(alloc, fault)
+    let mut lines = text.lines();
+    let first = lines.next().unwrap_or("");
+    let mut fault = String::from_str(alloc, first.strip_prefix("error: ").unwrap_or(first))?;
+    for line in lines.take_while(|line| !line.is_empty()) {
+        fault.push(' ')?;
+        fault.push_str(line.trim())?;
+    }
+    Ok(fault)
 }

@@ -7,6 +7,7 @@ mod words;
 use crate::ending::Ending;
 use crate::words::Task;
 use genedit_lib::run_script;
+use genedit_rle::rle_text;
 use replica_core::{ReadSource, WriteSink};
 use std::alloc::AllocGlobal;
 use std::io;
@@ -20,16 +21,17 @@ fn main(rt: HostRuntime) -> ExitCode {
     }
 }
 
-/// Does what the words ask for. Nothing is read before the words are found to be in order.
+/// Does what the words ask for. Nothing is read before the words and the rule in them are found to be
+/// in order.
 fn work<R: Env + Input + Print + AllocGlobal>(rt: &R) -> Result<(), Ending> {
     let alloc = rt.alloc();
     let words = words::given(rt)?;
-    match words::asked(alloc, &words)? {
-        Task::Run => run_script(
-            alloc,
-            &mut ReadSource::new(rt.reader()),
-            &mut WriteSink::new(io::writer(rt)),
-        )?,
+    let task = words::asked(alloc, &words)?;
+    let mut source = ReadSource::new(rt.reader());
+    let mut sink = WriteSink::new(io::writer(rt));
+    match task {
+        Task::Run => run_script(alloc, &mut source, &mut sink)?,
+        Task::Rle(rule) => rle_text(alloc, &rule, &mut source, &mut sink)?,
     }
     Ok(())
 }

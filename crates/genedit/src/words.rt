@@ -1,8 +1,12 @@
 //! The words of the command line.
 
+ghost use Rattle.std.specs.Prelude.{◌≡◌};
+ghost use Rattle.genedit.specs.Words.{rule_asked};
+
 use crate::ending::Ending;
-use clap::{Command, Error};
+use clap::{Arg, ArgAction, Command};
 use genedit_io::RunFault;
+use generations_rule::Rule;
 use std::alloc::{AllocError, AllocGlobal, Global};
 use std::io::ErrorKind;
 use std::rt::Env;
@@ -15,12 +19,23 @@ The script has a line for each step; a line that begins with # is a comment.
   cells R x y s ..       replica R draws cells, each a coordinate and a state
   state R                replica R sends its whole map as the next message
   deliver M R            message M reaches replica R
-  show R x y             prints a cell of replica R: state, counter and replica of its stamp";
+  show R x y             prints a cell of replica R: state, counter and replica of its stamp
+  pattern NAME           the lines up to a line `end` are an RLE text; keeps its pattern by name
+  copy R NAME x y        replica R draws the pattern's whole box there, dead cells too
+  or R NAME x y          replica R draws the pattern's live and dying cells there
+  clear R x y w h        replica R draws an area of dead cells, w wide and h high";
+
+const FORM_HELP: &str = "\
+The text has an optional line `#CXRLE Pos=x,y Gen=n`, a header `x = w, y = h`, and runs of cells up to
+an end mark `!`; other lines that begin with # are comments. Each cell is moved by the position. What
+is printed has maximal runs, no count of 1, and lines of at most 70 bytes.";
 
 /// What the words ask for.
 pub enum Task {
     /// A script on standard input is run.
     Run,
+    /// An RLE text on standard input is brought into canonical form under this rule.
+    Rle(Rule),
 }
 
 /// The words with which the program was started, its own name first.
@@ -33,18 +48,49 @@ pub fn given<R: Env + AllocGlobal>(rt: &R) -> Result<Vec<String>, Ending> {
 }
 
 /// What the words ask for. Help and the version come as an error, too.
-pub fn asked(alloc: Global, words: &[String]) -> Result<Task, Error> {
-    command(alloc)?.try_get_matches_from(words)?;
-    Ok(Task::Run)
+pub fn asked(alloc: Global, words: &[String]) -> Result<Task, Ending> {
+    let matches = command(alloc)?.try_get_matches_from(words)?;
+    match matches.subcommand_matches("rle") {
+        // the words have a rule, since it is required
+        Some(words) => Ok(Task::Rle(rule_of(words.get_str("rule").unwrap_or(""))?)),
+        None => Ok(Task::Run),
+    }
+}
+
+/// The rule of a text.
+fn rule_of(text: &str) -> Result<Rule, RunFault>
+    ensures { result ≡ rule_asked text.now }
+{
+    match Rule::parse(text.as_bytes()) {
+        Ok(rule) => Ok(rule),
+        Err(fault) => Err(RunFault::Refused(fault.number(), fault.place())),
+    }
 }
 
 fn command<'a>(alloc: Global) -> Result<Command<'a>, AllocError> {
-    let run = Command::new(alloc, "run")
-        .about("Runs a script from standard input and prints what happened")
-        .after_help(SCRIPT_HELP);
     Command::new(alloc, "genedit")
         .version("0.1.0")
         .about("Edits patterns of Generations automata on replicas that agree")
         .subcommand_required(true)
-        .subcommand(run)
+        .subcommand(run_command(alloc))?
+        .subcommand(rle_command(alloc)?)
+}
+
+fn run_command<'a>(alloc: Global) -> Command<'a> {
+    Command::new(alloc, "run")
+        .about("Runs a script from standard input and prints what happened")
+        .after_help(SCRIPT_HELP)
+}
+
+fn rle_command<'a>(alloc: Global) -> Result<Command<'a>, AllocError> {
+    let rule = Arg::new(alloc, "rule")
+        .long("rule")
+        .value_name("TEXT")
+        .help("The rule S/B/C of the cells, as /2/3 or 345/2/4")
+        .required(true)
+        .action(ArgAction::Set);
+    Command::new(alloc, "rle")
+        .about("Prints an RLE text from standard input in canonical form")
+        .after_help(FORM_HELP)
+        .arg(rule)
 }

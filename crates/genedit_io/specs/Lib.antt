@@ -1,2 +1,3 @@
 pub mod RunFault
 pub mod Devices
+pub mod Rows

@@ -120,10 +120,12 @@ impl fmt::Display for FaultName {
             9 => write!(f, "Nothing"),
             10 => write!(f, "OutOfPlane"),
             11 => write!(f, "StateRange"),
+            12 => write!(f, "AreaSide"),
             16 => write!(f, "OtherRule"),
             24 => write!(f, "ClockFull"),
             26 => write!(f, "NoReplica"),
             27 => write!(f, "NoMessage"),
+            38 => write!(f, "NoPattern"),
             _ => write!(f, "?"),
         }
     }

@@ -6,3 +6,6 @@ mod pull;
 
 pub use fault::RunFault;
 pub use pull::pull_all;
+
+#[cfg(test)]
+mod tests;

@@ -1,0 +1,4 @@
+pub mod Fault
+pub mod Canonical
+pub mod Run
+pub mod Rows

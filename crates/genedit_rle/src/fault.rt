@@ -1,0 +1,87 @@
+//! Why a text has no canonical form under a rule.
+
+ghost use Rattle.std.specs.Prelude.{◌≡◌};
+
+use genedit_io::RunFault;
+use multistate_rle::RleFault;
+use std::alloc::AllocError;
+
+/// Why a text has no canonical form under a rule; of several refusals the first of this list is told.
+#[derive(Clone, Copy, Debug, PartialEq, Eq)]
+pub enum CanonicalFault {
+    /// What is wrong with the text.
+    Text(RleFault),
+    /// A coordinate of a cell has not 32 bits with a sign.
+    OutOfPlane,
+    /// A state is not below the rule's number of states.
+    StateRange,
+    /// The system refused memory.
+    Memory,
+}
+
+impl CanonicalFault {
+    ghost use Rattle.std.specs.Prelude.{◌≡◌};
+    ghost use Rattle.genedit_rle.specs.Fault.{fault_number, fault_place};
+
+    /// Its number in the table of faults; 255 for want of memory.
+    pub fn number(self) -> u8
+        ensures { result ≡ fault_number self }
+    {
+        match self {
+            CanonicalFault::Text(fault) => fault.number(),
+            CanonicalFault::OutOfPlane => 10,
+            CanonicalFault::StateRange => 11,
+            CanonicalFault::Memory => 255,
+        }
+    }
+
+    /// The place in the text that it names.
+    pub fn place(self) -> Option<u64>
+        ensures { result ≡ fault_place self }
+    {
+        match self {
+            CanonicalFault::Text(fault) => fault.place(),
+            CanonicalFault::OutOfPlane | CanonicalFault::StateRange | CanonicalFault::Memory =>
+                None,
+        }
+    }
+}
+
+impl From<RleFault> for CanonicalFault {
+    ghost use Rattle.std.specs.Prelude.{◌≡◌};
+    ghost use Rattle.genedit_rle.specs.Fault.{fault_of_text};
+
+    ghost from_gives = { λ from fault. fault ≡ fault_of_text from };
+
+    fn from(fault: RleFault) -> CanonicalFault {
+        match fault {
+            RleFault::Memory => CanonicalFault::Memory,
+            refusal => CanonicalFault::Text(refusal),
+        }
+    }
+}
+
+impl From<AllocError> for CanonicalFault {
+    ghost use Rattle.std.specs.Prelude.{◌≡◌};
+    ghost use Rattle.genedit_rle.specs.declared.fault.CanonicalFault.TheVariants.{Memory};
+
+    ghost from_gives = { λ _ fault. fault ≡ Memory };
+
+    fn from(_want: AllocError) -> CanonicalFault {
+        CanonicalFault::Memory
+    }
+}
+
+impl From<CanonicalFault> for RunFault {
+    ghost use Rattle.std.specs.Prelude.{◌≡◌};
+    ghost use Rattle.genedit_rle.specs.Fault.{run_fault_of};
+
+    ghost from_gives = { λ from fault. fault ≡ run_fault_of from };
+
+    fn from(fault: CanonicalFault) -> RunFault {
+        match fault {
+            CanonicalFault::Memory => RunFault::Memory,
+            refusal => RunFault::Refused(refusal.number(), refusal.place()),
+        }
+    }
+}
