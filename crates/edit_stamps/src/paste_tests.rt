@@ -107,6 +107,20 @@ fn bounds_the_sides(rt: HostRuntime) -> Result<(), Fail> {
     Ok(())
 }
 
+/// A row of as many cells as a pattern may have.
+#[test]
+fn ors_the_longest_row(rt: HostRuntime) -> Result<(), Fail> {
+    let alloc = rt.alloc();
+    let rule = Rule::parse(b"/2/3")?;
+    let row = parse(alloc, b"x = 0, y = 0\n1048576o!")?;
+    assert_eq!(rt; row.width(), 1_048_576);
+    let copy = Edit::paste_copy(alloc, &rule, first_stamp()?, &row, 0, 0);
+    assert_eq!(rt; fault_of(copy), Some(EditFault::AreaSide));
+    let or = Edit::paste_or(alloc, &rule, first_stamp()?, &row, 0, 0)?;
+    assert_eq!(rt; or.listed_cells().len(), 1_048_576);
+    Ok(())
+}
+
 #[test]
 fn clears(rt: HostRuntime) -> Result<(), Fail> {
     let alloc = rt.alloc();
