@@ -137,7 +137,7 @@ impl Edit {
         self.stamp
     }
 
-    /// The area outside whose listed cells the edit writes state 0.
+    /// Its area, if it has one: where no cell of it is listed, the edit writes state 0.
     pub fn area(&self) -> Option<Rect>
         ensures { result ≡ self.now.area }
     {

@@ -18,7 +18,7 @@ use std::alloc::Global;
 const TURNS: u64 = 1 << 32;
 
 /// Pulls a script to its source's end, checks it whole, runs it, and pushes all that it prints at
-/// once: a line for each reply. A refused event prints its refusal, and the run goes on.
+/// once: a line for each command. A refused command prints its refusal, and the run goes on.
 ///
 /// No fault but a failed push comes after the first byte was pushed. `RunFault::Turns` comes after
 /// 2^32 pulls that each gave something; `RunFault::Refused` and `RunFault::StoreFull`
