@@ -1,5 +1,5 @@
 -- The entries of a map of coordinates, joined one after another.
-use Rattle.std.proofs.Common.{◌≡◌, true, false, cond, List, [], ◌∷◌, refl, sym, ◌∙◌, ap, subst, arith, inl, inr, Less, if◌then◌else◌}
+use Rattle.std.proofs.Common.{◌≡◌, true, false, cond, List, [], ◌∷◌, refl, sym, ◌∙◌, ap, arith, inl, inr, Less, if◌then◌else◌}
 use Rattle.std.specs.Prelude.{Some, None, unwrap_or}
 use Rattle.std.specs.List.{AllByRecursion}
 use Rattle.std.specs.List.Sorted.{IsStrictlySortedBy}
@@ -9,13 +9,12 @@ use Rattle.std.proofs.lemmas.Int.{ints}
 use Rattle.std.proofs.lemmas.Bool.{cases_Bool}
 use Rattle.generations_rule.specs.Place.{is_place}
 use Rattle.edit_stamps.specs.declared.write.Write.{Write}
-use Rattle.edit_stamps.specs.PlaneMap.{PlaneMap, write_at}
-use Rattle.edit_stamps.specs.Write.{at_most, greater, unwritten, Writes, AreSame}
-use Rattle.edit_stamps.proofs.WriteLaws.{is_total}
-use Rattle.stamped_map.proofs.JoiningLaws.{left_of, right_of, IsJoining, joining_starts, joining_goes}
+use Rattle.edit_stamps.specs.PlaneMap.{write_at}
+use Rattle.edit_stamps.specs.Write.{greater, unwritten, Writes, AreSame}
 use Rattle.stamped_map.specs.declared.plane.Coordinate.{Coordinate}
-use Rattle.stamped_map.specs.Plane.{map_of_entries, place_at, only, LiesInPlane}
-use Rattle.stamped_map.proofs.ReadLemmas.{key_cmp, found, write_at-entries}
+use Rattle.stamped_map.specs.Plane.{map_of_entries, place_at, only}
+use Rattle.stamped_map.specs.Merge.{coordinate_cmp}
+use Rattle.stamped_map.proofs.ReadLemmas.{found, write_at-entries}
 use Rattle.stamped_map.proofs.JoinLemmas.{key_is_place, coordinate, greater-unwritten, unwritten-greater}
 
 -- what entries write, joined
@@ -23,45 +22,34 @@ abbrev pub entries_written : List (Coordinate × Write) → Writes
 entries_written [] c = unwritten
 entries_written (e ∷ entries) c = greater (only (place_at e.0) e.1 c) (entries_written entries c)
 
--- each write lies in the plane
-abbrev pub AllInside : List (Coordinate × Write) → Type 0
-AllInside [] = Unit {0}
-AllInside (e ∷ entries) = LiesInPlane (only (place_at e.0) e.1) × AllInside entries
-
 -- a key before all others is not found among them
-other : (k q x : Coordinate) → is_eq (key_cmp k q) ≡ true → key_cmp k x ≡ Less → is_eq (key_cmp q x) ≡ false
+other : (k q x : Coordinate) → is_eq (coordinate_cmp k q) ≡ true → coordinate_cmp k x ≡ Less → is_eq (coordinate_cmp q x) ≡ false
 other k q x same less = grind (arith, ints)
 
-pub same_key : (k : Coordinate) → is_eq (key_cmp k k) ≡ true
+pub same_key : (k : Coordinate) → is_eq (coordinate_cmp k k) ≡ true
 same_key k = grind (arith, ints)
 
-turned : (q x : Coordinate) → is_eq (key_cmp q x) ≡ true → is_eq (key_cmp x q) ≡ true
+turned : (q x : Coordinate) → is_eq (coordinate_cmp q x) ≡ true → is_eq (coordinate_cmp x q) ≡ true
 turned q x same = grind (arith, ints)
 
-turned_away : (q x : Coordinate) → is_eq (key_cmp q x) ≡ false → is_eq (key_cmp x q) ≡ false
+turned_away : (q x : Coordinate) → is_eq (coordinate_cmp q x) ≡ false → is_eq (coordinate_cmp x q) ≡ false
 turned_away q x same = grind (arith, ints)
 
--- where the greater of two writes is the least one, both are
-nothing_left : (v w : Write) → greater v w ≡ unwritten → v ≡ unwritten
-nothing_left v w none = is_total.antisymmetric v unwritten (subst (λ u. at_most v u ≡ true) none (left_of v w)) (is_total.least v)
-
-nothing_right : (v w : Write) → greater v w ≡ unwritten → w ≡ unwritten
-nothing_right v w none = is_total.antisymmetric w unwritten (subst (λ u. at_most w u ≡ true) none (right_of v w)) (is_total.least w)
-
-pub not_found : (k q : Coordinate) (entries : List (Coordinate × Write)) → is_eq (key_cmp k q) ≡ true →
-    AllByRecursion (λ x. key_cmp k x ≡ Less) (keys_of entries) → found entries q ≡ None
+-- a key that is before all others is found nowhere
+pub not_found : (k q : Coordinate) (entries : List (Coordinate × Write)) → is_eq (coordinate_cmp k q) ≡ true →
+    AllByRecursion (λ x. coordinate_cmp k x ≡ Less) (keys_of entries) → found entries q ≡ None
 not_found k q [] same all = refl
 not_found k q (e ∷ entries) same all =
-    let differs : is_eq (key_cmp q e.0) ≡ false = other k q e.0 same all.0 in
+    let differs : is_eq (coordinate_cmp q e.0) ≡ false = other k q e.0 same all.0 in
     rw differs (not_found k q entries same all.1)
 
-pub written_is_found : (entries : List (Coordinate × Write)) (q : Coordinate) → IsStrictlySortedBy key_cmp (keys_of entries) →
+pub written_is_found : (entries : List (Coordinate × Write)) (q : Coordinate) → IsStrictlySortedBy coordinate_cmp (keys_of entries) →
     entries_written entries (place_at q) ≡ unwrap_or (found entries q) unwritten
 unfolding IsStrictlySortedBy
 written_is_found [] q sorted = refl
 written_is_found (e ∷ entries) q sorted =
     let rest : entries_written entries (place_at q) ≡ unwrap_or (found entries q) unwritten = written_is_found entries q sorted.1 in
-    elim (cases_Bool (is_eq (key_cmp q e.0))) [
+    elim (cases_Bool (is_eq (coordinate_cmp q e.0))) [
       | inl here ↦
           let at : is_place (place_at e.0) (place_at q) ≡ true = sym (key_is_place e.0 q) ∙ turned q e.0 here in
           ap (λ b. greater (if b then e.1 else unwritten) (entries_written entries (place_at q))) at
@@ -75,27 +63,6 @@ written_is_found (e ∷ entries) q sorted =
           ∙ ap (λ b. unwrap_or (cond b (Some e.1) (found entries q)) unwritten) (sym there)
     ]
 
-pub written_is_read : (entries : List (Coordinate × Write)) → IsStrictlySortedBy key_cmp (keys_of entries) →
+pub written_is_read : (entries : List (Coordinate × Write)) → IsStrictlySortedBy coordinate_cmp (keys_of entries) →
     AreSame (entries_written entries) (write_at (map_of_entries entries))
 written_is_read entries sorted c = written_is_found entries (coordinate c) sorted ∙ sym (write_at-entries entries (coordinate c))
-
--- what holds of the join of writes that are all at other places holds of each
-pub entries_inside : (entries : List (Coordinate × Write)) → LiesInPlane (entries_written entries) → AllInside entries
-entries_inside [] inside = tt
-entries_inside (e ∷ entries) inside = (
-  λ c out. nothing_left (only (place_at e.0) e.1 c) (entries_written entries c) (inside c out),
-  entries_inside entries (λ c out. nothing_right (only (place_at e.0) e.1 c) (entries_written entries c) (inside c out)),
-)
-
--- a join of entries begins
-pub entries_start : (old : Writes) (p : PlaneMap) (entries items : List (Coordinate × Write)) → items ≡ entries →
-    IsStrictlySortedBy key_cmp (keys_of entries) → map_of_entries entries ≡ p → LiesInPlane (write_at (map_of_entries entries)) →
-    IsJoining old old (entries_written items) (write_at p) × AllInside items
-entries_start old p entries items same sorted is inside =
-    let read : AreSame (entries_written entries) (write_at (map_of_entries entries)) = written_is_read entries sorted in
-    let far : IsJoining old old (entries_written entries) (write_at p) =
-    joining_goes old old old (λ _. unwritten) (entries_written entries) (write_at p) (write_at p) (joining_starts old (write_at p))
-    (λ c. ap (λ q. write_at q c) (sym is) ∙ sym (read c) ∙ sym (unwritten-greater (entries_written entries c)))
-    (λ c. sym (greater-unwritten (old c))) in
-    let all : AllInside entries = entries_inside entries (λ c out. read c ∙ inside c out) in
-    (subst (λ es. IsJoining old old (entries_written es) (write_at p)) (sym same) far, subst AllInside (sym same) all)

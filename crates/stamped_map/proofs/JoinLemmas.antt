@@ -12,7 +12,8 @@ use Rattle.edit_stamps.proofs.PlaceOrder.{one_place}
 use Rattle.edit_stamps.proofs.WriteLaws.{is_total, is_lattice}
 use Rattle.stamped_map.specs.declared.plane.Coordinate.{Coordinate}
 use Rattle.stamped_map.specs.Plane.{map_of_entries, only, place_at}
-use Rattle.stamped_map.proofs.ReadLemmas.{key_cmp, found, write_at-entries}
+use Rattle.stamped_map.specs.Merge.{coordinate_cmp}
+use Rattle.stamped_map.proofs.ReadLemmas.{found, write_at-entries}
 
 -- ---- the greater write
 
@@ -30,7 +31,7 @@ unwritten-greater v = absorbed unwritten v (is_total.least v)
 
 -- ---- one write
 
-pub key_is_place : (at q : Coordinate) → is_eq (key_cmp at q) ≡ is_place (place_at at) (place_at q)
+pub key_is_place : (at q : Coordinate) → is_eq (coordinate_cmp at q) ≡ is_place (place_at at) (place_at q)
 key_is_place at q = grind (arith, ints)
 
 -- the coordinate of a place
@@ -40,7 +41,7 @@ coordinate c = record { y = c.y; x = c.x }
 -- the write that stands where another was put beside the ones that stood
 pub joined_inserted : (old new : List (Coordinate × Write)) (at : Coordinate) (held write : Write) →
     held ≡ write_at (map_of_entries old) (place_at at) → at_most write held ≡ false →
-    ((q : Coordinate) → found new q ≡ cond (is_eq (key_cmp at q)) (Some write) (found old q)) →
+    ((q : Coordinate) → found new q ≡ cond (is_eq (coordinate_cmp at q)) (Some write) (found old q)) →
     AreSame (write_at (map_of_entries new)) (joined (write_at (map_of_entries old)) (only (place_at at) write))
 joined_inserted old new at held write is above updates c =
     let new_is : write_at (map_of_entries new) c ≡ unwrap_or (cond (is_place (place_at at) c) (Some write) (found old (coordinate c))) unwritten =

@@ -1,6 +1,6 @@
 -- A map to which writes are joined one after another.
 use Rattle.std.proofs.Common.{◌≡◌, ℕ, ◌+◌, ◌-◌, ◌≤◌, ◌<◌, max, ℤ, pos, ◌+ℤ◌, length, get_or, drop, drop-cons, add-one, Bool, true, false, List, refl, sym, ◌∙◌, ap, subst, arith, inl, inr, if◌then◌else◌}
-use Rattle.std.specs.Prelude.{IsTrue, Result, Ok, Err, OnErr, ◌||◌, ◌&&◌, int_le, int_lt}
+use Rattle.std.specs.Prelude.{Result, Ok, Err, OnErr, ◌||◌, ◌&&◌, int_le, int_lt}
 use Rattle.std.specs.Ordering.{int_eq}
 use Rattle.std.proofs.lemmas.Bool.{cases_Bool}
 use Rattle.std.proofs.lemmas.Bool.Decides.{nat_tests}
@@ -10,12 +10,12 @@ use Rattle.multistate_rle.specs.declared.cell.Cell.{Cell}
 use Rattle.edit_stamps.specs.declared.write.Write.{Write}
 use Rattle.edit_stamps.specs.Plane.{is_in, is_in_plane, is_area_in_plane}
 use Rattle.edit_stamps.specs.PlaneMap.{PlaneMap, write_at}
-use Rattle.edit_stamps.specs.Write.{at_most, greater, unwritten, Writes, AreSame, IsBelow, joined}
+use Rattle.edit_stamps.specs.Write.{at_most, greater, unwritten, Writes, AreSame, joined}
 use Rattle.edit_stamps.proofs.PlaceOrder.{one_place, same_itself}
-use Rattle.edit_stamps.proofs.WriteLaws.{is_total, is_lattice, is_least_upper_bound}
+use Rattle.edit_stamps.proofs.WriteLaws.{is_lattice, is_least_upper_bound}
 use Rattle.stamped_map.specs.declared.plane.Coordinate.{Coordinate}
 use Rattle.edit_stamps.specs.declared.rect.Rect.{Rect}
-use Rattle.stamped_map.specs.Plane.{place_at, only, written, blank, strip, IsGreatestStamp, LiesInPlane, IsBetween, IsPlane}
+use Rattle.stamped_map.specs.Plane.{place_at, only, written, blank, strip, IsGreatestStamp, LiesInPlane, IsPlane}
 use Rattle.stamped_map.proofs.JoinLemmas.{greater-unwritten, unwritten-greater}
 
 -- ---- the greatest stamp
@@ -76,46 +76,21 @@ only_inside c w here d out = elim (cases_Bool (is_place c d)) [
 -- ---- joining one after another
 
 -- what is left to join makes of the map what all that was to be joined makes of the map at first
-pub record IsJoining (old now rest all : Writes) : Type 0 where
-  pub kept : IsBelow old now
-  pub left : AreSame (joined now rest) (joined old all)
+abbrev pub IsJoining : Writes → Writes → Writes → Writes → Type 0
+IsJoining old now rest all = AreSame (joined now rest) (joined old all)
 
 pub joining_starts : (old all : Writes) → IsJoining old old all all
-joining_starts old all = record { kept = λ c. is_total.reflexive (old c); left = λ c. refl }
+joining_starts old all c = refl
 
 pub joining_goes : (old now later added rest more all : Writes) → IsJoining old now more all →
     AreSame more (joined added rest) → AreSame later (joined now added) → IsJoining old later rest all
-joining_goes old now later added rest more all far split step = record {
-  kept = λ c. is_total.transitive (old c) (now c) (later c) (far.kept c)
-      (subst (λ v. IsTrue (at_most (now c) v)) (sym (step c)) (left_of (now c) (added c)));
-  left = λ c. ap (λ v. greater v (rest c)) (step c) ∙ is_lattice.associative (now c) (added c) (rest c)
-      ∙ ap (greater (now c)) (sym (split c)) ∙ far.left c;
-}
+joining_goes old now later added rest more all far split step c =
+    ap (λ v. greater v (rest c)) (step c) ∙ is_lattice.associative (now c) (added c) (rest c)
+    ∙ ap (greater (now c)) (sym (split c)) ∙ far c
 
 pub joining_ends : (old now rest all : Writes) → IsJoining old now rest all → AreSame rest (λ _. unwritten) → AreSame now (joined old all)
 joining_ends old now rest all far none c =
-    sym (greater-unwritten (now c)) ∙ ap (greater (now c)) (sym (none c)) ∙ far.left c
-
--- joining that stops half way
-pub joining_stops : (old now rest all : Writes) → IsJoining old now rest all → IsBetween old all now
-joining_stops old now rest all far = record {
-  kept = far.kept;
-  no_more = λ c. subst (λ v. IsTrue (at_most (now c) v)) (far.left c) (left_of (now c) (rest c));
-}
-
--- a part of it that stops half way
-pub joining_breaks : (old now later added rest more all : Writes) → IsJoining old now more all →
-    AreSame more (joined added rest) → IsBetween now added later → IsBetween old all later
-joining_breaks old now later added rest more all far split stopped = record {
-  kept = λ c. is_total.transitive (old c) (now c) (later c) (far.kept c) (stopped.kept c);
-  no_more = λ c.
-      let up : at_most (later c) (greater (now c) (added c)) ≡ true = stopped.no_more c in
-      let more_of : greater (greater (now c) (added c)) (rest c) ≡ greater (old c) (all c) =
-      is_lattice.associative (now c) (added c) (rest c) ∙ ap (greater (now c)) (sym (split c)) ∙ far.left c in
-      subst (λ v. IsTrue (at_most (later c) v)) more_of
-      (is_total.transitive (later c) (greater (now c) (added c)) (greater (greater (now c) (added c)) (rest c)) up
-      (left_of (greater (now c) (added c)) (rest c)));
-}
+    sym (greater-unwritten (now c)) ∙ ap (greater (now c)) (sym (none c)) ∙ far c
 
 -- ---- cells and areas
 

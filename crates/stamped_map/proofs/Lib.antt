@@ -2,6 +2,7 @@ pub mod ReadLemmas
 pub mod JoinLemmas
 pub mod JoiningLaws
 pub mod EditWrites
+pub mod PartLaws
 pub mod EntryLaws
 pub mod StateLaws
 pub mod ClockLaws

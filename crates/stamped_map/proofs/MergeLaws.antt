@@ -13,8 +13,8 @@ use Rattle.edit_stamps.specs.Write.{at_most, greater, unwritten, Writes, AreSame
 use Rattle.edit_stamps.proofs.PlaceOrder.{one_place}
 use Rattle.edit_stamps.proofs.WriteLaws.{is_total, is_lattice}
 use Rattle.stamped_map.specs.declared.plane.Coordinate.{Coordinate}
-use Rattle.stamped_map.specs.Plane.{map_of_entries, place_at, only, IsGreatestStamp, IsPlane, HasStatesBelow, KeepsStates}
-use Rattle.stamped_map.specs.Merge.{coordinate_cmp, from_place, wins_over, IsPartlyJoined}
+use Rattle.stamped_map.specs.Plane.{map_of_entries, place_at, only, IsGreatestStamp, IsPlane, HasStatesBelow, IsPartlyJoined, KeepsStates}
+use Rattle.stamped_map.specs.Merge.{coordinate_cmp, from_place, wins_over}
 use Rattle.stamped_map.proofs.ReadLemmas.{found, write_at-entries}
 use Rattle.stamped_map.proofs.JoinLemmas.{absorbed, swapped, key_is_place, coordinate, greater-unwritten, unwritten-greater}
 use Rattle.stamped_map.proofs.EntryLaws.{same_key, entries_written, written_is_read}

@@ -1,8 +1,7 @@
 -- What is read of a map of coordinates is what the map has there.
 use Rattle.std.proofs.Common.{◌≡◌, Bool, true, false, List, [], ◌∷◌, refl, ◌∙◌, ap, arith, cond}
 use Rattle.std.specs.Prelude.{Option, Some, unwrap_or, option_map, find}
-use Rattle.std.specs.declared.cmp.Ordering.{Ordering}
-use Rattle.std.specs.Ordering.{is_eq, int_cmp, ordering_then}
+use Rattle.std.specs.Ordering.{is_eq}
 use Rattle.std.specs.Map.{lookup}
 use Rattle.std.proofs.lemmas.Int.{ints}
 use Rattle.edit_stamps.specs.declared.write.Write.{Write}
@@ -10,18 +9,15 @@ use Rattle.edit_stamps.specs.Write.{unwritten}
 use Rattle.edit_stamps.specs.Plane.{is_in}
 use Rattle.edit_stamps.specs.PlaneMap.{Patch, square, write_at}
 use Rattle.stamped_map.specs.declared.plane.Coordinate.{Coordinate}
+use Rattle.stamped_map.specs.Merge.{coordinate_cmp}
 use Rattle.stamped_map.specs.Plane.{map_of_entries, place_at}
-
--- the order of coordinates, as a map's keys have it
-abbrev pub key_cmp : Coordinate → Coordinate → Ordering
-key_cmp a b = ordering_then (int_cmp a.y b.y) (int_cmp a.x b.x)
 
 -- the write that a map has at a coordinate
 abbrev pub found : List (Coordinate × Write) → Coordinate → Option Write
-found entries q = lookup (λ k. is_eq (key_cmp q k)) entries
+found entries q = lookup (λ k. is_eq (coordinate_cmp q k)) entries
 
 -- a place is in the square of side 1 at a key just where the two compare as equal
-test : (q k : Coordinate) → is_in (square (place_at k) 1) (place_at q) ≡ is_eq (key_cmp q k)
+test : (q k : Coordinate) → is_in (square (place_at k) 1) (place_at q) ≡ is_eq (coordinate_cmp q k)
 test q k = grind (arith, ints)
 
 picked : (b : Bool) (p : Patch) (rest : Option Patch) (other : Option Write)
@@ -38,4 +34,4 @@ write_at-entries (e ∷ entries) q =
     let patch : Patch = record { corner = place_at e.0; side = 1; write = e.1 } in
     let rest : Option Patch = find (λ p. is_in (square p.corner p.side) (place_at q)) (map_of_entries entries) in
     ap (λ b. unwrap_or (option_map (λ (p : Patch). p.write) (cond b (Some patch) rest)) unwritten) (test q e.0)
-    ∙ picked (is_eq (key_cmp q e.0)) patch rest (found entries q) (write_at-entries entries q)
+    ∙ picked (is_eq (coordinate_cmp q e.0)) patch rest (found entries q) (write_at-entries entries q)

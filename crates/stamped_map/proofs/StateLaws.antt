@@ -1,6 +1,6 @@
 -- States stay below a number as writes are joined.
-use Rattle.std.proofs.Common.{◌≡◌, ℕ, zero, suc, ◌+◌, ◌<◌, true, List, [], ◌∷◌, length, get_or, drop, drop-cons, add-one, refl, sym, ◌∙◌, ap, subst, arith, inl, inr, pos, if◌then◌else◌}
-use Rattle.std.specs.Prelude.{IsTrue, nat_lt, unwrap_or}
+use Rattle.std.proofs.Common.{◌≡◌, ℕ, zero, suc, ◌+◌, ◌<◌, true, List, [], ◌∷◌, length, get_or, drop, drop-cons, add-one, sym, ◌∙◌, ap, subst, arith, inl, inr, pos}
+use Rattle.std.specs.Prelude.{IsTrue, nat_lt}
 use Rattle.std.proofs.lemmas.Bool.{cases_Bool, and_parts, ltb-true}
 use Rattle.generations_rule.specs.Place.{Place, is_place}
 use Rattle.multistate_rle.specs.declared.cell.Cell.{Cell}
@@ -8,15 +8,8 @@ use Rattle.multistate_rle.specs.Cells.{are_below}
 use Rattle.edit_stamps.specs.declared.write.Write.{Write}
 use Rattle.edit_stamps.specs.Edit.{PlaneEdit, greatest, writes_of, has_states_below}
 use Rattle.edit_stamps.specs.PlaneMap.{PlaneMap, write_at}
-use Rattle.edit_stamps.specs.Write.{at_most, greater, unwritten, Writes, AreSame, joined}
-use Rattle.stamped_map.specs.declared.plane.Coordinate.{Coordinate}
-use Rattle.stamped_map.specs.Plane.{only, place_at, map_of_entries, HasStatesBelow, HaveStatesBelow, KeepsStates}
-use Rattle.std.specs.List.Sorted.{IsStrictlySortedBy}
-use Rattle.std.specs.Map.{keys_of}
-use Rattle.edit_stamps.proofs.PlaceOrder.{same_itself, one_place}
-use Rattle.stamped_map.proofs.ReadLemmas.{key_cmp}
-use Rattle.stamped_map.proofs.EntryLaws.{entries_written, same_key, not_found, written_is_found, written_is_read}
-use Rattle.stamped_map.proofs.JoinLemmas.{greater-unwritten, unwritten-greater}
+use Rattle.edit_stamps.specs.Write.{at_most, greater, Writes, AreSame, joined}
+use Rattle.stamped_map.specs.Plane.{only, HasStatesBelow, HaveStatesBelow, KeepsStates}
 use Rattle.stamped_map.proofs.JoiningLaws.{cell_of}
 
 origin : Place
@@ -57,42 +50,6 @@ cells_below n (a ∷ cells) (suc i) all within = cells_below n cells i (and_part
 pub cell_below : (n : ℕ) (cells : List Cell) (i : ℕ) → IsTrue (are_below n cells) → i < length cells → (cell_of cells i).state < n
 cell_below n cells i all within = cells_below n cells i all within
 
--- each write of a map's entries
-abbrev pub AllBelow : ℕ → List (Coordinate × Write) → Type 0
-AllBelow n [] = Unit {0}
-AllBelow n (e ∷ entries) = (e.1.state < n) × AllBelow n entries
-
--- what is read at a place that has an entry
-only_here : (c : Place) (w : Write) → only c w c ≡ w
-only_here c w = rw (same_itself c) refl
-
--- behind the first entry nothing is written at its place
-first_alone : (e : Coordinate × Write) (entries : List (Coordinate × Write)) → IsStrictlySortedBy key_cmp (keys_of (e ∷ entries)) →
-    entries_written entries (place_at e.0) ≡ unwritten
-unfolding IsStrictlySortedBy
-first_alone e entries sorted =
-    written_is_found entries e.0 sorted.1 ∙ ap (λ o. unwrap_or o unwritten) (not_found e.0 e.0 entries (same_key e.0) sorted.0)
-
-rest_below : (n : ℕ) (e : Coordinate × Write) (entries : List (Coordinate × Write)) → IsStrictlySortedBy key_cmp (keys_of (e ∷ entries)) →
-    HasStatesBelow n (entries_written (e ∷ entries)) → HasStatesBelow n (entries_written entries)
-rest_below n e entries sorted below c = elim (cases_Bool (is_place (place_at e.0) c)) [
-  | inl here ↦
-      let none : entries_written entries c ≡ unwritten = subst (λ p. entries_written entries p ≡ unwritten) (one_place (place_at e.0) c here) (first_alone e entries sorted) in
-      rw none (zero_below n (entries_written (e ∷ entries)) below)
-  | inr there ↦
-      let same : entries_written (e ∷ entries) c ≡ entries_written entries c =
-      ap (λ b. greater (if b then e.1 else unwritten) (entries_written entries c)) there ∙ unwritten-greater (entries_written entries c) in
-      subst (λ v. v.state < n) same (below c)
-]
-
-pub entries_below : (n : ℕ) (entries : List (Coordinate × Write)) → IsStrictlySortedBy key_cmp (keys_of entries) → HasStatesBelow n (entries_written entries) → AllBelow n entries
-unfolding IsStrictlySortedBy
-entries_below n [] sorted below = tt
-entries_below n (e ∷ entries) sorted below =
-    let own : entries_written (e ∷ entries) (place_at e.0) ≡ e.1 =
-    (λ i. greater (only_here (place_at e.0) e.1 i) (first_alone e entries sorted i)) ∙ greater-unwritten e.1 in
-    (subst (λ v. v.state < n) own (below (place_at e.0)), entries_below n entries sorted.1 (rest_below n e entries sorted below))
-
 -- ---- edits
 
 -- each edit from a place on
@@ -107,10 +64,3 @@ pub first_edit : (edits : List PlaneEdit) (i : ℕ) (e : PlaneEdit) → i < leng
 first_edit edits i e within is c =
     ap (λ rest. greatest rest c) (drop-cons edits i e within)
     ∙ (λ j. greater (writes_of (sym is j) c) (greatest (drop (sym (add-one i) j) edits) c))
-
-pub entries_all_below : (p : PlaneMap) (entries items : List (Coordinate × Write)) → items ≡ entries →
-    IsStrictlySortedBy key_cmp (keys_of entries) → map_of_entries entries ≡ p → (n : ℕ) → HasStatesBelow n (write_at p) → AllBelow n items
-entries_all_below p entries items same sorted is n below =
-    let read : HasStatesBelow n (entries_written entries) = λ c.
-    subst (λ v. v.state < n) (ap (λ q. write_at q c) (sym is) ∙ sym (written_is_read entries sorted c)) (below c) in
-    subst (AllBelow n) (sym same) (entries_below n entries sorted read)

@@ -1,5 +1,5 @@
 -- Two maps of coordinates, gone through side by side.
-use Rattle.std.specs.Prelude.{◌≡◌, ◌⊎◌, Bool, false, not, List, [], ◌∷◌, Option, Some, None, if◌then◌else◌}
+use Rattle.std.specs.Prelude.{◌≡◌, Bool, false, not, List, [], ◌∷◌, Option, Some, None, if◌then◌else◌}
 use Rattle.std.specs.List.Sorted.{IsStrictlySortedBy}
 use Rattle.std.specs.Map.{keys_of}
 use Rattle.std.specs.declared.cmp.Ordering.{Ordering}
@@ -7,7 +7,7 @@ use Rattle.std.specs.Ordering.{int_cmp, ordering_then}
 use Rattle.generations_rule.specs.Place.{Place, is_before}
 use Rattle.edit_stamps.specs.declared.write.Write.{Write}
 use Rattle.edit_stamps.specs.PlaneMap.{write_at}
-use Rattle.edit_stamps.specs.Write.{at_most, Writes, joined}
+use Rattle.edit_stamps.specs.Write.{at_most}
 use Rattle.stamped_map.specs.declared.plane.Coordinate.{Coordinate}
 use Rattle.stamped_map.specs.Plane.{map_of_entries, place_at}
 
@@ -38,7 +38,3 @@ is_next_before at (e ∷ entries) = is_before (place_at e.0) at
 -- an entry wins over what entries have at its coordinate
 abbrev pub wins_over : List (Coordinate × Write) → Coordinate × Write → Bool
 wins_over own e = not (at_most e.1 (write_at (map_of_entries own) (place_at e.0)))
-
--- at each place a map has what it had, or what the join makes of it
-abbrev pub IsPartlyJoined : Writes → Writes → Writes → Type 0
-IsPartlyJoined old sent new = (c : Place) → (new c ≡ old c) ⊎ (new c ≡ joined old sent c)

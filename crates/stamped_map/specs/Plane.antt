@@ -1,5 +1,5 @@
 -- The plane of a replica, as it is read.
-use Rattle.std.specs.Prelude.{IsTrue, ◌≡◌, ℕ, ◌≤◌, ◌<◌, ℤ, false, List, [], ◌∷◌, map, if◌then◌else◌}
+use Rattle.std.specs.Prelude.{IsTrue, ◌≡◌, ◌⊎◌, Contains, ℕ, ◌≤◌, ◌<◌, ℤ, false, List, [], ◌∷◌, map, if◌then◌else◌}
 use Rattle.generations_rule.specs.Place.{Place, is_place}
 use Rattle.multistate_rle.specs.declared.cell.Cell.{Cell}
 use Rattle.multistate_rle.specs.Cells.{place_of}
@@ -7,10 +7,10 @@ use Rattle.edit_stamps.specs.declared.write.Write.{Write}
 use Rattle.edit_stamps.specs.declared.rect.Rect.{Rect}
 use Rattle.stamped_map.specs.declared.plane.Coordinate.{Coordinate}
 use Rattle.std.specs.List.{AllByRecursion}
-use Rattle.edit_stamps.specs.Edit.{PlaneEdit, has_states_below}
+use Rattle.edit_stamps.specs.Edit.{PlaneEdit, has_states_below, writes_of}
 use Rattle.edit_stamps.specs.Plane.{is_in, is_in_plane}
 use Rattle.edit_stamps.specs.PlaneMap.{PlaneMap, write_at}
-use Rattle.edit_stamps.specs.Write.{unwritten, greater, Writes, IsBelow, joined}
+use Rattle.edit_stamps.specs.Write.{unwritten, greater, Writes, joined}
 
 abbrev pub place_at : Coordinate → Place
 place_at at = record { x = at.x; y = at.y }
@@ -45,10 +45,15 @@ strip x y width height = record { x = x; y = y; width = width; height = height }
 abbrev pub blank : ℕ → Rect → Writes
 blank stamp area c = if is_in area c then record { stamp = stamp; state = 0 } else unwritten
 
--- a map after a join that was refused memory half way: it has lost nothing, and gained nothing else
-pub record IsBetween (old added new : Writes) : Type 0 where
-  pub kept : IsBelow old new
-  pub no_more : IsBelow new (joined old added)
+-- ---- joins that were refused memory half way
+
+-- at each place a map has what it had, or what the join makes of it
+abbrev pub IsPartlyJoined : Writes → Writes → Writes → Type 0
+IsPartlyJoined old added new = (c : Place) → (new c ≡ old c) ⊎ (new c ≡ joined old added c)
+
+-- at each place a map has what it had, or what joining one of the edits makes of it
+abbrev pub IsPartlyEdited : Writes → List PlaneEdit → Writes → Type 0
+IsPartlyEdited old edits new = (c : Place) → (new c ≡ old c) ⊎ ((e : PlaneEdit) × Contains edits e × (new c ≡ joined old (writes_of e) c))
 
 -- what a plane's type says of its map
 pub record IsPlane (greatest_stamp : ℕ) (p : PlaneMap) : Type 0 where

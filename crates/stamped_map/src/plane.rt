@@ -3,13 +3,13 @@
 mod ahead;
 mod merge;
 
-ghost use Rattle.std.specs.Prelude.{◌≡◌, ◌<◌, ◌+ℤ◌, pos, IfOk, IsTrue, OnOk, OnErr, ⊤};
-ghost use Rattle.edit_stamps.specs.Plane.{is_area_in_plane};
+ghost use Rattle.std.specs.Prelude.{◌≡◌, false, ◌<◌, ◌+ℤ◌, pos, IfOk, IsTrue, OnOk, OnErr, ⊤};
+ghost use Rattle.edit_stamps.specs.Plane.{is_area_in_plane, is_in_plane};
 ghost use Rattle.generations_rule.specs.Place.{at_place};
 ghost use Rattle.edit_stamps.specs.PlaneMap.{write_at};
-ghost use Rattle.edit_stamps.specs.Write.{unwritten, AreSame, IsBelow, joined};
+ghost use Rattle.edit_stamps.specs.Write.{unwritten, AreSame, joined};
 ghost use Rattle.edit_stamps.specs.Edit.{greatest, has_states_below, writes_of};
-ghost use Rattle.multistate_rle.specs.Cells.{are_below};
+ghost use Rattle.multistate_rle.specs.Cells.{are_below, is_sorted};
 ghost use Rattle.stamped_map.specs.Plane.{only, map_of_entries, place_at, strip};
 
 use edit_stamps::{Edit, Rect, Write};
@@ -87,7 +87,7 @@ impl Model for Plane {
 
 impl Plane {
     ghost use Rattle.edit_stamps.specs.Making.{are_in_plane};
-    ghost use Rattle.stamped_map.specs.Plane.{HasStatesBelow, HaveStatesBelow, IsGreatestStamp, IsBetween, KeepsStates, LiesInPlane, blank, written};
+    ghost use Rattle.stamped_map.specs.Plane.{HasStatesBelow, HaveStatesBelow, IsGreatestStamp, IsPartlyEdited, IsPartlyJoined, KeepsStates, LiesInPlane, blank, written};
 
     /// The plane where nothing was written.
     pub fn new(alloc: Global) -> Plane
@@ -102,7 +102,8 @@ impl Plane {
 
     /// The write at a coordinate; the least write where nothing was written, and outside the plane.
     pub fn get(&self, x: i32, y: i32) -> Write
-        ensures { result ≡ write_at self.now (at_place x y) }
+        ensures value { result ≡ write_at self.now (at_place x y) }
+        ensures outside { is_in_plane (at_place x y) ≡ false → result ≡ unwritten }
     {
         self.writes
             .get(&at(x, y))
@@ -130,25 +131,26 @@ impl Plane {
         })
     }
 
-    /// Joins what an edit writes. After want of memory part of it may be joined.
+    /// Joins what an edit writes. After want of memory it may be joined at some places alone.
     pub fn join_edit(&mut self, edit: &Edit) -> Result<(), AllocError>
         ensures ok { OnOk result (AreSame (write_at self.new) (joined (write_at self.old) (writes_of edit.now))) }
-        ensures err { OnErr result (IsBetween (write_at self.old) (writes_of edit.now) (write_at self.new)) }
+        ensures err { OnErr result (IsPartlyJoined (write_at self.old) (writes_of edit.now) (write_at self.new)) }
         ensures states { KeepsStates (λ states. IsTrue (has_states_below states edit.now)) (write_at self.old) (write_at self.new) }
     {
         let stamp = edit.stamp().number();
-        let cells = edit.listed_cells();
+        // The cells first: so a place reads at no moment as dead that the edit lists.
+        self.join_cells(stamp, edit.listed_cells())?;
         if let Some(area) = edit.area() {
             self.join_area(stamp, area)?;
         }
-        self.join_cells(stamp, cells)?;
         Ok(())
     }
 
-    /// Joins what edits write. After want of memory part of it may be joined.
+    /// Joins what edits write. After want of memory some of it may be joined: each place has what it
+    /// had, or what one of the edits makes of it.
     pub fn join_edits(&mut self, edits: &[Edit]) -> Result<(), AllocError>
         ensures ok { OnOk result (AreSame (write_at self.new) (joined (write_at self.old) (greatest edits.now))) }
-        ensures err { OnErr result (IsBetween (write_at self.old) (greatest edits.now) (write_at self.new)) }
+        ensures err { OnErr result (IsPartlyEdited (write_at self.old) edits.now (write_at self.new)) }
         ensures states { KeepsStates (λ states. HaveStatesBelow states edits.now) (write_at self.old) (write_at self.new) }
     {
         for edit in edits {
@@ -157,10 +159,10 @@ impl Plane {
         Ok(())
     }
 
-    /// Joins another map. After want of memory part of it may be joined.
+    /// Joins another map. After want of memory it may be joined at some places alone.
     pub fn join(&mut self, other: &Plane) -> Result<(), AllocError>
         ensures ok { OnOk result (AreSame (write_at self.new) (joined (write_at self.old) (write_at other.now))) }
-        ensures err { OnErr result (IsBetween (write_at self.old) (write_at other.now) (write_at self.new)) }
+        ensures err { OnErr result (IsPartlyJoined (write_at self.old) (write_at other.now) (write_at self.new)) }
         ensures states { KeepsStates (λ states. HasStatesBelow states (write_at other.now)) (write_at self.old) (write_at self.new) }
     {
         if merge::join_writes(self.alloc, &mut self.writes, &other.writes).is_err() {
@@ -173,9 +175,10 @@ impl Plane {
 
     /// Joins listed cells that were written with one stamp.
     fn join_cells(&mut self, stamp: u64, cells: &[Cell]) -> Result<(), AllocError>
-        requires { IsTrue (are_in_plane cells.now) }
+        requires plane { IsTrue (are_in_plane cells.now) }
+        requires sorted { IsTrue (is_sorted cells.now) }
         ensures ok { OnOk result (AreSame (write_at self.new) (joined (write_at self.old) (written stamp cells.now))) }
-        ensures err { OnErr result (IsBetween (write_at self.old) (written stamp cells.now) (write_at self.new)) }
+        ensures err { OnErr result (IsPartlyJoined (write_at self.old) (written stamp cells.now) (write_at self.new)) }
         ensures states { KeepsStates (λ states. IsTrue (are_below states cells.now)) (write_at self.old) (write_at self.new) }
     {
         for cell in cells {
@@ -192,7 +195,7 @@ impl Plane {
     fn join_area(&mut self, stamp: u64, area: Rect) -> Result<(), AllocError>
         requires { IsTrue (is_area_in_plane area) }
         ensures ok { OnOk result (AreSame (write_at self.new) (joined (write_at self.old) (blank stamp area))) }
-        ensures err { OnErr result (IsBetween (write_at self.old) (blank stamp area) (write_at self.new)) }
+        ensures err { OnErr result (IsPartlyJoined (write_at self.old) (blank stamp area) (write_at self.new)) }
         ensures states { KeepsStates (λ _. ⊤) (write_at self.old) (write_at self.new) }
     {
         for row in 0..area.height {
@@ -206,7 +209,7 @@ impl Plane {
         requires area { IsTrue (is_area_in_plane row) }
         requires height { row.height ≡ 1 }
         ensures ok { OnOk result (AreSame (write_at self.new) (joined (write_at self.old) (blank stamp row))) }
-        ensures err { OnErr result (IsBetween (write_at self.old) (blank stamp row) (write_at self.new)) }
+        ensures err { OnErr result (IsPartlyJoined (write_at self.old) (blank stamp row) (write_at self.new)) }
         ensures states { KeepsStates (λ _. ⊤) (write_at self.old) (write_at self.new) }
     {
         for column in 0..row.width {

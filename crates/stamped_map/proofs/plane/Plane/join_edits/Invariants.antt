@@ -1,11 +1,12 @@
 use Rattle.std.proofs.Common.{drop}
 use Rattle.edit_stamps.specs.Edit.{greatest}
 use Rattle.edit_stamps.specs.PlaneMap.{write_at}
-use Rattle.stamped_map.specs.Plane.{HaveStatesBelow, KeepsStates}
+use Rattle.stamped_map.specs.Plane.{HaveStatesBelow, IsPartlyEdited, KeepsStates}
 use Rattle.stamped_map.proofs.JoiningLaws.{IsJoining}
 use Rattle.stamped_map.proofs.plane.Plane.join_edits.Given as goal
 
 abbrev pub invariant-loop-edit : goal.invariant-loop-edit
 invariant-loop-edit l =
     IsJoining (write_at l.fn.self) (write_at l.self) (greatest (drop l.edit-index l.edits)) (greatest l.edits)
+    × IsPartlyEdited (write_at l.fn.self) l.edits (write_at l.self)
     × KeepsStates (λ states. HaveStatesBelow states l.edits) (write_at l.fn.self) (write_at l.self)
