@@ -1,5 +1,6 @@
 -- The refusals of edits, as users meet them.
-use Rattle.std.specs.Prelude.{◌≡◌, ℕ, List, codes}
+use Rattle.std.specs.Prelude.{◌≡◌, ℕ, List, codes, Result, Ok, Err, ⊤}
+use Rattle.std.specs.Result.{IsOk}
 use Rattle.edit_stamps.specs.declared.fault.EditFault.{EditFault}
 use Rattle.edit_stamps.specs.declared.fault.EditFault.TheVariants.{Nothing, TooMany, OutOfPlane, StateRange, AreaSide, Memory}
 
@@ -23,3 +24,8 @@ fault_text Memory = codes "Memory"
 -- a fault that is no part of what a call means
 abbrev pub IsWant : EditFault → Type 0
 IsWant fault = fault ≡ Memory
+
+-- want of memory is answered only where nothing is refused
+abbrev pub WantsLast : {A : Type 0} → Result A EditFault → Result A EditFault → Type 0
+WantsLast (Ok x) meant = ⊤
+WantsLast (Err fault) meant = IsWant fault → IsOk meant

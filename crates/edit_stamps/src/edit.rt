@@ -36,7 +36,7 @@ impl Model for Edit {
 
 impl Edit {
     ghost use Rattle.edit_stamps.specs.Edit.{IsEdit, has_states_below, is_edit};
-    ghost use Rattle.edit_stamps.specs.EditFault.{IsWant};
+    ghost use Rattle.edit_stamps.specs.EditFault.{IsWant, WantsLast};
     ghost use Rattle.edit_stamps.specs.Making.{edit_of_cells};
     ghost use Rattle.edit_stamps.specs.Pasting.{edit_of_clear, edit_of_copy, edit_of_or};
 
@@ -50,6 +50,7 @@ impl Edit {
         cells: &[Cell],
     ) -> Result<Edit, EditFault>
         ensures edit { Answers IsWant result (edit_of_cells rule.now stamp cells.now) }
+        ensures want { WantsLast result (edit_of_cells rule.now stamp cells.now) }
         ensures states { IfOk result (λ edit. IsTrue (has_states_below rule.now.states edit)) }
     {
         if let Some(fault) = settle::fault_of_cells(rule, cells) {
@@ -78,6 +79,7 @@ impl Edit {
         y: i32,
     ) -> Result<Edit, EditFault>
         ensures edit { Answers IsWant result (edit_of_copy rule.now stamp pattern.now x y) }
+        ensures want { WantsLast result (edit_of_copy rule.now stamp pattern.now x y) }
         ensures states { IfOk result (λ edit. IsTrue (has_states_below rule.now.states edit)) }
     {
         let corner = paste::corner_at(x, y);
@@ -102,6 +104,7 @@ impl Edit {
         y: i32,
     ) -> Result<Edit, EditFault>
         ensures edit { Answers IsWant result (edit_of_or rule.now stamp pattern.now x y) }
+        ensures want { WantsLast result (edit_of_or rule.now stamp pattern.now x y) }
         ensures states { IfOk result (λ edit. IsTrue (has_states_below rule.now.states edit)) }
     {
         let corner = paste::corner_at(x, y);
