@@ -1,6 +1,7 @@
 -- A draw: the stamp of what is drawn, which cells it wins, and what a refusal says.
 use Rattle.std.proofs.Common.{◌≡◌, ◌⊎◌, ℕ, ◌+◌, ◌<◌, ◌≤◌, Bool, true, false, [], ◌∷◌, ◌++◌, refl, sym, ◌∙◌, ap, subst, arith, inl, inr}
 use Rattle.std.specs.Prelude.{Option, Some, None, Result, Ok, Err, nat_lt, not}
+use Rattle.std.specs.Result.{IsOk}
 use Rattle.std.proofs.lemmas.Bool.Decides.{nat_tests}
 use Rattle.generations_rule.specs.Refusal.{◌>>=◌, when, unless}
 use Rattle.generations_rule.specs.Rule.{GenerationsRule}
@@ -12,15 +13,14 @@ use Rattle.edit_stamps.specs.Making.{cells_fault, settled}
 use Rattle.edit_stamps.specs.Pasting.{box_of, clear_fault, copy_fault, or_fault, placed}
 use Rattle.edit_stamps.specs.PlaneMap.{write_at}
 use Rattle.edit_stamps.specs.Stamp.{counter_of, last_counter, stamp_of}
-use Rattle.edit_stamps.specs.Write.{Writes, AreSame, greater, joined}
-use Rattle.edit_stamps.proofs.WriteLaws.{is_least_upper_bound, is_total}
-use Rattle.stamped_map.specs.Plane.{IsGreatestStamp}
+use Rattle.edit_stamps.specs.Write.{AreSame, greater, joined}
+use Rattle.stamped_map.specs.Plane.{IsGreatestStamp, IsPartlyJoined}
 use Rattle.replica_core.specs.declared.fault.Fault.{Fault}
 use Rattle.replica_core.specs.declared.fault.Fault.TheVariants as faults
 use Rattle.replica_core.specs.declared.spec.EditSpec.{EditSpec}
 use Rattle.replica_core.specs.declared.spec.EditSpec.TheVariants.{Cells, Copy, Or, Clear}
 use Rattle.replica_core.specs.Fault.{IsWant}
-use Rattle.replica_core.specs.Replica.{ReplicaState, IsDraw, IsOneReplica, IsPartly, edit_drawn, made, or_edit_fault, stamp_after, writes_drawn}
+use Rattle.replica_core.specs.Replica.{ReplicaState, IsDraw, IsOneReplica, IsPartly, edit_drawn, made, or_edit_fault, stamp_after}
 
 -- ---- what is made
 
@@ -77,14 +77,18 @@ draws old new n stamp spec e greatest_is next is one map journal = (
   },
 )
 
--- a map that gained nothing may have lost nothing
-unchanged : (r : ReplicaState) (added : Writes) → IsPartly r r added
-unchanged r added = record {
+-- a map to which nothing was joined
+unchanged : (r : ReplicaState) (e : PlaneEdit) → IsPartly r r (λ p. IsPartlyJoined p (writes_of e))
+unchanged r e = record {
   one = record { rule = refl; number = refl };
   journal = refl;
-  kept = λ c. is_total.reflexive (write_at r.map c);
-  no_more = λ c. is_least_upper_bound.left (write_at r.map) added c;
+  map = λ c. inl refl;
 }
+
+-- an edit that the maker means is one that the draw means
+wants : (r : ReplicaState) (meant : Result PlaneEdit Fault) (made_now : Result PlaneEdit EditFault) → meant ≡ or_edit_fault made_now → IsOk made_now → IsDraw r r meant (Err faults.Memory)
+wants r meant (Ok e) is ok = (e, is, unchanged r e)
+wants r meant (Err fault) is ok = absurd (cc)
 
 -- which refusals an edit's maker has
 abbrev is_of_edit : Fault → Bool
@@ -106,22 +110,22 @@ maker_refuses (Err edit_faults.AreaSide) fault same = let is : faults.Edit edit_
 
 -- a refusal of the maker is one of the draw
 pub refuses : (r : ReplicaState) (meant : Result PlaneEdit Fault) (made_now : Result PlaneEdit EditFault) (fault : Fault) → meant ≡ or_edit_fault made_now
-    → IsWant fault ⊎ (or_edit_fault made_now ≡ Err fault) → IsDraw r r meant (Err fault)
-refuses r meant made_now faults.Memory is told = unchanged r (writes_drawn meant)
-refuses r meant made_now faults.ClockFull is (inl want) = absurd want
-refuses r meant made_now faults.ClockFull is (inr same) = (is ∙ same, refl)
-refuses r meant made_now (faults.Edit fault) is (inl want) = absurd want
-refuses r meant made_now (faults.Edit fault) is (inr same) = (is ∙ same, refl)
-refuses r meant made_now faults.OtherRule is (inl want) = absurd want
-refuses r meant made_now faults.OtherRule is (inr same) = absurd (let no = maker_refuses made_now faults.OtherRule same in cc)
-refuses r meant made_now faults.NoReplica is (inl want) = absurd want
-refuses r meant made_now faults.NoReplica is (inr same) = absurd (let no = maker_refuses made_now faults.NoReplica same in cc)
-refuses r meant made_now faults.NoMessage is (inl want) = absurd want
-refuses r meant made_now faults.NoMessage is (inr same) = absurd (let no = maker_refuses made_now faults.NoMessage same in cc)
+    → IsWant fault ⊎ (or_edit_fault made_now ≡ Err fault) → (IsWant fault → IsOk made_now) → IsDraw r r meant (Err fault)
+refuses r meant made_now faults.Memory is told last = wants r meant made_now is (last tt)
+refuses r meant made_now faults.ClockFull is (inl want) last = absurd want
+refuses r meant made_now faults.ClockFull is (inr same) last = (is ∙ same, refl)
+refuses r meant made_now (faults.Edit fault) is (inl want) last = absurd want
+refuses r meant made_now (faults.Edit fault) is (inr same) last = (is ∙ same, refl)
+refuses r meant made_now faults.OtherRule is (inl want) last = absurd want
+refuses r meant made_now faults.OtherRule is (inr same) last = absurd (let no = maker_refuses made_now faults.OtherRule same in cc)
+refuses r meant made_now faults.NoReplica is (inl want) last = absurd want
+refuses r meant made_now faults.NoReplica is (inr same) last = absurd (let no = maker_refuses made_now faults.NoReplica same in cc)
+refuses r meant made_now faults.NoMessage is (inl want) last = absurd want
+refuses r meant made_now faults.NoMessage is (inr same) last = absurd (let no = maker_refuses made_now faults.NoMessage same in cc)
 
 pub refuses_made : (r : ReplicaState) (n stamp : ℕ) (spec : EditSpec) (fault : Fault)
     → stamp_after (counter_of n) r.number ≡ Ok stamp → IsWant fault ⊎ (or_edit_fault (made r.rule stamp spec) ≡ Err fault)
-    → IsDraw r r (edit_drawn r.rule (counter_of n) r.number spec) (Err fault)
-refuses_made r n stamp spec fault next told =
+    → (IsWant fault → IsOk (made r.rule stamp spec)) → IsDraw r r (edit_drawn r.rule (counter_of n) r.number spec) (Err fault)
+refuses_made r n stamp spec fault next told last =
     refuses r (edit_drawn r.rule (counter_of n) r.number spec) (made r.rule stamp spec) fault
-    (ap (λ s. s >>= (λ stamp. or_edit_fault (made r.rule stamp spec))) next) told
+    (ap (λ s. s >>= (λ stamp. or_edit_fault (made r.rule stamp spec))) next) told last

@@ -1,13 +1,13 @@
 -- What holds of every world after every list of events.
-use Rattle.std.proofs.Common.{◌≡◌, ◌⊎◌, ℕ, ◌<◌, ◌≤◌, List, [], ◌∷◌, ◌++◌, refl, sym, ◌∙◌, ap, subst, arith, inl, inr, suc, zero, length, ◌-◌}
-use Rattle.std.specs.Prelude.{Contains, IsTrue, Some, Bool, true, false, if◌then◌else◌, slice_get, slice_index_or}
+use Rattle.std.proofs.Common.{◌≡◌, ℕ, ◌<◌, ◌≤◌, List, [], ◌∷◌, ◌++◌, refl, sym, ◌∙◌, ap, subst, arith, inl, suc, zero, length, ◌-◌}
+use Rattle.std.specs.Prelude.{IsTrue, Some, slice_get, slice_index_or}
 use Rattle.generations_rule.specs.Place.{Place}
 use Rattle.generations_rule.specs.Rule.{GenerationsRule}
-use Rattle.edit_stamps.specs.declared.write.Write.{Write}
 use Rattle.edit_stamps.specs.Edit.{PlaneEdit, greatest, is_covered, listed, writes_of}
 use Rattle.edit_stamps.specs.PlaneMap.{write_at}
-use Rattle.edit_stamps.specs.Write.{unwritten, at_most, greater, AreSame}
+use Rattle.edit_stamps.specs.Write.{at_most, greater, AreSame}
 use Rattle.edit_stamps.proofs.WriteLaws.{depends_on_members, is_least_upper_bound, is_total, joins_lists}
+use Rattle.stamped_map.proofs.PartLaws.{made_by_one}
 use Rattle.replica_core.specs.declared.event.Event.{Event}
 use Rattle.replica_core.specs.declared.fault.Fault.TheVariants as faults
 use Rattle.replica_core.specs.Replica.{ReplicaState}
@@ -34,23 +34,6 @@ above_each (e ∷ edits) c zero d below = is_least_upper_bound.left (writes_of e
 above_each (e ∷ edits) c (suc k) d below =
     is_total.transitive (writes_of (slice_index_or edits k d) c) (greatest edits c) (greater (writes_of e c) (greatest edits c))
     (above_each edits c k d (omega (arith, below))) (is_least_upper_bound.right (writes_of e) (greatest edits) c)
-
-one_of_two : (v w : Write) → (greater v w ≡ v) ⊎ (greater v w ≡ w)
-one_of_two v w = by_test (at_most v w)
-  where
-    by_test : (b : Bool) → ((if b then w else v) ≡ v) ⊎ ((if b then w else v) ≡ w)
-    by_test true = inr refl
-    by_test false = inl refl
-
-made_by_one : (edits : List PlaneEdit) (c : Place) → (greatest edits c ≡ unwritten) ⊎ ((e : PlaneEdit) × Contains edits e × (writes_of e c ≡ greatest edits c))
-made_by_one [] c = inl refl
-made_by_one (e ∷ edits) c = elim (one_of_two (writes_of e c) (greatest edits c)) [
-  | inl first ↦ inr (e, (0, omega arith, refl), sym first)
-  | inr rest ↦ elim (made_by_one edits c) [
-    | inl nothing ↦ inl (rest ∙ nothing)
-    | inr (f, there, is) ↦ inr (f, (suc there.0, omega (arith, there.1), there.2), is ∙ sym rest)
-  ]
-]
 
 greatest_of : (edits : List PlaneEdit) (c : Place) → IsGreatestOf edits c (greatest edits c)
 greatest_of edits c = record {

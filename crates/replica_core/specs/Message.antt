@@ -4,7 +4,7 @@ use Rattle.generations_rule.specs.Rule.{GenerationsRule}
 use Rattle.edit_stamps.specs.Edit.{PlaneEdit, greatest}
 use Rattle.edit_stamps.specs.PlaneMap.{write_at}
 use Rattle.edit_stamps.specs.Write.{Writes}
-use Rattle.stamped_map.specs.Plane.{HasStatesBelow, HaveStatesBelow}
+use Rattle.stamped_map.specs.Plane.{HasStatesBelow, HaveStatesBelow, IsPartlyEdited, IsPartlyJoined}
 use Rattle.replica_core.specs.declared.message.Content.{Content}
 use Rattle.replica_core.specs.declared.message.Content.TheVariants.{Edits, State}
 
@@ -27,6 +27,11 @@ edits_of (State plane) = None
 abbrev pub edits_in : Content → List PlaneEdit
 edits_in (Edits edits) = edits
 edits_in (State plane) = []
+
+-- at each place a map has what it had, or what joining one of the content's edits, or its map, makes of it
+abbrev pub IsPartlyTaken : Writes → Content → Writes → Type 0
+IsPartlyTaken old (Edits edits) new = IsPartlyEdited old edits new
+IsPartlyTaken old (State plane) new = IsPartlyJoined old (write_at plane) new
 
 -- each state of a message is below a number of states
 abbrev pub IsBelowStates : ℕ → Content → Type 0

@@ -9,7 +9,7 @@ use Rattle.edit_stamps.specs.Making.{edit_of_cells}
 use Rattle.edit_stamps.specs.Pasting.{edit_of_clear, edit_of_copy, edit_of_or}
 use Rattle.edit_stamps.specs.PlaneMap.{PlaneMap, write_at}
 use Rattle.edit_stamps.specs.Stamp.{stamp_of, last_counter}
-use Rattle.edit_stamps.specs.Write.{unwritten, Writes, AreSame, IsBelow, joined}
+use Rattle.edit_stamps.specs.Write.{unwritten, Writes, AreSame, joined}
 use Rattle.replica_core.specs.declared.spec.EditSpec.{EditSpec}
 use Rattle.replica_core.specs.declared.spec.EditSpec.TheVariants.{Cells, Copy, Or, Clear}
 use Rattle.replica_core.specs.declared.fault.Fault.{Fault}
@@ -18,8 +18,8 @@ use Rattle.replica_core.specs.declared.message.Content.{Content}
 use Rattle.replica_core.specs.declared.message.Content.TheVariants.{Edits, State}
 use Rattle.replica_core.specs.Fault.{fault_of_edit}
 use Rattle.edit_journal.specs.Journal.{noted}
-use Rattle.replica_core.specs.Message.{Shared, writes_in, edits_in}
-use Rattle.stamped_map.specs.Plane.{HasStatesBelow}
+use Rattle.replica_core.specs.Message.{Shared, writes_in, edits_in, IsPartlyTaken}
+use Rattle.stamped_map.specs.Plane.{HasStatesBelow, IsPartlyJoined}
 
 -- what contracts see of a replica
 pub record ReplicaState : Type 0 where
@@ -69,13 +69,11 @@ pub record Takes (old new : ReplicaState) (m : Content) : Type 0 where
   pub map : AreSame (write_at new.map) (joined (write_at old.map) (writes_in m))
   pub journal : new.journal ≡ noted old.journal (edits_in m)
 
--- After want of memory: all but the map is as it was, and the map has lost nothing, and gained nothing but part of
--- what was to be joined.
-pub record IsPartly (old new : ReplicaState) (added : Writes) : Type 0 where
+-- after want of memory all but the map is as it was, and of the map as much as is said
+pub record IsPartly (old new : ReplicaState) (IsPartOf : Writes → Writes → Type 0) : Type 0 where
   pub one : IsOneReplica old new
   pub journal : new.journal ≡ old.journal
-  pub kept : IsBelow (write_at old.map) (write_at new.map)
-  pub no_more : IsBelow (write_at new.map) (joined (write_at old.map) added)
+  pub map : IsPartOf (write_at old.map) (write_at new.map)
 
 -- ---- what each call answers, and what it leaves
 
@@ -86,16 +84,11 @@ pub record IsNew (rule : GenerationsRule) (number : ℕ) (r : ReplicaState) : Ty
   pub map : AreSame (write_at r.map) (λ _. unwritten)
   pub journal : r.journal ≡ []
 
--- what a drawn edit writes, if there is one
-abbrev pub writes_drawn : Result PlaneEdit Fault → Writes
-writes_drawn (Ok e) c = writes_of e c
-writes_drawn (Err fault) c = unwritten
-
 -- A draw answers the edit that is drawn at the greatest stamp of the map, or its first refusal, which leaves all as it
--- was, or want of memory.
+-- was, or, where nothing is refused, want of memory.
 abbrev pub IsDraw : ReplicaState → ReplicaState → Result PlaneEdit Fault → Result PlaneEdit Fault → Type 0
 IsDraw old new meant (Ok e) = (meant ≡ Ok e) × DrawsAs old new e
-IsDraw old new meant (Err faults.Memory) = IsPartly old new (writes_drawn meant)
+IsDraw old new meant (Err faults.Memory) = (e : PlaneEdit) × (meant ≡ Ok e) × IsPartly old new (λ p. IsPartlyJoined p (writes_of e))
 IsDraw old new meant (Err faults.ClockFull) = (meant ≡ Err faults.ClockFull) × (new ≡ old)
 IsDraw old new meant (Err (faults.Edit fault)) = (meant ≡ Err (faults.Edit fault)) × (new ≡ old)
 IsDraw old new meant (Err faults.OtherRule) = ⊥
@@ -107,7 +100,7 @@ IsDraw old new meant (Err faults.NoMessage) = ⊥
 abbrev pub IsTaking : ReplicaState → ReplicaState → Shared → Result (Unit {0}) Fault → Type 0
 IsTaking old new m (Ok done) = (m.rule ≡ old.rule) × Takes old new m.content
 IsTaking old new m (Err faults.OtherRule) = (m.rule ≢ old.rule) × (new ≡ old)
-IsTaking old new m (Err faults.Memory) = (m.rule ≡ old.rule) × IsPartly old new (writes_in m.content)
+IsTaking old new m (Err faults.Memory) = (m.rule ≡ old.rule) × IsPartly old new (λ p. IsPartlyTaken p m.content)
 IsTaking old new m (Err faults.ClockFull) = ⊥
 IsTaking old new m (Err (faults.Edit fault)) = ⊥
 IsTaking old new m (Err faults.NoReplica) = ⊥

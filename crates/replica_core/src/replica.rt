@@ -1,6 +1,7 @@
 //! One replica of a shared plane.
 
 ghost use Rattle.std.specs.Prelude.{◌≡◌, ◌≤◌, ◌++◌, ◌∷◌, [], ℕ, false, IfOk, IfErr, IsTrue, OnOk};
+ghost use Rattle.std.specs.Result.{IsOk};
 ghost use Rattle.generations_rule.specs.Refusal.{Answers};
 ghost use Rattle.generations_rule.specs.Place.{at_place};
 ghost use Rattle.edit_stamps.specs.Stamp.{counter_of};
@@ -9,9 +10,9 @@ ghost use Rattle.edit_stamps.specs.Write.{unwritten, AreSame, joined};
 ghost use Rattle.edit_stamps.specs.Edit.{greatest, has_states_below, writes_of};
 ghost use Rattle.replica_core.specs.Fault.{IsWant};
 ghost use Rattle.edit_journal.specs.Journal.{noted};
-ghost use Rattle.replica_core.specs.Message.{edits_in, writes_in, IsBelowStates};
+ghost use Rattle.replica_core.specs.Message.{edits_in, writes_in, IsBelowStates, IsPartlyTaken};
 ghost use Rattle.replica_core.specs.Replica.{made, or_edit_fault, stamp_after};
-ghost use Rattle.stamped_map.specs.Plane.{HaveStatesBelow, IsBetween, IsGreatestStamp, KeepsStates};
+ghost use Rattle.stamped_map.specs.Plane.{HaveStatesBelow, IsGreatestStamp, IsPartlyEdited, IsPartlyJoined, KeepsStates};
 
 use crate::fault::Fault;
 use crate::message::{Content, Message};
@@ -93,8 +94,6 @@ impl Replica {
         ensures value { result ≡ write_at self.now.map (at_place x y) }
         ensures outside { is_in_plane (at_place x y) ≡ false → result ≡ unwritten }
     {
-        // For the proof alone: the call tells that nothing is written outside the plane.
-        let _map = self.plane.greatest_stamp();
         self.plane.get(x, y)
     }
 
@@ -109,7 +108,8 @@ impl Replica {
 
     /// Draws an edit: its stamp is one more than the greatest counter held, with this replica's
     /// number (Lamport 1978), so that it wins every cell that it writes. Refused are a full clock,
-    /// then what the maker of the edit refuses. After want of memory part of it may be drawn.
+    /// then what the maker of the edit refuses; memory is wanted only where neither refuses. After
+    /// want of memory the edit may be joined at some places alone.
     pub fn draw(&mut self, spec: EditSpec) -> Result<Edit, Fault>
         ensures { (n : ℕ) × IsGreatestStamp n (write_at self.old.map)
             × IsDraw self.old self.new (edit_drawn self.old.rule (counter_of n) self.old.number spec) result }
@@ -130,7 +130,7 @@ impl Replica {
 
     /// Takes a message: joins its map, or what its edits write, and notes those of its edits that
     /// the journal does not have by then. Refused is a message of another rule. After want of
-    /// memory part of it may be joined.
+    /// memory each place has what it had, or what one of the edits, or the map, makes of it.
     pub fn take(&mut self, message: &Message) -> Result<(), Fault>
         ensures { IsTaking self.old self.new message.now result }
     {
@@ -154,6 +154,7 @@ fn next_stamp(plane: &Plane, number: u16) -> Result<Stamp, Fault>
 /// The edit of a specification.
 fn make(alloc: Global, rule: &Rule, stamp: Stamp, spec: &EditSpec) -> Result<Edit, Fault>
     ensures edit { Answers IsWant result (or_edit_fault (made rule.now stamp spec.now)) }
+    ensures want { IfErr result (λ fault. IsWant fault → IsOk (made rule.now stamp spec.now)) }
     ensures states { IfOk result (λ edit. IsTrue (has_states_below rule.now.states edit)) }
 {
     let edit = match spec {
@@ -170,7 +171,7 @@ fn draw_into(plane: &mut Plane, journal: &mut Journal, edit: &Edit) -> Result<()
     ensures map { OnOk result (AreSame (write_at plane.new) (joined (write_at plane.old) (writes_of edit.now))) }
     ensures noted { OnOk result (journal.new ≡ journal.old ++ edit.now ∷ []) }
     ensures err { IfErr result (λ fault. (fault ≡ Fault.Memory) × (journal.new ≡ journal.old)
-        × IsBetween (write_at plane.old) (writes_of edit.now) (write_at plane.new)) }
+        × IsPartlyJoined (write_at plane.old) (writes_of edit.now) (write_at plane.new)) }
     ensures states { KeepsStates (λ states. IsTrue (has_states_below states edit.now)) (write_at plane.old) (write_at plane.new) }
 {
     let noted = edit.copy()?;
@@ -184,7 +185,7 @@ fn take_into(plane: &mut Plane, journal: &mut Journal, content: &Content) -> Res
     ensures map { OnOk result (AreSame (write_at plane.new) (joined (write_at plane.old) (writes_in content.now))) }
     ensures noted { OnOk result (journal.new ≡ noted journal.old (edits_in content.now)) }
     ensures err { IfErr result (λ fault. (fault ≡ Fault.Memory) × (journal.new ≡ journal.old)
-        × IsBetween (write_at plane.old) (writes_in content.now) (write_at plane.new)) }
+        × IsPartlyTaken (write_at plane.old) content.now (write_at plane.new)) }
     ensures states { KeepsStates (λ states. IsBelowStates states content.now) (write_at plane.old) (write_at plane.new) }
 {
     match content {
@@ -203,7 +204,7 @@ fn take_edits(plane: &mut Plane, journal: &mut Journal, edits: &[Edit]) -> Resul
     ensures map { OnOk result (AreSame (write_at plane.new) (joined (write_at plane.old) (greatest edits.now))) }
     ensures noted { OnOk result (journal.new ≡ noted journal.old edits.now) }
     ensures err { IfErr result (λ fault. (fault ≡ Fault.Memory) × (journal.new ≡ journal.old)
-        × IsBetween (write_at plane.old) (greatest edits.now) (write_at plane.new)) }
+        × IsPartlyEdited (write_at plane.old) edits.now (write_at plane.new)) }
     ensures states { KeepsStates (λ states. HaveStatesBelow states edits.now) (write_at plane.old) (write_at plane.new) }
 {
     let fresh = journal.fresh(edits)?;

@@ -180,7 +180,7 @@ fn draw_at(replica: &mut Replica, spec: &EditSpec) -> Result<Reply, Stop>
 /// The reply of a refusal; want of memory is none.
 fn refused(fault: Fault) -> Result<Reply, Stop>
     ensures reply { IfOk result (λ reply. (fault ≢ faults.Memory) × (reply ≡ replies.Refused fault)) }
-    ensures err { IfErr result (λ stop. stop ≡ stops.Memory) }
+    ensures err { IfErr result (λ stop. (fault ≡ faults.Memory) × (stop ≡ stops.Memory)) }
 {
     match fault {
         Fault::Memory => Err(Stop::Memory),

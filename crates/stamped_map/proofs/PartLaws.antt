@@ -9,7 +9,7 @@ use Rattle.multistate_rle.specs.declared.cell.Cell.{Cell}
 use Rattle.multistate_rle.specs.Cells.{place_of, is_sorted}
 use Rattle.edit_stamps.specs.declared.rect.Rect.{Rect}
 use Rattle.edit_stamps.specs.declared.write.Write.{Write}
-use Rattle.edit_stamps.specs.Edit.{PlaneEdit, listed, write_by, writes_of}
+use Rattle.edit_stamps.specs.Edit.{PlaneEdit, greatest, listed, write_by, writes_of}
 use Rattle.edit_stamps.specs.Plane.{is_in}
 use Rattle.edit_stamps.specs.Write.{at_most, greater, unwritten, Writes, AreSame, joined}
 use Rattle.edit_stamps.proofs.PlaceOrder.{one_place, same_itself}
@@ -109,6 +109,26 @@ row_part stamp area row i within is c =
 -- an edit that stands at a place of a list is in it
 pub in_edits : (edits : List PlaneEdit) (i : ℕ) (e : PlaneEdit) → i < length edits → e ≡ get_or edits i e → Contains edits e
 in_edits edits i e within is = subst (Contains edits) (sym is) (Contains-get_or edits i e within)
+
+-- what is read of edits at a place is what one of them writes there, if anything
+pub made_by_one : (edits : List PlaneEdit) (c : Place) → (greatest edits c ≡ unwritten) ⊎ ((e : PlaneEdit) × Contains edits e × (writes_of e c ≡ greatest edits c))
+made_by_one [] c = inl refl
+made_by_one (e ∷ edits) c =
+    let pick : Bool → Write = λ b. if b then greatest edits c else writes_of e c in
+    elim (cases_Bool (at_most (writes_of e c) (greatest edits c))) [
+      | inr first ↦ inr (e, (0, omega arith, refl), sym (ap pick first))
+      | inl rest ↦ elim (made_by_one edits c) [
+          | inl nothing ↦ inl (ap pick rest ∙ nothing)
+          | inr by ↦ inr (by.0, (suc by.1.0, omega (arith, by.1.1), by.1.2), by.2 ∙ sym (ap pick rest))
+        ]
+    ]
+
+-- edits that are wholly joined
+pub edited_whole : (old new : Writes) (edits : List PlaneEdit) → AreSame new (joined old (greatest edits)) → IsPartlyEdited old edits new
+edited_whole old new edits whole c = elim (made_by_one edits c) [
+  | inl nothing ↦ inl (whole c ∙ ap (greater (old c)) nothing ∙ greater-unwritten (old c))
+  | inr by ↦ inr (by.0, by.1, whole c ∙ ap (greater (old c)) (sym by.2))
+]
 
 -- the greater of two edits' writes is one of them
 one_of_two : (edits : List PlaneEdit) (e f : PlaneEdit) (c : Place) (v w : Write) → Contains edits e → Contains edits f →

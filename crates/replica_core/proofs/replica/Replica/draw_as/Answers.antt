@@ -17,7 +17,7 @@ returns-in_err-edit c =
       told.0,
       told.1,
       subst (IsDraw old old (edit_drawn old.rule (counter_of told.0) old.number c.args.spec.now)) (sym (is.1 ∙ ap Err is.2))
-          (refuses_made old told.0 c.in_ok-stamp.stamp c.args.spec.now c.in_err-edit.field-0.0 (sym told.2 ∙ c.in_ok-stamp.was) c.in_err-edit.ensures.edit),
+          (refuses_made old told.0 c.in_ok-stamp.stamp c.args.spec.now c.in_err-edit.field-0.0 (sym told.2 ∙ c.in_ok-stamp.was) c.in_err-edit.ensures.edit c.in_err-edit.ensures.want),
     )
 
 pub returns : goal.returns
