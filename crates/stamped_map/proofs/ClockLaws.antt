@@ -11,10 +11,11 @@ use Rattle.edit_stamps.specs.declared.rect.Rect.{Rect}
 use Rattle.edit_stamps.specs.Edit.{PlaneEdit, IsEdit, greatest, listed, write_by, writes_of, fits_area, is_covered}
 use Rattle.edit_stamps.specs.Plane.{is_in, is_empty, is_area_in_plane}
 use Rattle.edit_stamps.specs.Stamp.{counter_of}
-use Rattle.edit_stamps.specs.Write.{greater}
+use Rattle.edit_stamps.specs.Write.{greater, Writes, IsBelow}
 use Rattle.edit_stamps.proofs.PlaceOrder.{same_itself}
 use Rattle.edit_stamps.proofs.SortedCells.{listed_here}
 use Rattle.stamped_map.specs.Laws.{TellsCounter}
+use Rattle.stamped_map.specs.Plane.{IsGreatestStamp}
 use Rattle.stamped_map.proofs.JoiningLaws.{left_of, right_of, stamps_rise, stamp_of_greater}
 
 -- ---- each edit writes a cell
@@ -57,6 +58,12 @@ writing_with stamp (Some area) cells fits =
 
 writing : (e : PlaneEdit) → IsEdit e → Writing e
 writing e edit = writing_with e.stamp e.area e.cells edit.area
+
+-- an edit whose writes are in a map has at most its greatest stamp
+pub stamp_in : (e : PlaneEdit) (p : Writes) (n : ℕ) → IsEdit e → IsBelow (writes_of e) p → IsGreatestStamp n p → e.stamp ≤ n
+stamp_in e p n edit below greatest =
+    let own = writing e edit in
+    omega (arith, own.stamp, stamps_rise (writes_of e own.at) (p own.at) (below own.at), greatest.above own.at)
 
 -- ---- the greatest stamp
 

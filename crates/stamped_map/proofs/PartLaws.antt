@@ -1,7 +1,8 @@
 -- Joins that stop half way.
-use Rattle.std.proofs.Common.{◌≡◌, ℕ, zero, suc, ◌<◌, ◌+ℤ◌, ℤ, pos, Bool, true, false, length, get_or, subst, List, [], ◌∷◌, refl, sym, ◌∙◌, ap, arith, inl, inr, if◌then◌else◌}
+use Rattle.std.proofs.Common.{◌≡◌, ℕ, zero, suc, ◌+◌, ◌<◌, ◌+ℤ◌, ℤ, pos, Bool, true, false, length, get_or, subst, List, [], ◌∷◌, refl, sym, ◌∙◌, ap, arith, inl, inr, if◌then◌else◌}
 use Rattle.std.specs.Prelude.{◌⊎◌, Contains, Some}
-use Rattle.std.proofs.lemmas.Bool.{cases_Bool}
+use Rattle.std.proofs.lemmas.Bool.{cases_Bool, cases_lt}
+use Rattle.std.proofs.lemmas.List.{get_or_default}
 use Rattle.std.proofs.lemmas.Int.{ints}
 use Rattle.std.proofs.lemmas.List.Elements.{Contains-get_or}
 use Rattle.generations_rule.specs.Place.{Place, is_place}
@@ -9,7 +10,7 @@ use Rattle.multistate_rle.specs.declared.cell.Cell.{Cell}
 use Rattle.multistate_rle.specs.Cells.{place_of, is_sorted}
 use Rattle.edit_stamps.specs.declared.rect.Rect.{Rect}
 use Rattle.edit_stamps.specs.declared.write.Write.{Write}
-use Rattle.edit_stamps.specs.Edit.{PlaneEdit, greatest, listed, write_by, writes_of}
+use Rattle.edit_stamps.specs.Edit.{PlaneEdit, IsEdit, greatest, listed, write_by, writes_of}
 use Rattle.edit_stamps.specs.Plane.{is_in}
 use Rattle.edit_stamps.specs.Write.{at_most, greater, unwritten, Writes, AreSame, joined}
 use Rattle.edit_stamps.proofs.PlaceOrder.{one_place, same_itself}
@@ -149,4 +150,14 @@ edited_goes old now later edits e far has step c = elim (step c) [
     | inl was ↦ inr (e, has, moves ∙ ap (λ v. greater v (writes_of e c)) was)
     | inr by ↦ inr (one_of_two edits e by.0 c (old c) (later c) has by.1 (moves ∙ ap (λ v. greater v (writes_of e c)) by.2))
   ]
+]
+
+-- one more edit of a list is seen
+pub edit_seen : (edits : List PlaneEdit) (i : ℕ) (item : PlaneEdit) → item ≡ get_or edits i item → i < length edits → IsEdit item
+    → ((k : ℕ) (e : PlaneEdit) → k < i → get_or edits k e ≡ e → IsEdit e) → (k : ℕ) (e : PlaneEdit) → k < i + 1 → get_or edits k e ≡ e → IsEdit e
+edit_seen edits i item is within edit far k e below at = elim (cases_lt k i) [
+  | inl before ↦ far k e before at
+  | inr behind ↦
+      let here : i ≡ k = omega (arith, below, behind) in
+      subst IsEdit (is ∙ get_or_default edits i item e within ∙ ap (λ j. get_or edits j e) here ∙ at) edit
 ]

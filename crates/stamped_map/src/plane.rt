@@ -3,12 +3,12 @@
 mod ahead;
 mod merge;
 
-ghost use Rattle.std.specs.Prelude.{◌≡◌, false, ◌<◌, ◌+ℤ◌, pos, IfOk, IsTrue, OnOk, OnErr, ⊤};
+ghost use Rattle.std.specs.Prelude.{◌≡◌, Contains, false, ◌<◌, ◌+ℤ◌, pos, IfOk, IsTrue, OnOk, OnErr, ⊤};
 ghost use Rattle.edit_stamps.specs.Plane.{is_area_in_plane, is_in_plane};
 ghost use Rattle.generations_rule.specs.Place.{at_place};
 ghost use Rattle.edit_stamps.specs.PlaneMap.{write_at};
 ghost use Rattle.edit_stamps.specs.Write.{unwritten, AreSame, joined};
-ghost use Rattle.edit_stamps.specs.Edit.{greatest, has_states_below, writes_of};
+ghost use Rattle.edit_stamps.specs.Edit.{PlaneEdit, IsEdit, greatest, has_states_below, writes_of};
 ghost use Rattle.multistate_rle.specs.Cells.{are_below, is_sorted};
 ghost use Rattle.stamped_map.specs.Plane.{only, map_of_entries, place_at, strip};
 
@@ -136,6 +136,7 @@ impl Plane {
         ensures ok { OnOk result (AreSame (write_at self.new) (joined (write_at self.old) (writes_of edit.now))) }
         ensures err { OnErr result (IsPartlyJoined (write_at self.old) (writes_of edit.now) (write_at self.new)) }
         ensures states { KeepsStates (λ states. IsTrue (has_states_below states edit.now)) (write_at self.old) (write_at self.new) }
+        ensures edit { IsEdit edit.now }
     {
         let stamp = edit.stamp().number();
         // The cells first: so a place reads at no moment as dead that the edit lists.
@@ -152,6 +153,7 @@ impl Plane {
         ensures ok { OnOk result (AreSame (write_at self.new) (joined (write_at self.old) (greatest edits.now))) }
         ensures err { OnErr result (IsPartlyEdited (write_at self.old) edits.now (write_at self.new)) }
         ensures states { KeepsStates (λ states. HaveStatesBelow states edits.now) (write_at self.old) (write_at self.new) }
+        ensures edits { OnOk result ((e : PlaneEdit) → Contains edits.now e → IsEdit e) }
     {
         for edit in edits {
             self.join_edit(edit)?;

@@ -5,7 +5,7 @@ use Rattle.edit_stamps.specs.Edit.{greatest, writes_of, has_states_below}
 use Rattle.edit_stamps.specs.PlaneMap.{write_at}
 use Rattle.stamped_map.specs.Plane.{HaveStatesBelow}
 use Rattle.stamped_map.proofs.JoiningLaws.{joining_goes, joining_ends, on_err}
-use Rattle.stamped_map.proofs.PartLaws.{edited_goes, partly_whole, in_edits}
+use Rattle.stamped_map.proofs.PartLaws.{edited_goes, edit_seen, partly_whole, in_edits}
 use Rattle.stamped_map.proofs.StateLaws.{keeps_on, edits_from, first_edit}
 use Rattle.stamped_map.proofs.plane.Plane.join_edits.Goals as goal
 
@@ -23,6 +23,7 @@ loop-edit-preserved c = (
       (write_at c.args.self.now) (write_at c.loop-edit.self) (write_at c.join_edit.new.self)
       c.loop-edit.invariant.2 c.join_edit.ensures.states
       (λ n below own. edits_from n c.args.edits.now c.loop-edit.edit-index c.edit-item.result own c.loop-edit-test.true c.edit-item.is),
+  edit_seen c.args.edits.now c.loop-edit.edit-index c.edit-item.result c.edit-item.is c.loop-edit-test.true c.join_edit.ensures.edit c.loop-edit.invariant.3,
 )
 
 pub returns-in_err-join_edit-clause-err : goal.returns-in_err-join_edit-clause-err

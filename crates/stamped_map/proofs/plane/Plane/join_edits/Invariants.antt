@@ -1,5 +1,5 @@
-use Rattle.std.proofs.Common.{drop}
-use Rattle.edit_stamps.specs.Edit.{greatest}
+use Rattle.std.proofs.Common.{◌≡◌, ℕ, ◌<◌, drop, get_or}
+use Rattle.edit_stamps.specs.Edit.{PlaneEdit, IsEdit, greatest}
 use Rattle.edit_stamps.specs.PlaneMap.{write_at}
 use Rattle.stamped_map.specs.Plane.{HaveStatesBelow, IsPartlyEdited, KeepsStates}
 use Rattle.stamped_map.proofs.JoiningLaws.{IsJoining}
@@ -10,3 +10,4 @@ invariant-loop-edit l =
     IsJoining (write_at l.fn.self) (write_at l.self) (greatest (drop l.edit-index l.edits)) (greatest l.edits)
     × IsPartlyEdited (write_at l.fn.self) l.edits (write_at l.self)
     × KeepsStates (λ states. HaveStatesBelow states l.edits) (write_at l.fn.self) (write_at l.self)
+    × ((k : ℕ) (e : PlaneEdit) → k < l.edit-index → get_or l.edits k e ≡ e → IsEdit e)
