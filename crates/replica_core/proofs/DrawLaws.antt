@@ -56,6 +56,12 @@ above_greatest : (n number stamp : ℕ) (b : Bool) → unless (when (not b) faul
 above_greatest n number stamp true is = let same : stamp_of (counter_of n + 1) number ≡ stamp = cc in omega (arith, same)
 above_greatest n number stamp false is = absurd (cc)
 
+-- so is that of the edit that is made with it
+pub next_above : (n number stamp : ℕ) (g : GenerationsRule) (spec : EditSpec) (e : PlaneEdit) → stamp_after (counter_of n) number ≡ Ok stamp
+    → or_edit_fault (made g stamp spec) ≡ Ok e → n < e.stamp
+next_above n number stamp g spec e next is =
+    omega (arith, above_greatest n number stamp (nat_lt (counter_of n) last_counter) next, made_stamp g stamp spec e is)
+
 -- ---- what a draw answers
 
 pub draws : (old new : ReplicaState) (n stamp : ℕ) (spec : EditSpec) (e : PlaneEdit)
@@ -75,6 +81,17 @@ draws old new n stamp spec e greatest_is next is one map journal = (
         omega (arith, above, mine, held)
         );
   },
+)
+
+-- a draw that was refused memory half way
+pub stops : (old new : ReplicaState) (n stamp : ℕ) (spec : EditSpec) (e : PlaneEdit)
+    → stamp_after (counter_of n) old.number ≡ Ok stamp → or_edit_fault (made old.rule stamp spec) ≡ Ok e
+    → IsOneReplica old new → new.journal ≡ old.journal → IsPartlyJoined (write_at old.map) (writes_of e) (write_at new.map)
+    → IsDraw old new (edit_drawn old.rule (counter_of n) old.number spec) (Err faults.Memory)
+stops old new n stamp spec e next is one journal part = (
+  e,
+  ap (λ s. s >>= (λ stamp. or_edit_fault (made old.rule stamp spec))) next ∙ is,
+  record { one = one; journal = journal; map = part },
 )
 
 -- a map to which nothing was joined

@@ -35,7 +35,7 @@ above_each (e ∷ edits) c (suc k) d below =
     is_total.transitive (writes_of (slice_index_or edits k d) c) (greatest edits c) (greater (writes_of e c) (greatest edits c))
     (above_each edits c k d (omega (arith, below))) (is_least_upper_bound.right (writes_of e) (greatest edits) c)
 
-greatest_of : (edits : List PlaneEdit) (c : Place) → IsGreatestOf edits c (greatest edits c)
+pub greatest_of : (edits : List PlaneEdit) (c : Place) → IsGreatestOf edits c (greatest edits c)
 greatest_of edits c = record {
   above = λ e here. subst (λ x. IsTrue (at_most (writes_of x c) (greatest edits c))) here.2 (above_each edits c here.0 e here.1);
   made = made_by_one edits c;

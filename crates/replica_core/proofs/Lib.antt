@@ -5,3 +5,4 @@ pub mod EventLaws
 pub mod HistoryLaws
 pub mod HeadlineLaws
 pub mod RunLaws
+pub mod NotedEdits

@@ -1,15 +1,16 @@
 -- A replica, and what a draw and a message do to it.
 use Rattle.std.specs.Prelude.{◌≡◌, ◌≢◌, ℕ, ◌+◌, ◌^◌, ◌<◌, ◌≤◌, not, nat_lt, List, [], ◌∷◌, ◌++◌, Result, Ok, Err}
+use Rattle.std.specs.List.{Contains, IsDistinct}
 use Rattle.generations_rule.specs.Place.{Place}
 use Rattle.generations_rule.specs.Refusal.{when, unless, ◌>>=◌}
 use Rattle.generations_rule.specs.Rule.{GenerationsRule}
 use Rattle.edit_stamps.specs.declared.fault.EditFault.{EditFault}
-use Rattle.edit_stamps.specs.Edit.{PlaneEdit, writes_of}
+use Rattle.edit_stamps.specs.Edit.{PlaneEdit, IsEdit, is_edit, writes_of}
 use Rattle.edit_stamps.specs.Making.{edit_of_cells}
 use Rattle.edit_stamps.specs.Pasting.{edit_of_clear, edit_of_copy, edit_of_or}
 use Rattle.edit_stamps.specs.PlaneMap.{PlaneMap, write_at}
 use Rattle.edit_stamps.specs.Stamp.{stamp_of, last_counter}
-use Rattle.edit_stamps.specs.Write.{unwritten, Writes, AreSame, joined}
+use Rattle.edit_stamps.specs.Write.{unwritten, Writes, AreSame, IsBelow, joined}
 use Rattle.replica_core.specs.declared.spec.EditSpec.{EditSpec}
 use Rattle.replica_core.specs.declared.spec.EditSpec.TheVariants.{Cells, Copy, Or, Clear}
 use Rattle.replica_core.specs.declared.fault.Fault.{Fault}
@@ -117,8 +118,15 @@ pub record IsSnapshot (r : ReplicaState) (m : Shared) : Type 0 where
   pub map : IsMapOf (write_at r.map) m.content
   pub states : HasStatesBelow m.rule.states (write_at r.map)
 
+-- a journal has each edit once, and all that its edits write is in a map
+pub record IsJournalOf (p : Writes) (journal : List PlaneEdit) : Type 0 where
+  pub once : IsDistinct is_edit journal
+  pub edits : (e : PlaneEdit) → Contains journal e → IsEdit e
+  pub held : (e : PlaneEdit) → Contains journal e → IsBelow (writes_of e) p
+
 -- which replicas there are
 pub record IsReplica (r : ReplicaState) : Type 0 where
   pub number : 1 ≤ r.number
   pub few : r.number < 2 ^ 16
   pub states : HasStatesBelow r.rule.states (write_at r.map)
+  pub journal : IsJournalOf (write_at r.map) r.journal

@@ -1,13 +1,13 @@
 //! One replica of a shared plane.
 
-ghost use Rattle.std.specs.Prelude.{◌≡◌, ◌≤◌, ◌++◌, ◌∷◌, [], ℕ, false, IfOk, IfErr, IsTrue, OnOk};
+ghost use Rattle.std.specs.Prelude.{◌≡◌, ◌≤◌, ◌++◌, ◌∷◌, [], ℕ, false, Contains, IfOk, IfErr, IsTrue, OnOk};
 ghost use Rattle.std.specs.Result.{IsOk};
 ghost use Rattle.generations_rule.specs.Refusal.{Answers};
 ghost use Rattle.generations_rule.specs.Place.{at_place};
 ghost use Rattle.edit_stamps.specs.Stamp.{counter_of};
 ghost use Rattle.edit_stamps.specs.PlaneMap.{write_at};
 ghost use Rattle.edit_stamps.specs.Write.{unwritten, AreSame, joined};
-ghost use Rattle.edit_stamps.specs.Edit.{greatest, has_states_below, writes_of};
+ghost use Rattle.edit_stamps.specs.Edit.{PlaneEdit, IsEdit, greatest, has_states_below, writes_of};
 ghost use Rattle.replica_core.specs.Fault.{IsWant};
 ghost use Rattle.edit_journal.specs.Journal.{noted};
 ghost use Rattle.replica_core.specs.Message.{edits_in, writes_in, IsBelowStates, IsPartlyTaken};
@@ -50,7 +50,7 @@ impl Model for Replica {
 
 impl Replica {
     ghost use Rattle.edit_stamps.specs.Plane.{is_in_plane};
-    ghost use Rattle.replica_core.specs.Replica.{edit_drawn, IsDraw, IsNew, IsReplica, IsSnapshot, IsTaking};
+    ghost use Rattle.replica_core.specs.Replica.{edit_drawn, IsDraw, IsJournalOf, IsNew, IsReplica, IsSnapshot, IsTaking};
 
     /// A replica that holds nothing. The only error is want of memory.
     pub fn new(alloc: Global, rule: Rule, number: u16) -> Result<Replica, Fault>
@@ -84,7 +84,8 @@ impl Replica {
 
     /// The edits that were drawn here or given in messages of edits, in order, each once.
     pub fn journal(&self) -> &[Edit]
-        ensures { result.now ≡ self.now.journal }
+        ensures value { result.now ≡ self.now.journal }
+        ensures journal { IsJournalOf (write_at self.now.map) self.now.journal }
     {
         self.journal.as_slice()
     }
@@ -187,6 +188,7 @@ fn take_into(plane: &mut Plane, journal: &mut Journal, content: &Content) -> Res
     ensures err { IfErr result (λ fault. (fault ≡ Fault.Memory) × (journal.new ≡ journal.old)
         × IsPartlyTaken (write_at plane.old) content.now (write_at plane.new)) }
     ensures states { KeepsStates (λ states. IsBelowStates states content.now) (write_at plane.old) (write_at plane.new) }
+    ensures edits { OnOk result ((e : PlaneEdit) → Contains (edits_in content.now) e → IsEdit e) }
 {
     match content {
         Content::Edits(edits) => {
@@ -206,6 +208,7 @@ fn take_edits(plane: &mut Plane, journal: &mut Journal, edits: &[Edit]) -> Resul
     ensures err { IfErr result (λ fault. (fault ≡ Fault.Memory) × (journal.new ≡ journal.old)
         × IsPartlyEdited (write_at plane.old) edits.now (write_at plane.new)) }
     ensures states { KeepsStates (λ states. HaveStatesBelow states edits.now) (write_at plane.old) (write_at plane.new) }
+    ensures edits { OnOk result ((e : PlaneEdit) → Contains edits.now e → IsEdit e) }
 {
     let fresh = journal.fresh(edits)?;
     plane.join_edits(edits)?;
