@@ -4,3 +4,4 @@ pub mod Message
 pub mod Replica
 pub mod World
 pub mod Headline
+pub mod Rows

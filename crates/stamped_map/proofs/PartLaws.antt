@@ -119,9 +119,9 @@ made_by_one (e ∷ edits) c =
     elim (cases_Bool (at_most (writes_of e c) (greatest edits c))) [
       | inr first ↦ inr (e, (0, omega arith, refl), sym (ap pick first))
       | inl rest ↦ elim (made_by_one edits c) [
-          | inl nothing ↦ inl (ap pick rest ∙ nothing)
-          | inr by ↦ inr (by.0, (suc by.1.0, omega (arith, by.1.1), by.1.2), by.2 ∙ sym (ap pick rest))
-        ]
+        | inl nothing ↦ inl (ap pick rest ∙ nothing)
+        | inr by ↦ inr (by.0, (suc by.1.0, omega (arith, by.1.1), by.1.2), by.2 ∙ sym (ap pick rest))
+      ]
     ]
 
 -- edits that are wholly joined

@@ -1,3 +1,4 @@
 pub mod Plane
 pub mod Merge
 pub mod Laws
+pub mod Rows
