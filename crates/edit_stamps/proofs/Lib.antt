@@ -1,3 +1,4 @@
+pub mod StampLaws
 pub mod WriteLaws
 pub mod PlaceOrder
 pub mod SortedCells

@@ -1,6 +1,6 @@
 -- Pasted cells: what holds of a pattern's cells holds of them where they are put.
-use Rattle.std.proofs.Common.{◌≡◌, ℕ, zero, suc, get_or, ◌+◌, ◌≤◌, ◌<◌, ◌^◌, ℤ, pos, ◌+ℤ◌, Bool, true, false, List, [], ◌∷◌, length, map, refl, sym, ◌∙◌, ap, subst, arith}
-use Rattle.std.specs.Prelude.{not, ◌&&◌, ◌||◌, ◌==◌, nat_lt, nat_le, IsTrue, Option, Some, None}
+use Rattle.std.proofs.Common.{◌≡◌, ℕ, zero, suc, get_or, ◌<◌, ◌^◌, ℤ, pos, ◌+ℤ◌, Bool, true, false, List, [], ◌∷◌, length, refl, sym, ◌∙◌, ap, arith}
+use Rattle.std.specs.Prelude.{not, ◌&&◌, ◌==◌, nat_lt, nat_le, IsTrue, Some, None}
 use Rattle.std.specs.List.{list_all}
 use Rattle.std.proofs.lemmas.List.{length-map}
 use Rattle.std.proofs.lemmas.Bool.{and_parts}
@@ -12,12 +12,11 @@ use Rattle.multistate_rle.specs.declared.cell.Cell.{Cell}
 use Rattle.multistate_rle.specs.declared.pattern.PatternCell.{PatternCell}
 use Rattle.multistate_rle.specs.Cells.{place_of, are_below, are_nonzero, is_sorted}
 use Rattle.multistate_rle.specs.Pattern.{RlePattern, IsPattern, precedes, are_sorted, are_alive, are_within}
-use Rattle.edit_stamps.specs.declared.fault.EditFault.{EditFault}
 use Rattle.edit_stamps.specs.declared.fault.EditFault.TheVariants.{Nothing, OutOfPlane, StateRange, AreaSide}
 use Rattle.edit_stamps.specs.declared.rect.Rect.{Rect}
-use Rattle.edit_stamps.specs.Edit.{PlaneEdit, IsEdit, fits_area}
+use Rattle.edit_stamps.specs.Edit.{IsEdit, fits_area}
 use Rattle.edit_stamps.specs.Making.{are_in_plane}
-use Rattle.edit_stamps.specs.Pasting.{box_of, clear_fault, copy_fault, is_too_wide, most_side, or_fault, placed, placed_cell}
+use Rattle.edit_stamps.specs.Pasting.{box_of, clear_fault, copy_fault, is_too_wide, or_fault, placed, placed_cell}
 use Rattle.edit_stamps.specs.Plane.{is_side, is_in, is_in_plane, is_area_in_plane, is_empty}
 use Rattle.edit_stamps.specs.Stamp.{is_stamp}
 

@@ -1,5 +1,6 @@
 -- What writes, maps of writes and edits obey.
-use Rattle.std.specs.Prelude.{◌≡◌, ℕ, ◌⊎◌, ◌↔◌, IsTrue, IfOk, List, ◌++◌, Contains, false, reverse}
+use Rattle.std.specs.Prelude.{◌≡◌, ℕ, ◌<◌, ◌^◌, ◌⊎◌, ◌↔◌, IsTrue, IfOk, List, ◌++◌, Contains, false, reverse, Some}
+use Rattle.std.specs.Ordering.{nat_cmp}
 use Rattle.generations_rule.specs.Place.{Place}
 use Rattle.generations_rule.specs.Rule.{GenerationsRule}
 use Rattle.multistate_rle.specs.declared.cell.Cell.{Cell}
@@ -7,8 +8,16 @@ use Rattle.multistate_rle.specs.Cells.{is_sorted}
 use Rattle.edit_stamps.specs.declared.write.Write.{Write}
 use Rattle.edit_stamps.specs.Edit.{PlaneEdit, IsEdit, is_edit, greatest, listed, write_by, writes_of, has_states_below}
 use Rattle.edit_stamps.specs.Making.{edit_of_cells, settled}
-use Rattle.edit_stamps.specs.Stamp.{is_stamp}
+use Rattle.edit_stamps.specs.Stamp.{counter_of, is_stamp, replica_of, stamp_cmp, stamp_made, stamp_of}
 use Rattle.edit_stamps.specs.Write.{at_most, greater, unwritten, Writes, AreSame, IsBelow, joined}
+
+-- stamps are ordered by counter, then by replica; a stamp tells both, and what is made of those two is the stamp
+pub record TellsStamps : Type 0 where
+  pub order : (a b : ℕ) → nat_cmp a b ≡ stamp_cmp a b
+  pub counter : (counter replica : ℕ) → replica < 2 ^ 16 → counter_of (stamp_of counter replica) ≡ counter
+  pub replica : (counter replica : ℕ) → replica < 2 ^ 16 → replica_of (stamp_of counter replica) ≡ replica
+  pub whole : (stamp : ℕ) → stamp_of (counter_of stamp) (replica_of stamp) ≡ stamp
+  pub made : (stamp : ℕ) → IsTrue (is_stamp stamp) ↔ (stamp_made (counter_of stamp) (replica_of stamp) ≡ Some stamp)
 
 -- the order of writes is total, and the least write is at its bottom
 pub record IsTotal : Type 0 where

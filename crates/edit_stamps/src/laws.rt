@@ -1,7 +1,12 @@
 //! What the definitions obey, for all writes, maps and edits: the contracts of functions that do
 //! nothing.
 
-ghost use Rattle.edit_stamps.specs.Laws.{IsTotal, IsLattice, IsLeastUpperBound, DependsOnMembers, JoinsLists, SettlesEntries, IsToldByReads, MakesEdits, TellsEdits};
+ghost use Rattle.edit_stamps.specs.Laws.{TellsStamps, IsTotal, IsLattice, IsLeastUpperBound, DependsOnMembers, JoinsLists, SettlesEntries, IsToldByReads, MakesEdits, TellsEdits};
+
+/// Stamps. They are ordered by counter, then by replica, as Lamport's are, and each tells both.
+pub fn stamp_laws()
+    ensures { TellsStamps }
+{}
 
 /// Writes and maps of writes. The order is total, and the greater write is commutative,
 /// associative and idempotent. The join of two maps is their least upper bound, as RR-7506 asks of

@@ -17,7 +17,7 @@ mod write;
 
 pub use edit::Edit;
 pub use fault::EditFault;
-pub use laws::{edit_laws, write_laws};
+pub use laws::{edit_laws, stamp_laws, write_laws};
 pub use list::EditList;
 pub use multistate_rle::{Cell, Pattern};
 pub use rect::Rect;

@@ -1,4 +1,4 @@
-use Rattle.std.proofs.Common.{◌≡◌, true, sym, ◌∙◌, ap, subst, None, Some}
+use Rattle.std.proofs.Common.{◌≡◌, true, sym, ◌∙◌, ap, subst, Some}
 use Rattle.edit_stamps.specs.Edit.{IsEdit}
 use Rattle.edit_stamps.specs.Making.{are_in_plane}
 use Rattle.edit_stamps.specs.Pasting.{box_of, placed}
