@@ -14,7 +14,7 @@ use Rattle.multistate_rle.specs.Cells.{place_of, are_below, are_nonzero, is_sort
 use Rattle.multistate_rle.specs.Pattern.{RlePattern, IsPattern, precedes, are_sorted, are_alive, are_within}
 use Rattle.edit_stamps.specs.declared.fault.EditFault.TheVariants.{Nothing, OutOfPlane, StateRange, AreaSide}
 use Rattle.edit_stamps.specs.declared.rect.Rect.{Rect}
-use Rattle.edit_stamps.specs.Edit.{IsEdit, fits_area}
+use Rattle.edit_stamps.specs.Edit.{IsEdit, fits_area, most_side}
 use Rattle.edit_stamps.specs.Making.{are_in_plane}
 use Rattle.edit_stamps.specs.Pasting.{box_of, clear_fault, copy_fault, is_too_wide, or_fault, placed, placed_cell}
 use Rattle.edit_stamps.specs.Plane.{is_side, is_in, is_in_plane, is_area_in_plane, is_empty}
@@ -141,7 +141,7 @@ copied states area cells none =
 fits : (area : Rect) (cells : List Cell) → is_empty area ≡ false → is_area_in_plane area ≡ true → is_too_wide area ≡ false → are_nonzero cells ≡ true
     → list_all (λ cell. is_in area (place_of cell)) cells ≡ true → fits_area (Some area) cells ≡ true
 fits area cells some inside narrow alive all =
-    let sides : (nat_le area.width 4096 ≡ true) × (nat_le area.height 4096 ≡ true) = (grind (arith, nat_tests, narrow), grind (arith, nat_tests, narrow)) in
+    let sides : (nat_le area.width most_side ≡ true) × (nat_le area.height most_side ≡ true) = (grind (arith, nat_tests, narrow), grind (arith, nat_tests, narrow)) in
     rw (some, inside, sides.0, sides.1, alive, all) refl
 
 pub copy_kept : (states stamp : ℕ) (p : RlePattern) (x y : ℤ) → IsTrue (is_stamp stamp) → IsPattern p

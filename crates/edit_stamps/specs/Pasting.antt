@@ -9,7 +9,7 @@ use Rattle.multistate_rle.specs.Pattern.{RlePattern}
 use Rattle.edit_stamps.specs.declared.fault.EditFault.{EditFault}
 use Rattle.edit_stamps.specs.declared.fault.EditFault.TheVariants.{Nothing, OutOfPlane, StateRange, AreaSide}
 use Rattle.edit_stamps.specs.declared.rect.Rect.{Rect}
-use Rattle.edit_stamps.specs.Edit.{PlaneEdit}
+use Rattle.edit_stamps.specs.Edit.{PlaneEdit, most_side}
 use Rattle.edit_stamps.specs.Making.{are_in_plane}
 use Rattle.edit_stamps.specs.Plane.{is_area_in_plane, is_empty}
 
@@ -23,10 +23,6 @@ placed x y cells = map (placed_cell x y) cells
 -- the pattern's box there
 abbrev pub box_of : RlePattern → ℤ → ℤ → Rect
 box_of p x y = record { x = x; y = y; width = p.width; height = p.height }
-
--- the greatest side of an edit's area
-abbrev pub most_side : ℕ
-most_side = 4096
 
 abbrev pub is_too_wide : Rect → Bool
 is_too_wide area = nat_lt most_side area.width || nat_lt most_side area.height

@@ -4,8 +4,9 @@ ghost use Rattle.std.specs.Prelude.{◌≡◌, ◌≤◌, ◌<◌, ◌^◌, ◌+
 ghost use Rattle.std.specs.List.{list_all};
 ghost use Rattle.multistate_rle.specs.Cells.{place_of};
 ghost use Rattle.multistate_rle.specs.Pattern.{IsPattern};
+ghost use Rattle.edit_stamps.specs.Edit.{most_side};
 ghost use Rattle.edit_stamps.specs.Making.{are_in_plane};
-ghost use Rattle.edit_stamps.specs.Pasting.{box_of, clear_fault, copy_fault, most_side, or_fault, placed, placed_cell as cell_placed};
+ghost use Rattle.edit_stamps.specs.Pasting.{box_of, clear_fault, copy_fault, or_fault, placed, placed_cell as cell_placed};
 ghost use Rattle.edit_stamps.specs.Plane.{is_in_plane, is_side as side, past, is_area_in_plane};
 
 use crate::fault::EditFault;
