@@ -6,3 +6,4 @@ pub mod MakingLaws
 pub mod SettleLaws
 pub mod OneEdit
 pub mod PastingLaws
+pub mod PastedWrites

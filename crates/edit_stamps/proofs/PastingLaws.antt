@@ -89,7 +89,7 @@ alive_placed : (x y : ℤ) (cells : List PatternCell) → are_alive cells ≡ tr
 alive_placed x y cells alive = all_placed (λ cell. not (cell.state == 0)) x y cells ∙ alive
 
 -- each cell of a pattern lies in its box
-inside_placed : (x y : ℤ) (width height : ℕ) (cells : List PatternCell) → are_within width height cells ≡ true
+pub inside_placed : (x y : ℤ) (width height : ℕ) (cells : List PatternCell) → are_within width height cells ≡ true
     → list_all (λ cell. is_in (record { x = x; y = y; width = width; height = height }) (place_of cell)) (placed x y cells) ≡ true
 inside_placed x y width height [] within = refl
 inside_placed x y width height (cell ∷ cells) within =

@@ -1,5 +1,7 @@
 -- Edits that paste a pattern or clear an area.
-use Rattle.std.specs.Prelude.{ℕ, ℤ, pos, ◌+ℤ◌, Bool, not, ◌||◌, ◌==◌, nat_lt, List, [], ◌∷◌, length, map, Option, Some, None, Result}
+use Rattle.std.specs.Prelude.{ℕ, ℤ, pos, ◌+ℤ◌, Bool, not, ◌||◌, ◌&&◌, ◌==◌, nat_lt, List, [], ◌∷◌, length, map, find, Option, Some, None, option_map, unwrap_or, Result}
+use Rattle.std.specs.Int.{int_gap}
+use Rattle.generations_rule.specs.Place.{Place}
 use Rattle.generations_rule.specs.Refusal.{when, first_of, unless}
 use Rattle.generations_rule.specs.Rule.{GenerationsRule}
 use Rattle.multistate_rle.specs.declared.cell.Cell.{Cell}
@@ -12,6 +14,15 @@ use Rattle.edit_stamps.specs.declared.rect.Rect.{Rect}
 use Rattle.edit_stamps.specs.Edit.{PlaneEdit, most_side}
 use Rattle.edit_stamps.specs.Making.{are_in_plane}
 use Rattle.edit_stamps.specs.Plane.{is_area_in_plane, is_empty}
+
+-- the state of a pattern's cells at a column and row of its box: 0 where none of them stands
+abbrev pub state_at : List PatternCell → ℕ → ℕ → ℕ
+state_at cells column row =
+    unwrap_or (option_map (λ cell. cell.state) (find (λ cell. cell.column == column && cell.row == row) cells)) 0
+
+-- a pattern's state at a place of the plane, where the upper left corner of its box is put at x and y
+abbrev pub state_there : RlePattern → ℤ → ℤ → Place → ℕ
+state_there p x y c = state_at p.cells (int_gap x c.x) (int_gap y c.y)
 
 -- a pattern's cell, where the upper left corner of its box is put at x and y
 abbrev pub placed_cell : ℤ → ℤ → PatternCell → Cell
