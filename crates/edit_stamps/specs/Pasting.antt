@@ -1,6 +1,7 @@
 -- Edits that paste a pattern or clear an area.
 use Rattle.std.specs.Prelude.{ℕ, ℤ, pos, ◌+ℤ◌, Bool, not, ◌||◌, ◌&&◌, ◌==◌, nat_lt, List, [], ◌∷◌, length, map, find, Option, Some, None, option_map, unwrap_or, Result}
 use Rattle.std.specs.Int.{int_gap}
+use Rattle.std.specs.List.{list_all}
 use Rattle.generations_rule.specs.Place.{Place}
 use Rattle.generations_rule.specs.Refusal.{when, first_of, unless}
 use Rattle.generations_rule.specs.Rule.{GenerationsRule}
@@ -13,7 +14,7 @@ use Rattle.edit_stamps.specs.declared.fault.EditFault.TheVariants.{Nothing, OutO
 use Rattle.edit_stamps.specs.declared.rect.Rect.{Rect}
 use Rattle.edit_stamps.specs.Edit.{PlaneEdit, most_side}
 use Rattle.edit_stamps.specs.Making.{are_in_plane}
-use Rattle.edit_stamps.specs.Plane.{is_area_in_plane, is_empty}
+use Rattle.edit_stamps.specs.Plane.{is_area_in_plane, is_coordinate, is_empty}
 
 -- the state of a pattern's cells at a column and row of its box: 0 where none of them stands
 abbrev pub state_at : List PatternCell → ℕ → ℕ → ℕ
@@ -30,6 +31,14 @@ placed_cell x y cell = record { x = x +ℤ pos cell.column; y = y +ℤ pos cell.
 
 abbrev pub placed : ℤ → ℤ → List PatternCell → List Cell
 placed x y cells = map (placed_cell x y) cells
+
+-- put there, each of a pattern's cells has coordinates of 32 bits with their signs
+abbrev pub are_placeable : ℤ → ℤ → List PatternCell → Bool
+are_placeable x y cells = list_all (λ cell. is_coordinate (x +ℤ pos cell.column) && is_coordinate (y +ℤ pos cell.row)) cells
+
+-- each state of a pattern's cells is below a rule's number of states
+abbrev pub have_states_below : ℕ → List PatternCell → Bool
+have_states_below states cells = list_all (λ cell. nat_lt cell.state states) cells
 
 -- the pattern's box there
 abbrev pub box_of : RlePattern → ℤ → ℤ → Rect
