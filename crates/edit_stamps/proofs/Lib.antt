@@ -1,3 +1,4 @@
+pub mod StampLaws
 pub mod WriteLaws
 pub mod PlaceOrder
 pub mod SortedCells
@@ -5,3 +6,4 @@ pub mod MakingLaws
 pub mod SettleLaws
 pub mod OneEdit
 pub mod PastingLaws
+pub mod PastedWrites

@@ -1,5 +1,5 @@
 -- What is made of cells is an edit.
-use Rattle.std.proofs.Common.{◌≡◌, ℕ, ◌+◌, ◌≤◌, ◌^◌, Bool, true, false, List, [], ◌∷◌, length, refl, sym, ap, subst, arith}
+use Rattle.std.proofs.Common.{◌≡◌, ℕ, ◌+◌, ◌≤◌, Bool, true, false, List, [], ◌∷◌, length, refl, sym, ap, subst, arith}
 use Rattle.std.specs.Prelude.{not, ◌==◌, nat_lt, IsTrue, Option, Some, None, IfOk, reverse}
 use Rattle.std.specs.List.{list_all}
 use Rattle.std.proofs.lemmas.Bool.{and_parts, ltb-false}
@@ -11,9 +11,9 @@ use Rattle.multistate_rle.specs.declared.cell.Cell.{Cell}
 use Rattle.multistate_rle.specs.Cells.{place_of, are_below}
 use Rattle.edit_stamps.specs.declared.fault.EditFault.{EditFault}
 use Rattle.edit_stamps.specs.declared.fault.EditFault.TheVariants.{Nothing, TooMany, OutOfPlane, StateRange}
-use Rattle.edit_stamps.specs.Edit.{IsEdit, listed, write_by, writes_of, has_states_below}
+use Rattle.edit_stamps.specs.Edit.{IsEdit, listed, most_cells, write_by, writes_of, has_states_below}
 use Rattle.edit_stamps.specs.Laws.{MakesEdits}
-use Rattle.edit_stamps.specs.Making.{add, settled, most_cells, are_in_plane, cells_fault}
+use Rattle.edit_stamps.specs.Making.{add, settled, are_in_plane, cells_fault}
 use Rattle.edit_stamps.specs.Plane.{is_in_plane}
 use Rattle.edit_stamps.specs.Stamp.{is_stamp}
 use Rattle.edit_stamps.proofs.PlaceOrder.{Before, Same, Behind, compared}
@@ -22,7 +22,7 @@ use Rattle.edit_stamps.proofs.SortedCells.{settled_sorted, last_stays}
 -- cells that are refused nothing
 pub record AreAccepted (states : ℕ) (cells : List Cell) : Type 0 where
   some : (length cells == 0) ≡ false
-  few : length cells ≤ 2 ^ 20
+  few : length cells ≤ most_cells
   in_plane : are_in_plane cells ≡ true
   below : are_below states cells ≡ true
 

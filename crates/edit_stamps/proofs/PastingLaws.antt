@@ -1,9 +1,10 @@
 -- Pasted cells: what holds of a pattern's cells holds of them where they are put.
-use Rattle.std.proofs.Common.{◌≡◌, ℕ, zero, suc, get_or, ◌+◌, ◌≤◌, ◌<◌, ◌^◌, ℤ, pos, ◌+ℤ◌, Bool, true, false, List, [], ◌∷◌, length, map, refl, sym, ◌∙◌, ap, subst, arith}
-use Rattle.std.specs.Prelude.{not, ◌&&◌, ◌||◌, ◌==◌, nat_lt, nat_le, IsTrue, Option, Some, None}
+use Rattle.std.proofs.Common.{◌≡◌, inl, inr, ℕ, get_or, ◌<◌, ◌^◌, ℤ, pos, ◌+ℤ◌, Bool, true, false, List, [], ◌∷◌, length, refl, sym, ◌∙◌, ap, arith}
+use Rattle.std.specs.Prelude.{not, ◌&&◌, ◌==◌, nat_lt, nat_le, IsTrue, Some, None}
 use Rattle.std.specs.List.{list_all}
 use Rattle.std.proofs.lemmas.List.{length-map}
-use Rattle.std.proofs.lemmas.Bool.{and_parts}
+use Rattle.std.proofs.lemmas.Bool.{and_parts, cases_Bool}
+use Rattle.std.proofs.lemmas.List.Folds.{list_all_at}
 use Rattle.std.proofs.lemmas.Bool.Decides.{nat_tests}
 use Rattle.std.proofs.lemmas.Int.{ints}
 use Rattle.generations_rule.specs.Place.{Place, is_before}
@@ -12,13 +13,12 @@ use Rattle.multistate_rle.specs.declared.cell.Cell.{Cell}
 use Rattle.multistate_rle.specs.declared.pattern.PatternCell.{PatternCell}
 use Rattle.multistate_rle.specs.Cells.{place_of, are_below, are_nonzero, is_sorted}
 use Rattle.multistate_rle.specs.Pattern.{RlePattern, IsPattern, precedes, are_sorted, are_alive, are_within}
-use Rattle.edit_stamps.specs.declared.fault.EditFault.{EditFault}
 use Rattle.edit_stamps.specs.declared.fault.EditFault.TheVariants.{Nothing, OutOfPlane, StateRange, AreaSide}
 use Rattle.edit_stamps.specs.declared.rect.Rect.{Rect}
-use Rattle.edit_stamps.specs.Edit.{PlaneEdit, IsEdit, fits_area}
+use Rattle.edit_stamps.specs.Edit.{IsEdit, fits_area, most_side}
 use Rattle.edit_stamps.specs.Making.{are_in_plane}
-use Rattle.edit_stamps.specs.Pasting.{box_of, clear_fault, copy_fault, is_too_wide, most_side, or_fault, placed, placed_cell}
-use Rattle.edit_stamps.specs.Plane.{is_side, is_in, is_in_plane, is_area_in_plane, is_empty}
+use Rattle.edit_stamps.specs.Pasting.{are_placeable, box_of, clear_fault, copy_fault, is_too_wide, or_fault, placed, placed_cell}
+use Rattle.edit_stamps.specs.Plane.{is_coordinate, is_side, is_in, is_in_plane, is_area_in_plane, is_empty}
 use Rattle.edit_stamps.specs.Stamp.{is_stamp}
 
 -- ---- tests of placed cells
@@ -34,13 +34,24 @@ pub in_plane_placed : (x y : ℤ) (cells : List PatternCell)
     → are_in_plane (placed x y cells) ≡ list_all (λ cell. is_side (x +ℤ pos cell.column) && is_side (y +ℤ pos cell.row)) cells
 in_plane_placed x y cells = all_placed (λ cell. is_in_plane (place_of cell)) x y cells
 
+-- the plane's coordinates have 32 bits with their sign
+pub placeable : (x y : ℤ) (cells : List PatternCell) → are_in_plane (placed x y cells) ≡ true → are_placeable x y cells ≡ true
+placeable x y [] inside = refl
+placeable x y (cell ∷ cells) inside =
+    let parts = and_parts (is_in_plane (place_of (placed_cell x y cell))) (are_in_plane (placed x y cells)) inside in
+    rw (one (x +ℤ pos cell.column) (y +ℤ pos cell.row) parts.0) (placeable x y cells parts.1)
+  where
+    one : (x y : ℤ) → (is_side x && is_side y) ≡ true → (is_coordinate x && is_coordinate y) ≡ true
+    one x y inside = grind (arith, ints, nat_tests, inside)
+
 -- each of the cells passes a test that all pass
-pub all_at : (p : Cell → Bool) (x y : ℤ) (cells : List PatternCell) (i : ℕ) (d : PatternCell) → i < length cells → list_all p (placed x y cells) ≡ true
-    → p (placed_cell x y (get_or cells i d)) ≡ true
-all_at p x y [] i d below all = absurd (omega (arith, below))
-all_at p x y (cell ∷ cells) zero d below all = (and_parts (p (placed_cell x y cell)) (list_all p (placed x y cells)) all).0
-all_at p x y (cell ∷ cells) (suc i) d below all =
-    all_at p x y cells i d (omega (arith, below)) (and_parts (p (placed_cell x y cell)) (list_all p (placed x y cells)) all).1
+pub passed_at : (p : PatternCell → Bool) (cells : List PatternCell) (i : ℕ) (d : PatternCell) → i < length cells → list_all p cells ≡ true → p (get_or cells i d) ≡ true
+passed_at p cells i d below all = elim (cases_Bool (p (get_or cells i d))) [
+  | inl passes ↦ passes
+  | inr fails ↦
+      let some_fails : list_all p cells ≡ false = list_all_at p cells i d below fails in
+      absurd (cc)
+]
 
 -- ---- the refusals, by tests of the pattern's cells
 
@@ -76,7 +87,7 @@ copy_tested states given_states x y p width height given a b c d same_states sam
 
 -- ---- pasted edits are edits
 
-sorted_placed : (x y : ℤ) (cells : List PatternCell) → are_sorted cells ≡ true → is_sorted (placed x y cells) ≡ true
+pub sorted_placed : (x y : ℤ) (cells : List PatternCell) → are_sorted cells ≡ true → is_sorted (placed x y cells) ≡ true
 sorted_placed x y [] sorted = refl
 sorted_placed x y (a ∷ []) sorted = refl
 sorted_placed x y (a ∷ b ∷ cells) sorted =
@@ -86,11 +97,11 @@ sorted_placed x y (a ∷ b ∷ cells) sorted =
     before_placed : (x y : ℤ) (a b : PatternCell) → precedes a b ≡ true → is_before (place_of (placed_cell x y a)) (place_of (placed_cell x y b)) ≡ true
     before_placed x y a b h = grind (arith, ints, nat_tests, h)
 
-alive_placed : (x y : ℤ) (cells : List PatternCell) → are_alive cells ≡ true → are_nonzero (placed x y cells) ≡ true
+pub alive_placed : (x y : ℤ) (cells : List PatternCell) → are_alive cells ≡ true → are_nonzero (placed x y cells) ≡ true
 alive_placed x y cells alive = all_placed (λ cell. not (cell.state == 0)) x y cells ∙ alive
 
 -- each cell of a pattern lies in its box
-inside_placed : (x y : ℤ) (width height : ℕ) (cells : List PatternCell) → are_within width height cells ≡ true
+pub inside_placed : (x y : ℤ) (width height : ℕ) (cells : List PatternCell) → are_within width height cells ≡ true
     → list_all (λ cell. is_in (record { x = x; y = y; width = width; height = height }) (place_of cell)) (placed x y cells) ≡ true
 inside_placed x y width height [] within = refl
 inside_placed x y width height (cell ∷ cells) within =
@@ -142,7 +153,7 @@ copied states area cells none =
 fits : (area : Rect) (cells : List Cell) → is_empty area ≡ false → is_area_in_plane area ≡ true → is_too_wide area ≡ false → are_nonzero cells ≡ true
     → list_all (λ cell. is_in area (place_of cell)) cells ≡ true → fits_area (Some area) cells ≡ true
 fits area cells some inside narrow alive all =
-    let sides : (nat_le area.width 4096 ≡ true) × (nat_le area.height 4096 ≡ true) = (grind (arith, nat_tests, narrow), grind (arith, nat_tests, narrow)) in
+    let sides : (nat_le area.width most_side ≡ true) × (nat_le area.height most_side ≡ true) = (grind (arith, nat_tests, narrow), grind (arith, nat_tests, narrow)) in
     rw (some, inside, sides.0, sides.1, alive, all) refl
 
 pub copy_kept : (states stamp : ℕ) (p : RlePattern) (x y : ℤ) → IsTrue (is_stamp stamp) → IsPattern p

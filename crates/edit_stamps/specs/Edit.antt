@@ -62,16 +62,24 @@ greatest (e ∷ edits) c = greater (writes_of e c) (greatest edits c)
 
 -- ---- which edits there are
 
+-- the greatest number of listed cells
+abbrev pub most_cells : ℕ
+most_cells = 2 ^ 20
+
+-- the greatest side of an area
+abbrev pub most_side : ℕ
+most_side = 4096
+
 -- without an area some cell is listed; an area is neither empty nor too wide, and has the listed cells, none of them dead
 abbrev pub fits_area : Option Rect → List Cell → Bool
 fits_area None cells = not (length cells == 0)
 fits_area (Some area) cells =
-    not (is_empty area) && is_area_in_plane area && nat_le area.width 4096 && nat_le area.height 4096
+    not (is_empty area) && is_area_in_plane area && nat_le area.width most_side && nat_le area.height most_side
     && are_nonzero cells && list_all (λ cell. is_in area (place_of cell)) cells
 
 pub record IsEdit (e : PlaneEdit) : Type 0 where
   pub stamp : IsTrue (is_stamp e.stamp)
-  pub count : length e.cells ≤ 2 ^ 20
+  pub count : length e.cells ≤ most_cells
   pub sorted : IsTrue (is_sorted e.cells)
   pub in_plane : IsTrue (list_all (λ cell. is_in_plane (place_of cell)) e.cells)
   pub area : IsTrue (fits_area e.area e.cells)

@@ -1,14 +1,27 @@
 -- What writes, maps of writes and edits obey.
-use Rattle.std.specs.Prelude.{◌≡◌, ℕ, ◌⊎◌, ◌↔◌, IsTrue, IfOk, List, ◌++◌, Contains, false, reverse}
+use Rattle.std.specs.Prelude.{◌≡◌, ◌≢◌, ℕ, ℤ, ◌<◌, ◌^◌, ◌⊎◌, ◌↔◌, IsTrue, IfOk, List, ◌++◌, Contains, false, reverse, Some}
+use Rattle.std.specs.Ordering.{nat_cmp}
 use Rattle.generations_rule.specs.Place.{Place}
 use Rattle.generations_rule.specs.Rule.{GenerationsRule}
 use Rattle.multistate_rle.specs.declared.cell.Cell.{Cell}
 use Rattle.multistate_rle.specs.Cells.{is_sorted}
+use Rattle.multistate_rle.specs.Pattern.{RlePattern, IsPattern}
+use Rattle.edit_stamps.specs.declared.rect.Rect.{Rect}
 use Rattle.edit_stamps.specs.declared.write.Write.{Write}
 use Rattle.edit_stamps.specs.Edit.{PlaneEdit, IsEdit, is_edit, greatest, listed, write_by, writes_of, has_states_below}
 use Rattle.edit_stamps.specs.Making.{edit_of_cells, settled}
-use Rattle.edit_stamps.specs.Stamp.{is_stamp}
+use Rattle.edit_stamps.specs.Pasting.{box_of, edit_of_clear, edit_of_copy, edit_of_or, state_there}
+use Rattle.edit_stamps.specs.Plane.{is_in}
+use Rattle.edit_stamps.specs.Stamp.{counter_of, is_stamp, replica_of, stamp_cmp, stamp_made, stamp_of}
 use Rattle.edit_stamps.specs.Write.{at_most, greater, unwritten, Writes, AreSame, IsBelow, joined}
+
+-- stamps are ordered by counter, then by replica; a stamp tells both, and what is made of those two is the stamp
+pub record TellsStamps : Type 0 where
+  pub order : (a b : ℕ) → nat_cmp a b ≡ stamp_cmp a b
+  pub counter : (counter replica : ℕ) → replica < 2 ^ 16 → counter_of (stamp_of counter replica) ≡ counter
+  pub replica : (counter replica : ℕ) → replica < 2 ^ 16 → replica_of (stamp_of counter replica) ≡ replica
+  pub whole : (stamp : ℕ) → stamp_of (counter_of stamp) (replica_of stamp) ≡ stamp
+  pub made : (stamp : ℕ) → IsTrue (is_stamp stamp) ↔ (stamp_made (counter_of stamp) (replica_of stamp) ≡ Some stamp)
 
 -- the order of writes is total, and the least write is at its bottom
 pub record IsTotal : Type 0 where
@@ -54,6 +67,31 @@ pub record MakesEdits : Type 0 where
   pub states : (r : GenerationsRule) (stamp : ℕ) (cells : List Cell) → IfOk (edit_of_cells r stamp cells) (λ e. IsTrue (has_states_below r.states e))
   pub last_entries : (r : GenerationsRule) (stamp : ℕ) (cells : List Cell) (c : Place) →
       IfOk (edit_of_cells r stamp cells) (λ e. writes_of e c ≡ write_by stamp (listed (reverse cells) c) false)
+
+-- a copy is an edit; it writes at each place of the pattern's box the pattern's state there, 0 too, and nothing elsewhere
+pub record IsCopy (stamp : ℕ) (p : RlePattern) (x y : ℤ) (e : PlaneEdit) : Type 0 where
+  pub edit : IsEdit e
+  pub in_box : (c : Place) → IsTrue (is_in (box_of p x y) c) → writes_of e c ≡ record { stamp = stamp; state = state_there p x y c }
+  pub elsewhere : (c : Place) → is_in (box_of p x y) c ≡ false → writes_of e c ≡ unwritten
+
+-- an or is an edit; it writes the pattern's state at each place of the pattern's box where that is not 0, and nothing elsewhere
+pub record IsOr (stamp : ℕ) (p : RlePattern) (x y : ℤ) (e : PlaneEdit) : Type 0 where
+  pub edit : IsEdit e
+  pub alive : (c : Place) → IsTrue (is_in (box_of p x y) c) → state_there p x y c ≢ 0 → writes_of e c ≡ record { stamp = stamp; state = state_there p x y c }
+  pub dead : (c : Place) → IsTrue (is_in (box_of p x y) c) → state_there p x y c ≡ 0 → writes_of e c ≡ unwritten
+  pub elsewhere : (c : Place) → is_in (box_of p x y) c ≡ false → writes_of e c ≡ unwritten
+
+-- a clear is an edit; it writes state 0 at each place of the area, and nothing elsewhere
+pub record IsClear (stamp : ℕ) (area : Rect) (e : PlaneEdit) : Type 0 where
+  pub edit : IsEdit e
+  pub in_area : (c : Place) → IsTrue (is_in area c) → writes_of e c ≡ record { stamp = stamp; state = 0 }
+  pub elsewhere : (c : Place) → is_in area c ≡ false → writes_of e c ≡ unwritten
+
+-- what is made to copy a pattern, to lay it over and to clear an area does so
+pub record MakesPastes : Type 0 where
+  pub copy : (r : GenerationsRule) (stamp : ℕ) (p : RlePattern) (x y : ℤ) → IsTrue (is_stamp stamp) → IsPattern p → IfOk (edit_of_copy r stamp p x y) (IsCopy stamp p x y)
+  pub or : (r : GenerationsRule) (stamp : ℕ) (p : RlePattern) (x y : ℤ) → IsTrue (is_stamp stamp) → IsPattern p → IfOk (edit_of_or r stamp p x y) (IsOr stamp p x y)
+  pub clear : (stamp : ℕ) (area : Rect) → IsTrue (is_stamp stamp) → IfOk (edit_of_clear stamp area) (IsClear stamp area)
 
 -- the test of two edits holds exactly where they are one
 abbrev pub TellsEdits : Type 0

@@ -1,5 +1,5 @@
 -- The makers of edits: what they refuse, in order, and what they make.
-use Rattle.std.specs.Prelude.{ℕ, ◌^◌, not, ◌==◌, nat_lt, if◌then◌else◌, Bool, List, [], ◌∷◌, length, Option, None, Result}
+use Rattle.std.specs.Prelude.{ℕ, not, ◌==◌, nat_lt, if◌then◌else◌, Bool, List, [], ◌∷◌, length, Option, None, Result}
 use Rattle.std.specs.List.{list_all}
 use Rattle.generations_rule.specs.Place.{is_before, is_place}
 use Rattle.generations_rule.specs.Refusal.{when, first_of, unless}
@@ -8,7 +8,7 @@ use Rattle.multistate_rle.specs.declared.cell.Cell.{Cell}
 use Rattle.multistate_rle.specs.Cells.{place_of, are_below}
 use Rattle.edit_stamps.specs.declared.fault.EditFault.{EditFault}
 use Rattle.edit_stamps.specs.declared.fault.EditFault.TheVariants.{Nothing, TooMany, OutOfPlane, StateRange}
-use Rattle.edit_stamps.specs.Edit.{PlaneEdit}
+use Rattle.edit_stamps.specs.Edit.{PlaneEdit, most_cells}
 use Rattle.edit_stamps.specs.Plane.{is_in_plane}
 
 -- one more cell of a sorted list, unless its coordinate is listed
@@ -22,10 +22,6 @@ add cell (d ∷ cells) =
 abbrev pub settled : List Cell → List Cell
 settled [] = []
 settled (cell ∷ cells) = add cell (settled cells)
-
--- the greatest number of cells of an edit
-abbrev pub most_cells : ℕ
-most_cells = 2 ^ 20
 
 abbrev pub are_in_plane : List Cell → Bool
 are_in_plane cells = list_all (λ cell. is_in_plane (place_of cell)) cells

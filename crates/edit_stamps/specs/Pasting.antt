@@ -1,5 +1,8 @@
 -- Edits that paste a pattern or clear an area.
-use Rattle.std.specs.Prelude.{ℕ, ℤ, pos, ◌+ℤ◌, Bool, not, ◌||◌, ◌==◌, nat_lt, List, [], ◌∷◌, length, map, Option, Some, None, Result}
+use Rattle.std.specs.Prelude.{ℕ, ℤ, pos, ◌+ℤ◌, Bool, not, ◌||◌, ◌&&◌, ◌==◌, nat_lt, List, [], ◌∷◌, length, map, find, Option, Some, None, option_map, unwrap_or, Result}
+use Rattle.std.specs.Int.{int_gap}
+use Rattle.std.specs.List.{list_all}
+use Rattle.generations_rule.specs.Place.{Place}
 use Rattle.generations_rule.specs.Refusal.{when, first_of, unless}
 use Rattle.generations_rule.specs.Rule.{GenerationsRule}
 use Rattle.multistate_rle.specs.declared.cell.Cell.{Cell}
@@ -9,9 +12,18 @@ use Rattle.multistate_rle.specs.Pattern.{RlePattern}
 use Rattle.edit_stamps.specs.declared.fault.EditFault.{EditFault}
 use Rattle.edit_stamps.specs.declared.fault.EditFault.TheVariants.{Nothing, OutOfPlane, StateRange, AreaSide}
 use Rattle.edit_stamps.specs.declared.rect.Rect.{Rect}
-use Rattle.edit_stamps.specs.Edit.{PlaneEdit}
+use Rattle.edit_stamps.specs.Edit.{PlaneEdit, most_side}
 use Rattle.edit_stamps.specs.Making.{are_in_plane}
-use Rattle.edit_stamps.specs.Plane.{is_area_in_plane, is_empty}
+use Rattle.edit_stamps.specs.Plane.{is_area_in_plane, is_coordinate, is_empty}
+
+-- the state of a pattern's cells at a column and row of its box: 0 where none of them stands
+abbrev pub state_at : List PatternCell → ℕ → ℕ → ℕ
+state_at cells column row =
+    unwrap_or (option_map (λ cell. cell.state) (find (λ cell. cell.column == column && cell.row == row) cells)) 0
+
+-- a pattern's state at a place of the plane, where the upper left corner of its box is put at x and y
+abbrev pub state_there : RlePattern → ℤ → ℤ → Place → ℕ
+state_there p x y c = state_at p.cells (int_gap x c.x) (int_gap y c.y)
 
 -- a pattern's cell, where the upper left corner of its box is put at x and y
 abbrev pub placed_cell : ℤ → ℤ → PatternCell → Cell
@@ -20,13 +32,17 @@ placed_cell x y cell = record { x = x +ℤ pos cell.column; y = y +ℤ pos cell.
 abbrev pub placed : ℤ → ℤ → List PatternCell → List Cell
 placed x y cells = map (placed_cell x y) cells
 
+-- put there, each of a pattern's cells has coordinates of 32 bits with their signs
+abbrev pub are_placeable : ℤ → ℤ → List PatternCell → Bool
+are_placeable x y cells = list_all (λ cell. is_coordinate (x +ℤ pos cell.column) && is_coordinate (y +ℤ pos cell.row)) cells
+
+-- each state of a pattern's cells is below a rule's number of states
+abbrev pub have_states_below : ℕ → List PatternCell → Bool
+have_states_below states cells = list_all (λ cell. nat_lt cell.state states) cells
+
 -- the pattern's box there
 abbrev pub box_of : RlePattern → ℤ → ℤ → Rect
 box_of p x y = record { x = x; y = y; width = p.width; height = p.height }
-
--- the greatest side of an edit's area
-abbrev pub most_side : ℕ
-most_side = 4096
 
 abbrev pub is_too_wide : Rect → Bool
 is_too_wide area = nat_lt most_side area.width || nat_lt most_side area.height

@@ -3,7 +3,11 @@ use Rattle.std.specs.Prelude.{◌-◌, ◌^◌, ℤ, pos, negsuc, ◌+ℤ◌, Bo
 use Rattle.generations_rule.specs.Place.{Place}
 use Rattle.edit_stamps.specs.declared.rect.Rect.{Rect}
 
--- the least coordinate
+-- a number of 32 bits with its sign
+abbrev pub is_coordinate : ℤ → Bool
+is_coordinate n = int_le (negsuc (2 ^ 31 - 1)) n && int_le n (pos (2 ^ 31 - 1))
+
+-- the least coordinate of the plane
 abbrev pub least : ℤ
 least = negsuc (2 ^ 30 - 1)
 

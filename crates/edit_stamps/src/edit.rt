@@ -6,6 +6,7 @@ ghost use Rattle.edit_stamps.specs.Edit.{is_area, is_cell};
 ghost use Rattle.std.specs.Cmp.Lexicographic.{pointwise};
 
 use crate::fault::EditFault;
+use crate::placing::{Corner, placed_cells};
 use crate::rect::Rect;
 use crate::stamp::Stamp;
 use crate::{paste, settle};
@@ -82,11 +83,11 @@ impl Edit {
         ensures want { WantsLast result (edit_of_copy rule.now stamp pattern.now x y) }
         ensures states { IfOk result (λ edit. IsTrue (has_states_below rule.now.states edit)) }
     {
-        let corner = paste::corner_at(x, y);
+        let corner = Corner::at(x, y);
         if let Some(fault) = paste::fault_of_copy(rule, pattern, corner) {
             return Err(fault);
         }
-        let cells = paste::placed_cells(alloc, pattern.cells(), corner)?;
+        let cells = placed_cells(alloc, pattern.cells(), corner)?;
         let _in_range = stamp.number();
         let area = Some(paste::box_at(pattern, corner));
         Ok(Edit { stamp, area, cells })
@@ -107,11 +108,11 @@ impl Edit {
         ensures want { WantsLast result (edit_of_or rule.now stamp pattern.now x y) }
         ensures states { IfOk result (λ edit. IsTrue (has_states_below rule.now.states edit)) }
     {
-        let corner = paste::corner_at(x, y);
+        let corner = Corner::at(x, y);
         if let Some(fault) = paste::fault_of_or(rule, pattern, corner) {
             return Err(fault);
         }
-        let cells = paste::placed_cells(alloc, pattern.cells(), corner)?;
+        let cells = placed_cells(alloc, pattern.cells(), corner)?;
         let _in_range = stamp.number();
         let area = None;
         Ok(Edit { stamp, area, cells })

@@ -1,7 +1,12 @@
 //! What the definitions obey, for all writes, maps and edits: the contracts of functions that do
 //! nothing.
 
-ghost use Rattle.edit_stamps.specs.Laws.{IsTotal, IsLattice, IsLeastUpperBound, DependsOnMembers, JoinsLists, SettlesEntries, IsToldByReads, MakesEdits, TellsEdits};
+ghost use Rattle.edit_stamps.specs.Laws.{TellsStamps, IsTotal, IsLattice, IsLeastUpperBound, DependsOnMembers, JoinsLists, SettlesEntries, IsToldByReads, MakesEdits, MakesPastes, TellsEdits};
+
+/// Stamps. They are ordered by counter, then by replica, as Lamport's are, and each tells both.
+pub fn stamp_laws()
+    ensures { TellsStamps }
+{}
 
 /// Writes and maps of writes. The order is total, and the greater write is commutative,
 /// associative and idempotent. The join of two maps is their least upper bound, as RR-7506 asks of
@@ -15,12 +20,13 @@ pub fn write_laws()
     ensures lists { JoinsLists }
 {}
 
-/// Edits of cells. Entries are settled in order, the last one of a coordinate wins, and a sorted
-/// list is told by what is listed at each place. Two edits pass the test of being one exactly where they
-/// are.
+/// Edits. Entries are settled in order, the last one of a coordinate wins, and a sorted list is told
+/// by what is listed at each place. What is made of cells, of a pattern or of an area is an edit that
+/// writes just what it should. Two edits pass the test of being one exactly where they are.
 pub fn edit_laws()
     ensures entries { SettlesEntries }
     ensures reads { IsToldByReads }
     ensures made { MakesEdits }
+    ensures pasted { MakesPastes }
     ensures one { TellsEdits }
 {}

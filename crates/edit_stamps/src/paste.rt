@@ -1,38 +1,24 @@
-//! Pastes and clears, checked and put in place.
+//! Pastes and clears, checked.
 
-ghost use Rattle.std.specs.Prelude.{◌≡◌, ◌≤◌, ◌<◌, ◌^◌, ◌+ℤ◌, pos, ℤ, int_le, nat_lt, ◌||◌, ◌&&◌, ◌==◌, IfOk, IsTrue};
+ghost use Rattle.std.specs.Prelude.{◌≡◌, ◌≤◌, ◌<◌, ◌^◌, ◌+ℤ◌, pos, int_le, nat_lt, ◌||◌, ◌&&◌, ◌==◌};
 ghost use Rattle.std.specs.List.{list_all};
-ghost use Rattle.multistate_rle.specs.Cells.{place_of};
 ghost use Rattle.multistate_rle.specs.Pattern.{IsPattern};
-ghost use Rattle.edit_stamps.specs.Making.{are_in_plane};
-ghost use Rattle.edit_stamps.specs.Pasting.{box_of, clear_fault, copy_fault, most_side, or_fault, placed, placed_cell as cell_placed};
-ghost use Rattle.edit_stamps.specs.Plane.{is_in_plane, is_side as side, past, is_area_in_plane};
+ghost use Rattle.edit_stamps.specs.Edit.{most_side};
+ghost use Rattle.edit_stamps.specs.Pasting.{box_of, clear_fault, copy_fault, or_fault, placed};
+ghost use Rattle.edit_stamps.specs.Plane.{is_side as side, past, is_area_in_plane};
 
 use crate::fault::EditFault;
+use crate::placing::{Corner, have_states_below};
 use crate::rect::Rect;
 use crate::settle::is_side;
 use generations_rule::Rule;
 use multistate_rle::{Cell, Pattern, PatternCell};
-use std::alloc::{AllocError, Global};
 
 /// The greatest side of an edit's area.
 const MOST_SIDE: u64 = 4096;
 
 /// One past the greatest coordinate of the plane.
 const PAST: i64 = 0x4000_0000;
-
-/// Where the upper left corner of a pattern's box, or of an area, is put.
-#[derive(Clone, Copy)]
-pub struct Corner {
-    pub x: i32,
-    pub y: i32,
-}
-
-pub fn corner_at(x: i32, y: i32) -> Corner
-    ensures { result ≡ record { x = x; y = y } }
-{
-    Corner { x, y }
-}
 
 fn corner_of(area: Rect) -> Corner
     ensures { result ≡ record { x = area.x; y = area.y } }
@@ -53,7 +39,7 @@ pub fn fault_of_copy(rule: &Rule, pattern: &Pattern, at: Corner) -> Option<EditF
         Some(EditFault::Nothing)
     } else if !is_area_in_plane(at, width, height) {
         Some(EditFault::OutOfPlane)
-    } else if !are_below(rule.states(), cells) {
+    } else if !have_states_below(rule.states(), cells) {
         Some(EditFault::StateRange)
     } else if is_too_wide(width, height) {
         Some(EditFault::AreaSide)
@@ -71,7 +57,7 @@ pub fn fault_of_or(rule: &Rule, pattern: &Pattern, at: Corner) -> Option<EditFau
         Some(EditFault::Nothing)
     } else if !are_in_plane(cells, at) {
         Some(EditFault::OutOfPlane)
-    } else if !are_below(rule.states(), cells) {
+    } else if !have_states_below(rule.states(), cells) {
         Some(EditFault::StateRange)
     } else {
         None
@@ -106,46 +92,6 @@ pub fn box_at(pattern: &Pattern, at: Corner) -> Rect
         width: pattern.width() as u32,
         height: pattern.height() as u32,
     }
-}
-
-/// A pattern's cells put there.
-pub fn placed_cells(
-    alloc: Global,
-    cells: &[PatternCell],
-    at: Corner,
-) -> Result<Vec<Cell>, AllocError>
-    requires { IsTrue (are_in_plane (placed at.x at.y cells.now)) }
-    ensures { IfOk result (λ v. v.items ≡ placed at.x at.y cells.now) }
-{
-    let mut placed = Vec::with_capacity(alloc, cells.len())?;
-    for cell in cells {
-        placed.push(placed_cell(cell, at))?;
-    }
-    Ok(placed)
-}
-
-fn placed_cell(cell: &PatternCell, at: Corner) -> Cell
-    requires { IsTrue (is_in_plane (place_of (cell_placed at.x at.y cell.now))) }
-    ensures { result ≡ cell_placed at.x at.y cell.now }
-{
-    Cell {
-        x: moved(at.x, cell.column),
-        y: moved(at.y, cell.row),
-        state: cell.state,
-    }
-}
-
-fn moved(n: i32, by: u32) -> i32
-    requires { IsTrue (side (n +ℤ pos by)) }
-    ensures { result ≡ n +ℤ pos by }
-{
-    (i64::from(n) + i64::from(by)) as i32
-}
-
-fn are_below(states: u16, cells: &[PatternCell]) -> bool
-    ensures { result ≡ list_all (λ cell. nat_lt cell.state states) cells.now }
-{
-    cells.iter().all(|cell| u16::from(cell.state) < states)
 }
 
 fn are_in_plane(cells: &[PatternCell], at: Corner) -> bool

@@ -1,13 +1,16 @@
 //! Lamport's stamps.
 
-ghost use Rattle.std.specs.Prelude.{◌≡◌, IsTrue};
+ghost use Rattle.std.specs.Prelude.{◌≡◌, ◌==◌, IsTrue, Some, refl};
+ghost use Rattle.std.specs.Cmp.{nat_cmp_total, nat_eq_equiv, partial_equiv_from_equiv, unsigned_po, unsigned_ties};
+ghost use Rattle.std.specs.Ordering.{nat_cmp};
 ghost use Rattle.edit_stamps.specs.Stamp.{counter_of, is_stamp, replica_of, stamp_made};
 
+use std::cmp::Ordering;
 use std::marker::Model;
 
 /// When an edit was drawn, and by which replica: a counter, 1 to 2^48 - 1, and the replica's number,
 /// 1 to 65535 (Lamport 1978). Stamps are ordered by their counters, then by their replicas.
-#[derive(Clone, Copy, Debug, PartialEq, Eq, PartialOrd, Ord, Hash)]
+#[derive(Clone, Copy, Debug, Hash)]
 pub struct Stamp {
     number: u64,
 }
@@ -60,5 +63,44 @@ impl Stamp {
         ensures stamp { IsTrue (is_stamp self) }
     {
         self.number
+    }
+}
+
+impl PartialEq for Stamp {
+    ghost eq = { λ a b. a == b };
+
+    ghost laws = { partial_equiv_from_equiv nat_eq_equiv };
+
+    fn eq(&self, other: &Stamp) -> bool {
+        self.number == other.number
+    }
+}
+
+impl Eq for Stamp {
+    ghost laws = { nat_eq_equiv };
+}
+
+impl PartialOrd for Stamp {
+    ghost partial_cmp = { λ a b. Some (nat_cmp a b) };
+
+    ghost laws = { unsigned_po };
+
+    fn partial_cmp(&self, other: &Stamp) -> Option<Ordering> {
+        Some(self.cmp(other))
+    }
+}
+
+/// By the numbers: by counter, then by replica.
+impl Ord for Stamp {
+    ghost cmp = { λ a b. nat_cmp a b };
+
+    ghost total = { nat_cmp_total };
+
+    ghost matches_partial_cmp = { λ a b. refl };
+
+    ghost matches_eq = { unsigned_ties };
+
+    fn cmp(&self, other: &Stamp) -> Ordering {
+        self.number.cmp(&other.number)
     }
 }
