@@ -25,7 +25,7 @@ pub record IsPulled (least most : ℕ) (old new : ℕ) : Type 0 where
 
 -- ---- faults
 
--- how often a source was pulled before a fault, at least: all turns that it has, before it is left
+-- the fewest pulls that a fault comes after: where the source was left as many as were allowed, else one
 abbrev pub fewest_pulls : ℕ → RunFault → ℕ
 fewest_pulls turns Turns = turns
 fewest_pulls turns Read = 1
