@@ -12,7 +12,8 @@ use std::io::ErrorKind;
 use std::rt::Env;
 
 const SCRIPT_HELP: &str = "\
-The script has a line for each step; a line that begins with # is a comment.
+The script has a line for each step. A line whose first word begins with # is a comment; within a
+pattern's block it is part of the pattern's text.
 
   rule S/B/C             first: the rule, as /2/3 or 345/2/4
   replicas N             second: how many replicas there are, 0 to 64

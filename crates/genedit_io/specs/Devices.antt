@@ -1,7 +1,7 @@
 -- What a run does to the source that it pulls from and to the sink that it pushes to.
 use Rattle.std.specs.Prelude.{◌≡◌, ℕ, ◌≤◌, List, length, Option, ⊤}
 use Rattle.std.specs.Io.KnownBytes.{Consumes, IsAtEnd}
-use Rattle.replica_core.specs.Device.{one_more}
+use Rattle.replica_core.specs.Device.{one_more, so_many_more}
 use Rattle.genedit_io.specs.declared.fault.RunFault.{RunFault}
 use Rattle.genedit_io.specs.declared.fault.RunFault.TheVariants.{Script, Refused, Read, Turns, Write, Memory, StoreFull}
 
@@ -18,7 +18,22 @@ pub record PullsOn (least : ℕ) (old new : Option (List ℕ)) : Type 0 where
   pub bytes : Consumes old new text
   pub many : least ≤ length text
 
+-- the source was pulled so many times more, at least and at most
+pub record IsPulled (least most : ℕ) (old new : ℕ) : Type 0 where
+  pub at_least : so_many_more least old ≤ new
+  pub at_most : new ≤ so_many_more most old
+
 -- ---- faults
+
+-- the fewest pulls that a fault comes after: where the source was left as many as were allowed, else one
+abbrev pub fewest_pulls : ℕ → RunFault → ℕ
+fewest_pulls turns Turns = turns
+fewest_pulls turns Read = 1
+fewest_pulls turns Memory = 1
+fewest_pulls turns (Script line) = 1
+fewest_pulls turns (Refused number place) = 1
+fewest_pulls turns Write = 1
+fewest_pulls turns StoreFull = 1
 
 -- what a fault says of the bytes that came, while they were pulled in at most so many turns
 abbrev pub IsFaultOfPulls : ℕ → RunFault → Option (List ℕ) → Option (List ℕ) → Type 0

@@ -1,3 +1,4 @@
 pub mod RunFault
 pub mod Devices
+pub mod Laws
 pub mod Rows

@@ -1,33 +1,119 @@
 -- Worked values of the definitions.
-use Rattle.std.specs.Prelude.{◌≡◌, codes, refl, Some, None}
+use Rattle.std.specs.Prelude.{◌≡◌, ◌^◌, ◌-◌, codes, refl, Some, None}
 use Rattle.std.specs.Fmt.{digits}
-use Rattle.genedit_io.specs.declared.fault.RunFault.TheVariants.{Script, Refused, StoreFull}
+use Rattle.replica_core.specs.Device.{one_more, so_many_more}
+use Rattle.genedit_io.specs.declared.fault.RunFault.TheVariants.{Script, Refused, Read, Turns, Write, Memory, StoreFull}
 use Rattle.genedit_io.specs.RunFault.{exit_status, fault_text, name_of_number}
 
-pub area_side : fault_text (Refused 12 None) ≡ codes "refused 12 AreaSide"
-unfolding digits
+-- ---- names
+
+pub slashes : name_of_number 1 ≡ codes "Slashes"
+slashes = refl
+
+pub digit : name_of_number 2 ≡ codes "Digit"
+digit = refl
+
+pub states : name_of_number 3 ≡ codes "States"
+states = refl
+
+pub header : name_of_number 4 ≡ codes "Header"
+header = refl
+
+pub tag : name_of_number 5 ≡ codes "Tag"
+tag = refl
+
+pub count : name_of_number 6 ≡ codes "Count"
+count = refl
+
+pub state : name_of_number 7 ≡ codes "State"
+state = refl
+
+pub too_many : name_of_number 8 ≡ codes "TooMany"
+too_many = refl
+
+pub nothing : name_of_number 9 ≡ codes "Nothing"
+nothing = refl
+
+pub out_of_plane : name_of_number 10 ≡ codes "OutOfPlane"
+out_of_plane = refl
+
+pub state_range : name_of_number 11 ≡ codes "StateRange"
+state_range = refl
+
+pub area_side : name_of_number 12 ≡ codes "AreaSide"
 area_side = refl
 
-pub no_pattern : fault_text (Refused 38 None) ≡ codes "refused 38 NoPattern"
-unfolding digits
+pub other_rule : name_of_number 16 ≡ codes "OtherRule"
+other_rule = refl
+
+pub clock_full : name_of_number 24 ≡ codes "ClockFull"
+clock_full = refl
+
+pub no_replica : name_of_number 26 ≡ codes "NoReplica"
+no_replica = refl
+
+pub no_message : name_of_number 27 ≡ codes "NoMessage"
+no_message = refl
+
+pub no_pattern : name_of_number 38 ≡ codes "NoPattern"
 no_pattern = refl
 
-pub with_place : fault_text (Refused 2 (Some 17)) ≡ codes "refused 2 Digit 17"
-unfolding digits
-with_place = refl
+pub no_name : name_of_number 255 ≡ codes "?"
+no_name = refl
+
+-- ---- texts
 
 pub script_line : fault_text (Script 3) ≡ codes "script fault at line 3"
 unfolding digits
 script_line = refl
 
-pub first_name : name_of_number 1 ≡ codes "Slashes"
-first_name = refl
+pub without_place : fault_text (Refused 38 None) ≡ codes "refused 38 NoPattern"
+unfolding digits
+without_place = refl
 
-pub no_name : name_of_number 255 ≡ codes "?"
-no_name = refl
+pub with_place : fault_text (Refused 2 (Some 17)) ≡ codes "refused 2 Digit 17"
+unfolding digits
+with_place = refl
 
-pub refusals_and_scripts_are_one_status : exit_status (Refused 38 None) ≡ exit_status (Script 1)
-refusals_and_scripts_are_one_status = refl
+pub failed_reads : fault_text Read ≡ codes "read fault"
+failed_reads = refl
 
-pub full_stores : exit_status StoreFull ≡ 5
-full_stores = refl
+pub endless_sources : fault_text Turns ≡ codes "read fault"
+endless_sources = refl
+
+-- ---- exit statuses
+
+pub status_of_scripts : exit_status (Script 1) ≡ 2
+status_of_scripts = refl
+
+pub status_of_refusals : exit_status (Refused 38 None) ≡ 2
+status_of_refusals = refl
+
+pub status_of_failed_reads : exit_status Read ≡ 3
+status_of_failed_reads = refl
+
+pub status_of_endless_sources : exit_status Turns ≡ 3
+status_of_endless_sources = refl
+
+pub status_of_failed_writes : exit_status Write ≡ 4
+status_of_failed_writes = refl
+
+pub status_of_want_of_memory : exit_status Memory ≡ 5
+status_of_want_of_memory = refl
+
+pub status_of_full_stores : exit_status StoreFull ≡ 5
+status_of_full_stores = refl
+
+-- ---- counts
+
+pub second_of_a_count : one_more 1 ≡ 2
+second_of_a_count = refl
+
+pub full_count : one_more (2 ^ 64 - 1) ≡ 2 ^ 64 - 1
+full_count = refl
+
+pub several_more : so_many_more 3 4 ≡ 7
+several_more = refl
+
+pub up_to_a_full_count : so_many_more 3 (2 ^ 64 - 2) ≡ 2 ^ 64 - 1
+up_to_a_full_count = refl

@@ -1,5 +1,5 @@
 -- Faults of programs, as users meet them.
-use Rattle.std.specs.Prelude.{ℕ, List, [], ◌∷◌, ◌++◌, ◌==◌, if◌then◌else◌, codes, decimal, Some, None}
+use Rattle.std.specs.Prelude.{ℕ, List, [], ◌∷◌, ◌++◌, ◌==◌, if◌then◌else◌, codes, decimal, Option, Some, None}
 use Rattle.replica_core.specs.declared.event.Stop.{Stop}
 use Rattle.replica_core.specs.declared.event.Stop.TheVariants as stops
 use Rattle.genedit_io.specs.declared.fault.RunFault.{RunFault}
@@ -32,11 +32,15 @@ names =
 abbrev pub name_of_number : ℕ → List ℕ
 name_of_number number = named_in names number
 
+-- a refusal's name, with the place behind it where there is one
+abbrev pub refusal_text : ℕ → Option ℕ → List ℕ
+refusal_text number None = name_of_number number
+refusal_text number (Some place) = name_of_number number ++ (codes " " ++ decimal place)
+
 -- what the program says
 abbrev pub fault_text : RunFault → List ℕ
 fault_text (Script line) = codes "script fault at line " ++ decimal line
-fault_text (Refused number None) = codes "refused " ++ (decimal number ++ (codes " " ++ name_of_number number))
-fault_text (Refused number (Some place)) = codes "refused " ++ (decimal number ++ (codes " " ++ (name_of_number number ++ (codes " " ++ decimal place))))
+fault_text (Refused number place) = codes "refused " ++ (decimal number ++ (codes " " ++ refusal_text number place))
 fault_text Read = codes "read fault"
 fault_text Turns = codes "read fault"
 fault_text Write = codes "write fault"

@@ -2,9 +2,11 @@
 #![tactic(auto)]
 
 mod fault;
+mod laws;
 mod pull;
 
 pub use fault::RunFault;
+pub use laws::name_laws;
 pub use pull::pull_all;
 
 #[cfg(test)]

@@ -1,7 +1,7 @@
 //! All that a source gives.
 
 ghost use Rattle.std.specs.Prelude.{◌≡◌, OnOk, IfOk, IfErr};
-ghost use Rattle.genedit_io.specs.Devices.{IsFaultOfPulls, PullsAll, source_failures};
+ghost use Rattle.genedit_io.specs.Devices.{IsFaultOfPulls, IsPulled, PullsAll, fewest_pulls, source_failures};
 
 use crate::fault::RunFault;
 use replica_core::Source;
@@ -10,12 +10,14 @@ use std::alloc::Global;
 /// How many bytes are pulled at once, at most.
 const PIECE: usize = 8192;
 
-/// All bytes of a source, in at most so many pulls.
+/// All bytes of a source, in at most so many pulls; the last of them gives none.
 pub fn pull_all<S: Source>(alloc: Global, source: &mut S, turns: u64) -> Result<Vec<u8>, RunFault>
     ensures all { IfOk result (λ text. PullsAll (S.left source.old) (S.left source.new) text.items) }
     ensures works { OnOk result (S.failures source.new ≡ S.failures source.old) }
+    ensures pulls { OnOk result (IsPulled 1 turns (S.pulls source.old) (S.pulls source.new)) }
     ensures fault { IfErr result (λ fault. IsFaultOfPulls turns fault (S.left source.old) (S.left source.new)) }
     ensures failures { IfErr result (λ fault. S.failures source.new ≡ source_failures fault (S.failures source.old)) }
+    ensures pulls_before { IfErr result (λ fault. IsPulled (fewest_pulls turns fault) turns (S.pulls source.old) (S.pulls source.new)) }
 {
     let mut text = Vec::new(alloc);
     let mut piece = [0; PIECE];

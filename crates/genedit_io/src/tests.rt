@@ -26,6 +26,25 @@ fn refusals_have_names(rt: HostRuntime) -> Result<(), Fail> {
 }
 
 #[test]
+fn faults_have_texts_and_statuses(rt: HostRuntime) -> Result<(), Fail> {
+    let faults = [
+        (RunFault::Script(7), 2, "script fault at line 7"),
+        (RunFault::Refused(10, None), 2, "refused 10 OutOfPlane"),
+        (RunFault::Refused(2, Some(3)), 2, "refused 2 Digit 3"),
+        (RunFault::Read, 3, "read fault"),
+        (RunFault::Turns, 3, "read fault"),
+        (RunFault::Write, 4, "write fault"),
+        (RunFault::Memory, 5, "out of memory"),
+        (RunFault::StoreFull, 5, "store full"),
+    ];
+    for (fault, status, text) in faults {
+        assert_eq!(rt; fault.exit_status(), status);
+        assert_eq!(rt; fault.to_string(rt.alloc())?.as_str(), text);
+    }
+    Ok(())
+}
+
+#[test]
 fn wants_become_faults(rt: HostRuntime) {
     assert_eq!(rt; RunFault::from(AllocError), RunFault::Memory);
     assert_eq!(rt; RunFault::from(Stop::Memory), RunFault::Memory);
@@ -37,9 +56,11 @@ fn all_bytes_are_pulled(rt: HostRuntime) {
     let text = [7; 20000];
     for (turns, all) in [(2, false), (3, false), (4, true), (100, true)] {
         let mut source = ReadSource::new(text.as_slice());
+        // three pieces, and a fourth pull that gives nothing
         match pull_all(rt.alloc(), &mut source, turns) {
             Ok(pulled) => assert_eq!(rt; (pulled.as_slice() == text.as_slice(), all), (true, true)),
             Err(fault) => assert_eq!(rt; (fault, all), (RunFault::Turns, false)),
         }
+        assert_eq!(rt; source.pulls(), turns.min(4));
     }
 }

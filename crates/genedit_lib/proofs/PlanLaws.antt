@@ -1,6 +1,5 @@
--- A plan is made command by command, and its lines are filled reply by reply.
-use Rattle.std.proofs.Common.{◌≡◌, List, ℕ, [], ◌∷◌, ◌++◌, map, refl, sym, ◌∙◌, ap, subst, append_assoc, append-nil}
-use Rattle.std.specs.Prelude.{codes}
+-- A plan is made command by command.
+use Rattle.std.proofs.Common.{◌≡◌, List, ℕ, [], ◌∷◌, ◌++◌, map, sym, ◌∙◌, ap, subst, append_assoc}
 use Rattle.generations_rule.specs.Rule.{GenerationsRule}
 use Rattle.replica_core.specs.World.{opening, AreReplies}
 use Rattle.genedit_script.specs.Script.{ScriptValue}
@@ -8,11 +7,9 @@ use Rattle.genedit_script.specs.declared.command.Command.{Command}
 use Rattle.replica_core.specs.declared.event.Event.{Event}
 use Rattle.replica_core.specs.declared.event.Reply.{Reply}
 use Rattle.genedit_lib.specs.declared.plan.Line.{Line}
-use Rattle.genedit_lib.specs.declared.plan.Line.TheVariants as lines
 use Rattle.genedit_lib.specs.declared.step.Step.{Step}
 use Rattle.genedit_lib.specs.declared.step.Step.TheVariants.{Happens, Says}
-use Rattle.genedit_lib.specs.Output.{IsScriptOutput, Patterns, after_command, events_among, no_patterns, printed, reply_line, step, steps}
-use Rattle.genedit_lib.specs.Plan.{filled, line_of}
+use Rattle.genedit_lib.specs.Output.{IsScriptOutput, Patterns, after_command, events_among, filled, line_of, no_patterns, step, steps}
 
 -- ---- plans
 
@@ -39,15 +36,6 @@ pub line_planned : (done new all : List Line) (now then : List Step) (s : Step) 
 line_planned done new all now then s all_is now_is new_is =
     moved_on done new (map line_of then) all (line_of s) (all_is ∙ ap (λ s. done ++ map line_of s) now_is) new_is
 
--- ---- lines
-
--- the lines of steps, filled with replies, are what is printed of them
-pub fills_steps : (now : List Step) (replies : List Reply) → filled (map line_of now) replies ≡ printed now replies
-fills_steps [] replies = refl
-fills_steps (Happens event ∷ now) [] = refl
-fills_steps (Happens event ∷ now) (reply ∷ replies) = ap (λ rest. reply_line reply ++ rest) (fills_steps now replies)
-fills_steps (Says text ∷ now) replies = ap (λ rest. (text ++ codes "\n") ++ rest) (fills_steps now replies)
-
 -- ---- scripts
 
 -- what is printed of a script, by its plan and the replies to the plan's events
@@ -61,5 +49,5 @@ outputs script rule replicas commands events plan given replies said out rule_is
       (subst (λ n. AreReplies (opening rule n) (events_among (steps no_patterns script.commands)) replies) replicas_is
       (subst (λ es. AreReplies (opening rule replicas) es replies) (events_are ∙ ap (λ cs. events_among (steps no_patterns cs)) commands_are) answered));
   printed_so = out_is ∙ ap (λ l. filled l said) (given_is ∙ plan_is ∙ ap (λ cs. map line_of (steps no_patterns cs)) commands_are)
-      ∙ ap (filled (map line_of (steps no_patterns script.commands))) said_is ∙ fills_steps (steps no_patterns script.commands) replies;
+      ∙ ap (filled (map line_of (steps no_patterns script.commands))) said_is;
 }

@@ -1,5 +1,5 @@
 -- What a script prints: a line for each command.
-use Rattle.std.specs.Prelude.{◌≡◌, ℕ, List, [], ◌∷◌, ◌++◌, length, if◌then◌else◌, codes, decimal, bytes_eq, Option, Some, None, Result, Ok, Err}
+use Rattle.std.specs.Prelude.{◌≡◌, ℕ, List, [], ◌∷◌, ◌++◌, length, map, if◌then◌else◌, codes, decimal, bytes_eq, Option, Some, None, Result, Ok, Err}
 use Rattle.std.specs.Fmt.{signed_decimal}
 use Rattle.multistate_rle.specs.declared.fault.RleFault.{RleFault}
 use Rattle.multistate_rle.specs.Pattern.{RlePattern}
@@ -14,9 +14,12 @@ use Rattle.replica_core.specs.declared.event.Reply.TheVariants.{Drawn, Sent, Tak
 use Rattle.replica_core.specs.declared.spec.EditSpec.TheVariants.{Copy, Or}
 use Rattle.replica_core.specs.Fault.{fault_number, fault_text}
 use Rattle.replica_core.specs.World.{opening, AreReplies}
+use Rattle.genedit_io.specs.RunFault.{name_of_number}
 use Rattle.genedit_script.specs.declared.command.Command.{Command}
 use Rattle.genedit_script.specs.declared.command.Command.TheVariants.{Does, Names, Copies, Ors}
 use Rattle.genedit_script.specs.Script.{ScriptValue}
+use Rattle.genedit_lib.specs.declared.plan.Line.{Line}
+use Rattle.genedit_lib.specs.declared.plan.Line.TheVariants as lines
 use Rattle.genedit_lib.specs.declared.step.Step.{Step}
 use Rattle.genedit_lib.specs.declared.step.Step.TheVariants.{Happens, Says}
 
@@ -59,7 +62,7 @@ naming_text name (Err fault) = refused_text (text_fault_number fault) (text_faul
 
 -- no pattern has the name
 abbrev pub no_pattern_text : List ℕ
-no_pattern_text = refused_text 38 (codes "NoPattern")
+no_pattern_text = refused_text 38 (name_of_number 38)
 
 -- ---- names
 
@@ -110,12 +113,21 @@ events_among [] = []
 events_among (Happens event ∷ steps) = event ∷ events_among steps
 events_among (Says text ∷ steps) = events_among steps
 
--- a line for each step: of an event that of its reply, in order
+-- what is printed of a step: of an event the line of its reply
+abbrev pub line_of : Step → Line
+line_of (Happens event) = lines.Reply
+line_of (Says text) = lines.Own text
+
+-- lines with the replies in their places, in order
+abbrev pub filled : List Line → List Reply → List ℕ
+filled [] replies = []
+filled (lines.Reply ∷ rest) [] = []
+filled (lines.Reply ∷ rest) (reply ∷ replies) = reply_line reply ++ filled rest replies
+filled (lines.Own text ∷ rest) replies = (text ++ codes "\n") ++ filled rest replies
+
+-- a line for each step
 abbrev pub printed : List Step → List Reply → List ℕ
-printed [] replies = []
-printed (Happens event ∷ steps) [] = []
-printed (Happens event ∷ steps) (reply ∷ replies) = reply_line reply ++ printed steps replies
-printed (Says text ∷ steps) replies = (text ++ codes "\n") ++ printed steps replies
+printed steps replies = filled (map line_of steps) replies
 
 -- the lines of a script's steps, whose events get their replies in the script's world
 pub record IsScriptOutput (script : ScriptValue) (out : List ℕ) : Type 0 where

@@ -1,19 +1,19 @@
 -- Worked values of the definitions.
-use Rattle.std.specs.Prelude.{◌≡◌, ℕ, List, [], ◌∷◌, codes, refl, pos}
+use Rattle.std.specs.Prelude.{◌≡◌, ℕ, List, [], ◌∷◌, codes, refl, pos, negsuc}
 use Rattle.std.specs.Fmt.{digits}
 use Rattle.generations_rule.specs.RuleText.{rule_of_text}
 use Rattle.replica_core.specs.declared.event.Event.TheVariants.{Draw, SendState, Deliver, Show}
-use Rattle.replica_core.specs.declared.spec.EditSpec.TheVariants.{Cells}
+use Rattle.replica_core.specs.declared.spec.EditSpec.TheVariants.{Cells, Clear}
 use Rattle.edit_stamps.specs.declared.fault.EditFault.TheVariants.{OutOfPlane}
 use Rattle.edit_stamps.specs.Write.{unwritten}
 use Rattle.edit_stamps.specs.Stamp.{stamp_of}
 use Rattle.replica_core.specs.declared.spec.EditSpec.{EditSpec}
 use Rattle.replica_core.specs.declared.event.Reply.{Reply}
 use Rattle.replica_core.specs.declared.event.Reply.TheVariants.{Drawn, Sent, Taken, Shown, Refused}
-use Rattle.genedit_script.specs.declared.command.Command.TheVariants.{Does}
+use Rattle.genedit_script.specs.declared.command.Command.TheVariants.{Does, Names, Copies, Ors}
 use Rattle.genedit_lib.specs.Run.{PrintsAs}
 use Rattle.replica_core.specs.declared.fault.Fault.TheVariants.{Edit}
-use Rattle.genedit_lib.specs.Output.{reply_line}
+use Rattle.genedit_lib.specs.Output.{no_pattern_text, pattern_text, reply_line}
 
 -- ---- replies
 
@@ -33,7 +33,19 @@ pub refused : reply_line (Refused (Edit OutOfPlane)) ≡ codes "refused 10 OutOf
 unfolding digits
 refused = refl
 
--- ---- the output of a whole script
+-- ---- the lines of patterns
+
+pub far_pattern :
+    pattern_text (codes "p") (record { width = 4294967296; height = 1; pos = (negsuc 2147483647, negsuc 0); generation = 7; cells = [] })
+    ≡ codes "pattern p 4294967296 1 0 -2147483648 -1 7"
+unfolding digits
+far_pattern = refl
+
+pub no_such_pattern : no_pattern_text ≡ codes "refused 38 NoPattern"
+unfolding digits
+no_such_pattern = refl
+
+-- ---- the output of whole scripts
 
 -- two replicas draw one cell with equal counters and exchange their maps
 abbrev exchange : List ℕ
@@ -58,6 +70,29 @@ both_show_what_replica_2_drew = record {
   printed = record {
     replies = Drawn (stamp_of 1 1) ∷ Drawn (stamp_of 1 2) ∷ Sent 1 ∷ Sent 2 ∷ Taken ∷ Taken ∷ seen ∷ seen ∷ [];
     answered = (refl, (refl, (refl, (refl, (refl, (refl, (refl, (refl, tt))))))));
+    printed_so = refl;
+  };
+}
+
+-- patterns are named, put and refused, and an area is cleared
+abbrev pastes : List ℕ
+pastes = codes "rule /2/3\nreplicas 1\npattern a\n#CXRLE Pos=-1,2 Gen=7\nx = 2, y = 1\nA.!\nend\ncopy 1 a 3 4\nor 1 a 0 0\nclear 1 3 4 1 1\nshow 1 3 4\npattern b\nx = 3, y = 1\np!\nend\ncopy 1 b 0 0\n"
+
+pub pasted_cleared_and_refused :
+    PrintsAs pastes (codes "pattern a 2 1 1 -1 2 7\ndrawn 1 1\ndrawn 2 1\ndrawn 3 1\ncell 0 3 1\nrefused 5 Tag 14\nrefused 38 NoPattern\n")
+unfolding digits
+pasted_cleared_and_refused = record {
+  script = record {
+    rule = rule_of_text (codes "/2/3");
+    replicas = 1;
+    commands = Names (codes "a") (codes "#CXRLE Pos=-1,2 Gen=7\nx = 2, y = 1\nA.!\n") ∷ Copies 1 (codes "a") (pos 3) (pos 4) ∷ Ors 1 (codes "a") (pos 0) (pos 0)
+        ∷ Does (Draw 1 (Clear (record { x = pos 3; y = pos 4; width = 1; height = 1 }))) ∷ Does (Show 1 (pos 3) (pos 4))
+        ∷ Names (codes "b") (codes "x = 3, y = 1\np!\n") ∷ Copies 1 (codes "b") (pos 0) (pos 0) ∷ [];
+  };
+  read = refl;
+  printed = record {
+    replies = Drawn (stamp_of 1 1) ∷ Drawn (stamp_of 2 1) ∷ Drawn (stamp_of 3 1) ∷ Shown (record { stamp = stamp_of 3 1; state = 0 }) ∷ [];
+    answered = (refl, (refl, (refl, (refl, tt))));
     printed_so = refl;
   };
 }

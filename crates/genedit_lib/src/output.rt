@@ -2,8 +2,7 @@
 
 ghost use Rattle.std.specs.Prelude.{◌≡◌, ◌++◌, OnOk, IfOk, codes, decimal};
 ghost use Rattle.multistate_rle.specs.RleFault.{fault_number as text_fault_number, fault_text as text_fault_text};
-ghost use Rattle.genedit_lib.specs.Output.{no_pattern_text as no_pattern_means, pattern_text as pattern_means, refused_text, reply_line, reply_text, stamp_text, write_text};
-ghost use Rattle.genedit_lib.specs.Plan.{filled};
+ghost use Rattle.genedit_lib.specs.Output.{no_pattern_text as no_pattern_means, filled, pattern_text as pattern_means, refused_text, reply_line, reply_text, stamp_text, write_text};
 
 use crate::plan::Line;
 use crate::text::Text;

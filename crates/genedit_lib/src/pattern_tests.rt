@@ -50,6 +50,19 @@ fn clears_reach_their_last_row(rt: HostRuntime) {
 }
 
 #[test]
+fn what_is_no_pattern_is_refused(rt: HostRuntime) {
+    let script =
+        "rule /2/3\nreplicas 0\npattern a\nx = 3\no!\nend\npattern a\nx = 3, y = 1\np!\nend\n\
+        pattern a\nx = 3, y = 1\n0o!\nend\npattern a\nx = 3, y = 1\nyP!\nend\n\
+        pattern a\nx = 0, y = 0\n1048577o!\nend\n";
+    let printed = "refused 4 Header\nrefused 5 Tag 14\nrefused 6 Count 13\nrefused 7 State 13\n\
+        refused 8 TooMany\n";
+    let (end, out) = run(rt.alloc(), script);
+    assert_eq!(rt; end, Ok(()));
+    assert_eq!(rt; out.as_slice(), printed.as_bytes());
+}
+
+#[test]
 fn refused_patterns_leave_their_names(rt: HostRuntime) {
     let script = "rule /2/3\nreplicas 1\npattern a\nx = 3, y = 1\np!\nend\nor 1 a 0 0\n\
         pattern a\n#CXRLE Pos=-1,2 Gen=7\nx = 1, y = 1\nA!\nend\npattern a\nx = 3, y = 1\np!\nend\n\

@@ -2,7 +2,7 @@
 
 ghost use Rattle.std.specs.Prelude.{◌≡◌, List, ℕ, OnOk, IfOk, option_copied};
 ghost use Rattle.genedit_lib.specs.Output.{no_patterns, with_pattern};
-ghost use Rattle.genedit_lib.specs.Plan.{pattern_in};
+ghost use Rattle.genedit_lib.specs.Patterns.{pattern_in};
 
 use genedit_script::PatternName;
 use multistate_rle::Pattern;
@@ -18,7 +18,7 @@ pub struct Patterns {
 impl Patterns {
     ghost use Rattle.std.specs.Prelude.{◌≡◌, List, ℕ, OnOk, IfOk, option_copied};
     ghost use Rattle.genedit_lib.specs.Output.{no_patterns, with_pattern};
-    ghost use Rattle.genedit_lib.specs.Plan.{pattern_in};
+    ghost use Rattle.genedit_lib.specs.Patterns.{pattern_in};
 
     /// No name stands for a pattern.
     pub fn new(alloc: Global) -> Patterns

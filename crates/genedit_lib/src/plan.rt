@@ -1,10 +1,10 @@
 //! What is to be done for a script: the events of its world, and a line of output for each command.
 
-ghost use Rattle.std.specs.Prelude.{◌≡◌, List, ℕ, map, IfOk, OnOk};
+ghost use Rattle.std.specs.Prelude.{◌≡◌, ◌↔◌, List, ℕ, map, IfOk, IsErr, OnOk};
 ghost use Rattle.multistate_rle.specs.Reading.{parsed};
 ghost use Rattle.genedit_lib.specs.declared.step.Step.TheVariants.{Says};
-ghost use Rattle.genedit_lib.specs.Output.{after_command, events_among, naming_text, no_patterns, step as step_of, steps, with_text};
-ghost use Rattle.genedit_lib.specs.Plan.{line_of, pattern_in};
+ghost use Rattle.genedit_lib.specs.Output.{after_command, events_among, line_of, naming_text, no_patterns, step as step_of, steps, with_text};
+ghost use Rattle.genedit_lib.specs.Patterns.{pattern_in};
 
 use crate::output::{no_pattern_text, pattern_text, text_refusal};
 use crate::patterns::Patterns;
@@ -86,7 +86,17 @@ fn give_name(
             patterns.insert(name, pattern)?;
             Ok(Step::Says(line))
         }
-        Err(RleFault::Memory) => Err(AllocError),
-        Err(fault) => Ok(Step::Says(text_refusal(alloc, fault)?)),
+        Err(fault) => Ok(Step::Says(text_refusal(alloc, refusal(fault)?)?)),
+    }
+}
+
+/// What is wrong with a text, unless the fault is want of memory.
+fn refusal(fault: RleFault) -> Result<RleFault, AllocError>
+    ensures refused { IfOk result (λ refusal. refusal ≡ fault) }
+    ensures want { IsErr result ↔ (fault ≡ RleFault.Memory) }
+{
+    match fault {
+        RleFault::Memory => Err(AllocError),
+        refusal => Ok(refusal),
     }
 }

@@ -5,7 +5,6 @@ ghost use Rattle.std.specs.Prelude.{None};
 use crate::{RunFault, run_script, run_script_within};
 use replica_core::{Failed, ReadSource, Sink, Source, WriteSink};
 use std::alloc::Global;
-use std::test::Fail;
 
 /// Gives a text in pieces of at most so many bytes, and fails at one of its pulls, counted from 1.
 #[derive(Drop)]
@@ -30,6 +29,8 @@ impl<'a> Pieces<'a> {
 }
 
 impl Source for Pieces<'_> {
+    ghost pulls = { λ s. s.pulls };
+
     ghost failures = { λ s. s.failures };
 
     ghost left = { λ _. None };
@@ -180,6 +181,7 @@ fn turns_end(rt: HostRuntime) {
         let mut source = Pieces::of(script.as_bytes(), 1, 0);
         let (end, out) = run_within(rt.alloc(), &mut source, turns);
         assert_eq!(rt; end, want, "{turns}");
+        assert_eq!(rt; source.pulls, turns);
         assert_eq!(rt; out.len(), 0, "{turns}");
     }
 }
@@ -192,6 +194,7 @@ fn failed_reads_are_told(rt: HostRuntime) {
         let mut source = Pieces::of(script.as_bytes(), 4, fails_at);
         let (end, out) = run_within(rt.alloc(), &mut source, 100);
         assert_eq!(rt; end, Err(RunFault::Read), "{fails_at}");
+        assert_eq!(rt; source.pulls, fails_at);
         assert_eq!(rt; source.failures, 1, "{fails_at}");
         assert_eq!(rt; out.len(), 0, "{fails_at}");
     }
@@ -214,23 +217,4 @@ fn faulty_scripts_reach_no_sink(rt: HostRuntime) {
     let end = run_script(rt.alloc(), &mut source, &mut sink);
     assert_eq!(rt; end, Err(RunFault::Script(2)));
     assert_eq!(rt; sink.failures, 0);
-}
-
-#[test]
-fn faults_have_texts_and_statuses(rt: HostRuntime) -> Result<(), Fail> {
-    let faults = [
-        (RunFault::Script(7), 2, "script fault at line 7"),
-        (RunFault::Refused(10, None), 2, "refused 10 OutOfPlane"),
-        (RunFault::Refused(2, Some(3)), 2, "refused 2 Digit 3"),
-        (RunFault::Read, 3, "read fault"),
-        (RunFault::Turns, 3, "read fault"),
-        (RunFault::Write, 4, "write fault"),
-        (RunFault::Memory, 5, "out of memory"),
-        (RunFault::StoreFull, 5, "store full"),
-    ];
-    for (fault, status, text) in faults {
-        assert_eq!(rt; fault.exit_status(), status);
-        assert_eq!(rt; fault.to_string(rt.alloc())?.as_str(), text);
-    }
-    Ok(())
 }

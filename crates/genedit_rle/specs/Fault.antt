@@ -3,16 +3,18 @@ use Rattle.std.specs.Prelude.{ℕ, Option, None}
 use Rattle.multistate_rle.specs.declared.fault.RleFault.{RleFault}
 use Rattle.multistate_rle.specs.declared.fault.RleFault.TheVariants as texts
 use Rattle.multistate_rle.specs.RleFault.{fault_number as text_fault_number, fault_place as text_fault_place}
+use Rattle.edit_stamps.specs.declared.fault.EditFault.TheVariants as edits
+use Rattle.edit_stamps.specs.EditFault.{fault_number as edit_fault_number}
 use Rattle.genedit_io.specs.declared.fault.RunFault.{RunFault}
 use Rattle.genedit_io.specs.declared.fault.RunFault.TheVariants as runs
 use Rattle.genedit_rle.specs.declared.fault.CanonicalFault.{CanonicalFault}
 use Rattle.genedit_rle.specs.declared.fault.CanonicalFault.TheVariants.{Text, OutOfPlane, StateRange, Memory}
 
--- its number in the table of faults
+-- its number in the table of faults, that of the same refusal of an edit
 abbrev pub fault_number : CanonicalFault → ℕ
 fault_number (Text fault) = text_fault_number fault
-fault_number OutOfPlane = 10
-fault_number StateRange = 11
+fault_number OutOfPlane = edit_fault_number edits.OutOfPlane
+fault_number StateRange = edit_fault_number edits.StateRange
 fault_number Memory = 255
 
 -- the place in the text that it names
@@ -33,7 +35,7 @@ fault_of_text texts.Memory = Memory
 
 -- the fault with which a run ends
 abbrev pub run_fault_of : CanonicalFault → RunFault
-run_fault_of (Text fault) = runs.Refused (text_fault_number fault) (text_fault_place fault)
-run_fault_of OutOfPlane = runs.Refused 10 None
-run_fault_of StateRange = runs.Refused 11 None
+run_fault_of (Text fault) = runs.Refused (fault_number (Text fault)) (fault_place (Text fault))
+run_fault_of OutOfPlane = runs.Refused (fault_number OutOfPlane) (fault_place OutOfPlane)
+run_fault_of StateRange = runs.Refused (fault_number StateRange) (fault_place StateRange)
 run_fault_of Memory = runs.Memory

@@ -30,6 +30,21 @@ pub least_coordinates :
 unfolding digits text_of_set
 least_coordinates = refl
 
+-- a position past its range is none
+pub position_past_the_greatest :
+    canonical brain (codes "#CXRLE Pos=2147483648,0\nx = 1, y = 1\no!") ≡ Ok (codes "#CXRLE Pos=0,0 Gen=0\nx = 1, y = 1, rule = /2/3\nA!\n")
+unfolding digits text_of_set
+position_past_the_greatest = refl
+
+pub position_past_the_least :
+    canonical brain (codes "#CXRLE Pos=0,-2147483649\nx = 1, y = 1\no!") ≡ Ok (codes "#CXRLE Pos=0,0 Gen=0\nx = 1, y = 1, rule = /2/3\nA!\n")
+unfolding digits text_of_set
+position_past_the_least = refl
+
+pub greatest_state : canonical brain (codes "x = 1, y = 1\nB!") ≡ Ok (codes "#CXRLE Pos=0,0 Gen=0\nx = 1, y = 1, rule = /2/3\nB!\n")
+unfolding digits text_of_set
+greatest_state = refl
+
 -- the whole range of x
 pub widest :
     canonical brain (codes "#CXRLE Pos=-2147483648,0\nx = 1, y = 1\no4294967294bo!")
@@ -48,6 +63,10 @@ past_the_greatest_x = refl
 
 pub past_the_greatest_y : canonical brain (codes "#CXRLE Pos=0,2147483647\nx = 1, y = 2\n$o!") ≡ Err OutOfPlane
 past_the_greatest_y = refl
+
+-- also where the position is in range, and the column leads out of it
+pub past_the_greatest_column : canonical brain (codes "#CXRLE Pos=1,0\nx = 1, y = 1\n2147483647bo!") ≡ Err OutOfPlane
+past_the_greatest_column = refl
 
 pub no_such_state : canonical brain (codes "x = 1, y = 1\nC!") ≡ Err StateRange
 no_such_state = refl

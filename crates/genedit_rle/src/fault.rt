@@ -2,6 +2,7 @@
 
 ghost use Rattle.std.specs.Prelude.{◌≡◌};
 
+use edit_stamps::EditFault;
 use genedit_io::RunFault;
 use multistate_rle::RleFault;
 use std::alloc::AllocError;
@@ -23,14 +24,14 @@ impl CanonicalFault {
     ghost use Rattle.std.specs.Prelude.{◌≡◌};
     ghost use Rattle.genedit_rle.specs.Fault.{fault_number, fault_place};
 
-    /// Its number in the table of faults; 255 for want of memory.
+    /// Its number in the table of faults, the same as an edit's; 255 for want of memory.
     pub fn number(self) -> u8
         ensures { result ≡ fault_number self }
     {
         match self {
             CanonicalFault::Text(fault) => fault.number(),
-            CanonicalFault::OutOfPlane => 10,
-            CanonicalFault::StateRange => 11,
+            CanonicalFault::OutOfPlane => EditFault::OutOfPlane.number(),
+            CanonicalFault::StateRange => EditFault::StateRange.number(),
             CanonicalFault::Memory => 255,
         }
     }

@@ -31,6 +31,8 @@ impl<'a> Pieces<'a> {
 }
 
 impl Source for Pieces<'_> {
+    ghost pulls = { λ s. s.pulls };
+
     ghost failures = { λ s. s.failures };
 
     ghost left = { λ _. None };
@@ -189,6 +191,7 @@ fn turns_end(rt: HostRuntime) -> Result<(), Fail> {
     for (turns, ends) in turns_and_ends {
         let mut source = Pieces::of(text, 1, 0);
         let (end, out) = form_within(rt.alloc(), &rule, &mut source, turns);
+        assert_eq!(rt; source.pulls, turns.min(16));
         assert_eq!(rt; end == Err(RunFault::Turns), !ends, "{turns}");
         assert_eq!(rt; end == Ok(()), ends, "{turns}");
         assert_eq!(rt; out.is_empty(), !ends, "{turns}");
@@ -204,6 +207,7 @@ fn failed_reads_are_told(rt: HostRuntime) -> Result<(), Fail> {
         let mut source = Pieces::of("x = 1, y = 1\no!", 4, fails_at);
         let (end, out) = form_within(rt.alloc(), &rule, &mut source, 100);
         assert_eq!(rt; end, Err(RunFault::Read), "{fails_at}");
+        assert_eq!(rt; source.pulls, fails_at);
         assert_eq!(rt; source.failures, 1, "{fails_at}");
         assert_eq!(rt; out.len(), 0, "{fails_at}");
     }

@@ -40,6 +40,9 @@ least_coordinate = refl
 pub past_the_least_coordinate : signed (codes "-2147483649") ≡ None
 past_the_least_coordinate = refl
 
+pub greatest_coordinate : signed (codes "2147483647") ≡ Some (pos 2147483647)
+greatest_coordinate = refl
+
 pub past_the_greatest_coordinate : signed (codes "2147483648") ≡ None
 past_the_greatest_coordinate = refl
 
@@ -73,6 +76,10 @@ no_command = refl
 pub cleared : event_in (words (codes "clear 2 -3 4 5 6")) ≡ Some (Draw 2 (Clear (record { x = negsuc 2; y = pos 4; width = 5; height = 6 })))
 cleared = refl
 
+pub cleared_at_the_edge : event_in (words (codes "clear 2 -2147483648 2147483647 4294967295 0"))
+    ≡ Some (Draw 2 (Clear (record { x = negsuc 2147483647; y = pos 2147483647; width = 4294967295; height = 0 })))
+cleared_at_the_edge = refl
+
 pub clear_without_height : event_in (words (codes "clear 2 -3 4 5")) ≡ None
 clear_without_height = refl
 
@@ -92,6 +99,9 @@ pub copied_without_a_name : command_in (words (codes "copy 2 -3 4")) ≡ None
 copied_without_a_name = refl
 
 -- ---- names
+
+pub shortest_name : name_in (codes "z") ≡ Some (codes "z")
+shortest_name = refl
 
 pub longest_name : name_in (codes "abcdefghijklmn09") ≡ Some (codes "abcdefghijklmn09")
 longest_name = refl

@@ -1,5 +1,5 @@
 use Rattle.std.proofs.Common.{◌≡◌, ◌++◌, drop}
-use Rattle.genedit_lib.specs.Plan.{filled}
+use Rattle.genedit_lib.specs.Output.{filled}
 use Rattle.genedit_lib.proofs.output.output.Given as goal
 
 -- what was written, and then what is left, is the whole

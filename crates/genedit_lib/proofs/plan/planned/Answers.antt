@@ -1,6 +1,6 @@
 use Rattle.std.proofs.Common.{◌≡◌, ◌∷◌, ◌∙◌, sym, ap, length, arith}
 use Rattle.std.specs.Vec.Iter.{into_iter_items}
-use Rattle.genedit_lib.specs.Plan.{pattern_in}
+use Rattle.genedit_lib.specs.Patterns.{pattern_in}
 use Rattle.genedit_lib.proofs.PlanLaws.{event_planned, line_planned, no_event_planned, steps_on}
 use Rattle.genedit_lib.proofs.plan.planned.Goals as goal
 

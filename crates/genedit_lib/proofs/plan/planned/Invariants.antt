@@ -1,7 +1,7 @@
 use Rattle.std.proofs.Common.{◌≡◌, ◌++◌, map, length}
 use Rattle.std.specs.Vec.Iter.{into_iter_items, into_iter_len}
-use Rattle.genedit_lib.specs.Output.{events_among, no_patterns, steps}
-use Rattle.genedit_lib.specs.Plan.{line_of, pattern_in}
+use Rattle.genedit_lib.specs.Output.{events_among, line_of, no_patterns, steps}
+use Rattle.genedit_lib.specs.Patterns.{pattern_in}
 use Rattle.genedit_lib.proofs.plan.planned.Given as goal
 
 -- what was planned, and then the plan of the commands that are left, is the plan of all

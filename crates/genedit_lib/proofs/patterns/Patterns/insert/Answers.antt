@@ -1,7 +1,7 @@
 use Rattle.std.proofs.Common.{◌∙◌, ap}
 use Rattle.std.specs.Prelude.{cond, Some}
 use Rattle.std.proofs.lemmas.Map.Text.{is_eq-slice_cmp}
-use Rattle.genedit_lib.specs.Plan.{pattern_in}
+use Rattle.genedit_lib.specs.Patterns.{pattern_in}
 use Rattle.genedit_lib.proofs.patterns.Patterns.insert.Goals as goal
 
 pub returns : goal.returns
