@@ -108,7 +108,7 @@ fn body_cells(alloc: Global, text: &[u8], start: usize) -> Result<Vec<PatternCel
     let mut line = Line::Start;
     let mut place = start;
     while place < text.len() {
-        let next = past_run(&mut reader, line, text, place)?;
+        let next = past_runs(&mut reader, line, text, place)?;
         if next > place {
             place = next;
             continue;
@@ -131,14 +131,14 @@ fn body_cells(alloc: Global, text: &[u8], start: usize) -> Result<Vec<PatternCel
     }
 }
 
-/// Reads a run whose bytes stand together, if one begins at this place, and tells the place behind
-/// it; else this place.
-fn past_run(reader: &mut Reader, line: Line, text: &[u8], place: usize) -> Result<usize, RleFault>
+/// Reads the runs whose bytes stand together, if one begins at this place, and tells the place behind
+/// them; else this place.
+fn past_runs(reader: &mut Reader, line: Line, text: &[u8], place: usize) -> Result<usize, RleFault>
     requires { place ≤ length text.now }
     ensures { ReadsOn line text.now place reader.old result reader.new }
 {
     match line {
-        Line::Inside if reader.is_between() => reader.read_run(text, place),
+        Line::Inside if reader.is_between() => reader.read_runs(text, place),
         _ => Ok(place),
     }
 }

@@ -11,31 +11,31 @@ loop-place-init c = begins _ _ c.new-reader.result c.new-reader.ensures
 
 pub loop-place-preserved-then-drops : goal.loop-place-preserved-then-drops
 loop-place-preserved-then-drops c =
-    passes (length c.args.text.now) c.args.text.now c.loop-place.place c.loop-place.line c.after-line.result c.past_run.new.reader c.loop-place-test.true c.after-line.ensures (sym c.if-drops.ensures)
-    ∙ not_moved (length c.args.text.now) c.args.text.now c.loop-place.place c.in_ok-next.next c.loop-place.line c.loop-place.reader c.past_run.new.reader c.in_ok-next.ensures c.if-next-place.false
+    passes (length c.args.text.now) c.args.text.now c.loop-place.place c.loop-place.line c.after-line.result c.past_runs.new.reader c.loop-place-test.true c.after-line.ensures (sym c.if-drops.ensures)
+    ∙ not_moved (length c.args.text.now) c.args.text.now c.loop-place.place c.in_ok-next.next c.loop-place.line c.loop-place.reader c.past_runs.new.reader c.in_ok-next.ensures c.if-next-place.false
     ∙ c.loop-place.invariant
 
 pub loop-place-preserved : goal.loop-place-preserved
 loop-place-preserved c =
     (rw c.in-Ok-Goes.field-0-is at c.in-Ok-Goes.ensures) (length c.args.text.now) (left c.after-line.result (enumerate_from (c.loop-place.place + 1) (drop (c.loop-place.place + 1) c.args.text.now)))
-    ∙ meets (length c.args.text.now) c.args.text.now c.loop-place.place c.loop-place.line c.after-line.result c.past_run.new.reader c.loop-place-test.true c.after-line.ensures (sym c.if-drops.ensures)
-    ∙ not_moved (length c.args.text.now) c.args.text.now c.loop-place.place c.in_ok-next.next c.loop-place.line c.loop-place.reader c.past_run.new.reader c.in_ok-next.ensures c.if-next-place.false
+    ∙ meets (length c.args.text.now) c.args.text.now c.loop-place.place c.loop-place.line c.after-line.result c.past_runs.new.reader c.loop-place-test.true c.after-line.ensures (sym c.if-drops.ensures)
+    ∙ not_moved (length c.args.text.now) c.args.text.now c.loop-place.place c.in_ok-next.next c.loop-place.line c.loop-place.reader c.past_runs.new.reader c.in_ok-next.ensures c.if-next-place.false
     ∙ c.loop-place.invariant
 
 pub returns-in-Ok-Ends : goal.returns-in-Ok-Ends
 returns-in-Ok-Ends c =
     answered (λ (v : Vec PatternCell Global). v.items) c.read.new.self.cells _
     ((rw c.in-Ok-Ends.field-0-is at c.in-Ok-Ends.ensures) (length c.args.text.now) (left c.after-line.result (enumerate_from (c.loop-place.place + 1) (drop (c.loop-place.place + 1) c.args.text.now)))
-    ∙ meets (length c.args.text.now) c.args.text.now c.loop-place.place c.loop-place.line c.after-line.result c.past_run.new.reader c.loop-place-test.true c.after-line.ensures (sym c.if-drops.ensures)
-    ∙ not_moved (length c.args.text.now) c.args.text.now c.loop-place.place c.in_ok-next.next c.loop-place.line c.loop-place.reader c.past_run.new.reader c.in_ok-next.ensures c.if-next-place.false
+    ∙ meets (length c.args.text.now) c.args.text.now c.loop-place.place c.loop-place.line c.after-line.result c.past_runs.new.reader c.loop-place-test.true c.after-line.ensures (sym c.if-drops.ensures)
+    ∙ not_moved (length c.args.text.now) c.args.text.now c.loop-place.place c.in_ok-next.next c.loop-place.line c.loop-place.reader c.past_runs.new.reader c.in_ok-next.ensures c.if-next-place.false
     ∙ c.loop-place.invariant)
 
 pub returns-in-Err : goal.returns-in-Err
 returns-in-Err c =
     refused (λ (v : Vec PatternCell Global). v.items) c.in-Err.fault _
     (refused_by c.in-Err.ensures (λ said. said (length c.args.text.now) (left c.after-line.result (enumerate_from (c.loop-place.place + 1) (drop (c.loop-place.place + 1) c.args.text.now)))
-    ∙ meets (length c.args.text.now) c.args.text.now c.loop-place.place c.loop-place.line c.after-line.result c.past_run.new.reader c.loop-place-test.true c.after-line.ensures (sym c.if-drops.ensures)
-    ∙ not_moved (length c.args.text.now) c.args.text.now c.loop-place.place c.in_ok-next.next c.loop-place.line c.loop-place.reader c.past_run.new.reader c.in_ok-next.ensures c.if-next-place.false
+    ∙ meets (length c.args.text.now) c.args.text.now c.loop-place.place c.loop-place.line c.after-line.result c.past_runs.new.reader c.loop-place-test.true c.after-line.ensures (sym c.if-drops.ensures)
+    ∙ not_moved (length c.args.text.now) c.args.text.now c.loop-place.place c.in_ok-next.next c.loop-place.line c.loop-place.reader c.past_runs.new.reader c.in_ok-next.ensures c.if-next-place.false
     ∙ c.loop-place.invariant))
 
 pub returns-in-Ok : goal.returns-in-Ok
