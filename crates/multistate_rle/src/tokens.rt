@@ -1,7 +1,7 @@
 //! The tokens behind the header, read byte by byte.
 
-ghost use Rattle.std.specs.Prelude.{◌≡◌, ◌≢◌, ◌+◌, ◌*◌, ◌≤◌, ◌<◌, ◌^◌, ◌++◌, ◌⊎◌, Some, None, length, OnOk, IfErr, IfOk, OnErr, unwrap_or, min};
-ghost use Rattle.multistate_rle.specs.Reading.{fresh, with_digit, with_prefix, fault_of};
+ghost use Rattle.std.specs.Prelude.{◌≡◌, ◌≢◌, ◌+◌, ◌*◌, ◌≤◌, ◌<◌, ◌^◌, ◌++◌, ◌⊎◌, Some, None, length, OnOk, IfErr, IfOk, OnErr, unwrap_or, min, max, if◌then◌else◌, ◌==◌};
+ghost use Rattle.multistate_rle.specs.Reading.{fresh, with_digit, with_prefix, fault_of, width_of, height_of};
 ghost use Rattle.std.specs.Prelude.{[]};
 ghost use Rattle.multistate_rle.specs.Begun.{capped};
 ghost use Rattle.multistate_rle.specs.Tokens.{Cells, Rows, run, cells_in_row};
@@ -68,17 +68,22 @@ pub enum Step {
     Ends,
 }
 
-/// What was drawn so far, where the next token draws, and what is read of it.
+/// What was drawn so far and the sides that it needs, where the next token draws, and what is read of
+/// it.
 #[derive(Drop)]
 pub struct Reader {
     pub column: u64,
     pub row: u64,
     pub cells: Vec<PatternCell>,
+    pub width: u64,
+    pub height: u64,
     pub begun: Begun,
     ghost column_fits: { column ≤ 4294967296 },
     ghost row_fits: { row ≤ 4294967295 },
     ghost count_fits: { unwrap_or begun.count 0 ≤ 4294967297 },
     ghost prefix_fits: { unwrap_or begun.prefix 0 ≤ 10 },
+    ghost wide: { width ≡ width_of 0 cells.items },
+    ghost high: { height ≡ height_of 0 cells.items },
 }
 
 impl Reader {
@@ -95,6 +100,8 @@ impl Reader {
             column: 0,
             row: 0,
             cells: Vec::new(alloc),
+            width: 0,
+            height: 0,
             begun: Begun::new(),
         }
     }
@@ -195,6 +202,8 @@ impl Reader {
         }
         push_run(&mut self.cells, count, state as u8, self.column, self.row)?;
         self.column += count;
+        self.width = reached(self.width, state, self.column);
+        self.height = reached(self.height, state, self.row + 1);
         Ok(())
     }
 
@@ -230,6 +239,13 @@ impl Reader {
     }
 }
 
+/// A side, once a run of a state reaches so far.
+fn reached(side: u64, state: u16, reach: u64) -> u64
+    ensures { result ≡ (if state == 0 then side else max side reach) }
+{
+    if state == 0 { side } else { side.max(reach) }
+}
+
 /// The nonzero cells of a run.
 fn push_run(
     cells: &mut Vec<PatternCell>,
@@ -240,7 +256,8 @@ fn push_run(
 ) -> Result<(), AllocError>
     requires columns { column + count ≤ 4294967296 }
     requires row { row ≤ 4294967295 }
-    ensures { OnOk result (cells.new.items ≡ cells.old.items ++ run count state column row) }
+    ensures ok { OnOk result (cells.new.items ≡ cells.old.items ++ run count state column row) }
+    ensures err { OnErr result (cells.new.items ≡ cells.old.items) }
 {
     if state == 0 {
         return Ok(());
@@ -257,7 +274,8 @@ fn push_cells(
 ) -> Result<(), AllocError>
     requires columns { column + count ≤ 4294967296 }
     requires row { row ≤ 4294967295 }
-    ensures { OnOk result (cells.new.items ≡ cells.old.items ++ cells_in_row count state column row) }
+    ensures ok { OnOk result (cells.new.items ≡ cells.old.items ++ cells_in_row count state column row) }
+    ensures err { OnErr result (cells.new.items ≡ cells.old.items) }
 {
     cells.reserve(count as usize)?;
     for at in column..column + count {
