@@ -17,3 +17,4 @@ pub mod BoxLaws
 pub mod WholeTextLaws
 pub mod LetterLaws
 pub mod RunLemmas
+pub mod SideLemmas

@@ -1,6 +1,6 @@
 -- Runs whose bytes stand together.
-use Rattle.std.proofs.Common.{◌≡◌, ℕ, zero, suc, ◌+◌, ◌-◌, ◌≤◌, ◌<◌, Bool, true, false, List, ◌∷◌, ◌++◌, refl, sym, ◌∙◌, ap, arith, drop, length, get_or, append_assoc, append-nil, inl, inr, ◌⊎◌}
-use Rattle.std.specs.Prelude.{Option, Some, None, Result, Ok, Err, unwrap_or, nat_le, ◌==◌}
+use Rattle.std.proofs.Common.{◌≡◌, ℕ, zero, suc, ◌+◌, ◌*◌, ◌-◌, ◌≤◌, ◌<◌, Bool, true, false, List, ◌∷◌, ◌++◌, refl, sym, ◌∙◌, ap, arith, drop, length, get_or, append_assoc, append-nil, subst, inl, inr, ◌⊎◌}
+use Rattle.std.specs.Prelude.{Option, Some, None, Result, Ok, Err, unwrap_or, min, nat_le, ◌==◌}
 use Rattle.std.specs.List.{enumerate_from}
 use Rattle.std.proofs.lemmas.Bool.{ne_eqb}
 use Rattle.std.proofs.lemmas.Bool.Decides.{nat_tests}
@@ -15,7 +15,7 @@ use Rattle.multistate_rle.specs.Lines.{left, left_from}
 use Rattle.multistate_rle.specs.Tokens.{Token, Cells, drawn, run}
 use Rattle.multistate_rle.specs.Reading.{Pen, role_of, is_prefix, fresh, with_digit, with_prefix, fault_of, followed, moved, tokens_of}
 use Rattle.multistate_rle.specs.Begun.{capped}
-use Rattle.multistate_rle.specs.Steps.{pen_of, cells_with, Begins, Draws}
+use Rattle.multistate_rle.specs.Steps.{pen_of, cells_with, Begins, IsFront, Draws}
 use Rattle.multistate_rle.proofs.LineLemmas.{left_keeps}
 use Rattle.multistate_rle.proofs.BodyLemmas.{byte_at}
 use Rattle.multistate_rle.proofs.PatternLaws.{and_parts}
@@ -50,6 +50,43 @@ digit_begun text start place byte b new so_far none within is digit kept =
           ∙ so_far.same end pen;
     }
 
+-- the count of a token that begins with a digit, one digit long
+pub count_begins : (text : List ℕ) (start byte count : ℕ) → start < length text → get_or text start 0 ≡ byte → is_digit byte ≡ true → count ≡ byte - 48 →
+    Begins text start fresh (start + 1) (record { place = Some start; count = Some count; prefix = None })
+count_begins text start byte count within is digit value =
+    let parts = and_parts (nat_le 48 byte) (nat_le byte 57) digit in
+    let high : byte ≤ 57 = grind (arith, nat_tests, parts.1) in
+    let kept : count ≡ min (10 * 0 + (byte - 48)) 4294967297 = omega (arith, value, high) in
+    digit_begun text start start byte fresh _ (nothing_begun text start fresh (omega arith) refl) refl within is digit (λ i. record { place = Some start; count = Some (kept i); prefix = None })
+
+-- the same count, one digit longer
+pub count_goes_on : (text : List ℕ) (start place byte count longer : ℕ) → Begins text start fresh place (record { place = Some start; count = Some count; prefix = None }) →
+    place < length text → get_or text place 0 ≡ byte → is_digit byte ≡ true → longer ≡ min (10 * count + (byte - 48)) 4294967297 →
+    Begins text start fresh (place + 1) (record { place = Some start; count = Some longer; prefix = None })
+count_goes_on text start place byte count longer so_far within is digit value =
+    digit_begun text start place byte _ _ so_far refl within is digit (λ i. record { place = Some start; count = Some (value i); prefix = None })
+
+-- the digits of a token, read up to a place
+pub counted : (text : List ℕ) (start place next count : ℕ) → Begins text start fresh place (record { place = Some start; count = Some count; prefix = None }) → place ≡ next →
+    IsFront text start next count None
+counted text start place next count so_far at = record {
+  begun = record { place = Some start; count = Some count; prefix = None };
+  begins = subst (λ k. Begins text start fresh k (record { place = Some start; count = Some count; prefix = None })) at so_far;
+  count_is = refl;
+  prefix_is = refl;
+  place_is = refl;
+}
+
+-- a token of which nothing is read
+pub uncounted : (text : List ℕ) (start : ℕ) → start ≤ length text → IsFront text start start 1 None
+uncounted text start within = record {
+  begun = fresh;
+  begins = nothing_begun text start fresh within refl;
+  count_is = refl;
+  prefix_is = refl;
+  place_is = refl;
+}
+
 pub prefix_begun : (text : List ℕ) (start place byte : ℕ) (b new : Begun) → Begins text start fresh place b → b.prefix ≡ None → place < length text → get_or text place 0 ≡ byte → is_prefix byte ≡ true →
     new ≡ with_prefix place (byte - 111) b → Begins text start fresh (place + 1) new
 prefix_begun text start place byte b new so_far none within is prefix kept =
@@ -66,6 +103,17 @@ prefix_begun text start place byte b new so_far none within is prefix kept =
           ∙ ap (λ marks. tokens_of end marks b pen) (sym (byte_stays text place byte within is (omega arith)))
           ∙ so_far.same end pen;
     }
+
+-- a prefix behind a count
+pub prefixed : (text : List ℕ) (start place byte count : ℕ) → IsFront text start place count None → place < length text → get_or text place 0 ≡ byte → is_prefix byte ≡ true →
+    IsFront text start (place + 1) count (Some (byte - 111))
+prefixed text start place byte count front within is prefix = record {
+  begun = with_prefix place (byte - 111) front.begun;
+  begins = prefix_begun text start place byte front.begun _ front.begins front.prefix_is within is prefix refl;
+  count_is = front.count_is;
+  prefix_is = refl;
+  place_is = front.place_is;
+}
 
 -- ---- the byte that ends a run
 
@@ -105,30 +153,36 @@ with_run_in_front n s old new (Ok tokens) draws column row =
     (λ i. Ok (cells i ++ drawn tokens (column i) (row i)))
     ∙ ap (λ cells. Ok cells) (append_assoc old.cells.items (run n s old.column old.row) (drawn tokens (old.column + n) old.row))
 
-pub run_is_read : (end : ℕ) (text : List ℕ) (start place byte n s : ℕ) (b : Begun) (old new : Reader) → Begins text start fresh place b → old.begun ≡ fresh → place < length text → get_or text place 0 ≡ byte →
-    role_of b.prefix byte ≡ role.State s → unwrap_or b.count 1 ≡ n → fault_of (unwrap_or b.place place) (pen_of old) (Cells n s) ≡ None → Draws (Cells n s) old new →
+pub run_is_read : (end : ℕ) (text : List ℕ) (start place byte n s : ℕ) (prefix : Option ℕ) (old new : Reader) → IsFront text start place n prefix → old.begun ≡ fresh → place < length text → get_or text place 0 ≡ byte →
+    role_of prefix byte ≡ role.State s → fault_of start (pen_of old) (Cells n s) ≡ None → Draws (Cells n s) old new →
     cells_with end (left_from text (place + 1)) new ≡ cells_with end (left_from text start) old
-run_is_read end text start place byte n s b old new so_far none within is acts count fine draws =
+run_is_read end text start place byte n s prefix old new front none within is acts fine draws =
     let marks = left_from text (place + 1) in
+    let b = front.begun in
+    let ends : role_of b.prefix byte ≡ role.State s = ap (λ k. role_of k byte) front.prefix_is ∙ acts in
     (λ i. tokens_of end marks (draws.begun i) (draws.pen i) >>= λ tokens. Ok (new.cells.items ++ drawn tokens new.column new.row))
     ∙ with_run_in_front n s old new (tokens_of end marks fresh (moved (Cells n s) (pen_of old))) draws (ap (λ (p : Pen). p.column) draws.pen) (ap (λ (p : Pen). p.row) draws.pen)
     ∙ ap (λ read. read >>= λ tokens. Ok (old.cells.items ++ drawn tokens old.column old.row))
-    (sym (step_is end (place, byte) marks b (pen_of old) (role.State s) acts
-    ∙ ap (λ k. followed (fault_of (unwrap_or b.place place) (pen_of old) (Cells k s)) (Cells k s) (tokens_of end marks fresh (moved (Cells k s) (pen_of old)))) count
+    (sym (step_is end (place, byte) marks b (pen_of old) (role.State s) ends
+    ∙ ap (λ k. followed (fault_of (unwrap_or b.place place) (pen_of old) (Cells k s)) (Cells k s) (tokens_of end marks fresh (moved (Cells k s) (pen_of old)))) front.count_is
+    ∙ ap (λ k. followed (fault_of k (pen_of old) (Cells n s)) (Cells n s) (tokens_of end marks fresh (moved (Cells n s) (pen_of old)))) front.place_is
     ∙ ap (λ f. followed f (Cells n s) (tokens_of end marks fresh (moved (Cells n s) (pen_of old)))) fine)
-    ∙ ap (λ ms. tokens_of end ms b (pen_of old)) (sym (byte_stays text place byte within is (state_above b.prefix byte s acts)))
-    ∙ so_far.same end (pen_of old)
+    ∙ ap (λ ms. tokens_of end ms b (pen_of old)) (sym (byte_stays text place byte within is (state_above prefix byte s acts)))
+    ∙ front.begins.same end (pen_of old)
     ∙ ap (λ b. tokens_of end (left_from text start) b (pen_of old)) (sym none))
 
-pub run_is_faulty : (end : ℕ) (text : List ℕ) (start place byte n s : ℕ) (b : Begun) (old : Reader) (fault : RleFault) → Begins text start fresh place b → old.begun ≡ fresh → place < length text → get_or text place 0 ≡ byte →
-    role_of b.prefix byte ≡ role.State s → unwrap_or b.count 1 ≡ n → fault_of (unwrap_or b.place place) (pen_of old) (Cells n s) ≡ Some fault →
+pub run_is_faulty : (end : ℕ) (text : List ℕ) (start place byte n s : ℕ) (prefix : Option ℕ) (old : Reader) (fault : RleFault) → IsFront text start place n prefix → old.begun ≡ fresh → place < length text → get_or text place 0 ≡ byte →
+    role_of prefix byte ≡ role.State s → fault_of start (pen_of old) (Cells n s) ≡ Some fault →
     Err fault ≡ cells_with end (left_from text start) old
-run_is_faulty end text start place byte n s b old fault so_far none within is acts count faulty =
+run_is_faulty end text start place byte n s prefix old fault front none within is acts faulty =
     let marks = left_from text (place + 1) in
+    let b = front.begun in
+    let ends : role_of b.prefix byte ≡ role.State s = ap (λ k. role_of k byte) front.prefix_is ∙ acts in
     ap (λ read. read >>= λ tokens. Ok (old.cells.items ++ drawn tokens old.column old.row))
-    (sym (step_is end (place, byte) marks b (pen_of old) (role.State s) acts
-    ∙ ap (λ k. followed (fault_of (unwrap_or b.place place) (pen_of old) (Cells k s)) (Cells k s) (tokens_of end marks fresh (moved (Cells k s) (pen_of old)))) count
+    (sym (step_is end (place, byte) marks b (pen_of old) (role.State s) ends
+    ∙ ap (λ k. followed (fault_of (unwrap_or b.place place) (pen_of old) (Cells k s)) (Cells k s) (tokens_of end marks fresh (moved (Cells k s) (pen_of old)))) front.count_is
+    ∙ ap (λ k. followed (fault_of k (pen_of old) (Cells n s)) (Cells n s) (tokens_of end marks fresh (moved (Cells n s) (pen_of old)))) front.place_is
     ∙ ap (λ f. followed f (Cells n s) (tokens_of end marks fresh (moved (Cells n s) (pen_of old)))) faulty)
-    ∙ ap (λ ms. tokens_of end ms b (pen_of old)) (sym (byte_stays text place byte within is (state_above b.prefix byte s acts)))
-    ∙ so_far.same end (pen_of old)
+    ∙ ap (λ ms. tokens_of end ms b (pen_of old)) (sym (byte_stays text place byte within is (state_above prefix byte s acts)))
+    ∙ front.begins.same end (pen_of old)
     ∙ ap (λ b. tokens_of end (left_from text start) b (pen_of old)) (sym none))

@@ -1,5 +1,5 @@
 -- What one byte does to a reader of tokens.
-use Rattle.std.specs.Prelude.{◌≤◌, drop, ◌≡◌, ◌⊎◌, ℕ, List, [], ◌∷◌, ◌++◌, length, Some, None, Result, Ok, Err}
+use Rattle.std.specs.Prelude.{◌≤◌, drop, ◌≡◌, ◌⊎◌, ℕ, List, [], ◌∷◌, ◌++◌, length, Option, Some, None, unwrap_or, Result, Ok, Err}
 use Rattle.generations_rule.specs.Refusal.{◌>>=◌}
 use Rattle.multistate_rle.specs.declared.fault.RleFault.{RleFault}
 use Rattle.multistate_rle.specs.declared.fault.RleFault.TheVariants.{Memory}
@@ -47,6 +47,14 @@ pub record Begins (text : List ℕ) (start : ℕ) (old : Begun) (place : ℕ) (n
   pub behind : start ≤ place
   pub within : place ≤ length text
   pub same : (end : ℕ) (pen : Pen) → tokens_of end (left_from text place) new pen ≡ tokens_of end (left_from text start) old pen
+
+-- The bytes up to a place are a token's count, which is 1 where no digit stands there, and its prefix.
+pub record IsFront (text : List ℕ) (start place count : ℕ) (prefix : Option ℕ) : Type 0 where
+  pub begun : Begun
+  pub begins : Begins text start fresh place begun
+  pub count_is : unwrap_or begun.count 1 ≡ count
+  pub prefix_is : begun.prefix ≡ prefix
+  pub place_is : unwrap_or begun.place place ≡ start
 
 -- Bytes of a line, read from a place on: what is read then is what would have been read with the bytes in front.
 abbrev pub ReadsOn : Line → List ℕ → ℕ → Reader → Result ℕ RleFault → Reader → Type 0

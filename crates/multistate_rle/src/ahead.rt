@@ -1,31 +1,34 @@
 //! Tokens whose bytes stand together, as nearly all do: what stands before the byte that ends one is
 //! read at once.
 
-ghost use Rattle.std.specs.Prelude.{◌≡◌, ◌≤◌, None, length, unwrap_or, IfSome};
-ghost use Rattle.multistate_rle.specs.Reading.{fresh, is_prefix as is_prefix_byte};
-ghost use Rattle.multistate_rle.specs.Steps.{Begins};
+ghost use Rattle.std.specs.Prelude.{◌≡◌, ◌≤◌, ◌<◌, None, length, true, get_or, IfSome};
+ghost use Rattle.multistate_rle.specs.Reading.{is_prefix as is_prefix_byte};
+ghost use Rattle.multistate_rle.specs.Steps.{IsFront};
+ghost use Rattle.multistate_rle.specs.Bytes.{is_digit as is_decimal_digit};
 
-use crate::tokens::Begun;
+use crate::tokens::COUNT_LIMIT;
 
-/// What is read of a token, and the place behind it.
+/// The count of a token, its prefix, and the place of the byte that ends it.
 #[derive(Clone, Copy)]
 pub struct Ahead {
-    pub begun: Begun,
+    pub count: u64,
+    pub prefix: Option<u8>,
     pub place: usize,
 }
 
-/// The digits and the prefix of a token that begins at this place of a line.
+/// What stands in front of the byte that ends a token, which begins at this place of a line.
 pub fn token_at(text: &[u8], start: usize) -> Ahead
     requires { start ≤ length text.now }
-    ensures begins { Begins text.now start fresh result.place result.begun }
-    ensures count { unwrap_or result.begun.count 0 ≤ 4294967297 }
-    ensures prefix { IfSome result.begun.prefix (λ k. k ≤ 10) }
+    ensures front { IsFront text.now start result.place result.count result.prefix }
+    ensures count { result.count ≤ 4294967297 }
+    ensures prefix { IfSome result.prefix (λ k. k ≤ 10) }
 {
-    let ahead = digits_at(text, start);
+    let ahead = count_at(text, start);
     let place = ahead.place;
     if place < text.len() && is_prefix(text[place]) {
         return Ahead {
-            begun: ahead.begun.with_prefix(place as u64, text[place] - b'o'),
+            count: ahead.count,
+            prefix: Some(text[place] - b'o'),
             place: place + 1,
         };
     }
@@ -38,22 +41,45 @@ fn is_prefix(byte: u8) -> bool
     byte >= b'p' && byte <= b'y'
 }
 
-fn digits_at(text: &[u8], start: usize) -> Ahead
+/// The count in front, which is 1 where there is none.
+fn count_at(text: &[u8], start: usize) -> Ahead
     requires { start ≤ length text.now }
-    ensures begins { Begins text.now start fresh result.place result.begun }
-    ensures count { unwrap_or result.begun.count 0 ≤ 4294967297 }
-    ensures prefix { result.begun.prefix ≡ None }
+    ensures front { IsFront text.now start result.place result.count None }
+    ensures count { result.count ≤ 4294967297 }
+    ensures prefix { result.prefix ≡ None }
 {
-    let mut begun = Begun::new();
-    for place in start..text.len() {
-        let byte = text[place];
-        if !byte.is_ascii_digit() {
-            return Ahead { begun, place };
-        }
-        begun = begun.with_digit(place as u64, byte - b'0');
+    if start < text.len() && text[start].is_ascii_digit() {
+        return digits_from(text, start);
     }
     Ahead {
-        begun,
+        count: 1,
+        prefix: None,
+        place: start,
+    }
+}
+
+fn digits_from(text: &[u8], start: usize) -> Ahead
+    requires within { start < length text.now }
+    requires digit { is_decimal_digit (get_or text.now start 0) ≡ true }
+    ensures front { IsFront text.now start result.place result.count None }
+    ensures count { result.count ≤ 4294967297 }
+    ensures prefix { result.prefix ≡ None }
+{
+    let mut count = u64::from(text[start] - b'0');
+    for place in start + 1..text.len() {
+        let byte = text[place];
+        if !byte.is_ascii_digit() {
+            return Ahead {
+                count,
+                prefix: None,
+                place,
+            };
+        }
+        count = (10 * count + u64::from(byte - b'0')).min(COUNT_LIMIT);
+    }
+    Ahead {
+        count,
+        prefix: None,
         place: text.len(),
     }
 }

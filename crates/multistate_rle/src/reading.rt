@@ -4,14 +4,14 @@ ghost use Rattle.std.specs.Prelude.{◌≡◌, ◌+◌, ◌≤◌, ◌<◌, ◌^
 ghost use Rattle.std.specs.List.{enumerate_from, position_or_len};
 ghost use Rattle.multistate_rle.specs.Bytes.{is_line_end};
 ghost use Rattle.generations_rule.specs.Refusal.{Answers, AnswersAs};
-ghost use Rattle.multistate_rle.specs.Reading.{parsed, lines_of, body_read, is_comment as begins_comment, cells_read, bare, or_else, width_of, height_of};
+ghost use Rattle.multistate_rle.specs.Reading.{parsed, lines_of, body_read, is_comment as begins_comment, cells_read, bare, or_else};
 ghost use Rattle.multistate_rle.specs.Steps.{ReadsOn};
 
 use crate::fault::RleFault;
 use crate::header::header;
 use crate::line::Line;
 use crate::origin::{self, Items, Origin};
-use crate::pattern::{Pattern, PatternCell};
+use crate::pattern::Pattern;
 use crate::scan;
 use crate::tokens::{Reader, Step};
 use std::alloc::Global;
@@ -27,13 +27,13 @@ pub fn parse(alloc: Global, text: &[u8]) -> Result<Pattern, RleFault>
     let Some(front) = front_of(text) else {
         return Err(RleFault::Header);
     };
-    let cells = body_cells(alloc, text, front.body)?;
+    let drawn = body(alloc, text, front.body)?;
     Ok(Pattern {
-        width: width(front.width, &cells),
-        height: height(front.height, &cells),
+        width: front.width.max(drawn.width),
+        height: front.height.max(drawn.height),
         pos: front.origin.pos,
         generation: front.origin.generation,
-        cells,
+        cells: drawn.cells,
     })
 }
 
@@ -99,16 +99,16 @@ fn is_comment(line: &[u8]) -> bool
     }
 }
 
-/// The cells that the tokens draw, which begin at this place of the text.
-fn body_cells(alloc: Global, text: &[u8], start: usize) -> Result<Vec<PatternCell>, RleFault>
-    ensures { AnswersAs (λ cells meant. cells.items ≡ meant) (λ fault. fault ≡ RleFault.Memory) result
+/// What the tokens draw, which begin at this place of the text.
+fn body(alloc: Global, text: &[u8], start: usize) -> Result<Reader, RleFault>
+    ensures { AnswersAs (λ reader meant. reader.cells.items ≡ meant) (λ fault. fault ≡ RleFault.Memory) result
         (cells_read (length text.now) (bare (lines_of (enumerate_from start (drop start text.now))))) }
 {
     let mut reader = Reader::new(alloc);
     let mut line = Line::Start;
     let mut place = start;
     while place < text.len() {
-        let next = past_run(&mut reader, line, text, place)?;
+        let next = past_runs(&mut reader, line, text, place)?;
         if next > place {
             place = next;
             continue;
@@ -121,40 +121,24 @@ fn body_cells(alloc: Global, text: &[u8], start: usize) -> Result<Vec<PatternCel
         }
         match reader.read(place as u64, byte) {
             Ok(Step::Goes) => place += 1,
-            Ok(Step::Ends) => return Ok(reader.cells),
+            Ok(Step::Ends) => return Ok(reader),
             Err(fault) => return Err(fault),
         }
     }
     match reader.end(text.len() as u64) {
-        Ok(()) => Ok(reader.cells),
+        Ok(()) => Ok(reader),
         Err(fault) => Err(fault),
     }
 }
 
-/// Reads a run whose bytes stand together, if one begins at this place, and tells the place behind
-/// it; else this place.
-fn past_run(reader: &mut Reader, line: Line, text: &[u8], place: usize) -> Result<usize, RleFault>
+/// Reads the runs whose bytes stand together, if one begins at this place, and tells the place behind
+/// them; else this place.
+fn past_runs(reader: &mut Reader, line: Line, text: &[u8], place: usize) -> Result<usize, RleFault>
     requires { place ≤ length text.now }
     ensures { ReadsOn line text.now place reader.old result reader.new }
 {
     match line {
-        Line::Inside if reader.is_between() => reader.read_run(text, place),
+        Line::Inside if reader.is_between() => reader.read_runs(text, place),
         _ => Ok(place),
     }
-}
-
-fn width(least: u64, cells: &[PatternCell]) -> u64
-    ensures { result ≡ width_of least cells.now }
-{
-    cells
-        .iter()
-        .fold(least, |most, cell| most.max(u64::from(cell.column) + 1))
-}
-
-fn height(least: u64, cells: &[PatternCell]) -> u64
-    ensures { result ≡ height_of least cells.now }
-{
-    cells
-        .iter()
-        .fold(least, |most, cell| most.max(u64::from(cell.row) + 1))
 }

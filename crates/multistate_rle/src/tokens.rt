@@ -1,7 +1,7 @@
 //! The tokens behind the header, read byte by byte.
 
-ghost use Rattle.std.specs.Prelude.{◌≡◌, ◌≢◌, ◌+◌, ◌*◌, ◌≤◌, ◌<◌, ◌^◌, ◌++◌, ◌⊎◌, Some, None, length, OnOk, IfErr, IfOk, OnErr, unwrap_or, min};
-ghost use Rattle.multistate_rle.specs.Reading.{fresh, with_digit, with_prefix, fault_of};
+ghost use Rattle.std.specs.Prelude.{◌≡◌, ◌≢◌, ◌+◌, ◌*◌, ◌≤◌, ◌<◌, ◌^◌, ◌++◌, ◌⊎◌, Some, None, length, OnOk, IfErr, IfOk, OnErr, unwrap_or, min, max, if◌then◌else◌, ◌==◌};
+ghost use Rattle.multistate_rle.specs.Reading.{fresh, with_digit, with_prefix, fault_of, width_of, height_of};
 ghost use Rattle.std.specs.Prelude.{[]};
 ghost use Rattle.multistate_rle.specs.Begun.{capped};
 ghost use Rattle.multistate_rle.specs.Tokens.{Cells, Rows, run, cells_in_row};
@@ -13,7 +13,7 @@ use crate::role::Role;
 use std::alloc::{AllocError, Global};
 
 /// More columns, and more rows, than there are: a count above it is as faulty as this one.
-const COUNT_LIMIT: u64 = 4_294_967_297;
+pub const COUNT_LIMIT: u64 = 4_294_967_297;
 
 const MOST_CELLS: u64 = 1 << 20;
 
@@ -68,17 +68,22 @@ pub enum Step {
     Ends,
 }
 
-/// What was drawn so far, where the next token draws, and what is read of it.
+/// What was drawn so far and the sides that it needs, where the next token draws, and what is read of
+/// it.
 #[derive(Drop)]
 pub struct Reader {
     pub column: u64,
     pub row: u64,
     pub cells: Vec<PatternCell>,
+    pub width: u64,
+    pub height: u64,
     pub begun: Begun,
     ghost column_fits: { column ≤ 4294967296 },
     ghost row_fits: { row ≤ 4294967295 },
     ghost count_fits: { unwrap_or begun.count 0 ≤ 4294967297 },
     ghost prefix_fits: { unwrap_or begun.prefix 0 ≤ 10 },
+    ghost wide: { width ≡ width_of 0 cells.items },
+    ghost high: { height ≡ height_of 0 cells.items },
 }
 
 impl Reader {
@@ -95,6 +100,8 @@ impl Reader {
             column: 0,
             row: 0,
             cells: Vec::new(alloc),
+            width: 0,
+            height: 0,
             begun: Begun::new(),
         }
     }
@@ -110,27 +117,44 @@ impl Reader {
             }
             Role::Digit(digit) => self.begun = self.begun.with_digit(place, digit),
             Role::Prefix(prefix) => self.begun = self.begun.with_prefix(place, prefix),
-            Role::State(state) => self.put_run(self.begun, place, state)?,
+            Role::State(state) => self.put_run(place, state)?,
             Role::RowEnd => self.put_rows(place)?,
             Role::Stray => return Err(RleFault::Tag(place)),
         }
         Ok(Step::Goes)
     }
 
-    /// Reads a run whose bytes stand together from this place of a line on, and tells the place behind
-    /// it; the same place, if there is none.
-    pub fn read_run(&mut self, text: &[u8], start: usize) -> Result<usize, RleFault>
+    /// Reads the runs whose bytes stand together from this place of a line on, one behind the other, and
+    /// tells the place behind them; the same place, if there is none.
+    pub fn read_runs(&mut self, text: &[u8], start: usize) -> Result<usize, RleFault>
         requires begun { self.old.begun ≡ fresh }
         requires within { start ≤ length text.now }
         ensures { ReadsOn Inside text.now start self.old result self.new }
+    {
+        let mut place = start;
+        loop {
+            let next = self.read_run(text, place)?;
+            if next == place {
+                return Ok(place);
+            }
+            place = next;
+        }
+    }
+
+    /// Reads one such run.
+    fn read_run(&mut self, text: &[u8], start: usize) -> Result<usize, RleFault>
+        requires begun { self.old.begun ≡ fresh }
+        requires within { start ≤ length text.now }
+        ensures reads { ReadsOn Inside text.now start self.old result self.new }
+        ensures begun { OnOk result (self.new.begun ≡ fresh) }
     {
         let ahead = token_at(text, start);
         let place = ahead.place;
         if place == text.len() {
             return Ok(start);
         }
-        match Role::of(ahead.begun.prefix, text[place]) {
-            Role::State(state) => match self.put_run(ahead.begun, place as u64, state) {
+        match Role::of(ahead.prefix, text[place]) {
+            Role::State(state) => match self.draw_run(start as u64, ahead.count, state) {
                 Ok(()) => Ok(place + 1),
                 Err(fault) => Err(fault),
             },
@@ -155,18 +179,31 @@ impl Reader {
         }
     }
 
-    fn put_run(&mut self, begun: Begun, place: u64, state: u16) -> Result<(), RleFault>
-        requires { unwrap_or begun.count 0 ≤ 4294967297 }
-        ensures { Puts (unwrap_or begun.place place) (Cells (unwrap_or begun.count 1) state) self.old result self.new }
+    fn put_run(&mut self, place: u64, state: u16) -> Result<(), RleFault>
+        ensures { Puts (unwrap_or self.old.begun.place place) (Cells (unwrap_or self.old.begun.count 1) state) self.old result self.new }
     {
-        let place = begun.place.unwrap_or(place);
-        let count = begun.count.unwrap_or(1);
+        let begun = self.begun;
+        self.begun = Begun::new();
+        self.draw_run(
+            begun.place.unwrap_or(place),
+            begun.count.unwrap_or(1),
+            state,
+        )
+    }
+
+    /// Draws a run whose token begins at this place.
+    fn draw_run(&mut self, place: u64, count: u64, state: u16) -> Result<(), RleFault>
+        requires begun { self.old.begun ≡ fresh }
+        requires count { count ≤ 4294967297 }
+        ensures { Puts place (Cells count state) self.old result self.new }
+    {
         if let Some(fault) = self.run_fault(place, count, state) {
             return Err(fault);
         }
         push_run(&mut self.cells, count, state as u8, self.column, self.row)?;
         self.column += count;
-        self.begun = Begun::new();
+        self.width = reached(self.width, state, self.column);
+        self.height = reached(self.height, state, self.row + 1);
         Ok(())
     }
 
@@ -202,6 +239,13 @@ impl Reader {
     }
 }
 
+/// A side, once a run of a state reaches so far.
+fn reached(side: u64, state: u16, reach: u64) -> u64
+    ensures { result ≡ (if state == 0 then side else max side reach) }
+{
+    if state == 0 { side } else { side.max(reach) }
+}
+
 /// The nonzero cells of a run.
 fn push_run(
     cells: &mut Vec<PatternCell>,
@@ -212,7 +256,8 @@ fn push_run(
 ) -> Result<(), AllocError>
     requires columns { column + count ≤ 4294967296 }
     requires row { row ≤ 4294967295 }
-    ensures { OnOk result (cells.new.items ≡ cells.old.items ++ run count state column row) }
+    ensures ok { OnOk result (cells.new.items ≡ cells.old.items ++ run count state column row) }
+    ensures err { OnErr result (cells.new.items ≡ cells.old.items) }
 {
     if state == 0 {
         return Ok(());
@@ -229,14 +274,16 @@ fn push_cells(
 ) -> Result<(), AllocError>
     requires columns { column + count ≤ 4294967296 }
     requires row { row ≤ 4294967295 }
-    ensures { OnOk result (cells.new.items ≡ cells.old.items ++ cells_in_row count state column row) }
+    ensures ok { OnOk result (cells.new.items ≡ cells.old.items ++ cells_in_row count state column row) }
+    ensures err { OnErr result (cells.new.items ≡ cells.old.items) }
 {
+    cells.reserve(count as usize)?;
     for at in column..column + count {
-        cells.push(PatternCell {
+        cells.push_reserved(PatternCell {
             column: at as u32,
             row: row as u32,
             state,
-        })?;
+        });
     }
     Ok(())
 }

@@ -3,7 +3,7 @@ use Rattle.std.specs.List.{enumerate_from}
 use Rattle.multistate_rle.specs.Reading.{lines_of, bare, cells_read}
 use Rattle.multistate_rle.specs.Steps.{cells_with}
 use Rattle.multistate_rle.specs.Lines.{left}
-use Rattle.multistate_rle.proofs.reading.body_cells.Given as goal
+use Rattle.multistate_rle.proofs.reading.body.Given as goal
 
 abbrev pub invariant-loop-place : goal.invariant-loop-place
 invariant-loop-place l =
