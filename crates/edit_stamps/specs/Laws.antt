@@ -15,7 +15,7 @@ use Rattle.edit_stamps.specs.Plane.{is_in}
 use Rattle.edit_stamps.specs.Stamp.{counter_of, is_stamp, replica_of, stamp_cmp, stamp_made, stamp_of}
 use Rattle.edit_stamps.specs.Write.{at_most, greater, unwritten, Writes, AreSame, IsBelow, joined}
 
--- stamps are ordered by counter, then by replica; a stamp tells both, and what is made of those two is the stamp
+-- stamps are ordered by counter, then by replica; a stamp tells both, and is what is made of them
 pub record TellsStamps : Type 0 where
   pub order : (a b : ℕ) → nat_cmp a b ≡ stamp_cmp a b
   pub counter : (counter replica : ℕ) → replica < 2 ^ 16 → counter_of (stamp_of counter replica) ≡ counter
@@ -87,7 +87,7 @@ pub record IsClear (stamp : ℕ) (area : Rect) (e : PlaneEdit) : Type 0 where
   pub in_area : (c : Place) → IsTrue (is_in area c) → writes_of e c ≡ record { stamp = stamp; state = 0 }
   pub elsewhere : (c : Place) → is_in area c ≡ false → writes_of e c ≡ unwritten
 
--- what is made to copy a pattern, to lay it over and to clear an area does so
+-- what the makers of pastes and clears make is a copy, an or and a clear
 pub record MakesPastes : Type 0 where
   pub copy : (r : GenerationsRule) (stamp : ℕ) (p : RlePattern) (x y : ℤ) → IsTrue (is_stamp stamp) → IsPattern p → IfOk (edit_of_copy r stamp p x y) (IsCopy stamp p x y)
   pub or : (r : GenerationsRule) (stamp : ℕ) (p : RlePattern) (x y : ℤ) → IsTrue (is_stamp stamp) → IsPattern p → IfOk (edit_of_or r stamp p x y) (IsOr stamp p x y)

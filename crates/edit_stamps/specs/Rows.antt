@@ -12,7 +12,7 @@ use Rattle.edit_stamps.specs.declared.fault.EditFault.TheVariants.{Nothing, OutO
 use Rattle.edit_stamps.specs.declared.rect.Rect.{Rect}
 use Rattle.edit_stamps.specs.declared.write.Write.{Write}
 use Rattle.edit_stamps.specs.Stamp.{stamp_cmp, stamp_of, stamp_made, counter_of, replica_of}
-use Rattle.edit_stamps.specs.Pasting.{box_of, clear_fault, copy_fault, edit_of_clear, edit_of_copy, edit_of_or, or_fault, placed, state_there}
+use Rattle.edit_stamps.specs.Pasting.{are_placeable, box_of, clear_fault, copy_fault, edit_of_clear, edit_of_copy, edit_of_or, or_fault, placed, state_there}
 use Rattle.edit_stamps.specs.Plane.{is_in_plane}
 use Rattle.edit_stamps.specs.Write.{at_most, greater}
 use Rattle.edit_stamps.specs.Edit.{PlaneEdit, writes_of, greatest}
@@ -164,6 +164,13 @@ written e = map (writes_of e) (at_place (pos 0) (pos 5) ∷ at_place (negsuc 0) 
 
 pub states_of_two_by_two : map (state_there two_by_two (negsuc 0) (pos 5)) (at_place (pos 0) (pos 5) ∷ at_place (negsuc 0) (pos 6) ∷ []) ≡ 3 ∷ 0 ∷ []
 states_of_two_by_two = refl
+
+pub cells_of_two_by_two : placed (negsuc 0) (pos 5) two_by_two.cells ≡ cell (pos 0) (pos 5) 3 ∷ []
+cells_of_two_by_two = refl
+
+-- its live column may be the last of 32 bits, and not one past
+pub placeable_up_to_the_last : map (λ x. are_placeable x (pos 0) two_by_two.cells) (pos 2147483646 ∷ pos 2147483647 ∷ []) ≡ true ∷ false ∷ []
+placeable_up_to_the_last = refl
 
 pub copied : edit_of_copy star_wars 65537 two_by_two (negsuc 0) (pos 5)
     ≡ Ok (record { stamp = 65537; area = Some (rect (negsuc 0) (pos 5) 2 2); cells = cell (pos 0) (pos 5) 3 ∷ [] })

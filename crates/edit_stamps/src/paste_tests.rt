@@ -1,6 +1,6 @@
 //! Pastes and clears of small patterns.
 
-use crate::{Edit, EditFault, Rect, Stamp};
+use crate::{Corner, Edit, EditFault, Rect, Stamp, are_placeable, have_states_below, placed_cells};
 use generations_rule::Rule;
 use multistate_rle::{Cell, Pattern, parse};
 use std::alloc::Global;
@@ -71,6 +71,28 @@ fn refuses_what_leaves_the_plane(rt: HostRuntime) -> Result<(), Fail> {
     assert_eq!(rt; fault_of(or), None);
     let past = Edit::paste_or(alloc, &rule, stamp, &edge, i32::MAX, 0);
     assert_eq!(rt; fault_of(past), Some(EditFault::OutOfPlane));
+    Ok(())
+}
+
+/// Past the plane, up to the last column of 32 bits.
+#[test]
+fn puts_cells_in_place(rt: HostRuntime) -> Result<(), Fail> {
+    let alloc = rt.alloc();
+    let pattern = small(alloc)?;
+    let at = Corner::at(i32::MAX - 2, 5);
+    let placed = if are_placeable(pattern.cells(), at) {
+        placed_cells(alloc, pattern.cells(), at)?
+    } else {
+        Vec::new(alloc)
+    };
+    assert_eq!(rt; placed.len(), 2);
+    assert_eq!(rt;
+        placed.last().map(|cell| (cell.x, cell.y, cell.state)),
+        Some((i32::MAX, 5, 2))
+    );
+    assert!(rt; !are_placeable(pattern.cells(), Corner::at(i32::MAX - 1, 5)));
+    assert!(rt; have_states_below(3, pattern.cells()));
+    assert!(rt; !have_states_below(2, pattern.cells()));
     Ok(())
 }
 
