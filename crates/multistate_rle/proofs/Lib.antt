@@ -16,4 +16,5 @@ pub mod TextBackLaws
 pub mod BoxLaws
 pub mod WholeTextLaws
 pub mod LetterLaws
+pub mod WordLemmas
 pub mod RunLemmas
