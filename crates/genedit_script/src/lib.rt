@@ -7,7 +7,6 @@ mod line;
 mod name;
 mod script;
 mod spelling;
-mod word;
 
 pub use command::{Command, PatternName, PatternText};
 pub use fault::ScriptFault;

@@ -5,7 +5,7 @@ ghost use Rattle.std.specs.Str.Lines.{lines, strip_carriage_return};
 ghost use Rattle.multistate_rle.specs.Position.{words};
 ghost use Rattle.genedit_script.specs.Script.{says_something as says_some_thing, lines_from, past_skipped, begins_comment as is_comment_mark};
 
-use crate::word::split_word;
+use multistate_rle::split_word;
 
 /// A line of a text.
 #[derive(Clone, Copy, Debug)]

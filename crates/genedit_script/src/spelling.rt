@@ -5,13 +5,12 @@ ghost use Rattle.std.specs.Char.{is_ascii_alphanumeric};
 ghost use Rattle.std.specs.List.{list_all};
 ghost use Rattle.multistate_rle.specs.Position.{words};
 ghost use Rattle.genedit_script.specs.declared.command.Command.TheVariants.{Copies, Ors};
-ghost use Rattle.genedit_script.specs.Script.{argument_of as argument_behind, rule_in as rule_of, replicas_in as replicas_of, cell_in as cell_of, cells_in as cells_of, draw_in as draw_of, send_in as sending_of, delivery_in as delivery_of, show_in as show_of, area_in as area_of, clear_in as clear_of, event_in as event_of, is_name as is_pattern_name, name_in as name_of, paste_in as paste_of, command_in as command_of, opened_in as opened_of};
+ghost use Rattle.genedit_script.specs.Script.{argument_of as argument_behind, rule_in as rule_of, replicas_in as replicas_of, cell_in as cell_of, cells_in as cells_of, number_in as number_of, draw_in as draw_of, send_in as sending_of, delivery_in as delivery_of, show_in as show_of, area_in as area_of, clear_in as clear_of, event_in as event_of, is_name as is_pattern_name, name_in as name_of, paste_in as paste_of, command_in as command_of, opened_in as opened_of};
 
 use crate::command::{Command, PatternName};
-use crate::word::{number, signed, split_word, unsigned};
 use edit_stamps::Rect;
 use generations_rule::Rule;
-use multistate_rle::Cell;
+use multistate_rle::{Cell, number, signed, split_word};
 use replica_core::{CellList, EditSpec, Event};
 use std::alloc::{AllocError, Global};
 
@@ -277,6 +276,14 @@ fn cell_in(x: &[u8], y: &[u8], state: &[u8]) -> Option<Cell>
         y,
         state: state as u8,
     })
+}
+
+/// A number of 32 bits.
+fn unsigned(word: &[u8]) -> Option<u32>
+    ensures { result ≡ number_of word.now }
+{
+    let size = number(u64::from(u32::MAX), word)?;
+    Some(size as u32)
 }
 
 /// The word behind a name, in a line of just these two.

@@ -16,5 +16,6 @@ pub mod TextBackLaws
 pub mod BoxLaws
 pub mod WholeTextLaws
 pub mod LetterLaws
+pub mod WordLemmas
 pub mod RunLemmas
 pub mod SideLemmas

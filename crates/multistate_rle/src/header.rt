@@ -3,7 +3,7 @@
 ghost use Rattle.std.specs.Prelude.{◌≡◌, option_map};
 ghost use Rattle.multistate_rle.specs.Header.{header_of, side as side_in, symbol as text_behind, number_in_front, may_end as may_end_with};
 
-use crate::number::number;
+use crate::numbers::number;
 use crate::scan;
 
 /// The sides that a header line `x = w, y = h` names; blanks may stand round each part, and behind

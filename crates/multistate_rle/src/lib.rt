@@ -14,21 +14,24 @@ mod laws;
 mod letters;
 mod line;
 mod lines;
-mod number;
+mod numbers;
 mod origin;
 mod pattern;
 mod reading;
 mod role;
 mod scan;
 mod tokens;
+mod word;
 mod writable;
 mod writing;
 
 pub use cell::Cell;
 pub use fault::RleFault;
 pub use laws::{reading_laws, token_laws};
+pub use numbers::{number, signed};
 pub use pattern::{Pattern, PatternCell};
 pub use reading::parse;
+pub use word::split_word;
 pub use writable::are_writable;
 pub use writing::write;
 

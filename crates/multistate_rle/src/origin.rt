@@ -2,9 +2,9 @@
 
 ghost use Rattle.std.specs.Prelude.{◌≡◌, ◌≤◌, length};
 ghost use Rattle.std.specs.List.{position_or_len};
-ghost use Rattle.multistate_rle.specs.Position.{is_comma, no_items, words, items_in, with_item as one_more, with_position, with_generation, origin_of as origin_in, origin_from, signed as signed_of, position_in, generation_in};
+ghost use Rattle.multistate_rle.specs.Position.{is_comma, no_items, words, items_in, with_item as one_more, with_position, with_generation, origin_of as origin_in, origin_from, position_in, generation_in};
 
-use crate::number::number;
+use crate::numbers::{number, signed};
 use crate::scan;
 
 /// Where a pattern was in its plane, and at which generation.
@@ -122,19 +122,4 @@ fn comma_at(text: &[u8]) -> usize
     ensures within { result ≤ length text.now }
 {
     text.iter().take_while(|byte| **byte != b',').count()
-}
-
-fn signed(word: &[u8]) -> Option<i32>
-    ensures { result ≡ signed_of word.now }
-{
-    match word.split_first() {
-        Some((b'-', digits)) => {
-            let size = number(1 << 31, digits)?;
-            Some(-(size as i64) as i32)
-        }
-        _ => {
-            let size = number(i32::MAX as u64, word)?;
-            Some(size as i32)
-        }
-    }
 }

@@ -27,7 +27,8 @@ pub fn digits_in_front(text: &[u8]) -> usize
 
 /// The text without the blanks in front of it.
 pub fn without_blanks(text: &[u8]) -> &[u8]
-    ensures { result.now ≡ past is_space_or_tab text.now }
+    ensures rest { result.now ≡ past is_space_or_tab text.now }
+    ensures within { length result.now ≤ length text.now }
 {
     &text[blanks_in_front(text)..]
 }

@@ -8,7 +8,7 @@ use Rattle.multistate_rle.proofs.SplitLemmas.{words_trimmed, trimmed_twice, next
 use Rattle.multistate_rle.proofs.origin.items_of.Goals as goal
 
 pub loop-rest-init : goal.loop-rest-init
-loop-rest-init c = rw (c.without_blanks-rest.ensures, c.new-items.ensures) (record { items_are = ap (items_in no_items) (words_trimmed c.args.line.now); trimmed = trimmed_twice c.args.line.now })
+loop-rest-init c = rw (c.without_blanks-rest.ensures.rest, c.new-items.ensures) (record { items_are = ap (items_in no_items) (words_trimmed c.args.line.now); trimmed = trimmed_twice c.args.line.now })
 
 pub returns-in_err-items : goal.returns-in_err-items
 returns-in_err-items c =
@@ -28,8 +28,8 @@ loop-rest-preserved c =
     ap (λ word. with_item word c.loop-rest.items) (sym (c.split_at.ensures.front ∙ ap (λ n. take n c.loop-rest.rest.now) c.word_len.ensures.count)) ∙ sym c.in_ok-items.ensures in
     record {
       items_are =
-          ap (λ later. items_in c.in_ok-items.items (words later)) (c.without_blanks-rest-in-loop-rest.ensures ∙ ap (past is_blank) (c.split_at.ensures.back ∙ ap (λ n. drop n c.loop-rest.rest.now) c.word_len.ensures.count))
+          ap (λ later. items_in c.in_ok-items.items (words later)) (c.without_blanks-rest-in-loop-rest.ensures.rest ∙ ap (past is_blank) (c.split_at.ensures.back ∙ ap (λ n. drop n c.loop-rest.rest.now) c.word_len.ensures.count))
           ∙ sym (ap (λ o. o >=> λ more. items_in more (words (past is_blank (drop (position_or_len is_blank c.loop-rest.rest.now) c.loop-rest.rest.now)))) word)
           ∙ sym (items_step c.loop-rest.rest.now c.loop-rest.items next) ∙ c.loop-rest.invariant.items_are;
-      trimmed = rw c.without_blanks-rest-in-loop-rest.ensures (trimmed_twice c.split_at.result.1.now);
+      trimmed = rw c.without_blanks-rest-in-loop-rest.ensures.rest (trimmed_twice c.split_at.result.1.now);
     }

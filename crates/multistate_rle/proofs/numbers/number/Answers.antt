@@ -1,7 +1,7 @@
 use Rattle.std.proofs.Common.{◌≡◌, ◌<◌, ℕ, arith, length, ◌+◌, get_or, sym, ◌∙◌, true}
 use Rattle.multistate_rle.specs.Bytes.{is_digit}
 use Rattle.multistate_rle.proofs.NumberLemmas.{too_great, past_most, within_most, next_digit, all_digits_more}
-use Rattle.genedit_script.proofs.word.number.Goals as goal
+use Rattle.multistate_rle.proofs.numbers.number.Goals as goal
 
 pub returns-in_err-number : goal.returns-in_err-number
 returns-in_err-number c =

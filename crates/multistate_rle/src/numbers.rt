@@ -2,6 +2,7 @@
 
 ghost use Rattle.std.specs.Prelude.{◌≡◌, ◌+◌, ◌*◌};
 ghost use Rattle.multistate_rle.specs.Bytes.{number as number_of, at_most};
+ghost use Rattle.multistate_rle.specs.Position.{signed as signed_of};
 
 /// A decimal number of at most so much, with any zeros in front, and nothing else.
 pub fn number(most: u64, digits: &[u8]) -> Option<u64>
@@ -18,6 +19,22 @@ pub fn number(most: u64, digits: &[u8]) -> Option<u64>
         number = with_digit(most, number, *digit - b'0')?;
     }
     Some(number)
+}
+
+/// A number of 32 bits, with `-` in front where it is negative.
+pub fn signed(word: &[u8]) -> Option<i32>
+    ensures { result ≡ signed_of word.now }
+{
+    match word.split_first() {
+        Some((b'-', digits)) => {
+            let size = number(1 << 31, digits)?;
+            Some(-(size as i64) as i32)
+        }
+        _ => {
+            let size = number(i32::MAX as u64, word)?;
+            Some(size as i32)
+        }
+    }
 }
 
 /// The number with one digit more, if it is at most so much.

@@ -1,7 +1,7 @@
 use Rattle.std.proofs.Common.{◌≤◌, ◌<◌, arith, length}
 use Rattle.std.proofs.lemmas.Bool.Decides.{nat_tests}
-use Rattle.genedit_script.proofs.WordLemmas.{no_word, first_word, word_has_bytes}
-use Rattle.genedit_script.proofs.word.split_word.Goals as goal
+use Rattle.multistate_rle.proofs.WordLemmas.{no_word, first_word, word_has_bytes}
+use Rattle.multistate_rle.proofs.word.split_word.Goals as goal
 
 pub returns-then-is_empty-clause-word : goal.returns-then-is_empty-clause-word
 returns-then-is_empty-clause-word c =

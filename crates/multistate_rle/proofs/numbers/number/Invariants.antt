@@ -2,7 +2,7 @@ use Rattle.std.proofs.Common.{◌≡◌, ◌≤◌, ℕ, List, take, true}
 use Rattle.std.specs.List.{list_all}
 use Rattle.std.specs.Str.Parse.{digits_value}
 use Rattle.multistate_rle.specs.Bytes.{is_digit}
-use Rattle.genedit_script.proofs.word.number.Given as goal
+use Rattle.multistate_rle.proofs.numbers.number.Given as goal
 
 -- the number of the digits so far
 pub record Reads (digits : List ℕ) (read value most : ℕ) : Type 0 where

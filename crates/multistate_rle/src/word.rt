@@ -1,0 +1,18 @@
+//! The words of a line.
+
+ghost use Rattle.std.specs.Prelude.{◌≡◌, ◌<◌, [], ◌∷◌, length, MatchOption, IfSome};
+ghost use Rattle.multistate_rle.specs.Position.{words};
+
+use crate::scan;
+
+/// The first word of a line, and what stands behind it. Words are parted by spaces and tabs.
+pub fn split_word(line: &[u8]) -> Option<(&[u8], &[u8])>
+    ensures word { MatchOption result (words line.now ≡ []) (λ p. words line.now ≡ p.0.now ∷ words p.1.now) }
+    ensures shorter { IfSome result (λ p. length p.1.now < length line.now) }
+{
+    let rest = scan::without_blanks(line);
+    if rest.is_empty() {
+        return None;
+    }
+    Some(rest.split_at(scan::word_len(rest)))
+}
