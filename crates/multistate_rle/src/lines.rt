@@ -130,27 +130,10 @@ impl Lines {
         ensures { OnOk result (Writes self.old ((digits.now ++ letters_text letters) ∷ []) self.new) }
     {
         let len = digits.len() + letters.len();
-        if self.used + len > LINE_LIMIT {
-            self.text.push(b'\n')?;
-            self.used = 0;
-        }
-        self.put_digits(digits)?;
-        if let Some(prefix) = letters.prefix {
-            self.text.push(prefix)?;
-        }
-        self.text.push(letters.last)?;
+        self.make_room(len)?;
+        self.text.extend_from_slice(digits)?;
+        push_letters(&mut self.text, letters);
         self.used += len;
-        Ok(())
-    }
-
-    fn put_digits(&mut self, digits: &[u8]) -> Result<(), AllocError>
-        ensures text { OnOk result (self.new.text.items ≡ self.old.text.items ++ digits.now) }
-        ensures used { self.new.used ≡ self.old.used }
-        ensures two_states { self.new.two_states ≡ self.old.two_states }
-    {
-        for digit in digits {
-            self.text.push(*digit)?;
-        }
         Ok(())
     }
 
