@@ -92,7 +92,7 @@ impl Lines {
         if count < 10 {
             self.put_short(count as u8, letters)
         } else {
-            self.put_long(Buffer::new().format(count).as_bytes(), letters)
+            self.put_long(count, letters)
         }
     }
 
@@ -124,8 +124,17 @@ impl Lines {
         Ok(())
     }
 
-    /// The digits of any count, and a tag.
-    fn put_long(&mut self, digits: &[u8], letters: Letters) -> Result<(), AllocError>
+    /// A longer count and a tag. It stands apart, so that what writes a short count stays small.
+    #[inline(never)]
+    fn put_long(&mut self, count: u64, letters: Letters) -> Result<(), AllocError>
+        requires { 10 ≤ count }
+        ensures { OnOk result (Writes self.old (spelling count letters ∷ []) self.new) }
+    {
+        self.put_piece(Buffer::new().format(count).as_bytes(), letters)
+    }
+
+    /// The digits of a count, and a tag.
+    fn put_piece(&mut self, digits: &[u8], letters: Letters) -> Result<(), AllocError>
         requires { length digits.now ≤ 20 }
         ensures { OnOk result (Writes self.old ((digits.now ++ letters_text letters) ∷ []) self.new) }
     {
