@@ -1,9 +1,12 @@
 -- Tokens that are written while a run may still grow.
-use Rattle.std.proofs.Common.{◌≡◌, ◌≢◌, ℕ, zero, suc, ◌+◌, ◌-◌, ◌≤◌, ◌^◌, Bool, true, false, List, [], ◌∷◌, ◌++◌, refl, sym, ◌∙◌, ap, arith, append_assoc, map, eq-eqb, subst, drop, length, get_or, ◌<◌, drop-cons, add-one}
+use Rattle.std.proofs.Common.{◌≡◌, ◌≢◌, ℕ, zero, suc, ◌+◌, ◌-◌, ◌≤◌, ◌^◌, Bool, true, false, List, [], ◌∷◌, ◌++◌, refl, sym, ◌∙◌, ap, arith, append_assoc, map, eq-eqb, length-append, subst, drop, length, get_or, ◌<◌, drop-cons, add-one}
 use Rattle.std.specs.Prelude.{◌==◌, ◌&&◌, nat_le, Option, Some, None, if◌then◌else◌, IfSome, unwrap_or, option_map, not, Result, Ok, Err, OnOk, codes}
 use Rattle.std.proofs.lemmas.List.{map-append, drop_all}
 use Rattle.std.proofs.lemmas.Bool.{ne_eqb}
+use Rattle.std.proofs.lemmas.Fmt.{decimal_digit}
 use borrow.Author.Tests.{eqb-true}
+use Rattle.multistate_rle.specs.declared.letters.Letters.{Letters}
+use Rattle.multistate_rle.specs.Letters.{letters_text}
 use Rattle.std.proofs.lemmas.Bool.Decides.{nat_tests}
 use Rattle.multistate_rle.specs.declared.lines.Lines.{Lines}
 use Rattle.multistate_rle.specs.declared.lines.Pen.{Pen}
@@ -15,7 +18,7 @@ use Rattle.multistate_rle.specs.declared.cell.Cell.{Cell}
 use Rattle.multistate_rle.specs.declared.bounds.Bounds.{Bounds}
 use Rattle.multistate_rle.specs.Bounds.{seen_from}
 use Rattle.multistate_rle.specs.Cells.{are_nonzero}
-use Rattle.multistate_rle.specs.Writing.{token_text, filled}
+use Rattle.multistate_rle.specs.Writing.{token_text, filled, count_text, spelling}
 use Rattle.multistate_rle.specs.Filling.{run_tokens, tokens_with, extends, extends_run, Writes, WritesCell, text_with, no_pen}
 
 -- ---- runs
@@ -197,3 +200,35 @@ alive_at cells i d within alive dead =
     let fails : not ((get_or cells i d).state == 0) ≡ false = rw dead refl in
     let none : are_nonzero cells ≡ false = list_all_at (λ (cell : Cell). not (cell.state == 0)) cells i d within fails in
     absurd (cc)
+
+-- ---- one piece
+
+-- a count of one digit
+pub short_count : (count : ℕ) → count ≤ 9 → count ≢ 1 → count_text count ≡ (48 + count) ∷ []
+short_count count short more = rw (ne_eqb count 1 more, decimal_digit count (omega arith)) refl
+
+on_its_line : (fits : Bool) (items piece : List ℕ) (used len : ℕ) (rest : List (List ℕ)) →
+    ((if fits then items else items ++ codes "\n") ++ piece) ++ filled ((if fits then used else 0) + len) rest
+    ≡ items ++ (if fits then piece ++ filled (used + len) rest else codes "\n" ++ piece ++ filled len rest)
+on_its_line true items piece used len rest = append_assoc items piece (filled (used + len) rest)
+on_its_line false items piece used len rest =
+    let none : 0 + len ≡ len = omega arith in
+    append_assoc (items ++ codes "\n") piece (filled (0 + len) rest) ∙ append_assoc items (codes "\n") (piece ++ filled (0 + len) rest)
+    ∙ ap (λ k. items ++ (codes "\n" ++ (piece ++ filled k rest))) none
+
+-- one digit and the letters
+pub short_longer : (count : ℕ) (letters : Letters) → count ≤ 9 → count ≢ 1 → length (spelling count letters) ≡ 1 + length (letters_text letters)
+short_longer count letters short more =
+    length-append (count_text count) (letters_text letters) ∙ ap (λ (digits : List ℕ). length digits + length (letters_text letters)) (short_count count short more)
+
+-- a piece is written where there is room for it, or on the next line
+pub piece_written : (old new : Lines) (piece : List ℕ) (len : ℕ) → length piece ≡ len →
+    new.text.items ≡ (if nat_le (old.used + len) 70 then old.text.items else old.text.items ++ codes "\n") ++ piece →
+    new.used ≡ (if nat_le (old.used + len) 70 then old.used else 0) + len → new.two_states ≡ old.two_states → Writes old (piece ∷ []) new
+piece_written old new piece len long text used two_states = record {
+  text = λ rest.
+      (λ i. text i ++ filled (used i) rest)
+      ∙ on_its_line (nat_le (old.used + len) 70) old.text.items piece old.used len rest
+      ∙ ap (λ k. old.text.items ++ (if nat_le (old.used + k) 70 then piece ++ filled (old.used + k) rest else codes "\n" ++ piece ++ filled k rest)) (sym long);
+  two_states = two_states;
+}

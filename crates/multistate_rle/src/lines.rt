@@ -1,7 +1,8 @@
 //! Tokens, written on lines.
 
-ghost use Rattle.std.specs.Prelude.{◌≡◌, ◌≢◌, ◌≤◌, ◌<◌, ◌^◌, ◌∷◌, ◌++◌, [], OnOk, IfOk, map, length, codes};
-ghost use Rattle.multistate_rle.specs.Writing.{spelling, token_text, filled};
+ghost use Rattle.std.specs.Prelude.{◌≡◌, ◌≢◌, ◌≤◌, ◌<◌, ◌^◌, ◌∷◌, ◌++◌, [], OnOk, IfOk, map, length, codes, vec_len, vec_capacity, ◌+◌};
+ghost use Rattle.multistate_rle.specs.Writing.{count_text, spelling, token_text, filled};
+ghost use Rattle.multistate_rle.specs.Letters.{letters_text};
 ghost use Rattle.multistate_rle.specs.Tokens.{Cells, Rows, gap, tokens_from, skip};
 
 use crate::letters::Letters;
@@ -67,7 +68,7 @@ pub struct Lines {
 }
 
 impl Lines {
-    ghost use Rattle.std.specs.Prelude.{◌≡◌, ◌≢◌, ◌≤◌, ◌∷◌, ◌++◌, [], OnOk, IfOk, map, length, codes};
+    ghost use Rattle.std.specs.Prelude.{◌≡◌, ◌≢◌, ◌≤◌, ◌∷◌, ◌++◌, [], OnOk, IfOk, map, length, codes, if◌then◌else◌, nat_le, vec_len, vec_capacity, ◌+◌};
     ghost use Rattle.multistate_rle.specs.Writing.{spelling, token_text};
     ghost use Rattle.multistate_rle.specs.Letters.{letters_text};
     ghost use Rattle.multistate_rle.specs.Tokens.{Cells, Rows, gap, skip};
@@ -88,40 +89,60 @@ impl Lines {
     pub fn put(&mut self, count: u64, letters: Letters) -> Result<(), AllocError>
         ensures { OnOk result (Writes self.old (spelling count letters ∷ []) self.new) }
     {
-        match count {
-            1 => self.put_piece(&[], letters),
-            2..=9 => self.put_piece(&[b'0' + count as u8], letters),
-            _ => self.put_piece(Buffer::new().format(count).as_bytes(), letters),
+        if count < 10 {
+            self.put_short(count as u8, letters)
+        } else {
+            self.put_long(count, letters)
         }
     }
 
-    /// Digits, most often one or none, and a tag.
+    /// A count of one digit, as nearly all have, and a tag.
+    fn put_short(&mut self, count: u8, letters: Letters) -> Result<(), AllocError>
+        requires { count ≤ 9 }
+        ensures { OnOk result (Writes self.old (spelling count letters ∷ []) self.new) }
+    {
+        let len = digits(count) + letters.len();
+        self.make_room(len)?;
+        push_short(&mut self.text, count, letters);
+        self.used += len;
+        Ok(())
+    }
+
+    /// Makes room for so many bytes, on the next line where this one has none left.
+    fn make_room(&mut self, len: usize) -> Result<(), AllocError>
+        requires { len ≤ 70 }
+        ensures text { OnOk result (self.new.text.items ≡ (if nat_le (self.old.used + len) 70 then self.old.text.items else self.old.text.items ++ codes "\n")) }
+        ensures used { OnOk result (self.new.used ≡ (if nat_le (self.old.used + len) 70 then self.old.used else 0)) }
+        ensures two_states { self.new.two_states ≡ self.old.two_states }
+        ensures room { OnOk result (vec_len self.new.text + len ≤ vec_capacity self.new.text) }
+    {
+        self.text.reserve(len + 1)?;
+        if self.used + len > LINE_LIMIT {
+            self.text.push_reserved(b'\n');
+            self.used = 0;
+        }
+        Ok(())
+    }
+
+    /// A longer count and a tag. It stands apart, so that what writes a short count stays small.
+    #[inline(never)]
+    fn put_long(&mut self, count: u64, letters: Letters) -> Result<(), AllocError>
+        requires { 10 ≤ count }
+        ensures { OnOk result (Writes self.old (spelling count letters ∷ []) self.new) }
+    {
+        self.put_piece(Buffer::new().format(count).as_bytes(), letters)
+    }
+
+    /// The digits of a count, and a tag.
     fn put_piece(&mut self, digits: &[u8], letters: Letters) -> Result<(), AllocError>
         requires { length digits.now ≤ 20 }
         ensures { OnOk result (Writes self.old ((digits.now ++ letters_text letters) ∷ []) self.new) }
     {
         let len = digits.len() + letters.len();
-        if self.used + len > LINE_LIMIT {
-            self.text.push(b'\n')?;
-            self.used = 0;
-        }
-        self.put_digits(digits)?;
-        if let Some(prefix) = letters.prefix {
-            self.text.push(prefix)?;
-        }
-        self.text.push(letters.last)?;
+        self.make_room(len)?;
+        self.text.extend_from_slice(digits)?;
+        push_letters(&mut self.text, letters);
         self.used += len;
-        Ok(())
-    }
-
-    fn put_digits(&mut self, digits: &[u8]) -> Result<(), AllocError>
-        ensures text { OnOk result (self.new.text.items ≡ self.old.text.items ++ digits.now) }
-        ensures used { self.new.used ≡ self.old.used }
-        ensures two_states { self.new.two_states ≡ self.old.two_states }
-    {
-        for digit in digits {
-            self.text.push(*digit)?;
-        }
         Ok(())
     }
 
@@ -205,4 +226,36 @@ impl Lines {
         text.push(b'\n')?;
         Ok(text)
     }
+}
+
+/// How many bytes a count of one digit takes.
+fn digits(count: u8) -> usize
+    requires { count ≤ 9 }
+    ensures value { result ≡ length (count_text count) }
+    ensures few { result ≤ 1 }
+{
+    if count == 1 { 0 } else { 1 }
+}
+
+/// A count of one digit, left out where it is 1, and a tag, where there is room for them.
+fn push_short(text: &mut Vec<u8>, count: u8, letters: Letters)
+    requires count { count ≤ 9 }
+    requires room { vec_len text.old + length (spelling count letters) ≤ vec_capacity text.old }
+    ensures { text.new.items ≡ text.old.items ++ spelling count letters }
+{
+    if count == 1 {
+        return push_letters(text, letters);
+    }
+    text.push_reserved(b'0' + count);
+    push_letters(text, letters)
+}
+
+fn push_letters(text: &mut Vec<u8>, letters: Letters)
+    requires { vec_len text.old + length (letters_text letters) ≤ vec_capacity text.old }
+    ensures { text.new.items ≡ text.old.items ++ letters_text letters }
+{
+    if let Some(prefix) = letters.prefix {
+        text.push_reserved(prefix);
+    }
+    text.push_reserved(letters.last);
 }
