@@ -32,10 +32,10 @@ byte_stays text place byte within is above =
     ap (left Inside) (byte_at text place within ∙ ap (λ c. (place, c) ∷ enumerate_from (place + 1) (drop (place + 1) text)) is)
     ∙ left_keeps Inside Inside (place, byte) (enumerate_from (place + 1) (drop (place + 1) text)) (rw (lf, cr) refl) (rw (space, tab, lf, cr) refl)
 
-pub nothing_begun : (text : List ℕ) (start : ℕ) (b : Begun) → start ≤ length text → b ≡ fresh → Begins text start fresh start b
+nothing_begun : (text : List ℕ) (start : ℕ) (b : Begun) → start ≤ length text → b ≡ fresh → Begins text start fresh start b
 nothing_begun text start b within is = record { behind = omega arith; within = within; same = λ end pen. ap (λ b. tokens_of end (left_from text start) b pen) is }
 
-pub digit_begun : (text : List ℕ) (start place byte : ℕ) (b new : Begun) → Begins text start fresh place b → b.prefix ≡ None → place < length text → get_or text place 0 ≡ byte → is_digit byte ≡ true →
+digit_begun : (text : List ℕ) (start place byte : ℕ) (b new : Begun) → Begins text start fresh place b → b.prefix ≡ None → place < length text → get_or text place 0 ≡ byte → is_digit byte ≡ true →
     new ≡ capped (with_digit place (byte - 48) b) → Begins text start fresh (place + 1) new
 digit_begun text start place byte b new so_far none within is digit kept =
     let parts = and_parts (nat_le 48 byte) (nat_le byte 57) digit in
@@ -87,7 +87,7 @@ uncounted text start within = record {
   place_is = refl;
 }
 
-pub prefix_begun : (text : List ℕ) (start place byte : ℕ) (b new : Begun) → Begins text start fresh place b → b.prefix ≡ None → place < length text → get_or text place 0 ≡ byte → is_prefix byte ≡ true →
+prefix_begun : (text : List ℕ) (start place byte : ℕ) (b new : Begun) → Begins text start fresh place b → b.prefix ≡ None → place < length text → get_or text place 0 ≡ byte → is_prefix byte ≡ true →
     new ≡ with_prefix place (byte - 111) b → Begins text start fresh (place + 1) new
 prefix_begun text start place byte b new so_far none within is prefix kept =
     let parts = and_parts (nat_le 112 byte) (nat_le byte 121) prefix in

@@ -36,13 +36,19 @@ pub height_with_run : (cells : List PatternCell) (n s column row : ℕ) → 1 �
 height_with_run cells n s column row some =
     fold-append (λ n cell. max n (cell.row + 1)) 0 cells (run n s column row) ∙ height_run_if (s == 0) n s column row (height_of 0 cells) some
 
--- the sides beside those of a header
-pub width_beside : (w : ℕ) (cells : List PatternCell) → width_of w cells ≡ max w (width_of 0 cells)
+width_beside : (w : ℕ) (cells : List PatternCell) → width_of w cells ≡ max w (width_of 0 cells)
 width_beside w [] = omega arith
 width_beside w (cell ∷ cells) =
     width_beside (max w (cell.column + 1)) cells ∙ omega arith ∙ ap (max w) (sym (width_beside (max 0 (cell.column + 1)) cells))
 
-pub height_beside : (h : ℕ) (cells : List PatternCell) → height_of h cells ≡ max h (height_of 0 cells)
+height_beside : (h : ℕ) (cells : List PatternCell) → height_of h cells ≡ max h (height_of 0 cells)
 height_beside h [] = omega arith
 height_beside h (cell ∷ cells) =
     height_beside (max h (cell.row + 1)) cells ∙ omega arith ∙ ap (max h) (sym (height_beside (max 0 (cell.row + 1)) cells))
+
+-- the sides beside those of a header
+pub width_is : (side w drawn : ℕ) (cells : List PatternCell) → side ≡ max w drawn → drawn ≡ width_of 0 cells → side ≡ width_of w cells
+width_is side w drawn cells most wide = most ∙ ap (max w) wide ∙ sym (width_beside w cells)
+
+pub height_is : (side h drawn : ℕ) (cells : List PatternCell) → side ≡ max h drawn → drawn ≡ height_of 0 cells → side ≡ height_of h cells
+height_is side h drawn cells most high = most ∙ ap (max h) high ∙ sym (height_beside h cells)
