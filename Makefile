@@ -1,4 +1,4 @@
-.PHONY: test run bench
+.PHONY: test run bench memory
 
 # Everything that must pass: each crate's proofs and tests from nothing, the edits that the prover
 # must refuse, each program's stored run, and then the example scripts through the built program.
@@ -18,3 +18,7 @@ bench:
 	@cd crates/replica_bench && rt run -- --time
 	@cd crates/world_bench && rt run -- --time
 	@examples/measure
+
+# Runs each call that takes memory with each allocation refused in turn. Needs a C compiler.
+memory:
+	@examples/refuse

@@ -1,0 +1,75 @@
+//! Makes each public call that takes memory, once more where memory was refused, and tells whether it
+//! answers as it is meant to. With any one allocation refused the lines have to be the same.
+#![tactic(auto)]
+
+mod edits;
+mod planes;
+mod replicas;
+mod scripts;
+mod texts;
+
+use std::alloc::{AllocGlobal, Global};
+use std::io;
+
+fn main(rt: HostRuntime) -> io::Result<()> {
+    let alloc = rt.alloc();
+    tell_texts(&rt, alloc)?;
+    tell_edits(&rt, alloc)?;
+    tell_planes(&rt, alloc)?;
+    tell_replicas(&rt, alloc)?;
+    tell_scripts(&rt, alloc)
+}
+
+fn tell_texts(rt: &impl Print, alloc: Global) -> io::Result<()> {
+    tell(rt, "Rule::write_text", texts::rule_is_written(alloc))?;
+    tell(rt, "parse", texts::pattern_is_read(alloc))?;
+    tell(rt, "parse of a fault", texts::fault_is_told(alloc))?;
+    tell(rt, "Pattern::copy", texts::pattern_is_copied(alloc))?;
+    tell(rt, "write", texts::cells_are_written(alloc))
+}
+
+fn tell_edits(rt: &impl Print, alloc: Global) -> io::Result<()> {
+    tell(rt, "Edit::cells", edits::cells_are_drawn(alloc))?;
+    tell(rt, "Edit::cells refused", edits::no_cell_is_refused(alloc))?;
+    tell(rt, "Edit::paste_copy", edits::pattern_is_copied(alloc))?;
+    tell(rt, "Edit::paste_or", edits::pattern_is_ored(alloc))?;
+    tell(rt, "Edit::copy", edits::edit_is_copied(alloc))
+}
+
+fn tell_planes(rt: &impl Print, alloc: Global) -> io::Result<()> {
+    tell(rt, "Plane::join_edit", planes::edit_is_joined(alloc))?;
+    tell(rt, "Plane::join_edits", planes::edits_are_joined(alloc))?;
+    tell(rt, "Plane::join", planes::plane_is_joined(alloc))?;
+    tell(rt, "Plane::copy", planes::plane_is_copied(alloc))?;
+    tell(rt, "Journal::push", planes::edit_is_noted(alloc))?;
+    tell(rt, "Journal::fresh, append", planes::edits_are_noted(alloc))
+}
+
+fn tell_replicas(rt: &impl Print, alloc: Global) -> io::Result<()> {
+    tell(rt, "Replica::draw", replicas::edit_is_drawn(alloc))?;
+    tell(
+        rt,
+        "Replica::draw refused",
+        replicas::state_is_refused(alloc),
+    )?;
+    tell(rt, "Replica::snapshot, take", replicas::map_is_taken(alloc))?;
+    tell(
+        rt,
+        "Replica::take of edits",
+        replicas::edits_are_taken(alloc),
+    )?;
+    tell(rt, "World::new", replicas::world_is_new(alloc))?;
+    tell(rt, "replay", replicas::events_are_run(alloc))
+}
+
+fn tell_scripts(rt: &impl Print, alloc: Global) -> io::Result<()> {
+    tell(rt, "pull_all", scripts::bytes_are_pulled(alloc))?;
+    tell(rt, "read_script", scripts::script_is_read(alloc))?;
+    tell(rt, "run_script", scripts::script_is_run(alloc))?;
+    tell(rt, "rle_text", scripts::text_is_written(alloc))
+}
+
+fn tell(rt: &impl Print, call: &str, meant: bool) -> io::Result<()> {
+    let answer = if meant { "as meant" } else { "NOT as meant" };
+    println!(rt; "{call}: {answer}")
+}
