@@ -204,8 +204,8 @@ alive_at cells i d within alive dead =
 -- ---- one piece
 
 -- a count of one digit
-pub short_count : (count : ℕ) → count ≤ 9 → count ≢ 1 → count_text count ≡ (48 + count) ∷ []
-short_count count short more = rw (ne_eqb count 1 more, decimal_digit count (omega arith)) refl
+pub short_count : (count : ℕ) → count ≤ 9 → (count == 1) ≡ false → count_text count ≡ (48 + count) ∷ []
+short_count count short more = rw (more, decimal_digit count (omega arith)) refl
 
 on_its_line : (fits : Bool) (items piece : List ℕ) (used len : ℕ) (rest : List (List ℕ)) →
     ((if fits then items else items ++ codes "\n") ++ piece) ++ filled ((if fits then used else 0) + len) rest
@@ -217,7 +217,7 @@ on_its_line false items piece used len rest =
     ∙ ap (λ k. items ++ (codes "\n" ++ (piece ++ filled k rest))) none
 
 -- one digit and the letters
-pub short_longer : (count : ℕ) (letters : Letters) → count ≤ 9 → count ≢ 1 → length (spelling count letters) ≡ 1 + length (letters_text letters)
+pub short_longer : (count : ℕ) (letters : Letters) → count ≤ 9 → (count == 1) ≡ false → length (spelling count letters) ≡ 1 + length (letters_text letters)
 short_longer count letters short more =
     length-append (count_text count) (letters_text letters) ∙ ap (λ (digits : List ℕ). length digits + length (letters_text letters)) (short_count count short more)
 

@@ -1,6 +1,6 @@
 //! Tokens, written on lines.
 
-ghost use Rattle.std.specs.Prelude.{◌≡◌, ◌≢◌, ◌≤◌, ◌<◌, ◌^◌, ◌∷◌, ◌++◌, [], OnOk, IfOk, map, length, codes, vec_len, vec_capacity, ◌+◌};
+ghost use Rattle.std.specs.Prelude.{◌≡◌, ◌≢◌, ◌≤◌, ◌<◌, ◌^◌, ◌∷◌, ◌++◌, [], OnOk, IfOk, map, length, codes, vec_len, vec_capacity, ◌+◌, ◌==◌};
 ghost use Rattle.multistate_rle.specs.Writing.{count_text, spelling, token_text, filled};
 ghost use Rattle.multistate_rle.specs.Letters.{letters_text};
 ghost use Rattle.multistate_rle.specs.Tokens.{Cells, Rows, gap, tokens_from, skip};
@@ -12,6 +12,9 @@ use std::alloc::AllocError;
 
 /// The greatest length of a line.
 const LINE_LIMIT: usize = 70;
+
+/// The count that is not written.
+const LEFT_OUT: u8 = 1;
 
 /// A run of cells of one state, which the next cell may make longer.
 #[derive(Clone, Copy, Debug, PartialEq, Eq)]
@@ -228,13 +231,19 @@ impl Lines {
     }
 }
 
+fn is_left_out(count: u8) -> bool
+    ensures { result ≡ (count == 1) }
+{
+    count == LEFT_OUT
+}
+
 /// How many bytes a count of one digit takes.
 fn digits(count: u8) -> usize
     requires { count ≤ 9 }
     ensures value { result ≡ length (count_text count) }
     ensures few { result ≤ 1 }
 {
-    if count == 1 { 0 } else { 1 }
+    if is_left_out(count) { 0 } else { 1 }
 }
 
 /// A count of one digit, left out where it is 1, and a tag, where there is room for them.
@@ -243,7 +252,7 @@ fn push_short(text: &mut Vec<u8>, count: u8, letters: Letters)
     requires room { vec_len text.old + length (spelling count letters) ≤ vec_capacity text.old }
     ensures { text.new.items ≡ text.old.items ++ spelling count letters }
 {
-    if count == 1 {
+    if is_left_out(count) {
         return push_letters(text, letters);
     }
     text.push_reserved(b'0' + count);

@@ -2,5 +2,5 @@ use Rattle.std.proofs.Common.{ap, sym, length}
 use Rattle.multistate_rle.proofs.FillLemmas.{short_count}
 use Rattle.multistate_rle.proofs.lines.digits.Goals as goal
 
-pub returns-else-count-eq1-clause-value : goal.returns-else-count-eq1-clause-value
-returns-else-count-eq1-clause-value c = ap length (sym (short_count c.args.count c.requires c.if-count-eq1.false))
+pub returns-else-is_left_out-clause-value : goal.returns-else-is_left_out-clause-value
+returns-else-is_left_out-clause-value c = ap length (sym (short_count c.args.count c.requires (sym c.if-is_left_out.ensures)))

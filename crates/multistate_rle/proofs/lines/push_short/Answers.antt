@@ -6,7 +6,7 @@ use Rattle.multistate_rle.proofs.lines.push_short.Goals as goal
 
 pub push_letters-requires-2 : goal.push_letters-requires-2
 push_letters-requires-2 c =
-    let long : length (spelling c.args.count c.args.letters) ≡ 1 + length (letters_text c.args.letters) = short_longer c.args.count c.args.letters c.requires.count c.if-count-eq1.false in
+    let long : length (spelling c.args.count c.args.letters) ≡ 1 + length (letters_text c.args.letters) = short_longer c.args.count c.args.letters c.requires.count (sym c.if-is_left_out.ensures) in
     rw (c.push_reserved.ensures.len, c.push_reserved.ensures.capacity) (omega (arith, long, c.requires.room))
 
 pub returns : goal.returns
@@ -16,4 +16,4 @@ returns c =
     c.push_letters-2.ensures
     ∙ ap (λ front. front ++ letters) c.push_reserved.ensures.items
     ∙ append_assoc items ((48 + c.args.count) ∷ []) letters
-    ∙ ap (λ count. items ++ (count ++ letters)) (sym (short_count c.args.count c.requires.count c.if-count-eq1.false))
+    ∙ ap (λ count. items ++ (count ++ letters)) (sym (short_count c.args.count c.requires.count (sym c.if-is_left_out.ensures)))
