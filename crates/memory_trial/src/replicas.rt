@@ -1,5 +1,8 @@
 //! Replicas and worlds.
 
+ghost use Rattle.std.specs.Prelude.{◌≡◌, [], IfSome, IsTrue};
+ghost use Rattle.edit_stamps.specs.Edit.{has_states_below};
+
 use crate::edits;
 use edit_stamps::{Edit, EditFault, Stamp};
 use generations_rule::Rule;
@@ -94,22 +97,32 @@ pub fn map_is_taken(alloc: Global) -> bool {
 }
 
 /// A list with room for one.
-fn room<T: Drop>(alloc: Global) -> Option<Vec<T>> {
+fn room<T: Drop>(alloc: Global) -> Option<Vec<T>>
+    ensures { IfSome result (λ list. list.items ≡ []) }
+{
     match Vec::with_capacity(alloc, 1) {
         Ok(list) => Some(list),
         Err(AllocError) => Vec::with_capacity(alloc, 1).ok(),
     }
 }
 
-/// A message of one edit of replica 3.
-fn message(alloc: Global) -> Option<Message> {
-    let rule = Rule::parse(b"345/2/4").ok()?;
+/// An edit of replica 3.
+fn edit(alloc: Global, rule: &Rule) -> Option<Edit>
+    ensures { IfSome result (λ edit. IsTrue (has_states_below rule.now.states edit)) }
+{
     let stamp = Stamp::new(7, 3)?;
     let cells = [edits::cell(0, 2), edits::cell(1, 3)];
-    let edit = match Edit::cells(alloc, &rule, stamp, &cells) {
-        Ok(edit) => edit,
-        Err(_) => Edit::cells(alloc, &rule, stamp, &cells).ok()?,
-    };
+    match Edit::cells(alloc, rule, stamp, &cells) {
+        Ok(edit) => Some(edit),
+        Err(EditFault::Memory) => Edit::cells(alloc, rule, stamp, &cells).ok(),
+        Err(_) => None,
+    }
+}
+
+/// A message of one edit.
+fn message(alloc: Global) -> Option<Message> {
+    let rule = Rule::parse(b"345/2/4").ok()?;
+    let edit = edit(alloc, &rule)?;
     let mut edits = room(alloc)?;
     edits.push(edit).ok()?;
     Some(Message::of_edits(rule, edits))
