@@ -1,5 +1,5 @@
 -- What a run does to the source that it pulls from and to the sink that it pushes to.
-use Rattle.std.specs.Prelude.{◌≡◌, ℕ, ◌≤◌, List, length, Option, ⊤}
+use Rattle.std.specs.Prelude.{◌≡◌, ℕ, ◌≤◌, ◌⊎◌, List, length, Option, ⊤}
 use Rattle.std.specs.Io.KnownBytes.{Consumes, IsAtEnd}
 use Rattle.replica_core.specs.Device.{one_more, so_many_more}
 use Rattle.genedit_io.specs.declared.fault.RunFault.{RunFault}
@@ -44,6 +44,16 @@ IsFaultOfPulls turns (Script line) old new = ⊥
 IsFaultOfPulls turns (Refused number place) old new = ⊥
 IsFaultOfPulls turns Write old new = ⊥
 IsFaultOfPulls turns StoreFull old new = ⊥
+
+-- how many pulls gave nothing after a fault: a script or a text is looked at only when the source's end was met
+abbrev pub MeetsEnd : RunFault → ℕ → ℕ → Type 0
+MeetsEnd Read old new = new ≡ old
+MeetsEnd Turns old new = new ≡ old
+MeetsEnd (Script line) old new = new ≡ one_more old
+MeetsEnd (Refused number place) old new = new ≡ one_more old
+MeetsEnd Write old new = new ≡ one_more old
+MeetsEnd StoreFull old new = new ≡ one_more old
+MeetsEnd Memory old new = (new ≡ old) ⊎ (new ≡ one_more old)
 
 -- how often a source has failed after a fault
 abbrev pub source_failures : RunFault → ℕ → ℕ

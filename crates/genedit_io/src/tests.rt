@@ -62,5 +62,6 @@ fn all_bytes_are_pulled(rt: HostRuntime) {
             Err(fault) => assert_eq!(rt; (fault, all), (RunFault::Turns, false)),
         }
         assert_eq!(rt; source.pulls(), turns.min(4));
+        assert_eq!(rt; source.empty_pulls(), u64::from(all));
     }
 }

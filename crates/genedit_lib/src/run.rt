@@ -3,7 +3,8 @@
 ghost use Rattle.std.specs.Prelude.{◌≡◌, ◌^◌, ℕ, List, OnOk, IfOk, IfErr};
 ghost use Rattle.std.specs.Io.KnownBytes.{Appends};
 ghost use Rattle.replica_core.specs.declared.event.Stop.TheVariants as stops;
-ghost use Rattle.genedit_io.specs.Devices.{IsPulled, LeavesSink, fewest_pulls, sink_failures, source_failures};
+ghost use Rattle.replica_core.specs.Device.{one_more};
+ghost use Rattle.genedit_io.specs.Devices.{IsPulled, LeavesSink, MeetsEnd, fewest_pulls, sink_failures, source_failures};
 ghost use Rattle.genedit_lib.specs.Output.{IsScriptOutput};
 ghost use Rattle.genedit_lib.specs.Run.{IsFaultOfRun, IsFaultOfText, Prints, PrintsAs, run_fault_of};
 
@@ -31,8 +32,10 @@ pub fn run_script<S: Source, K: Sink>(
     ensures printed { OnOk result ((out : List ℕ) × Prints (S.left source.old) (S.left source.new) out × Appends (K.held sink.old) (K.held sink.new) out) }
     ensures works { OnOk result ((S.failures source.new ≡ S.failures source.old) × (K.failures sink.new ≡ K.failures sink.old)) }
     ensures pulls { OnOk result (IsPulled 1 (2 ^ 32) (S.pulls source.old) (S.pulls source.new)) }
+    ensures end { OnOk result (S.empty_pulls source.new ≡ one_more (S.empty_pulls source.old)) }
     ensures fault { IfErr result (λ fault. IsFaultOfRun (2 ^ 32) fault (S.left source.old) (S.left source.new)) }
     ensures pulls_before { IfErr result (λ fault. IsPulled (fewest_pulls (2 ^ 32) fault) (2 ^ 32) (S.pulls source.old) (S.pulls source.new)) }
+    ensures end_before { IfErr result (λ fault. MeetsEnd fault (S.empty_pulls source.old) (S.empty_pulls source.new)) }
     ensures source_failures { IfErr result (λ fault. S.failures source.new ≡ source_failures fault (S.failures source.old)) }
     ensures sink_failures { IfErr result (λ fault. K.failures sink.new ≡ sink_failures fault (K.failures sink.old)) }
     ensures kept { IfErr result (λ fault. LeavesSink fault sink.old sink.new) }
@@ -50,8 +53,10 @@ pub fn run_script_within<S: Source, K: Sink>(
     ensures printed { OnOk result ((out : List ℕ) × Prints (S.left source.old) (S.left source.new) out × Appends (K.held sink.old) (K.held sink.new) out) }
     ensures works { OnOk result ((S.failures source.new ≡ S.failures source.old) × (K.failures sink.new ≡ K.failures sink.old)) }
     ensures pulls { OnOk result (IsPulled 1 turns (S.pulls source.old) (S.pulls source.new)) }
+    ensures end { OnOk result (S.empty_pulls source.new ≡ one_more (S.empty_pulls source.old)) }
     ensures fault { IfErr result (λ fault. IsFaultOfRun turns fault (S.left source.old) (S.left source.new)) }
     ensures pulls_before { IfErr result (λ fault. IsPulled (fewest_pulls turns fault) turns (S.pulls source.old) (S.pulls source.new)) }
+    ensures end_before { IfErr result (λ fault. MeetsEnd fault (S.empty_pulls source.old) (S.empty_pulls source.new)) }
     ensures source_failures { IfErr result (λ fault. S.failures source.new ≡ source_failures fault (S.failures source.old)) }
     ensures sink_failures { IfErr result (λ fault. K.failures sink.new ≡ sink_failures fault (K.failures sink.old)) }
     ensures kept { IfErr result (λ fault. LeavesSink fault sink.old sink.new) }

@@ -13,6 +13,7 @@ struct Pieces<'a> {
     size: usize,
     fails_at: u64,
     pulls: u64,
+    empty_pulls: u64,
     failures: u64,
 }
 
@@ -23,6 +24,7 @@ impl<'a> Pieces<'a> {
             size,
             fails_at,
             pulls: 0,
+            empty_pulls: 0,
             failures: 0,
         }
     }
@@ -30,6 +32,8 @@ impl<'a> Pieces<'a> {
 
 impl Source for Pieces<'_> {
     ghost pulls = { λ s. s.pulls };
+
+    ghost empty_pulls = { λ s. s.empty_pulls };
 
     ghost failures = { λ s. s.failures };
 
@@ -44,6 +48,9 @@ impl Source for Pieces<'_> {
         let count = self.size.min(piece.len()).min(self.rest.len());
         piece[..count].copy_from_slice(&self.rest[..count]);
         self.rest = &self.rest[count..];
+        if count == 0 {
+            self.empty_pulls = self.empty_pulls.saturating_add(1);
+        }
         Ok(count)
     }
 }
@@ -182,6 +189,7 @@ fn turns_end(rt: HostRuntime) {
         let (end, out) = run_within(rt.alloc(), &mut source, turns);
         assert_eq!(rt; end, want, "{turns}");
         assert_eq!(rt; source.pulls, turns);
+        assert_eq!(rt; source.empty_pulls, u64::from(turns == 22));
         assert_eq!(rt; out.len(), 0, "{turns}");
     }
 }
@@ -195,6 +203,7 @@ fn failed_reads_are_told(rt: HostRuntime) {
         let (end, out) = run_within(rt.alloc(), &mut source, 100);
         assert_eq!(rt; end, Err(RunFault::Read), "{fails_at}");
         assert_eq!(rt; source.pulls, fails_at);
+        assert_eq!(rt; source.empty_pulls, 0, "{fails_at}");
         assert_eq!(rt; source.failures, 1, "{fails_at}");
         assert_eq!(rt; out.len(), 0, "{fails_at}");
     }

@@ -2,7 +2,8 @@
 
 ghost use Rattle.std.specs.Prelude.{◌≡◌, ◌^◌, ℕ, List, OnOk, IfOk, IfErr, Ok};
 ghost use Rattle.std.specs.Io.KnownBytes.{Appends};
-ghost use Rattle.genedit_io.specs.Devices.{IsPulled, LeavesSink, fewest_pulls, sink_failures, source_failures};
+ghost use Rattle.replica_core.specs.Device.{one_more};
+ghost use Rattle.genedit_io.specs.Devices.{IsPulled, LeavesSink, MeetsEnd, fewest_pulls, sink_failures, source_failures};
 ghost use Rattle.genedit_rle.specs.Canonical.{canonical};
 ghost use Rattle.genedit_rle.specs.Run.{IsFaultOfRun, IsFaultOfText, Prints};
 
@@ -33,8 +34,10 @@ pub fn rle_text<S: Source, K: Sink>(
     ensures printed { OnOk result ((out : List ℕ) × Prints rule.now (S.left source.old) (S.left source.new) out × Appends (K.held sink.old) (K.held sink.new) out) }
     ensures works { OnOk result ((S.failures source.new ≡ S.failures source.old) × (K.failures sink.new ≡ K.failures sink.old)) }
     ensures pulls { OnOk result (IsPulled 1 (2 ^ 32) (S.pulls source.old) (S.pulls source.new)) }
+    ensures end { OnOk result (S.empty_pulls source.new ≡ one_more (S.empty_pulls source.old)) }
     ensures fault { IfErr result (λ fault. IsFaultOfRun rule.now (2 ^ 32) fault (S.left source.old) (S.left source.new)) }
     ensures pulls_before { IfErr result (λ fault. IsPulled (fewest_pulls (2 ^ 32) fault) (2 ^ 32) (S.pulls source.old) (S.pulls source.new)) }
+    ensures end_before { IfErr result (λ fault. MeetsEnd fault (S.empty_pulls source.old) (S.empty_pulls source.new)) }
     ensures source_failures { IfErr result (λ fault. S.failures source.new ≡ source_failures fault (S.failures source.old)) }
     ensures sink_failures { IfErr result (λ fault. K.failures sink.new ≡ sink_failures fault (K.failures sink.old)) }
     ensures kept { IfErr result (λ fault. LeavesSink fault sink.old sink.new) }
@@ -53,8 +56,10 @@ pub fn rle_text_within<S: Source, K: Sink>(
     ensures printed { OnOk result ((out : List ℕ) × Prints rule.now (S.left source.old) (S.left source.new) out × Appends (K.held sink.old) (K.held sink.new) out) }
     ensures works { OnOk result ((S.failures source.new ≡ S.failures source.old) × (K.failures sink.new ≡ K.failures sink.old)) }
     ensures pulls { OnOk result (IsPulled 1 turns (S.pulls source.old) (S.pulls source.new)) }
+    ensures end { OnOk result (S.empty_pulls source.new ≡ one_more (S.empty_pulls source.old)) }
     ensures fault { IfErr result (λ fault. IsFaultOfRun rule.now turns fault (S.left source.old) (S.left source.new)) }
     ensures pulls_before { IfErr result (λ fault. IsPulled (fewest_pulls turns fault) turns (S.pulls source.old) (S.pulls source.new)) }
+    ensures end_before { IfErr result (λ fault. MeetsEnd fault (S.empty_pulls source.old) (S.empty_pulls source.new)) }
     ensures source_failures { IfErr result (λ fault. S.failures source.new ≡ source_failures fault (S.failures source.old)) }
     ensures sink_failures { IfErr result (λ fault. K.failures sink.new ≡ sink_failures fault (K.failures sink.old)) }
     ensures kept { IfErr result (λ fault. LeavesSink fault sink.old sink.new) }

@@ -15,6 +15,7 @@ struct Pieces<'a> {
     size: usize,
     fails_at: u64,
     pulls: u64,
+    empty_pulls: u64,
     failures: u64,
 }
 
@@ -25,6 +26,7 @@ impl<'a> Pieces<'a> {
             size,
             fails_at,
             pulls: 0,
+            empty_pulls: 0,
             failures: 0,
         }
     }
@@ -32,6 +34,8 @@ impl<'a> Pieces<'a> {
 
 impl Source for Pieces<'_> {
     ghost pulls = { λ s. s.pulls };
+
+    ghost empty_pulls = { λ s. s.empty_pulls };
 
     ghost failures = { λ s. s.failures };
 
@@ -46,6 +50,9 @@ impl Source for Pieces<'_> {
         let count = self.size.min(piece.len()).min(self.rest.len());
         piece[..count].copy_from_slice(&self.rest[..count]);
         self.rest = &self.rest[count..];
+        if count == 0 {
+            self.empty_pulls = self.empty_pulls.saturating_add(1);
+        }
         Ok(count)
     }
 }
@@ -192,6 +199,7 @@ fn turns_end(rt: HostRuntime) -> Result<(), Fail> {
         let mut source = Pieces::of(text, 1, 0);
         let (end, out) = form_within(rt.alloc(), &rule, &mut source, turns);
         assert_eq!(rt; source.pulls, turns.min(16));
+        assert_eq!(rt; source.empty_pulls, u64::from(ends));
         assert_eq!(rt; end == Err(RunFault::Turns), !ends, "{turns}");
         assert_eq!(rt; end == Ok(()), ends, "{turns}");
         assert_eq!(rt; out.is_empty(), !ends, "{turns}");
@@ -208,6 +216,7 @@ fn failed_reads_are_told(rt: HostRuntime) -> Result<(), Fail> {
         let (end, out) = form_within(rt.alloc(), &rule, &mut source, 100);
         assert_eq!(rt; end, Err(RunFault::Read), "{fails_at}");
         assert_eq!(rt; source.pulls, fails_at);
+        assert_eq!(rt; source.empty_pulls, 0, "{fails_at}");
         assert_eq!(rt; source.failures, 1, "{fails_at}");
         assert_eq!(rt; out.len(), 0, "{fails_at}");
     }

@@ -10,16 +10,18 @@ use std::io::Read;
 pub struct ReadSource<R> {
     reader: R,
     pulls: u64,
+    empty_pulls: u64,
     failures: u64,
 }
 
 impl<R: Read> ReadSource<R> {
     pub fn new(reader: R) -> ReadSource<R>
-        ensures { result ≡ record { reader = reader; pulls = 0; failures = 0 } }
+        ensures { result ≡ record { reader = reader; pulls = 0; empty_pulls = 0; failures = 0 } }
     {
         ReadSource {
             reader,
             pulls: 0,
+            empty_pulls: 0,
             failures: 0,
         }
     }
@@ -29,6 +31,13 @@ impl<R: Read> ReadSource<R> {
         ensures { result ≡ self.now.pulls }
     {
         self.pulls
+    }
+
+    /// How many of its pulls gave nothing.
+    pub fn empty_pulls(&self) -> u64
+        ensures { result ≡ self.now.empty_pulls }
+    {
+        self.empty_pulls
     }
 
     /// How often it failed.
@@ -42,6 +51,8 @@ impl<R: Read> ReadSource<R> {
 impl<R: Read> Source for ReadSource<R> {
     ghost pulls = { λ s. s.pulls };
 
+    ghost empty_pulls = { λ s. s.empty_pulls };
+
     ghost failures = { λ s. s.failures };
 
     ghost left = { λ s. R.remaining s.reader };
@@ -49,6 +60,10 @@ impl<R: Read> Source for ReadSource<R> {
     fn pull(&mut self, piece: &mut [u8]) -> Result<usize, Failed> {
         count(&mut self.pulls);
         match self.reader.read(piece) {
+            Ok(0) => {
+                count(&mut self.empty_pulls);
+                Ok(0)
+            }
             Ok(read) => Ok(read),
             Err(_) => {
                 count(&mut self.failures);

@@ -9,5 +9,6 @@ invariant-loop-turn g l = record {
   bytes : Consumes (g.S.Source.left l.fn.source) (g.S.Source.left l.source) l.text.items;
   works : g.S.Source.failures l.source ≡ g.S.Source.failures l.fn.source;
   counted : g.S.Source.pulls l.source ≡ so_many_more l._turn (g.S.Source.pulls l.fn.source);
+  no_end : g.S.Source.empty_pulls l.source ≡ g.S.Source.empty_pulls l.fn.source;
   many : l._turn ≤ length l.text.items;
 }
