@@ -18,7 +18,7 @@ use Rattle.edit_stamps.specs.declared.rect.Rect.{Rect}
 use Rattle.edit_stamps.specs.Edit.{IsEdit, fits_area, most_side}
 use Rattle.edit_stamps.specs.Making.{are_in_plane}
 use Rattle.edit_stamps.specs.Pasting.{are_placeable, box_of, clear_fault, copy_fault, is_too_wide, or_fault, placed, placed_cell}
-use Rattle.edit_stamps.specs.Plane.{is_coordinate, is_side, is_in, is_in_plane, is_area_in_plane, is_empty}
+use Rattle.edit_stamps.specs.Plane.{is_coordinate, is_plane_coordinate, is_in, is_in_plane, is_area_in_plane, is_empty}
 use Rattle.edit_stamps.specs.Stamp.{is_stamp}
 
 -- ---- tests of placed cells
@@ -31,7 +31,7 @@ pub below_placed : (states : ℕ) (x y : ℤ) (cells : List PatternCell) → are
 below_placed states x y cells = all_placed (λ cell. nat_lt cell.state states) x y cells
 
 pub in_plane_placed : (x y : ℤ) (cells : List PatternCell)
-    → are_in_plane (placed x y cells) ≡ list_all (λ cell. is_side (x +ℤ pos cell.column) && is_side (y +ℤ pos cell.row)) cells
+    → are_in_plane (placed x y cells) ≡ list_all (λ cell. is_plane_coordinate (x +ℤ pos cell.column) && is_plane_coordinate (y +ℤ pos cell.row)) cells
 in_plane_placed x y cells = all_placed (λ cell. is_in_plane (place_of cell)) x y cells
 
 -- the plane's coordinates have 32 bits with their sign
@@ -41,7 +41,7 @@ placeable x y (cell ∷ cells) inside =
     let parts = and_parts (is_in_plane (place_of (placed_cell x y cell))) (are_in_plane (placed x y cells)) inside in
     rw (one (x +ℤ pos cell.column) (y +ℤ pos cell.row) parts.0) (placeable x y cells parts.1)
   where
-    one : (x y : ℤ) → (is_side x && is_side y) ≡ true → (is_coordinate x && is_coordinate y) ≡ true
+    one : (x y : ℤ) → (is_plane_coordinate x && is_plane_coordinate y) ≡ true → (is_coordinate x && is_coordinate y) ≡ true
     one x y inside = grind (arith, ints, nat_tests, inside)
 
 -- each of the cells passes a test that all pass
@@ -56,14 +56,14 @@ passed_at p cells i d below all = elim (cases_Bool (p (get_or cells i d))) [
 -- ---- the refusals, by tests of the pattern's cells
 
 pub or_tested : (states given_states : ℕ) (x y : ℤ) (cells given : List PatternCell) (a b c : Bool) → given_states ≡ states → given ≡ cells
-    → a ≡ (length given == 0) → b ≡ list_all (λ cell. is_side (x +ℤ pos cell.column) && is_side (y +ℤ pos cell.row)) given
+    → a ≡ (length given == 0) → b ≡ list_all (λ cell. is_plane_coordinate (x +ℤ pos cell.column) && is_plane_coordinate (y +ℤ pos cell.row)) given
     → c ≡ list_all (λ cell. nat_lt cell.state given_states) given
     → first_of (when a Nothing ∷ when (not b) OutOfPlane ∷ when (not c) StateRange ∷ []) ≡ or_fault states (placed x y cells)
 or_tested states given_states x y cells given a b c same_states same_cells none inside below =
     ap (λ t. first_of (when t Nothing ∷ when (not b) OutOfPlane ∷ when (not c) StateRange ∷ []))
     (none ∙ ap (λ l. length l == 0) same_cells ∙ ap (λ n. n == 0) (sym (length-map cells (placed_cell x y))))
     ∙ ap (λ t. first_of (when (length (placed x y cells) == 0) Nothing ∷ when (not t) OutOfPlane ∷ when (not c) StateRange ∷ []))
-    (inside ∙ ap (list_all (λ cell. is_side (x +ℤ pos cell.column) && is_side (y +ℤ pos cell.row))) same_cells ∙ sym (in_plane_placed x y cells))
+    (inside ∙ ap (list_all (λ cell. is_plane_coordinate (x +ℤ pos cell.column) && is_plane_coordinate (y +ℤ pos cell.row))) same_cells ∙ sym (in_plane_placed x y cells))
     ∙ ap (λ t. first_of (when (length (placed x y cells) == 0) Nothing ∷ when (not (are_in_plane (placed x y cells))) OutOfPlane ∷ when (not t) StateRange ∷ []))
     (below ∙ ap (λ n. list_all (λ cell. nat_lt cell.state n) given) same_states ∙ ap (list_all (λ cell. nat_lt cell.state states)) same_cells ∙ sym (below_placed states x y cells))
 

@@ -15,11 +15,11 @@ least = negsuc (2 ^ 30 - 1)
 abbrev pub past : ℤ
 past = pos (2 ^ 30)
 
-abbrev pub is_side : ℤ → Bool
-is_side n = int_le least n && int_lt n past
+abbrev pub is_plane_coordinate : ℤ → Bool
+is_plane_coordinate n = int_le least n && int_lt n past
 
 abbrev pub is_in_plane : Place → Bool
-is_in_plane c = is_side c.x && is_side c.y
+is_in_plane c = is_plane_coordinate c.x && is_plane_coordinate c.y
 
 -- the place lies in the rectangle
 abbrev pub is_in : Rect → Place → Bool
@@ -31,4 +31,4 @@ is_empty r = r.width == 0 || r.height == 0
 -- the rectangle lies in the plane
 abbrev pub is_area_in_plane : Rect → Bool
 is_area_in_plane r =
-    is_side r.x && is_side r.y && int_le (r.x +ℤ pos r.width) past && int_le (r.y +ℤ pos r.height) past
+    is_plane_coordinate r.x && is_plane_coordinate r.y && int_le (r.x +ℤ pos r.width) past && int_le (r.y +ℤ pos r.height) past

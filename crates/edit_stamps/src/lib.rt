@@ -11,6 +11,7 @@ mod laws;
 mod list;
 mod paste;
 mod placing;
+mod plane;
 mod rect;
 mod settle;
 mod stamp;
@@ -23,7 +24,7 @@ pub use list::EditList;
 pub use multistate_rle::{Cell, Pattern};
 pub use placing::{Corner, are_placeable, have_states_below, placed_cells};
 pub use rect::Rect;
-pub use stamp::Stamp;
+pub use stamp::{Stamp, counter_of, replica_of};
 pub use write::Write;
 
 #[cfg(test)]

@@ -1,24 +1,21 @@
 //! Pastes and clears, checked.
 
-ghost use Rattle.std.specs.Prelude.{◌≡◌, ◌≤◌, ◌<◌, ◌^◌, ◌+ℤ◌, pos, int_le, nat_lt, ◌||◌, ◌&&◌, ◌==◌};
+ghost use Rattle.std.specs.Prelude.{◌≡◌, ◌≤◌, ◌<◌, ◌^◌, ◌+ℤ◌, pos, nat_lt, ◌||◌, ◌&&◌, ◌==◌};
 ghost use Rattle.std.specs.List.{list_all};
 ghost use Rattle.multistate_rle.specs.Pattern.{IsPattern};
 ghost use Rattle.edit_stamps.specs.Edit.{most_side};
 ghost use Rattle.edit_stamps.specs.Pasting.{box_of, clear_fault, copy_fault, or_fault, placed};
-ghost use Rattle.edit_stamps.specs.Plane.{is_side as side, past, is_area_in_plane};
+ghost use Rattle.edit_stamps.specs.Plane.{is_plane_coordinate as has_coordinate, is_area_in_plane};
 
 use crate::fault::EditFault;
 use crate::placing::{Corner, have_states_below};
+use crate::plane::{ends_in_plane, is_plane_coordinate};
 use crate::rect::Rect;
-use crate::settle::is_side;
 use generations_rule::Rule;
 use multistate_rle::{Cell, Pattern, PatternCell};
 
 /// The greatest side of an edit's area.
 const MOST_SIDE: u64 = 4096;
-
-/// One past the greatest coordinate of the plane.
-const PAST: i64 = 0x4000_0000;
 
 fn corner_of(area: Rect) -> Corner
     ensures { result ≡ record { x = area.x; y = area.y } }
@@ -95,16 +92,16 @@ pub fn box_at(pattern: &Pattern, at: Corner) -> Rect
 }
 
 fn are_in_plane(cells: &[PatternCell], at: Corner) -> bool
-    ensures { result ≡ list_all (λ cell. side (at.x +ℤ pos cell.column) && side (at.y +ℤ pos cell.row)) cells.now }
+    ensures { result ≡ list_all (λ cell. has_coordinate (at.x +ℤ pos cell.column) && has_coordinate (at.y +ℤ pos cell.row)) cells.now }
 {
-    cells.iter().all(|cell| is_moved_side(at.x, cell.column) && is_moved_side(at.y, cell.row))
+    cells.iter().all(|cell| lands_in_plane(at.x, cell.column) && lands_in_plane(at.y, cell.row))
 }
 
-fn is_moved_side(n: i32, by: u32) -> bool
-    ensures { result ≡ side (n +ℤ pos by) }
+/// Whether a coordinate, moved so far, is one of the plane.
+fn lands_in_plane(n: i32, by: u32) -> bool
+    ensures { result ≡ has_coordinate (n +ℤ pos by) }
 {
-    let at = i64::from(n) + i64::from(by);
-    -PAST <= at && at < PAST
+    is_plane_coordinate(i64::from(n) + i64::from(by))
 }
 
 fn is_area_in_plane(at: Corner, width: u64, height: u64) -> bool
@@ -112,14 +109,13 @@ fn is_area_in_plane(at: Corner, width: u64, height: u64) -> bool
     requires height { height ≤ 2 ^ 32 }
     ensures { result ≡ is_area_in_plane (record { x = at.x; y = at.y; width = width; height = height }) }
 {
-    is_side(at.x) && is_side(at.y) && ends_in_plane(at.x, width) && ends_in_plane(at.y, height)
+    begins_in_plane(at) && ends_in_plane(at.x, width) && ends_in_plane(at.y, height)
 }
 
-fn ends_in_plane(n: i32, side: u64) -> bool
-    requires { side ≤ 2 ^ 32 }
-    ensures { result ≡ int_le (n +ℤ pos side) past }
+fn begins_in_plane(at: Corner) -> bool
+    ensures { result ≡ (has_coordinate at.x && has_coordinate at.y) }
 {
-    i64::from(n) + side as i64 <= PAST
+    is_plane_coordinate(i64::from(at.x)) && is_plane_coordinate(i64::from(at.y))
 }
 
 fn is_empty(width: u64, height: u64) -> bool

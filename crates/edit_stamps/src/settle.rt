@@ -2,12 +2,11 @@
 
 ghost use Rattle.std.specs.Prelude.{◌≡◌, IfOk, OnOk};
 ghost use Rattle.edit_stamps.specs.Making.{are_in_plane, cells_fault, settled};
-ghost use Rattle.multistate_rle.specs.Cells.{are_below};
-ghost use Rattle.edit_stamps.specs.Plane.{is_side as side};
 
 use crate::fault::EditFault;
+use crate::plane::is_plane_coordinate;
 use generations_rule::Rule;
-use multistate_rle::Cell;
+use multistate_rle::{Cell, are_below};
 use std::alloc::{AllocError, Global};
 
 /// The greatest number of entries.
@@ -45,18 +44,6 @@ pub fn settled_cells(alloc: Global, cells: &[Cell]) -> Result<Vec<Cell>, AllocEr
 fn are_in_plane(cells: &[Cell]) -> bool
     ensures { result ≡ are_in_plane cells.now }
 {
-    cells.iter().all(|cell| is_side(cell.x) && is_side(cell.y))
-}
-
-fn are_below(states: u16, cells: &[Cell]) -> bool
-    ensures { result ≡ are_below states cells.now }
-{
-    cells.iter().all(|cell| u16::from(cell.state) < states)
-}
-
-/// Whether a coordinate is one of the plane's.
-pub fn is_side(n: i32) -> bool
-    ensures { result ≡ side n }
-{
-    -0x4000_0000 <= n && n < 0x4000_0000
+    cells.iter().all(|cell| is_plane_coordinate(i64::from(cell.x))
+        && is_plane_coordinate(i64::from(cell.y)))
 }

@@ -3,7 +3,7 @@
 ghost use Rattle.std.specs.Prelude.{◌≡◌, ◌==◌, IsTrue, Some, refl};
 ghost use Rattle.std.specs.Cmp.{nat_cmp_total, nat_eq_equiv, partial_equiv_from_equiv, unsigned_po, unsigned_ties};
 ghost use Rattle.std.specs.Ordering.{nat_cmp};
-ghost use Rattle.edit_stamps.specs.Stamp.{counter_of, is_stamp, replica_of, stamp_made};
+ghost use Rattle.edit_stamps.specs.Stamp.{counter_of as counter_in, is_stamp, replica_of as replica_in, stamp_made};
 
 use std::cmp::Ordering;
 use std::marker::Model;
@@ -45,16 +45,16 @@ impl Stamp {
     }
 
     pub fn counter(self) -> u64
-        ensures { result ≡ counter_of self }
+        ensures { result ≡ counter_in self }
     {
-        self.number / 0x1_0000
+        counter_of(self.number)
     }
 
     /// The number of the replica that drew the edit.
     pub fn replica(self) -> u16
-        ensures { result ≡ replica_of self }
+        ensures { result ≡ replica_in self }
     {
-        (self.number % 0x1_0000) as u16
+        replica_of(self.number)
     }
 
     /// `counter * 65536 + replica`.
@@ -103,4 +103,18 @@ impl Ord for Stamp {
     fn cmp(&self, other: &Stamp) -> Ordering {
         self.number.cmp(&other.number)
     }
+}
+
+/// The counter in a stamp's number; 0 in 0, which is no stamp's.
+pub fn counter_of(number: u64) -> u64
+    ensures { result ≡ counter_in number }
+{
+    number / 0x1_0000
+}
+
+/// The replica's number in a stamp's number; 0 in 0, which is no stamp's.
+pub fn replica_of(number: u64) -> u16
+    ensures { result ≡ replica_in number }
+{
+    (number % 0x1_0000) as u16
 }

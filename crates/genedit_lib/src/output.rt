@@ -6,7 +6,7 @@ ghost use Rattle.genedit_lib.specs.Output.{no_pattern_text as no_pattern_means, 
 
 use crate::plan::Line;
 use crate::text::Text;
-use edit_stamps::Write;
+use edit_stamps::{Write, counter_of, replica_of};
 use itoa::Buffer;
 use multistate_rle::{Pattern, RleFault};
 use replica_core::Reply;
@@ -136,9 +136,9 @@ fn push_refusal(out: &mut Vec<u8>, number: u8, name: &[u8]) -> Result<(), AllocE
 fn push_stamp(out: &mut Vec<u8>, stamp: u64) -> Result<(), AllocError>
     ensures { OnOk result (out.new.items ≡ out.old.items ++ stamp_text stamp) }
 {
-    push_number(out, stamp / 65536)?;
+    push_number(out, counter_of(stamp))?;
     out.push(b' ')?;
-    push_number(out, stamp % 65536)
+    push_number(out, u64::from(replica_of(stamp)))
 }
 
 fn push_number(out: &mut Vec<u8>, number: u64) -> Result<(), AllocError>

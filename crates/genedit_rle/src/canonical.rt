@@ -17,8 +17,7 @@ pub fn canonical_form(alloc: Global, rule: &Rule, text: &[u8]) -> Result<Vec<u8>
     ensures fault { IfErr result (λ fault. (fault ≡ CanonicalFault.Memory) ⊎ (canonical rule.now text.now ≡ Err fault)) }
 {
     let pattern = parse(alloc, text)?;
-    let form = form_of(alloc, rule, &pattern)?;
-    Ok(form)
+    form_of(alloc, rule, &pattern)
 }
 
 fn form_of(alloc: Global, rule: &Rule, pattern: &Pattern) -> Result<Vec<u8>, CanonicalFault>
@@ -52,8 +51,7 @@ fn text_of(alloc: Global, rule: &Rule, pattern: &Pattern) -> Result<Vec<u8>, All
     ensures { IfOk result (λ text. text.items ≡ rle_text rule.now pattern.now.generation (cells_in_plane pattern.now)) }
 {
     let cells = placed_cells(alloc, pattern.cells(), position_of(pattern))?;
-    let text = write(alloc, rule, pattern.generation(), &cells)?;
-    Ok(text)
+    write(alloc, rule, pattern.generation(), &cells)
 }
 
 /// Where the text says that its box's upper left corner was.

@@ -129,10 +129,7 @@ fn command_at(alloc: Global, line: Line<'_>, lines: &mut Lines<'_>) -> Result<Co
     ensures shorter { length lines.new.rest.now ≤ length lines.old.rest.now }
 {
     match opened_in(line.text) {
-        Some(name) => {
-            let command = block_in(alloc, line.number, name, lines)?;
-            Ok(command)
-        }
+        Some(name) => block_in(alloc, line.number, name, lines),
         None => {
             let command = command_in(alloc, line.text)?.ok_or(ScriptFault::Line(line.number))?;
             Ok(command)

@@ -45,11 +45,9 @@ pub fn command_in(alloc: Global, line: &[u8]) -> Result<Option<Command>, AllocEr
         return Ok(None);
     };
     if name == b"copy".as_slice() {
-        let command = copy_in(alloc, arguments)?;
-        Ok(command)
+        copy_in(alloc, arguments)
     } else if name == b"or".as_slice() {
-        let command = or_in(alloc, arguments)?;
-        Ok(command)
+        or_in(alloc, arguments)
     } else {
         let event = event_in(alloc, name, arguments)?;
         Ok(event.map(Command::Does))
@@ -135,8 +133,7 @@ fn event_in(alloc: Global, name: &[u8], arguments: &[u8]) -> Result<Option<Event
     ensures { IfOk result (λ event. event ≡ event_of (name.now ∷ words arguments.now)) }
 {
     if name == b"cells".as_slice() {
-        let event = draw_in(alloc, arguments)?;
-        Ok(event)
+        draw_in(alloc, arguments)
     } else if name == b"state".as_slice() {
         Ok(send_in(arguments))
     } else if name == b"deliver".as_slice() {

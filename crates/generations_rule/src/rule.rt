@@ -55,8 +55,7 @@ impl Rule {
         ensures printed { IfOk result (λ text. text.items ≡ text_of self.now) }
         ensures short { IfOk result (λ text. length text.items ≤ 22) }
     {
-        let text = text::text_of_parts(alloc, &self.survival, &self.birth, self.states)?;
-        Ok(text)
+        text::text_of_parts(alloc, &self.survival, &self.birth, self.states)
     }
 
     /// The number of states, the dead and the live one included.

@@ -70,62 +70,11 @@ impl Reach {
     fn with(self, cell: Cell) -> Reach
         ensures { result ≡ record { left = int_min self.left cell.x; right = int_max self.right cell.x; top = int_min self.top cell.y; bottom = int_max self.bottom cell.y } }
     {
-        self.to_left(cell).to_right(cell).up(cell).down(cell)
-    }
-
-    fn to_left(self, cell: Cell) -> Reach
-        ensures { result ≡ record self { left = int_min self.left cell.x } }
-    {
-        if self.left <= cell.x {
-            return self;
-        }
         Reach {
-            left: cell.x,
-            right: self.right,
-            top: self.top,
-            bottom: self.bottom,
-        }
-    }
-
-    fn to_right(self, cell: Cell) -> Reach
-        ensures { result ≡ record self { right = int_max self.right cell.x } }
-    {
-        if cell.x < self.right {
-            return self;
-        }
-        Reach {
-            left: self.left,
-            right: cell.x,
-            top: self.top,
-            bottom: self.bottom,
-        }
-    }
-
-    fn up(self, cell: Cell) -> Reach
-        ensures { result ≡ record self { top = int_min self.top cell.y } }
-    {
-        if self.top <= cell.y {
-            return self;
-        }
-        Reach {
-            left: self.left,
-            right: self.right,
-            top: cell.y,
-            bottom: self.bottom,
-        }
-    }
-
-    fn down(self, cell: Cell) -> Reach
-        ensures { result ≡ record self { bottom = int_max self.bottom cell.y } }
-    {
-        if cell.y < self.bottom {
-            return self;
-        }
-        Reach {
-            left: self.left,
-            right: self.right,
-            top: self.top,
-            bottom: cell.y,
+            left: self.left.min(cell.x),
+            right: self.right.max(cell.x),
+            top: self.top.min(cell.y),
+            bottom: self.bottom.max(cell.y),
         }
     }
 

@@ -32,7 +32,7 @@ pub use numbers::{number, signed};
 pub use pattern::{Pattern, PatternCell};
 pub use reading::parse;
 pub use word::split_word;
-pub use writable::are_writable;
+pub use writable::{are_below, are_writable};
 pub use writing::write;
 
 #[cfg(test)]

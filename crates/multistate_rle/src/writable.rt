@@ -49,7 +49,8 @@ fn are_alive(cells: &[Cell]) -> bool
     cells.iter().all(|cell| cell.state != 0)
 }
 
-fn are_below(states: u16, cells: &[Cell]) -> bool
+/// Whether all states are below a number of states.
+pub fn are_below(states: u16, cells: &[Cell]) -> bool
     ensures { result ≡ are_states_below states cells.now }
 {
     cells.iter().all(|cell| u16::from(cell.state) < states)

@@ -35,8 +35,7 @@ pub fn write(
     let bounds = bounds_of(cells);
     let rule_text = rule.write_text(alloc)?;
     let text = head(alloc, &rule_text, generation, &bounds)?;
-    let text = with_body(text, rule.states() == 2, &bounds, cells)?;
-    Ok(text)
+    with_body(text, rule.states() == 2, &bounds, cells)
 }
 
 /// The two lines in front.
@@ -73,8 +72,7 @@ fn with_body(
     let mut lines = Lines::after(text, two_states);
     put_cells(&mut lines, bounds, cells)?;
     lines.put(1, Letters::plain(b'!'))?;
-    let text = lines.ended()?;
-    Ok(text)
+    lines.ended()
 }
 
 fn put_cells(lines: &mut Lines, bounds: &Bounds, cells: &[Cell]) -> Result<(), AllocError>

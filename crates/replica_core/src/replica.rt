@@ -4,7 +4,7 @@ ghost use Rattle.std.specs.Prelude.{◌≡◌, ◌≤◌, ◌++◌, ◌∷◌, [
 ghost use Rattle.std.specs.Result.{IsOk};
 ghost use Rattle.generations_rule.specs.Refusal.{Answers};
 ghost use Rattle.generations_rule.specs.Place.{at_place};
-ghost use Rattle.edit_stamps.specs.Stamp.{counter_of};
+ghost use Rattle.edit_stamps.specs.Stamp.{counter_of as counter_in};
 ghost use Rattle.edit_stamps.specs.PlaneMap.{write_at};
 ghost use Rattle.edit_stamps.specs.Write.{unwritten, AreSame, joined};
 ghost use Rattle.edit_stamps.specs.Edit.{PlaneEdit, IsEdit, greatest, has_states_below, writes_of};
@@ -18,7 +18,7 @@ use crate::fault::Fault;
 use crate::message::{Content, Message};
 use crate::spec::EditSpec;
 use edit_journal::Journal;
-use edit_stamps::{Edit, Stamp, Write};
+use edit_stamps::{Edit, Stamp, Write, counter_of};
 use generations_rule::Rule;
 use stamped_map::Plane;
 use std::alloc::Global;
@@ -113,7 +113,7 @@ impl Replica {
     /// want of memory the edit may be joined at some places alone.
     pub fn draw(&mut self, spec: EditSpec) -> Result<Edit, Fault>
         ensures { (n : ℕ) × IsGreatestStamp n (write_at self.old.map)
-            × IsDraw self.old self.new (edit_drawn self.old.rule (counter_of n) self.old.number spec) result }
+            × IsDraw self.old self.new (edit_drawn self.old.rule (counter_in n) self.old.number spec) result }
     {
         self.draw_as(&spec)
     }
@@ -121,7 +121,7 @@ impl Replica {
     /// Draws an edit, as `draw`, and leaves what is to be drawn with the caller.
     pub fn draw_as(&mut self, spec: &EditSpec) -> Result<Edit, Fault>
         ensures { (n : ℕ) × IsGreatestStamp n (write_at self.old.map)
-            × IsDraw self.old self.new (edit_drawn self.old.rule (counter_of n) self.old.number spec.now) result }
+            × IsDraw self.old self.new (edit_drawn self.old.rule (counter_in n) self.old.number spec.now) result }
     {
         let stamp = next_stamp(&self.plane, self.number)?;
         let edit = make(self.alloc, &self.rule, stamp, spec)?;
@@ -146,9 +146,9 @@ impl Replica {
 /// Lamport's rule: one more than the greatest counter held.
 fn next_stamp(plane: &Plane, number: u16) -> Result<Stamp, Fault>
     requires { 1 ≤ number }
-    ensures { (n : ℕ) × IsGreatestStamp n (write_at plane.now) × (result ≡ stamp_after (counter_of n) number) }
+    ensures { (n : ℕ) × IsGreatestStamp n (write_at plane.now) × (result ≡ stamp_after (counter_in n) number) }
 {
-    let counter = plane.greatest_stamp() / 0x1_0000;
+    let counter = counter_of(plane.greatest_stamp());
     Stamp::new(counter + 1, number).ok_or(Fault::ClockFull)
 }
 

@@ -126,17 +126,10 @@ fn happen(world: &mut World, event: &Event) -> Result<Reply, Stop>
     ensures err { IfErr result (λ stop. stop ≡ stops.Memory) }
 {
     match event {
-        Event::Draw(number, spec) => {
-            let reply = draw(&mut world.replicas, *number, spec)?;
-            Ok(reply)
-        }
-        Event::SendState(number) => {
-            let reply = send_state(&world.replicas, &mut world.messages, *number)?;
-            Ok(reply)
-        }
+        Event::Draw(number, spec) => draw(&mut world.replicas, *number, spec),
+        Event::SendState(number) => send_state(&world.replicas, &mut world.messages, *number),
         Event::Deliver(message, number) => {
-            let reply = deliver(&world.messages, &mut world.replicas, *message, *number)?;
-            Ok(reply)
+            deliver(&world.messages, &mut world.replicas, *message, *number)
         }
         Event::Show(number, x, y) => Ok(show(&world.replicas, *number, *x, *y)),
     }
@@ -152,10 +145,7 @@ fn draw(replicas: &mut [Replica], number: u32, spec: &EditSpec) -> Result<Reply,
 {
     match index_of(u64::from(number), replicas.len()) {
         None => Ok(Reply::Refused(Fault::NoReplica)),
-        Some(index) => {
-            let reply = draw_at(&mut replicas[index], spec)?;
-            Ok(reply)
-        }
+        Some(index) => draw_at(&mut replicas[index], spec),
     }
 }
 
@@ -170,10 +160,7 @@ fn draw_at(replica: &mut Replica, spec: &EditSpec) -> Result<Reply, Stop>
 {
     match replica.draw_as(spec) {
         Ok(edit) => Ok(Reply::Drawn(edit.stamp())),
-        Err(fault) => {
-            let reply = refused(fault)?;
-            Ok(reply)
-        }
+        Err(fault) => refused(fault),
     }
 }
 
@@ -234,8 +221,7 @@ fn deliver(
     let Some(to) = index_of(u64::from(number), replicas.len()) else {
         return Ok(Reply::Refused(Fault::NoReplica));
     };
-    let reply = take_at(&mut replicas[to], &messages[from])?;
-    Ok(reply)
+    take_at(&mut replicas[to], &messages[from])
 }
 
 /// What a replica takes.
@@ -247,10 +233,7 @@ fn take_at(replica: &mut Replica, message: &Message) -> Result<Reply, Stop>
 {
     match replica.take(message) {
         Ok(()) => Ok(Reply::Taken),
-        Err(fault) => {
-            let reply = refused(fault)?;
-            Ok(reply)
-        }
+        Err(fault) => refused(fault),
     }
 }
 

@@ -1,7 +1,7 @@
 use Rattle.std.proofs.Common.{◌≡◌, ◌∙◌, ap, sym, subst}
 use Rattle.std.specs.Prelude.{Option, Ok, Err}
 use Rattle.std.specs.Option.{ok_or}
-use Rattle.std.proofs.lemmas.Result.{err_from_is_err_and}
+use Rattle.std.proofs.lemmas.Result.{IfErr-weaker, IfOk-weaker, err_from_is_err_and}
 use Rattle.multistate_rle.specs.Position.{words}
 use Rattle.genedit_script.specs.declared.command.Command.{Command}
 use Rattle.genedit_script.specs.declared.fault.ScriptFault.{ScriptFault}
@@ -11,10 +11,9 @@ use Rattle.genedit_script.specs.ScriptFault.{IsFaultOf}
 use Rattle.genedit_script.proofs.ScriptLemmas.{opens, asks, faulty, found}
 use Rattle.genedit_script.proofs.script.command_at.Goals as goal
 
-pub returns-in_err-command-in-Some-clause-fault : goal.returns-in_err-command-in-Some-clause-fault
-returns-in_err-command-in-Some-clause-fault c =
-    let p = err_from_is_err_and c.from_residual.result c.from_residual.ensures.1 in
-    rw (p.1, p.2) (λ all is. subst (IsFaultOf c.in_err-command-in-Some.field-0.0) (sym (opens all _ _ _ is (sym c.in-Some.ensures))) c.in_err-command-in-Some.ensures.fault)
+pub returns-in-Some-clause-fault : goal.returns-in-Some-clause-fault
+returns-in-Some-clause-fault c =
+    IfErr-weaker c.block_in.result _ _ (λ fault told all is. subst (IsFaultOf fault) (sym (opens all _ _ _ is (sym c.in-Some.ensures))) told) c.block_in.ensures.fault
 
 pub returns-in_err-command-in-None-clause-fault : goal.returns-in_err-command-in-None-clause-fault
 returns-in_err-command-in-None-clause-fault c =
@@ -24,8 +23,9 @@ returns-in_err-command-in-None-clause-fault c =
     c.in_err-command-in-None.ensures.value ∙ ap (λ (o : Option Command). ok_or o (Line c.args.line.number)) c.in_ok-command_in-in-None.ensures in
     rw (p.1, p.2) (λ all is. subst (IsFaultOf fault) (sym (asks all _ _ is (sym c.in-None.ensures))) (faulty _ _ _ _ told))
 
-pub returns-in_ok-command-in-Some-clause-command : goal.returns-in_ok-command-in-Some-clause-command
-returns-in_ok-command-in-Some-clause-command c = λ all is. opens all _ _ _ is (sym c.in-Some.ensures) ∙ c.in_ok-command-in-Some.ensures.command
+pub returns-in-Some-clause-command : goal.returns-in-Some-clause-command
+returns-in-Some-clause-command c =
+    IfOk-weaker c.block_in.result _ _ (λ command told all is. opens all _ _ _ is (sym c.in-Some.ensures) ∙ told) c.block_in.ensures.command
 
 pub returns-in_ok-command-in-None-clause-command : goal.returns-in_ok-command-in-None-clause-command
 returns-in_ok-command-in-None-clause-command c =

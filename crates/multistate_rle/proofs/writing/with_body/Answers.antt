@@ -1,4 +1,5 @@
 use Rattle.std.proofs.Common.{◌∙◌, [], ◌∷◌, subst, map}
+use Rattle.std.proofs.lemmas.Result.{IfOk-weaker}
 use Rattle.multistate_rle.specs.Writing.{token_text, spelling}
 use Rattle.multistate_rle.specs.Letters.{plain}
 use Rattle.multistate_rle.specs.Bounds.{in_box}
@@ -13,6 +14,5 @@ returns c =
     subst (λ two. Writes c.after-lines.result (map (token_text two) (tokens_from 0 0 (in_box c.args.bounds.now c.args.cells.now))) c.put_cells.new.lines) c.after-lines.ensures.2 c.in_ok-put_cells.ensures in
     let mark : Writes c.put_cells.new.lines (spelling 1 (plain 33) ∷ []) c.put.new.self =
     subst (λ letters. Writes c.put_cells.new.lines (spelling 1 letters ∷ []) c.put.new.self) c.plain.ensures c.in_ok-put.ensures in
-    c.in_ok-text.ensures
-    ∙ body_written c.args.text.items c.args.two_states (map (token_text c.args.two_states) (tokens_from 0 0 (in_box c.args.bounds.now c.args.cells.now))) (spelling 1 (plain 33))
-    c.after-lines.result c.put_cells.new.lines c.put.new.self c.after-lines.ensures.0 c.after-lines.ensures.1 cells mark
+    IfOk-weaker c.ended.result _ _ (λ text is. is ∙ body_written c.args.text.items c.args.two_states (map (token_text c.args.two_states) (tokens_from 0 0 (in_box c.args.bounds.now c.args.cells.now))) (spelling 1 (plain 33))
+    c.after-lines.result c.put_cells.new.lines c.put.new.self c.after-lines.ensures.0 c.after-lines.ensures.1 cells mark) c.ended.ensures

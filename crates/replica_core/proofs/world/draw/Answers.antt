@@ -1,31 +1,32 @@
 use Rattle.std.proofs.Common.{◌≡◌, ◌≤◌, ◌-◌, ◌∙◌, ap, get_or, arith}
 use Rattle.std.proofs.lemmas.Option.{slice_get-get_or}
+use Rattle.std.proofs.lemmas.Result.{IfOk-weaker}
 use Rattle.replica_core.proofs.EventLaws.{draws_in_world, draws_nowhere}
 use Rattle.replica_core.proofs.world.draw.Goals as goal
 
-pub returns-in_ok-reply-in-Some-clause-step : goal.returns-in_ok-reply-in-Some-clause-step
-returns-in_ok-reply-in-Some-clause-step c = λ w valid side.
+pub returns-in-Some-clause-step : goal.returns-in-Some-clause-step
+returns-in-Some-clause-step c = IfOk-weaker c.draw_at.result _ _ (λ reply step w valid side.
     let old = get_or c.args.replicas.now c.in-Some.index c.index-replicas-index.result in
     let r = c.in-Some.ensures in
     let one : 1 ≤ c.args.number = omega (arith, r.0.0, c.from.ensures) in
     let at : c.in-Some.index ≡ c.args.number - 1 = r.1 ∙ ap (λ n. n - 1) c.from.ensures in
-    let drawn = draws_in_world w c.args.replicas.now c.args.number c.in-Some.index old c.draw_at.new.replica c.args.spec.now c.in_ok-reply-in-Some.reply valid side
+    let drawn = draws_in_world w c.args.replicas.now c.args.number c.in-Some.index old c.draw_at.new.replica c.args.spec.now reply valid side
     one at
     (slice_get-get_or c.args.replicas.now c.in-Some.index c.index-replicas-index.result (omega (arith, r.0.0, r.0.1, r.1)))
-    (λ h. c.in_ok-reply-in-Some.ensures.step w.rule h) in
-    (drawn.0, drawn.1)
+    (λ h. step w.rule h) in
+    (drawn.0, drawn.1)) c.draw_at.ensures.step
 
-pub returns-in_ok-reply-in-Some-clause-edits : goal.returns-in_ok-reply-in-Some-clause-edits
-returns-in_ok-reply-in-Some-clause-edits c = λ w valid side.
+pub returns-in-Some-clause-edits : goal.returns-in-Some-clause-edits
+returns-in-Some-clause-edits c = IfOk-weaker c.draw_at.result _ _ (λ reply step w valid side.
     let old = get_or c.args.replicas.now c.in-Some.index c.index-replicas-index.result in
     let r = c.in-Some.ensures in
     let one : 1 ≤ c.args.number = omega (arith, r.0.0, c.from.ensures) in
     let at : c.in-Some.index ≡ c.args.number - 1 = r.1 ∙ ap (λ n. n - 1) c.from.ensures in
-    let drawn = draws_in_world w c.args.replicas.now c.args.number c.in-Some.index old c.draw_at.new.replica c.args.spec.now c.in_ok-reply-in-Some.reply valid side
+    let drawn = draws_in_world w c.args.replicas.now c.args.number c.in-Some.index old c.draw_at.new.replica c.args.spec.now reply valid side
     one at
     (slice_get-get_or c.args.replicas.now c.in-Some.index c.index-replicas-index.result (omega (arith, r.0.0, r.0.1, r.1)))
-    (λ h. c.in_ok-reply-in-Some.ensures.step w.rule h) in
-    drawn.2
+    (λ h. step w.rule h) in
+    drawn.2) c.draw_at.ensures.step
 
 pub returns-in-None-clause-edits : goal.returns-in-None-clause-edits
 returns-in-None-clause-edits c = λ w valid side.

@@ -1,4 +1,5 @@
 use Rattle.std.proofs.Common.{◌∙◌, sym, ap, subst}
+use Rattle.std.proofs.lemmas.Result.{IfOk-weaker}
 use Rattle.edit_stamps.specs.Edit.{IsEdit}
 use Rattle.stamped_map.specs.Laws.{greatest_counter}
 use Rattle.replica_core.specs.Replica.{edit_drawn}
@@ -16,10 +17,10 @@ returns-in-Ok-clause-step c = λ rule h valid stands.
       subst IsEdit c.edit.view_is c.edit.invariant,
     )
 
-pub returns-in_ok-reply-in-Err-clause-step : goal.returns-in_ok-reply-in-Err-clause-step
-returns-in_ok-reply-in-Err-clause-step c = λ rule h valid stands.
+pub returns-in-Err-clause-step : goal.returns-in-Err-clause-step
+returns-in-Err-clause-step c = IfOk-weaker c.refused.result _ _ (λ reply is_refusal rule h valid stands.
     let told = c.in-Err.ensures in
-    let is = refused_as_meant c.args.replica.now c.draw_as.new.self _ c.in-Err.fault told.2 c.in_ok-reply-in-Err.ensures.reply.0 in
+    let is = refused_as_meant c.args.replica.now c.draw_as.new.self _ c.in-Err.fault told.2 is_refusal.0 in
     given_err _ _ (edit_drawn rule (greatest_counter h.taken) c.args.replica.now.number c.args.spec.now) c.in-Err.fault
     (sym (draws_at_clock rule c.args.replica.now.number told.0 h c.args.replica.now c.args.spec.now valid stands told.1) ∙ is.0)
-    (c.in_ok-reply-in-Err.ensures.reply.1, is.1)
+    (is_refusal.1, is.1)) c.refused.ensures.reply

@@ -1,46 +1,47 @@
 use Rattle.std.proofs.Common.{refl, sym, subst, length, ap, ◌∙◌}
 use Rattle.std.proofs.lemmas.List.{with_items_is}
+use Rattle.std.proofs.lemmas.Result.{IfOk-weaker}
 use Rattle.replica_core.specs.World.{AreEdits, after, StandSideBySide, StandsForSent, StandsFor, StandsForWorld}
 use Rattle.replica_core.proofs.HistoryLaws.{edits_delivered, edits_sent_on}
 use Rattle.replica_core.proofs.EventLaws.{goes_by_drawing, goes_by_delivery, goes_by_sending}
 use Rattle.replica_core.proofs.world.happen.Goals as goal
 
-pub returns-in_ok-reply-in-Draw-clause-step : goal.returns-in_ok-reply-in-Draw-clause-step
-returns-in_ok-reply-in-Draw-clause-step c = λ w valid stands.
+pub returns-in-Draw-clause-step : goal.returns-in-Draw-clause-step
+returns-in-Draw-clause-step c = IfOk-weaker c.draw.result _ _ (λ reply step w valid stands.
     let inside = subst (StandsForWorld w) (sym c.world.view_is) stands in
     let replicas = c.world.inside.replicas in
-    goes_by_drawing w c.args.event.now c.in-Draw.number c.in-Draw.spec c.in_ok-reply-in-Draw.reply _ _ c.in-Draw.is inside refl refl c.draw.new.replicas
+    goes_by_drawing w c.args.event.now c.in-Draw.number c.in-Draw.spec reply _ _ c.in-Draw.is inside refl refl c.draw.new.replicas
     (with_items_is replicas c.draw.new.replicas (c.draw.ensures.as_many ∙ ap length c.deref_mut.ensures.value ∙ sym replicas.ok.0))
-    (c.in_ok-reply-in-Draw.ensures.step w valid (subst (StandSideBySide (StandsFor w.rule) w.replicas) (sym c.deref_mut.ensures.value) inside.replicas))
+    (step w valid (subst (StandSideBySide (StandsFor w.rule) w.replicas) (sym c.deref_mut.ensures.value) inside.replicas))) c.draw.ensures.step
 
-pub returns-in_ok-reply-in-SendState-clause-step : goal.returns-in_ok-reply-in-SendState-clause-step
-returns-in_ok-reply-in-SendState-clause-step c = λ w valid stands.
+pub returns-in-SendState-clause-step : goal.returns-in-SendState-clause-step
+returns-in-SendState-clause-step c = IfOk-weaker c.send_state.result _ _ (λ reply step w valid stands.
     let inside = subst (StandsForWorld w) (sym c.world.view_is) stands in
-    goes_by_sending w c.args.event.now c.in-SendState.number c.in_ok-reply-in-SendState.reply _ _ c.in-SendState.is inside refl refl
-    (c.in_ok-reply-in-SendState.ensures.step w (subst (StandSideBySide (StandsFor w.rule) w.replicas) (sym c.deref.ensures.value) inside.replicas) inside.messages)
+    goes_by_sending w c.args.event.now c.in-SendState.number reply _ _ c.in-SendState.is inside refl refl
+    (step w (subst (StandSideBySide (StandsFor w.rule) w.replicas) (sym c.deref.ensures.value) inside.replicas) inside.messages)) c.send_state.ensures.step
 
-pub returns-in_ok-reply-in-Deliver-clause-step : goal.returns-in_ok-reply-in-Deliver-clause-step
-returns-in_ok-reply-in-Deliver-clause-step c = λ w valid stands.
+pub returns-in-Deliver-clause-step : goal.returns-in-Deliver-clause-step
+returns-in-Deliver-clause-step c = IfOk-weaker c.deliver.result _ _ (λ reply step w valid stands.
     let inside = subst (StandsForWorld w) (sym c.world.view_is) stands in
     let replicas = c.world.inside.replicas in
-    goes_by_delivery w c.args.event.now c.in-Deliver.message c.in-Deliver.number c.in_ok-reply-in-Deliver.reply _ _ c.in-Deliver.is inside refl refl c.deliver.new.replicas
+    goes_by_delivery w c.args.event.now c.in-Deliver.message c.in-Deliver.number reply _ _ c.in-Deliver.is inside refl refl c.deliver.new.replicas
     (with_items_is replicas c.deliver.new.replicas (c.deliver.ensures.as_many ∙ ap length c.deref_mut-in-Deliver.ensures.value ∙ sym replicas.ok.0))
-    (c.in_ok-reply-in-Deliver.ensures.step w (subst (StandSideBySide (StandsFor w.rule) w.replicas) (sym c.deref_mut-in-Deliver.ensures.value) inside.replicas)
-    (subst (StandSideBySide (λ k. StandsForSent w.rule) w.messages) (sym c.deref-in-Deliver.ensures.value) inside.messages))
+    (step w (subst (StandSideBySide (StandsFor w.rule) w.replicas) (sym c.deref_mut-in-Deliver.ensures.value) inside.replicas)
+    (subst (StandSideBySide (λ k. StandsForSent w.rule) w.messages) (sym c.deref-in-Deliver.ensures.value) inside.messages))) c.deliver.ensures.step
 
-pub returns-in_ok-reply-in-Draw-clause-edits : goal.returns-in_ok-reply-in-Draw-clause-edits
-returns-in_ok-reply-in-Draw-clause-edits c = λ w valid stands.
+pub returns-in-Draw-clause-edits : goal.returns-in-Draw-clause-edits
+returns-in-Draw-clause-edits c = IfOk-weaker c.draw.result _ _ (λ reply edits w valid stands.
     let inside = subst (StandsForWorld w) (sym c.world.view_is) stands in
     subst (λ e. AreEdits (after w e)) (sym c.in-Draw.is)
-    (c.in_ok-reply-in-Draw.ensures.edits w valid (subst (StandSideBySide (StandsFor w.rule) w.replicas) (sym c.deref_mut.ensures.value) inside.replicas))
+    (edits w valid (subst (StandSideBySide (StandsFor w.rule) w.replicas) (sym c.deref_mut.ensures.value) inside.replicas))) c.draw.ensures.edits
 
-pub returns-in_ok-reply-in-SendState-clause-edits : goal.returns-in_ok-reply-in-SendState-clause-edits
-returns-in_ok-reply-in-SendState-clause-edits c = λ w valid stands.
-    subst (λ e. AreEdits (after w e)) (sym c.in-SendState.is) (edits_sent_on w c.in-SendState.number valid)
+pub returns-in-SendState-clause-edits : goal.returns-in-SendState-clause-edits
+returns-in-SendState-clause-edits c = IfOk-weaker c.send_state.result _ _ (λ reply step w valid stands.
+    subst (λ e. AreEdits (after w e)) (sym c.in-SendState.is) (edits_sent_on w c.in-SendState.number valid)) c.send_state.ensures.step
 
-pub returns-in_ok-reply-in-Deliver-clause-edits : goal.returns-in_ok-reply-in-Deliver-clause-edits
-returns-in_ok-reply-in-Deliver-clause-edits c = λ w valid stands.
-    subst (λ e. AreEdits (after w e)) (sym c.in-Deliver.is) (edits_delivered w c.in-Deliver.message c.in-Deliver.number valid)
+pub returns-in-Deliver-clause-edits : goal.returns-in-Deliver-clause-edits
+returns-in-Deliver-clause-edits c = IfOk-weaker c.deliver.result _ _ (λ reply step w valid stands.
+    subst (λ e. AreEdits (after w e)) (sym c.in-Deliver.is) (edits_delivered w c.in-Deliver.message c.in-Deliver.number valid)) c.deliver.ensures.step
 
 pub returns-in-Show-clause-edits : goal.returns-in-Show-clause-edits
 returns-in-Show-clause-edits c = λ w valid stands.
