@@ -16,7 +16,9 @@ use Rattle.edit_stamps.specs.declared.fault.EditFault.TheVariants as edits
 use Rattle.edit_stamps.specs.EditFault.{fault_number as edit_fault_number, fault_text as edit_fault_text}
 use Rattle.replica_core.specs.declared.fault.Fault.{Fault}
 use Rattle.replica_core.specs.declared.fault.Fault.TheVariants.{Edit, OtherRule, ClockFull, NoReplica, NoMessage, Memory}
-use Rattle.replica_core.specs.Fault.{fault_number, fault_text}
+use Rattle.replica_core.specs.declared.event.Stop.{Stop}
+use Rattle.replica_core.specs.declared.event.Stop.TheVariants as stops
+use Rattle.replica_core.specs.Fault.{fault_number, fault_text, stop_number, stop_text}
 use Rattle.genedit_io.specs.Laws.{IsNamed, NamesAgree, NamesAreDistinct}
 use Rattle.genedit_io.specs.RunFault.{names}
 
@@ -49,8 +51,12 @@ replica_names NoReplica refused = refl
 replica_names NoMessage refused = refl
 replica_names Memory refused = absurd (refused refl)
 
+stop_names : (stop : Stop) → IsNamed (stop_number stop) None (stop_text stop)
+stop_names stops.StoreFull refused = refl
+stop_names stops.Memory refused = absurd (refused refl)
+
 pub names_agree : NamesAgree
-names_agree = record { rules = rule_names; texts = text_names; edits = edit_names; replicas = replica_names }
+names_agree = record { rules = rule_names; texts = text_names; edits = edit_names; replicas = replica_names; stops = stop_names }
 
 -- as many numbers, and as many names, differ as stand in the table
 pub names_are_distinct : NamesAreDistinct

@@ -9,7 +9,8 @@ use Rattle.multistate_rle.specs.RleFault.{fault_number as text_fault_number, fau
 use Rattle.edit_stamps.specs.declared.fault.EditFault.{EditFault}
 use Rattle.edit_stamps.specs.EditFault.{fault_number as edit_fault_number, fault_text as edit_fault_text}
 use Rattle.replica_core.specs.declared.fault.Fault.{Fault}
-use Rattle.replica_core.specs.Fault.{fault_number, fault_text}
+use Rattle.replica_core.specs.declared.event.Stop.{Stop}
+use Rattle.replica_core.specs.Fault.{fault_number, fault_text, stop_number, stop_text}
 use Rattle.genedit_io.specs.RunFault.{names, refusal_text}
 
 -- a refusal's own text is what the program says behind its number; 255 is want of memory, and no refusal
@@ -22,6 +23,7 @@ pub record NamesAgree : Type 0 where
   pub texts : (fault : RleFault) → IsNamed (text_fault_number fault) (text_fault_place fault) (text_fault_text fault)
   pub edits : (fault : EditFault) → IsNamed (edit_fault_number fault) None (edit_fault_text fault)
   pub replicas : (fault : Fault) → IsNamed (fault_number fault) None (fault_text fault)
+  pub stops : (stop : Stop) → IsNamed (stop_number stop) None (stop_text stop)
 
 -- no number has two names, and no name two numbers
 pub record NamesAreDistinct : Type 0 where

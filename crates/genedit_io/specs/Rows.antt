@@ -43,6 +43,9 @@ state_range = refl
 pub area_side : name_of_number 12 ≡ codes "AreaSide"
 area_side = refl
 
+pub full_store : name_of_number 13 ≡ codes "StoreFull"
+full_store = refl
+
 pub other_rule : name_of_number 16 ≡ codes "OtherRule"
 other_rule = refl
 

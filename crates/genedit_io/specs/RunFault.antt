@@ -26,7 +26,7 @@ names =
     (1, codes "Slashes") ∷ (2, codes "Digit") ∷ (3, codes "States")
     ∷ (4, codes "Header") ∷ (5, codes "Tag") ∷ (6, codes "Count") ∷ (7, codes "State") ∷ (8, codes "TooMany")
     ∷ (9, codes "Nothing") ∷ (10, codes "OutOfPlane") ∷ (11, codes "StateRange") ∷ (12, codes "AreaSide")
-    ∷ (16, codes "OtherRule") ∷ (24, codes "ClockFull") ∷ (26, codes "NoReplica") ∷ (27, codes "NoMessage")
+    ∷ (13, codes "StoreFull") ∷ (16, codes "OtherRule") ∷ (24, codes "ClockFull") ∷ (26, codes "NoReplica") ∷ (27, codes "NoMessage")
     ∷ (38, codes "NoPattern") ∷ []
 
 abbrev pub name_of_number : ℕ → List ℕ

@@ -121,6 +121,7 @@ impl fmt::Display for FaultName {
             10 => write!(f, "OutOfPlane"),
             11 => write!(f, "StateRange"),
             12 => write!(f, "AreaSide"),
+            13 => write!(f, "StoreFull"),
             16 => write!(f, "OtherRule"),
             24 => write!(f, "ClockFull"),
             26 => write!(f, "NoReplica"),

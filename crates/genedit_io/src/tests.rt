@@ -13,6 +13,7 @@ fn refusals_have_names(rt: HostRuntime) -> Result<(), Fail> {
         (5, Some(14), "refused 5 Tag 14"),
         (11, None, "refused 11 StateRange"),
         (12, None, "refused 12 AreaSide"),
+        (13, None, "refused 13 StoreFull"),
         (27, None, "refused 27 NoMessage"),
         (38, None, "refused 38 NoPattern"),
         (0, None, "refused 0 ?"),

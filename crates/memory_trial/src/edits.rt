@@ -1,7 +1,9 @@
 //! Edits.
 
 use crate::texts;
-use edit_stamps::{Edit, EditFault, Stamp};
+use edit_stamps::{
+    Corner, Edit, EditFault, Rect, Stamp, are_placeable, placed_cells,
+};
 use generations_rule::Rule;
 use multistate_rle::{Cell, Pattern};
 use std::alloc::{AllocError, Global};
@@ -50,26 +52,73 @@ fn copied(alloc: Global, pattern: &Pattern) -> Result<Edit, EditFault> {
     let Some((rule, stamp)) = drawing(1) else {
         return Err(EditFault::Memory);
     };
-    match Edit::paste_copy(alloc, &rule, stamp, pattern, 10, 20) {
-        Err(EditFault::Memory) => Edit::paste_copy(alloc, &rule, stamp, pattern, 10, 20),
+    match Edit::paste_copy(alloc, &rule, stamp, pattern, AT.x, AT.y) {
+        Err(EditFault::Memory) => Edit::paste_copy(alloc, &rule, stamp, pattern, AT.x, AT.y),
         answer => answer,
     }
+}
+
+/// Where the box of the worked pattern is put.
+const AT: Corner = Corner { x: 10, y: 20 };
+
+/// Its box there.
+const BOX: Rect = Rect {
+    x: 10,
+    y: 20,
+    width: 3,
+    height: 2,
+};
+
+/// Its cells there.
+const PLACED: [Cell; 3] = [
+    Cell {
+        x: 12,
+        y: 20,
+        state: 1,
+    },
+    Cell {
+        x: 10,
+        y: 21,
+        state: 1,
+    },
+    Cell {
+        x: 11,
+        y: 21,
+        state: 3,
+    },
+];
+
+fn placed(alloc: Global, pattern: &Pattern) -> Result<Vec<Cell>, AllocError> {
+    if !are_placeable(pattern.cells(), AT) {
+        return Err(AllocError);
+    }
+    match placed_cells(alloc, pattern.cells(), AT) {
+        Err(AllocError) => placed_cells(alloc, pattern.cells(), AT),
+        cells => cells,
+    }
+}
+
+pub fn cells_are_placed(alloc: Global) -> bool {
+    let Ok(pattern) = texts::pattern(alloc) else {
+        return false;
+    };
+    placed(alloc, &pattern).is_ok_and(|cells| cells.as_slice() == PLACED.as_slice())
 }
 
 pub fn pattern_is_copied(alloc: Global) -> bool {
     let Ok(pattern) = texts::pattern(alloc) else {
         return false;
     };
-    copied(alloc, &pattern).is_ok_and(|edit| edit.area().is_some()
-        && edit.listed_cells().len() == 3)
+    copied(alloc, &pattern).is_ok_and(|edit| edit.area() == Some(BOX)
+        && edit.listed_cells() == PLACED.as_slice())
 }
 
 fn ored(alloc: Global, pattern: &Pattern) -> Result<Edit, EditFault> {
     let Some((rule, stamp)) = drawing(1) else {
         return Err(EditFault::Memory);
     };
-    match Edit::paste_or(alloc, &rule, stamp, pattern, 10, 20) {
-        Err(EditFault::Memory) => Edit::paste_or(alloc, &rule, stamp, pattern, 10, 20),
+    match Edit::paste_or(alloc, &rule, stamp, pattern, AT.x, AT.y) {
+        Err(EditFault::Memory) => Edit::paste_or(alloc, &rule, stamp, pattern, AT.x, AT.y),
         answer => answer,
     }
 }
@@ -78,7 +127,8 @@ pub fn pattern_is_ored(alloc: Global) -> bool {
     let Ok(pattern) = texts::pattern(alloc) else {
         return false;
     };
-    ored(alloc, &pattern).is_ok_and(|edit| edit.area().is_none() && edit.listed_cells().len() == 3)
+    ored(alloc, &pattern).is_ok_and(|edit| edit.area().is_none()
+        && edit.listed_cells() == PLACED.as_slice())
 }
 
 pub fn edit_is_copied(alloc: Global) -> bool {

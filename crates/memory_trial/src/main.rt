@@ -31,6 +31,7 @@ fn tell_texts(rt: &impl Print, alloc: Global) -> io::Result<()> {
 fn tell_edits(rt: &impl Print, alloc: Global) -> io::Result<()> {
     tell(rt, "Edit::cells", edits::cells_are_drawn(alloc))?;
     tell(rt, "Edit::cells refused", edits::no_cell_is_refused(alloc))?;
+    tell(rt, "placed_cells", edits::cells_are_placed(alloc))?;
     tell(rt, "Edit::paste_copy", edits::pattern_is_copied(alloc))?;
     tell(rt, "Edit::paste_or", edits::pattern_is_ored(alloc))?;
     tell(rt, "Edit::copy", edits::edit_is_copied(alloc))

@@ -57,7 +57,7 @@ fn front_of(text: &[u8]) -> Option<Front>
         let line = line_at(text, start);
         start += line.len() + 1;
         if is_comment(line) {
-            origin = first_of(origin, origin::origin_of(line));
+            origin = origin.or(origin::origin_of(line));
         } else if !scan::is_all_blank(line) {
             let (width, height) = header(line)?;
             return Some(Front {
@@ -79,15 +79,6 @@ fn line_at(text: &[u8], start: usize) -> &[u8]
 {
     let rest = &text[start..];
     &rest[..scan::line_len(rest)]
-}
-
-fn first_of(first: Option<Origin>, second: Option<Origin>) -> Option<Origin>
-    ensures { result ≡ or_else first second }
-{
-    match first {
-        Some(origin) => Some(origin),
-        None => second,
-    }
 }
 
 fn is_comment(line: &[u8]) -> bool

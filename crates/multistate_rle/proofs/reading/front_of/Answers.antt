@@ -11,7 +11,7 @@ pub loop-start-preserved-then-is_comment : goal.loop-start-preserved-then-is_com
 loop-start-preserved-then-is_comment c =
     let next : ℕ = c.loop-start.start + (length c.line_at-line.result.now + 1) in
     let step = line_at_step (length c.args.text.now) c.loop-start.origin c.args.text.now c.loop-start.start c.line_at-line.result.now next c.line_at-line.ensures.line (omega arith) in
-    ap (λ o. lines_read (length c.args.text.now) o (lines_of (enumerate_from next (drop next c.args.text.now)))) (c.first_of-origin.ensures ∙ ap (or_else c.loop-start.origin) c.origin_of.ensures)
+    ap (λ o. lines_read (length c.args.text.now) o (lines_of (enumerate_from next (drop next c.args.text.now)))) (c.or-origin.ensures ∙ ap (or_else c.loop-start.origin) c.origin_of.ensures)
     ∙ sym (comment_read (length c.args.text.now) c.loop-start.origin c.line_at-line.result.now next (drop next c.args.text.now) (sym c.if-is_comment.ensures))
     ∙ sym step ∙ c.loop-start.invariant
 
