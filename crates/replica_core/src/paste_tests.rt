@@ -10,6 +10,8 @@ use std::test::Fail;
 /// A live cell and a dead one beside it.
 const PAIR: &[u8] = b"#CXRLE Pos=7,7\nx = 2, y = 1\nA.!";
 
+const OUT_OF_PLANE: Fault = Fault::Edit(EditFault::OutOfPlane);
+
 /// Live cells at the origin and to its right.
 fn two_cells(alloc: Global) -> Result<EditSpec, AllocError> {
     let cells = [
@@ -90,39 +92,19 @@ fn clears_an_area(rt: HostRuntime) -> Result<(), Fail> {
 #[test]
 fn refusals_leave_all_as_it_was(rt: HostRuntime) -> Result<(), Fail> {
     let mut replica = drawn_on(rt.alloc())?;
-    let specs = [
-        (
-            EditSpec::Copy(pattern(rt.alloc())?, 0x3fff_ffff, 0),
-            EditFault::OutOfPlane,
-        ),
-        (
-            EditSpec::Or(pattern(rt.alloc())?, 0, i32::MAX),
-            EditFault::OutOfPlane,
-        ),
-        (
-            EditSpec::Clear(Rect {
-                x: 0,
-                y: 0,
-                width: 4097,
-                height: 1,
-            }),
-            EditFault::AreaSide,
-        ),
-        (
-            EditSpec::Clear(Rect {
-                x: 0,
-                y: 0,
-                width: 0,
-                height: 3,
-            }),
-            EditFault::Nothing,
-        ),
-    ];
-    for (spec, fault) in specs {
-        match replica.draw(spec) {
-            Ok(_) => assert!(rt; false, "drawn in spite of {fault}"),
-            Err(got) => assert_eq!(rt; got, Fault::Edit(fault)),
-        }
+    let beyond = EditSpec::Copy(pattern(rt.alloc())?, 0x3fff_ffff, 0);
+    assert_eq!(rt; replica.draw(beyond).err(), Some(OUT_OF_PLANE));
+    let below = EditSpec::Or(pattern(rt.alloc())?, 0, i32::MAX);
+    assert_eq!(rt; replica.draw(below).err(), Some(OUT_OF_PLANE));
+    for (width, height, fault) in [(4097, 1, EditFault::AreaSide), (0, 3, EditFault::Nothing)] {
+        let area = Rect {
+            x: 0,
+            y: 0,
+            width,
+            height,
+        };
+        let got = replica.draw(EditSpec::Clear(area)).err();
+        assert_eq!(rt; got, Some(Fault::Edit(fault)), "{area:?}");
     }
     assert_eq!(rt; replica.journal().len(), 1);
     assert_eq!(rt; read(&replica, 0, 0), (1, 1));
