@@ -10,8 +10,6 @@ use std::test::Fail;
 /// A live cell and a dead one beside it.
 const PAIR: &[u8] = b"#CXRLE Pos=7,7\nx = 2, y = 1\nA.!";
 
-const OUT_OF_PLANE: Fault = Fault::Edit(EditFault::OutOfPlane);
-
 /// Live cells at the origin and to its right.
 fn two_cells(alloc: Global) -> Result<EditSpec, AllocError> {
     let cells = [
@@ -49,22 +47,28 @@ fn pattern(alloc: Global) -> Result<Pattern, Fail> {
 #[test]
 fn copies_dead_cells_too(rt: HostRuntime) -> Result<(), Fail> {
     let mut replica = drawn_on(rt.alloc())?;
-    let edit = replica.draw(EditSpec::Copy(pattern(rt.alloc())?, 0, 0))?;
-    assert_eq!(rt; edit.area().map(|area| area.width), Some(2));
-    assert_eq!(rt; read(&replica, 0, 0), (2, 1));
-    assert_eq!(rt; read(&replica, 1, 0), (2, 0));
-    assert_eq!(rt; read(&replica, 0, 1), (0, 0));
+    let area = replica
+        .draw(EditSpec::Copy(pattern(rt.alloc())?, 0, 0))?
+        .area();
+    assert_eq!(rt; area.map(|area| area.width), Some(2));
+    let seen = [
+        read(&replica, 0, 0),
+        read(&replica, 1, 0),
+        read(&replica, 0, 1),
+    ];
+    assert_eq!(rt; seen, [(2, 1), (2, 0), (0, 0)]);
     Ok(())
 }
 
 #[test]
 fn ors_live_cells_alone(rt: HostRuntime) -> Result<(), Fail> {
     let mut replica = drawn_on(rt.alloc())?;
-    let edit = replica.draw(EditSpec::Or(pattern(rt.alloc())?, 0, 0))?;
-    assert!(rt; edit.area().is_none());
-    assert_eq!(rt; read(&replica, 0, 0), (2, 1));
-    assert_eq!(rt; read(&replica, 1, 0), (1, 1));
-    assert_eq!(rt; replica.journal().len(), 2);
+    let area = replica
+        .draw(EditSpec::Or(pattern(rt.alloc())?, 0, 0))?
+        .area();
+    assert!(rt; area.is_none());
+    let seen = [read(&replica, 0, 0), read(&replica, 1, 0)];
+    assert_eq!(rt; (seen, replica.journal().len()), ([(2, 1), (1, 1)], 2));
     Ok(())
 }
 
@@ -89,24 +93,41 @@ fn clears_an_area(rt: HostRuntime) -> Result<(), Fail> {
     Ok(())
 }
 
+/// An area at the origin.
+fn area(width: u32, height: u32) -> Rect {
+    Rect {
+        x: 0,
+        y: 0,
+        width,
+        height,
+    }
+}
+
+/// Why a copy and an or that leave the plane, and clears of too much and of nothing, are refused.
+fn refusals(alloc: Global, replica: &mut Replica) -> Result<[Option<Fault>; 4], Fail> {
+    let beyond = EditSpec::Copy(pattern(alloc)?, 0x3fff_ffff, 0);
+    let copy = replica.draw(beyond).err();
+    let beyond = EditSpec::Or(pattern(alloc)?, 0, i32::MAX);
+    let or = replica.draw(beyond).err();
+    let clear = replica.draw(EditSpec::Clear(area(4097, 1))).err();
+    let nothing = replica.draw(EditSpec::Clear(area(0, 3))).err();
+    Ok([copy, or, clear, nothing])
+}
+
 #[test]
 fn refusals_leave_all_as_it_was(rt: HostRuntime) -> Result<(), Fail> {
     let mut replica = drawn_on(rt.alloc())?;
-    let beyond = EditSpec::Copy(pattern(rt.alloc())?, 0x3fff_ffff, 0);
-    assert_eq!(rt; replica.draw(beyond).err(), Some(OUT_OF_PLANE));
-    let below = EditSpec::Or(pattern(rt.alloc())?, 0, i32::MAX);
-    assert_eq!(rt; replica.draw(below).err(), Some(OUT_OF_PLANE));
-    for (width, height, fault) in [(4097, 1, EditFault::AreaSide), (0, 3, EditFault::Nothing)] {
-        let area = Rect {
-            x: 0,
-            y: 0,
-            width,
-            height,
-        };
-        let got = replica.draw(EditSpec::Clear(area)).err();
-        assert_eq!(rt; got, Some(Fault::Edit(fault)), "{area:?}");
-    }
-    assert_eq!(rt; replica.journal().len(), 1);
-    assert_eq!(rt; read(&replica, 0, 0), (1, 1));
+    let faults = [
+        EditFault::OutOfPlane,
+        EditFault::OutOfPlane,
+        EditFault::AreaSide,
+        EditFault::Nothing,
+    ];
+    let refused = refusals(rt.alloc(), &mut replica)?;
+    assert_eq!(rt; refused, faults.map(|fault| Some(Fault::Edit(fault))));
+    assert_eq!(rt;
+        (replica.journal().len(), read(&replica, 0, 0)),
+        (1, (1, 1))
+    );
     Ok(())
 }

@@ -30,6 +30,20 @@ fn draw(alloc: Global, replica: &mut Replica, cells: &[(i32, i32, u8)]) -> Resul
     Ok(replica.draw(spec(alloc, cells)?)?)
 }
 
+/// The number of the stamp of what is drawn.
+fn stamp_of(alloc: Global, replica: &mut Replica, cells: &[(i32, i32, u8)]) -> Result<u64, Fail> {
+    Ok(draw(alloc, replica, cells)?.stamp().number())
+}
+
+/// Why nothing is drawn.
+fn refusal(
+    alloc: Global,
+    replica: &mut Replica,
+    cells: &[(i32, i32, u8)],
+) -> Result<Option<Fault>, AllocError> {
+    Ok(replica.draw(spec(alloc, cells)?).err())
+}
+
 /// A message of one edit of the cell at the origin.
 fn message_of_one(
     alloc: Global,
@@ -54,13 +68,17 @@ fn read(replica: &Replica, x: i32, y: i32) -> (u64, u8) {
     (stamp, state)
 }
 
+/// What is shown at the origin, and how many edits are noted.
+fn held(replica: &Replica) -> ((u64, u8), usize) {
+    (read(replica, 0, 0), replica.journal().len())
+}
+
 #[test]
 fn begins_empty(rt: HostRuntime) -> Result<(), Fail> {
     let rule = Rule::parse(b"/2/3")?;
     let replica = Replica::new(rt.alloc(), rule, 7)?;
-    assert_eq!(rt; replica.number(), 7);
+    assert_eq!(rt; (replica.number(), replica.journal().len()), (7, 0));
     assert!(rt; replica.rule().same(&rule));
-    assert_eq!(rt; replica.journal().len(), 0);
     for (x, y) in [(0, 0), (-1, 5), (0x4000_0000, 0), (i32::MIN, i32::MAX)] {
         assert_eq!(rt; read(&replica, x, y), (0, 0), "{x} {y}");
     }
@@ -77,26 +95,31 @@ fn refuses_what_is_no_edit(rt: HostRuntime) -> Result<(), Fail> {
         (&[(0, 0, 4)], EditFault::StateRange),
     ];
     for (cells, fault) in refused {
-        let got = replica.draw(spec(rt.alloc(), cells)?).err();
+        let got = refusal(rt.alloc(), &mut replica, cells)?;
         assert_eq!(rt; got, Some(Fault::Edit(fault)), "{cells:?}");
     }
-    assert_eq!(rt; read(&replica, 0, 0), (0, 0));
-    assert_eq!(rt; replica.journal().len(), 0);
+    assert_eq!(rt; held(&replica), ((0, 0), 0));
     // the later of two entries wins
-    let edit = draw(rt.alloc(), &mut replica, &[(0, 0, 3), (0, 0, 2)])?;
-    assert_eq!(rt; edit.stamp().number(), 65537);
-    assert_eq!(rt; read(&replica, 0, 0), shown(1, 1, 2));
+    let stamp = stamp_of(rt.alloc(), &mut replica, &[(0, 0, 3), (0, 0, 2)])?;
+    assert_eq!(rt; (stamp, read(&replica, 0, 0)), (65537, shown(1, 1, 2)));
     Ok(())
 }
 
-/// An edit of a replica's own is written and noted after its earlier ones.
+/// Draws twice; the counter of the second edit, and whether both are in the journal in order.
+fn draw_twice(alloc: Global, replica: &mut Replica) -> Result<(u64, bool), Fail> {
+    let first = draw(alloc, replica, &[(0, 0, 3), (0, 0, 2)])?;
+    let second = draw(alloc, replica, &[(0, 0, 0), (-5, 9, 1)])?;
+    let are_noted = match replica.journal() {
+        [one, other] => one.same(&first) && other.same(&second),
+        _ => false,
+    };
+    Ok((second.stamp().counter(), are_noted))
+}
+
 #[test]
 fn draws_again(rt: HostRuntime) -> Result<(), Fail> {
-    let alloc = rt.alloc();
-    let mut replica = begun(alloc, b"345/2/4", 1)?;
-    let first = draw(alloc, &mut replica, &[(0, 0, 3), (0, 0, 2)])?;
-    let second = draw(alloc, &mut replica, &[(0, 0, 0), (-5, 9, 1)])?;
-    assert_eq!(rt; second.stamp().counter(), 2);
+    let mut replica = begun(rt.alloc(), b"345/2/4", 1)?;
+    assert_eq!(rt; draw_twice(rt.alloc(), &mut replica)?, (2, true));
     for (x, y, seen) in [
         (0, 0, shown(2, 1, 0)),
         (-5, 9, shown(2, 1, 1)),
@@ -104,9 +127,6 @@ fn draws_again(rt: HostRuntime) -> Result<(), Fail> {
     ] {
         assert_eq!(rt; read(&replica, x, y), seen, "{x} {y}");
     }
-    let journal = replica.journal();
-    assert_eq!(rt; journal.len(), 2);
-    assert!(rt; journal[0].same(&first) && journal[1].same(&second));
     Ok(())
 }
 
@@ -154,25 +174,32 @@ fn second_told(alloc: Global) -> Result<Replica, Fail> {
     Ok(second)
 }
 
+/// What is shown where they drew, and how many edits are noted.
+fn outcome(replica: &Replica) -> ([(u64, u8); 3], usize) {
+    let seen = [
+        read(replica, 0, 0),
+        read(replica, 1, 0),
+        read(replica, 0, 1),
+    ];
+    (seen, replica.journal().len())
+}
+
 /// A state that is taken adds nothing to a journal.
 #[test]
 fn agrees_in_both_orders(rt: HostRuntime) -> Result<(), Fail> {
-    let first = first_told(rt.alloc())?;
-    let second = second_told(rt.alloc())?;
-    for replica in [&first, &second] {
-        assert_eq!(rt; read(replica, 0, 0), shown(1, 2, 2));
-        assert_eq!(rt; read(replica, 1, 0), shown(1, 1, 2));
-        assert_eq!(rt; read(replica, 0, 1), shown(1, 2, 1));
-        assert_eq!(rt; replica.journal().len(), 1);
-    }
+    let agreed = ([shown(1, 2, 2), shown(1, 1, 2), shown(1, 2, 1)], 1);
+    let of_first = outcome(&first_told(rt.alloc())?);
+    assert_eq!(rt; of_first, agreed);
+    let of_second = outcome(&second_told(rt.alloc())?);
+    assert_eq!(rt; of_second, agreed);
     Ok(())
 }
 
 #[test]
 fn what_is_taken_raises_the_clock(rt: HostRuntime) -> Result<(), Fail> {
     let mut replica = first_told(rt.alloc())?;
-    let edit = draw(rt.alloc(), &mut replica, &[(0, 0, 1)])?;
-    assert_eq!(rt; edit.stamp().number(), 2 * 65536 + 1);
+    let stamp = stamp_of(rt.alloc(), &mut replica, &[(0, 0, 1)])?;
+    assert_eq!(rt; stamp, 2 * 65536 + 1);
     Ok(())
 }
 
@@ -195,21 +222,28 @@ fn fills_the_clock(rt: HostRuntime) -> Result<(), Fail> {
     let alloc = rt.alloc();
     let mut replica = begun(alloc, b"/2/3", 2)?;
     take_one(alloc, &mut replica, 0xffff_ffff_ffff, 1)?;
-    let drawn = replica.draw(spec(alloc, &[])?);
-    assert_eq!(rt; drawn.err(), Some(Fault::ClockFull));
+    let refused = refusal(alloc, &mut replica, &[])?;
+    assert_eq!(rt; refused, Some(Fault::ClockFull));
     take_one(alloc, &mut replica, 1, 1)?;
-    assert_eq!(rt; read(&replica, 0, 0), shown(0xffff_ffff_ffff, 1, 1));
-    assert_eq!(rt; replica.journal().len(), 2);
+    assert_eq!(rt; held(&replica), (shown(0xffff_ffff_ffff, 1, 1), 2));
     Ok(())
+}
+
+/// What is answered to an edit that was made under this rule.
+fn answer(alloc: Global, replica: &mut Replica, rule: Rule) -> Result<Result<(), Fault>, Fail> {
+    let message = message_of_one(alloc, rule, 1, 1, 2)?;
+    Ok(replica.take(&message))
 }
 
 #[test]
 fn refuses_another_rule(rt: HostRuntime) -> Result<(), Fail> {
-    let message = message_of_one(rt.alloc(), Rule::parse(b"345/2/4")?, 1, 1, 2)?;
+    let other = Rule::parse(b"345/2/4")?;
     let mut replica = begun(rt.alloc(), b"/2/3", 2)?;
-    assert_eq!(rt; replica.take(&message), Err(Fault::OtherRule));
-    assert_eq!(rt; read(&replica, 0, 0), (0, 0));
-    assert_eq!(rt; replica.journal().len(), 0);
+    let answer = answer(rt.alloc(), &mut replica, other)?;
+    assert_eq!(rt;
+        (answer, held(&replica)),
+        (Err(Fault::OtherRule), ((0, 0), 0))
+    );
     Ok(())
 }
 
@@ -226,12 +260,10 @@ fn told(alloc: Global, number: u16, states: &[u8]) -> Result<Replica, Fail>
 
 #[test]
 fn notes_two_edits_of_one_stamp(rt: HostRuntime) -> Result<(), Fail> {
-    let one = told(rt.alloc(), 3, &[1, 3, 1])?;
-    let other = told(rt.alloc(), 4, &[3, 1, 3])?;
-    for replica in [&one, &other] {
-        assert_eq!(rt; read(replica, 0, 0), shown(5, 1, 3));
-        assert_eq!(rt; replica.journal().len(), 2);
-    }
+    let by_one = held(&told(rt.alloc(), 3, &[1, 3, 1])?);
+    assert_eq!(rt; by_one, (shown(5, 1, 3), 2));
+    let by_other = held(&told(rt.alloc(), 4, &[3, 1, 3])?);
+    assert_eq!(rt; by_other, (shown(5, 1, 3), 2));
     Ok(())
 }
 
