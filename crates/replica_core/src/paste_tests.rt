@@ -40,22 +40,32 @@ fn read(replica: &Replica, x: i32, y: i32) -> (u64, u8) {
     (write.stamp / 65536, write.state)
 }
 
+fn reads<const N: usize>(replica: &Replica, places: [(i32, i32); N]) -> [(u64, u8); N] {
+    places.map(|(x, y)| read(replica, x, y))
+}
+
 fn pattern(alloc: Global) -> Result<Pattern, Fail> {
     Ok(parse(alloc, PAIR)?)
+}
+
+/// Copies the pattern to the origin; the edit's area.
+fn copy(alloc: Global, replica: &mut Replica) -> Result<Option<Rect>, Fail> {
+    let spec = EditSpec::Copy(pattern(alloc)?, 0, 0);
+    Ok(replica.draw(spec)?.area())
+}
+
+/// Draws the pattern over what is at the origin; the edit's area.
+fn draw_over(alloc: Global, replica: &mut Replica) -> Result<Option<Rect>, Fail> {
+    let spec = EditSpec::Or(pattern(alloc)?, 0, 0);
+    Ok(replica.draw(spec)?.area())
 }
 
 #[test]
 fn copies_dead_cells_too(rt: HostRuntime) -> Result<(), Fail> {
     let mut replica = drawn_on(rt.alloc())?;
-    let area = replica
-        .draw(EditSpec::Copy(pattern(rt.alloc())?, 0, 0))?
-        .area();
+    let area = copy(rt.alloc(), &mut replica)?;
     assert_eq!(rt; area.map(|area| area.width), Some(2));
-    let seen = [
-        read(&replica, 0, 0),
-        read(&replica, 1, 0),
-        read(&replica, 0, 1),
-    ];
+    let seen = reads(&replica, [(0, 0), (1, 0), (0, 1)]);
     assert_eq!(rt; seen, [(2, 1), (2, 0), (0, 0)]);
     Ok(())
 }
@@ -63,11 +73,9 @@ fn copies_dead_cells_too(rt: HostRuntime) -> Result<(), Fail> {
 #[test]
 fn ors_live_cells_alone(rt: HostRuntime) -> Result<(), Fail> {
     let mut replica = drawn_on(rt.alloc())?;
-    let area = replica
-        .draw(EditSpec::Or(pattern(rt.alloc())?, 0, 0))?
-        .area();
+    let area = draw_over(rt.alloc(), &mut replica)?;
     assert!(rt; area.is_none());
-    let seen = [read(&replica, 0, 0), read(&replica, 1, 0)];
+    let seen = reads(&replica, [(0, 0), (1, 0)]);
     assert_eq!(rt; (seen, replica.journal().len()), ([(2, 1), (1, 1)], 2));
     Ok(())
 }
@@ -82,14 +90,8 @@ fn clears_an_area(rt: HostRuntime) -> Result<(), Fail> {
         height: 9,
     };
     let _ = replica.draw(EditSpec::Clear(area))?;
-    for (x, y, seen) in [
-        (0, 0, (2, 0)),
-        (1, 0, (1, 1)),
-        (-4, 4, (2, 0)),
-        (-4, 5, (0, 0)),
-    ] {
-        assert_eq!(rt; read(&replica, x, y), seen, "{x} {y}");
-    }
+    let seen = reads(&replica, [(0, 0), (1, 0), (-4, 4), (-4, 5)]);
+    assert_eq!(rt; seen, [(2, 0), (1, 1), (2, 0), (0, 0)]);
     Ok(())
 }
 

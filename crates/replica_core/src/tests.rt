@@ -68,6 +68,10 @@ fn read(replica: &Replica, x: i32, y: i32) -> (u64, u8) {
     (stamp, state)
 }
 
+fn reads<const N: usize>(replica: &Replica, places: [(i32, i32); N]) -> [(u64, u8); N] {
+    places.map(|(x, y)| read(replica, x, y))
+}
+
 /// What is shown at the origin, and how many edits are noted.
 fn held(replica: &Replica) -> ((u64, u8), usize) {
     (read(replica, 0, 0), replica.journal().len())
@@ -79,25 +83,31 @@ fn begins_empty(rt: HostRuntime) -> Result<(), Fail> {
     let replica = Replica::new(rt.alloc(), rule, 7)?;
     assert_eq!(rt; (replica.number(), replica.journal().len()), (7, 0));
     assert!(rt; replica.rule().same(&rule));
-    for (x, y) in [(0, 0), (-1, 5), (0x4000_0000, 0), (i32::MIN, i32::MAX)] {
-        assert_eq!(rt; read(&replica, x, y), (0, 0), "{x} {y}");
-    }
+    let places = [(0, 0), (-1, 5), (0x4000_0000, 0), (i32::MIN, i32::MAX)];
+    assert_eq!(rt; reads(&replica, places), [(0, 0); 4]);
     Ok(())
+}
+
+/// Why no cells, a cell beyond the plane, and a state that the rule lacks are refused.
+fn refusals(alloc: Global, replica: &mut Replica) -> Result<[Option<Fault>; 3], AllocError> {
+    Ok([
+        refusal(alloc, replica, &[])?,
+        refusal(alloc, replica, &[(0x4000_0000, 0, 1)])?,
+        refusal(alloc, replica, &[(0, 0, 4)])?,
+    ])
 }
 
 /// Nothing is drawn, and no stamp is taken.
 #[test]
 fn refuses_what_is_no_edit(rt: HostRuntime) -> Result<(), Fail> {
-    let mut replica = begun(rt.alloc(), b"345/2/4", 1)?;
-    let refused: [(&[(i32, i32, u8)], EditFault); 3] = [
-        (&[], EditFault::Nothing),
-        (&[(0x4000_0000, 0, 1)], EditFault::OutOfPlane),
-        (&[(0, 0, 4)], EditFault::StateRange),
+    let faults = [
+        EditFault::Nothing,
+        EditFault::OutOfPlane,
+        EditFault::StateRange,
     ];
-    for (cells, fault) in refused {
-        let got = refusal(rt.alloc(), &mut replica, cells)?;
-        assert_eq!(rt; got, Some(Fault::Edit(fault)), "{cells:?}");
-    }
+    let mut replica = begun(rt.alloc(), b"345/2/4", 1)?;
+    let refused = refusals(rt.alloc(), &mut replica)?;
+    assert_eq!(rt; refused, faults.map(|fault| Some(Fault::Edit(fault))));
     assert_eq!(rt; held(&replica), ((0, 0), 0));
     // the later of two entries wins
     let stamp = stamp_of(rt.alloc(), &mut replica, &[(0, 0, 3), (0, 0, 2)])?;
@@ -120,13 +130,8 @@ fn draw_twice(alloc: Global, replica: &mut Replica) -> Result<(u64, bool), Fail>
 fn draws_again(rt: HostRuntime) -> Result<(), Fail> {
     let mut replica = begun(rt.alloc(), b"345/2/4", 1)?;
     assert_eq!(rt; draw_twice(rt.alloc(), &mut replica)?, (2, true));
-    for (x, y, seen) in [
-        (0, 0, shown(2, 1, 0)),
-        (-5, 9, shown(2, 1, 1)),
-        (9, -5, (0, 0)),
-    ] {
-        assert_eq!(rt; read(&replica, x, y), seen, "{x} {y}");
-    }
+    let seen = reads(&replica, [(0, 0), (-5, 9), (9, -5)]);
+    assert_eq!(rt; seen, [shown(2, 1, 0), shown(2, 1, 1), (0, 0)]);
     Ok(())
 }
 
@@ -152,8 +157,9 @@ fn sent(alloc: Global, number: u16, cells: &[(i32, i32, u8)]) -> Result<Message,
 
 #[test]
 fn sends_its_map_alone(rt: HostRuntime) -> Result<(), Fail> {
+    let rule = Rule::parse(b"/2/3")?;
     let message = sent(rt.alloc(), 1, &OF_FIRST)?;
-    assert!(rt; message.rule().same(&Rule::parse(b"/2/3")?));
+    assert!(rt; message.rule().same(&rule));
     assert!(rt; message.edits().is_none());
     Ok(())
 }
@@ -176,12 +182,10 @@ fn second_told(alloc: Global) -> Result<Replica, Fail> {
 
 /// What is shown where they drew, and how many edits are noted.
 fn outcome(replica: &Replica) -> ([(u64, u8); 3], usize) {
-    let seen = [
-        read(replica, 0, 0),
-        read(replica, 1, 0),
-        read(replica, 0, 1),
-    ];
-    (seen, replica.journal().len())
+    (
+        reads(replica, [(0, 0), (1, 0), (0, 1)]),
+        replica.journal().len(),
+    )
 }
 
 /// A state that is taken adds nothing to a journal.
@@ -217,14 +221,19 @@ fn sends_an_edit(rt: HostRuntime) -> Result<(), Fail> {
     Ok(())
 }
 
+/// Takes an edit of the last counter, and then an early one; why nothing is drawn between them.
+fn fill(alloc: Global, replica: &mut Replica) -> Result<Option<Fault>, Fail> {
+    take_one(alloc, replica, 0xffff_ffff_ffff, 1)?;
+    let refused = refusal(alloc, replica, &[])?;
+    take_one(alloc, replica, 1, 1)?;
+    Ok(refused)
+}
+
 #[test]
 fn fills_the_clock(rt: HostRuntime) -> Result<(), Fail> {
-    let alloc = rt.alloc();
-    let mut replica = begun(alloc, b"/2/3", 2)?;
-    take_one(alloc, &mut replica, 0xffff_ffff_ffff, 1)?;
-    let refused = refusal(alloc, &mut replica, &[])?;
+    let mut replica = begun(rt.alloc(), b"/2/3", 2)?;
+    let refused = fill(rt.alloc(), &mut replica)?;
     assert_eq!(rt; refused, Some(Fault::ClockFull));
-    take_one(alloc, &mut replica, 1, 1)?;
     assert_eq!(rt; held(&replica), (shown(0xffff_ffff_ffff, 1, 1), 2));
     Ok(())
 }
@@ -275,8 +284,8 @@ fn names_faults(rt: HostRuntime) -> Result<(), Fail> {
         (Fault::ClockFull, 24, "ClockFull"),
         (Fault::Memory, 255, "Memory"),
     ] {
-        assert_eq!(rt; fault.number(), number);
-        assert_eq!(rt; fault.to_string(rt.alloc())?.as_str(), name);
+        let text = fault.to_string(rt.alloc())?;
+        assert_eq!(rt; (fault.number(), text.as_str()), (number, name));
     }
     Ok(())
 }

@@ -66,15 +66,8 @@ fn shown(counter: u64, replica: u16, state: u8) -> Reply {
 #[test]
 fn opens(rt: HostRuntime) -> Result<(), Fail> {
     let world = World::new(rt.alloc(), Rule::parse(b"/2/3")?, 3)?;
-    for (number, there) in [
-        (0, false),
-        (1, true),
-        (3, true),
-        (4, false),
-        (u32::MAX, false),
-    ] {
-        assert_eq!(rt; world.replica(number).is_some(), there, "{number}");
-    }
+    let are_there = [0, 1, 3, 4, u32::MAX].map(|number| world.replica(number).is_some());
+    assert_eq!(rt; are_there, [false, true, true, false, false]);
     let last = world
         .replica(3)
         .map(|last| (last.number(), last.journal().len()));
