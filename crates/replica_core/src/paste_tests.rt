@@ -40,58 +40,53 @@ fn read(replica: &Replica, x: i32, y: i32) -> (u64, u8) {
     (write.stamp / 65536, write.state)
 }
 
-fn reads<const N: usize>(replica: &Replica, places: [(i32, i32); N]) -> [(u64, u8); N] {
-    places.map(|(x, y)| read(replica, x, y))
-}
-
 fn pattern(alloc: Global) -> Result<Pattern, Fail> {
     Ok(parse(alloc, PAIR)?)
 }
 
-/// Copies the pattern to the origin; the edit's area.
-fn copy(alloc: Global, replica: &mut Replica) -> Result<Option<Rect>, Fail> {
-    let spec = EditSpec::Copy(pattern(alloc)?, 0, 0);
-    Ok(replica.draw(spec)?.area())
-}
-
-/// Draws the pattern over what is at the origin; the edit's area.
-fn draw_over(alloc: Global, replica: &mut Replica) -> Result<Option<Rect>, Fail> {
-    let spec = EditSpec::Or(pattern(alloc)?, 0, 0);
-    Ok(replica.draw(spec)?.area())
+/// A replica with two live cells draws: its edit's area, the number of edits that it noted, and what
+/// it shows at these places.
+fn after<const N: usize>(
+    alloc: Global,
+    spec: EditSpec,
+    places: [(i32, i32); N],
+) -> Result<(Option<Rect>, usize, [(u64, u8); N]), Fail> {
+    let mut replica = drawn_on(alloc)?;
+    let area = replica.draw(spec)?.area();
+    let shown = places.map(|(x, y)| read(&replica, x, y));
+    Ok((area, replica.journal().len(), shown))
 }
 
 #[test]
 fn copies_dead_cells_too(rt: HostRuntime) -> Result<(), Fail> {
-    let mut replica = drawn_on(rt.alloc())?;
-    let area = copy(rt.alloc(), &mut replica)?;
+    let spec = EditSpec::Copy(pattern(rt.alloc())?, 0, 0);
+    let (area, _, shown) = after(rt.alloc(), spec, [(0, 0), (1, 0), (0, 1)])?;
     assert_eq!(rt; area.map(|area| area.width), Some(2));
-    let seen = reads(&replica, [(0, 0), (1, 0), (0, 1)]);
-    assert_eq!(rt; seen, [(2, 1), (2, 0), (0, 0)]);
+    assert_eq!(rt; shown, [(2, 1), (2, 0), (0, 0)]);
     Ok(())
 }
 
 #[test]
 fn ors_live_cells_alone(rt: HostRuntime) -> Result<(), Fail> {
-    let mut replica = drawn_on(rt.alloc())?;
-    let area = draw_over(rt.alloc(), &mut replica)?;
+    let spec = EditSpec::Or(pattern(rt.alloc())?, 0, 0);
+    let (area, noted, shown) = after(rt.alloc(), spec, [(0, 0), (1, 0)])?;
     assert!(rt; area.is_none());
-    let seen = reads(&replica, [(0, 0), (1, 0)]);
-    assert_eq!(rt; (seen, replica.journal().len()), ([(2, 1), (1, 1)], 2));
+    assert_eq!(rt; shown, [(2, 1), (1, 1)]);
+    assert_eq!(rt; noted, 2);
     Ok(())
 }
 
 #[test]
 fn clears_an_area(rt: HostRuntime) -> Result<(), Fail> {
-    let mut replica = drawn_on(rt.alloc())?;
     let area = Rect {
         x: -4,
         y: -4,
         width: 5,
         height: 9,
     };
-    let _ = replica.draw(EditSpec::Clear(area))?;
-    let seen = reads(&replica, [(0, 0), (1, 0), (-4, 4), (-4, 5)]);
-    assert_eq!(rt; seen, [(2, 0), (1, 1), (2, 0), (0, 0)]);
+    let places = [(0, 0), (1, 0), (-4, 4), (-4, 5)];
+    let (_, _, shown) = after(rt.alloc(), EditSpec::Clear(area), places)?;
+    assert_eq!(rt; shown, [(2, 0), (1, 1), (2, 0), (0, 0)]);
     Ok(())
 }
 
@@ -116,20 +111,23 @@ fn refusals(alloc: Global, replica: &mut Replica) -> Result<[Option<Fault>; 4], 
     Ok([copy, or, clear, nothing])
 }
 
+/// The same, with the number of edits that are noted after them and what is shown at the origin.
+fn refused(alloc: Global) -> Result<([Option<Fault>; 4], usize, (u64, u8)), Fail> {
+    let mut replica = drawn_on(alloc)?;
+    let refused = refusals(alloc, &mut replica)?;
+    Ok((refused, replica.journal().len(), read(&replica, 0, 0)))
+}
+
 #[test]
 fn refusals_leave_all_as_it_was(rt: HostRuntime) -> Result<(), Fail> {
-    let mut replica = drawn_on(rt.alloc())?;
     let faults = [
         EditFault::OutOfPlane,
         EditFault::OutOfPlane,
         EditFault::AreaSide,
         EditFault::Nothing,
     ];
-    let refused = refusals(rt.alloc(), &mut replica)?;
+    let (refused, noted, shown) = refused(rt.alloc())?;
     assert_eq!(rt; refused, faults.map(|fault| Some(Fault::Edit(fault))));
-    assert_eq!(rt;
-        (replica.journal().len(), read(&replica, 0, 0)),
-        (1, (1, 1))
-    );
+    assert_eq!(rt; (noted, shown), (1, (1, 1)));
     Ok(())
 }

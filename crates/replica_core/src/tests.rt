@@ -73,7 +73,9 @@ fn reads<const N: usize>(replica: &Replica, places: [(i32, i32); N]) -> [(u64, u
 }
 
 /// What is shown at the origin, and how many edits are noted.
-fn held(replica: &Replica) -> ((u64, u8), usize) {
+type Held = ((u64, u8), usize);
+
+fn held(replica: &Replica) -> Held {
     (read(replica, 0, 0), replica.journal().len())
 }
 
@@ -97,7 +99,13 @@ fn refusals(alloc: Global, replica: &mut Replica) -> Result<[Option<Fault>; 3], 
     ])
 }
 
-/// Nothing is drawn, and no stamp is taken.
+/// The same of a new replica, and what it holds after them.
+fn refused(alloc: Global) -> Result<([Option<Fault>; 3], Held), Fail> {
+    let mut replica = begun(alloc, b"345/2/4", 1)?;
+    let refused = refusals(alloc, &mut replica)?;
+    Ok((refused, held(&replica)))
+}
+
 #[test]
 fn refuses_what_is_no_edit(rt: HostRuntime) -> Result<(), Fail> {
     let faults = [
@@ -105,11 +113,17 @@ fn refuses_what_is_no_edit(rt: HostRuntime) -> Result<(), Fail> {
         EditFault::OutOfPlane,
         EditFault::StateRange,
     ];
-    let mut replica = begun(rt.alloc(), b"345/2/4", 1)?;
-    let refused = refusals(rt.alloc(), &mut replica)?;
+    let (refused, held) = refused(rt.alloc())?;
     assert_eq!(rt; refused, faults.map(|fault| Some(Fault::Edit(fault))));
-    assert_eq!(rt; held(&replica), ((0, 0), 0));
-    // the later of two entries wins
+    assert_eq!(rt; held, ((0, 0), 0));
+    Ok(())
+}
+
+/// Of two entries the later wins.
+#[test]
+fn a_refusal_takes_no_stamp(rt: HostRuntime) -> Result<(), Fail> {
+    let mut replica = begun(rt.alloc(), b"345/2/4", 1)?;
+    let _ = refusals(rt.alloc(), &mut replica)?;
     let stamp = stamp_of(rt.alloc(), &mut replica, &[(0, 0, 3), (0, 0, 2)])?;
     assert_eq!(rt; (stamp, read(&replica, 0, 0)), (65537, shown(1, 1, 2)));
     Ok(())
@@ -192,9 +206,9 @@ fn outcome(replica: &Replica) -> ([(u64, u8); 3], usize) {
 #[test]
 fn agrees_in_both_orders(rt: HostRuntime) -> Result<(), Fail> {
     let agreed = ([shown(1, 2, 2), shown(1, 1, 2), shown(1, 2, 1)], 1);
-    let of_first = outcome(&first_told(rt.alloc())?);
+    let of_first = first_told(rt.alloc()).map(|first| outcome(&first))?;
     assert_eq!(rt; of_first, agreed);
-    let of_second = outcome(&second_told(rt.alloc())?);
+    let of_second = second_told(rt.alloc()).map(|second| outcome(&second))?;
     assert_eq!(rt; of_second, agreed);
     Ok(())
 }
@@ -221,20 +235,21 @@ fn sends_an_edit(rt: HostRuntime) -> Result<(), Fail> {
     Ok(())
 }
 
-/// Takes an edit of the last counter, and then an early one; why nothing is drawn between them.
-fn fill(alloc: Global, replica: &mut Replica) -> Result<Option<Fault>, Fail> {
-    take_one(alloc, replica, 0xffff_ffff_ffff, 1)?;
-    let refused = refusal(alloc, replica, &[])?;
-    take_one(alloc, replica, 1, 1)?;
-    Ok(refused)
+/// A replica takes an edit of the last counter, and then an early one: why it draws nothing between
+/// them, and what it holds in the end.
+fn filled(alloc: Global) -> Result<(Option<Fault>, Held), Fail> {
+    let mut replica = begun(alloc, b"/2/3", 2)?;
+    take_one(alloc, &mut replica, 0xffff_ffff_ffff, 1)?;
+    let refused = refusal(alloc, &mut replica, &[])?;
+    take_one(alloc, &mut replica, 1, 1)?;
+    Ok((refused, held(&replica)))
 }
 
 #[test]
 fn fills_the_clock(rt: HostRuntime) -> Result<(), Fail> {
-    let mut replica = begun(rt.alloc(), b"/2/3", 2)?;
-    let refused = fill(rt.alloc(), &mut replica)?;
+    let (refused, held) = filled(rt.alloc())?;
     assert_eq!(rt; refused, Some(Fault::ClockFull));
-    assert_eq!(rt; held(&replica), (shown(0xffff_ffff_ffff, 1, 1), 2));
+    assert_eq!(rt; held, (shown(0xffff_ffff_ffff, 1, 1), 2));
     Ok(())
 }
 
@@ -256,23 +271,21 @@ fn refuses_another_rule(rt: HostRuntime) -> Result<(), Fail> {
     Ok(())
 }
 
-/// A replica that took edits of one stamp, one for each state.
-fn told(alloc: Global, number: u16, states: &[u8]) -> Result<Replica, Fail>
+/// What a replica holds that took edits of one stamp, one for each state.
+fn told(alloc: Global, number: u16, states: &[u8]) -> Result<Held, Fail>
     requires { 1 ≤ number }
 {
     let mut replica = begun(alloc, b"345/2/4", number)?;
     for state in states {
         take_one(alloc, &mut replica, 5, *state)?;
     }
-    Ok(replica)
+    Ok(held(&replica))
 }
 
 #[test]
 fn notes_two_edits_of_one_stamp(rt: HostRuntime) -> Result<(), Fail> {
-    let by_one = held(&told(rt.alloc(), 3, &[1, 3, 1])?);
-    assert_eq!(rt; by_one, (shown(5, 1, 3), 2));
-    let by_other = held(&told(rt.alloc(), 4, &[3, 1, 3])?);
-    assert_eq!(rt; by_other, (shown(5, 1, 3), 2));
+    assert_eq!(rt; told(rt.alloc(), 3, &[1, 3, 1])?, (shown(5, 1, 3), 2));
+    assert_eq!(rt; told(rt.alloc(), 4, &[3, 1, 3])?, (shown(5, 1, 3), 2));
     Ok(())
 }
 
