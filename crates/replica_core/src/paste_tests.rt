@@ -44,8 +44,8 @@ fn pattern(alloc: Global) -> Result<Pattern, Fail> {
     Ok(parse(alloc, PAIR)?)
 }
 
-/// A replica with two live cells draws: its edit's area, the number of edits that it noted, and what
-/// it shows at these places.
+/// A replica with two live cells draws: its edit's area, how many edits it noted, and what it shows
+/// at these places.
 fn after<const N: usize>(
     alloc: Global,
     spec: EditSpec,
@@ -112,7 +112,7 @@ fn refusals(alloc: Global, replica: &mut Replica) -> Result<[Option<Fault>; 4], 
 }
 
 /// The same, with the number of edits that are noted after them and what is shown at the origin.
-fn refused(alloc: Global) -> Result<([Option<Fault>; 4], usize, (u64, u8)), Fail> {
+fn after_refusals(alloc: Global) -> Result<([Option<Fault>; 4], usize, (u64, u8)), Fail> {
     let mut replica = drawn_on(alloc)?;
     let refused = refusals(alloc, &mut replica)?;
     Ok((refused, replica.journal().len(), read(&replica, 0, 0)))
@@ -126,7 +126,7 @@ fn refusals_leave_all_as_it_was(rt: HostRuntime) -> Result<(), Fail> {
         EditFault::AreaSide,
         EditFault::Nothing,
     ];
-    let (refused, noted, shown) = refused(rt.alloc())?;
+    let (refused, noted, shown) = after_refusals(rt.alloc())?;
     assert_eq!(rt; refused, faults.map(|fault| Some(Fault::Edit(fault))));
     assert_eq!(rt; (noted, shown), (1, (1, 1)));
     Ok(())

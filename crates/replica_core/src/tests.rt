@@ -100,7 +100,7 @@ fn refusals(alloc: Global, replica: &mut Replica) -> Result<[Option<Fault>; 3], 
 }
 
 /// The same of a new replica, and what it holds after them.
-fn refused(alloc: Global) -> Result<([Option<Fault>; 3], Held), Fail> {
+fn after_refusals(alloc: Global) -> Result<([Option<Fault>; 3], Held), Fail> {
     let mut replica = begun(alloc, b"345/2/4", 1)?;
     let refused = refusals(alloc, &mut replica)?;
     Ok((refused, held(&replica)))
@@ -113,7 +113,7 @@ fn refuses_what_is_no_edit(rt: HostRuntime) -> Result<(), Fail> {
         EditFault::OutOfPlane,
         EditFault::StateRange,
     ];
-    let (refused, held) = refused(rt.alloc())?;
+    let (refused, held) = after_refusals(rt.alloc())?;
     assert_eq!(rt; refused, faults.map(|fault| Some(Fault::Edit(fault))));
     assert_eq!(rt; held, ((0, 0), 0));
     Ok(())
@@ -237,7 +237,7 @@ fn sends_an_edit(rt: HostRuntime) -> Result<(), Fail> {
 
 /// A replica takes an edit of the last counter, and then an early one: why it draws nothing between
 /// them, and what it holds in the end.
-fn filled(alloc: Global) -> Result<(Option<Fault>, Held), Fail> {
+fn after_the_last_stamp(alloc: Global) -> Result<(Option<Fault>, Held), Fail> {
     let mut replica = begun(alloc, b"/2/3", 2)?;
     take_one(alloc, &mut replica, 0xffff_ffff_ffff, 1)?;
     let refused = refusal(alloc, &mut replica, &[])?;
@@ -247,14 +247,14 @@ fn filled(alloc: Global) -> Result<(Option<Fault>, Held), Fail> {
 
 #[test]
 fn fills_the_clock(rt: HostRuntime) -> Result<(), Fail> {
-    let (refused, held) = filled(rt.alloc())?;
+    let (refused, held) = after_the_last_stamp(rt.alloc())?;
     assert_eq!(rt; refused, Some(Fault::ClockFull));
     assert_eq!(rt; held, (shown(0xffff_ffff_ffff, 1, 1), 2));
     Ok(())
 }
 
 /// What is answered to an edit that was made under this rule.
-fn answer(alloc: Global, replica: &mut Replica, rule: Rule) -> Result<Result<(), Fault>, Fail> {
+fn answer_to(alloc: Global, replica: &mut Replica, rule: Rule) -> Result<Result<(), Fault>, Fail> {
     let message = message_of_one(alloc, rule, 1, 1, 2)?;
     Ok(replica.take(&message))
 }
@@ -263,7 +263,7 @@ fn answer(alloc: Global, replica: &mut Replica, rule: Rule) -> Result<Result<(),
 fn refuses_another_rule(rt: HostRuntime) -> Result<(), Fail> {
     let other = Rule::parse(b"345/2/4")?;
     let mut replica = begun(rt.alloc(), b"/2/3", 2)?;
-    let answer = answer(rt.alloc(), &mut replica, other)?;
+    let answer = answer_to(rt.alloc(), &mut replica, other)?;
     assert_eq!(rt;
         (answer, held(&replica)),
         (Err(Fault::OtherRule), ((0, 0), 0))

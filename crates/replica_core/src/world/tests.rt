@@ -38,7 +38,7 @@ fn run(alloc: Global, rule: &[u8], n: u16, events: &[Event]) -> Result<Vec<Reply
     Ok(replies)
 }
 
-/// What a world under /2/3 answers to the steps, and what stands beside them.
+/// What a world under /2/3 answers to the steps, and the replies that stand beside them.
 fn answers(
     alloc: Global,
     n: u16,
