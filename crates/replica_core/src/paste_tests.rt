@@ -44,87 +44,90 @@ fn pattern(alloc: Global) -> Result<Pattern, Fail> {
     Ok(parse(alloc, PAIR)?)
 }
 
+/// A replica with two live cells draws: its edit's area, how many edits it noted, and what it shows
+/// at these places.
+fn after<const N: usize>(
+    alloc: Global,
+    spec: EditSpec,
+    places: [(i32, i32); N],
+) -> Result<(Option<Rect>, usize, [(u64, u8); N]), Fail> {
+    let mut replica = drawn_on(alloc)?;
+    let area = replica.draw(spec)?.area();
+    let shown = places.map(|(x, y)| read(&replica, x, y));
+    Ok((area, replica.journal().len(), shown))
+}
+
 #[test]
 fn copies_dead_cells_too(rt: HostRuntime) -> Result<(), Fail> {
-    let mut replica = drawn_on(rt.alloc())?;
-    let edit = replica.draw(EditSpec::Copy(pattern(rt.alloc())?, 0, 0))?;
-    assert_eq!(rt; edit.area().map(|area| area.width), Some(2));
-    assert_eq!(rt; read(&replica, 0, 0), (2, 1));
-    assert_eq!(rt; read(&replica, 1, 0), (2, 0));
-    assert_eq!(rt; read(&replica, 0, 1), (0, 0));
+    let spec = EditSpec::Copy(pattern(rt.alloc())?, 0, 0);
+    let (area, _, shown) = after(rt.alloc(), spec, [(0, 0), (1, 0), (0, 1)])?;
+    assert_eq!(rt; area.map(|area| area.width), Some(2));
+    assert_eq!(rt; shown, [(2, 1), (2, 0), (0, 0)]);
     Ok(())
 }
 
 #[test]
 fn ors_live_cells_alone(rt: HostRuntime) -> Result<(), Fail> {
-    let mut replica = drawn_on(rt.alloc())?;
-    let edit = replica.draw(EditSpec::Or(pattern(rt.alloc())?, 0, 0))?;
-    assert!(rt; edit.area().is_none());
-    assert_eq!(rt; read(&replica, 0, 0), (2, 1));
-    assert_eq!(rt; read(&replica, 1, 0), (1, 1));
-    assert_eq!(rt; replica.journal().len(), 2);
+    let spec = EditSpec::Or(pattern(rt.alloc())?, 0, 0);
+    let (area, noted, shown) = after(rt.alloc(), spec, [(0, 0), (1, 0)])?;
+    assert!(rt; area.is_none());
+    assert_eq!(rt; shown, [(2, 1), (1, 1)]);
+    assert_eq!(rt; noted, 2);
     Ok(())
 }
 
 #[test]
 fn clears_an_area(rt: HostRuntime) -> Result<(), Fail> {
-    let mut replica = drawn_on(rt.alloc())?;
     let area = Rect {
         x: -4,
         y: -4,
         width: 5,
         height: 9,
     };
-    let _ = replica.draw(EditSpec::Clear(area))?;
-    for (x, y, seen) in [
-        (0, 0, (2, 0)),
-        (1, 0, (1, 1)),
-        (-4, 4, (2, 0)),
-        (-4, 5, (0, 0)),
-    ] {
-        assert_eq!(rt; read(&replica, x, y), seen, "{x} {y}");
-    }
+    let places = [(0, 0), (1, 0), (-4, 4), (-4, 5)];
+    let (_, _, shown) = after(rt.alloc(), EditSpec::Clear(area), places)?;
+    assert_eq!(rt; shown, [(2, 0), (1, 1), (2, 0), (0, 0)]);
     Ok(())
+}
+
+/// An area at the origin.
+fn area(width: u32, height: u32) -> Rect {
+    Rect {
+        x: 0,
+        y: 0,
+        width,
+        height,
+    }
+}
+
+/// Why a copy and an or that leave the plane, and clears of too much and of nothing, are refused.
+fn refusals(alloc: Global, replica: &mut Replica) -> Result<[Option<Fault>; 4], Fail> {
+    let beyond = EditSpec::Copy(pattern(alloc)?, 0x3fff_ffff, 0);
+    let copy = replica.draw(beyond).err();
+    let beyond = EditSpec::Or(pattern(alloc)?, 0, i32::MAX);
+    let or = replica.draw(beyond).err();
+    let clear = replica.draw(EditSpec::Clear(area(4097, 1))).err();
+    let nothing = replica.draw(EditSpec::Clear(area(0, 3))).err();
+    Ok([copy, or, clear, nothing])
+}
+
+/// The same, with the number of edits that are noted after them and what is shown at the origin.
+fn after_refusals(alloc: Global) -> Result<([Option<Fault>; 4], usize, (u64, u8)), Fail> {
+    let mut replica = drawn_on(alloc)?;
+    let refused = refusals(alloc, &mut replica)?;
+    Ok((refused, replica.journal().len(), read(&replica, 0, 0)))
 }
 
 #[test]
 fn refusals_leave_all_as_it_was(rt: HostRuntime) -> Result<(), Fail> {
-    let mut replica = drawn_on(rt.alloc())?;
-    let specs = [
-        (
-            EditSpec::Copy(pattern(rt.alloc())?, 0x3fff_ffff, 0),
-            EditFault::OutOfPlane,
-        ),
-        (
-            EditSpec::Or(pattern(rt.alloc())?, 0, i32::MAX),
-            EditFault::OutOfPlane,
-        ),
-        (
-            EditSpec::Clear(Rect {
-                x: 0,
-                y: 0,
-                width: 4097,
-                height: 1,
-            }),
-            EditFault::AreaSide,
-        ),
-        (
-            EditSpec::Clear(Rect {
-                x: 0,
-                y: 0,
-                width: 0,
-                height: 3,
-            }),
-            EditFault::Nothing,
-        ),
+    let faults = [
+        EditFault::OutOfPlane,
+        EditFault::OutOfPlane,
+        EditFault::AreaSide,
+        EditFault::Nothing,
     ];
-    for (spec, fault) in specs {
-        match replica.draw(spec) {
-            Ok(_) => assert!(rt; false, "drawn in spite of {fault}"),
-            Err(got) => assert_eq!(rt; got, Fault::Edit(fault)),
-        }
-    }
-    assert_eq!(rt; replica.journal().len(), 1);
-    assert_eq!(rt; read(&replica, 0, 0), (1, 1));
+    let (refused, noted, shown) = after_refusals(rt.alloc())?;
+    assert_eq!(rt; refused, faults.map(|fault| Some(Fault::Edit(fault))));
+    assert_eq!(rt; (noted, shown), (1, (1, 1)));
     Ok(())
 }

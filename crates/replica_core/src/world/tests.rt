@@ -8,9 +8,29 @@ use generations_rule::Rule;
 use std::alloc::{AllocError, Global};
 use std::test::Fail;
 
-fn draw(alloc: Global, number: u32, x: i32, y: i32, state: u8) -> Result<Event, AllocError> {
-    let cells = Vec::from_slice(alloc, &[Cell { x, y, state }])?;
-    Ok(Event::Draw(number, EditSpec::Cells(CellList::of_vec(cells))))
+/// An event whose cell takes no memory yet.
+#[derive(Clone, Copy)]
+enum Step {
+    Draw(u32, Cell),
+    Send(u32),
+    Deliver(u64, u32),
+    Show(u32, i32, i32),
+}
+
+fn event(alloc: Global, step: Step) -> Result<Event, AllocError> {
+    Ok(match step {
+        Step::Draw(number, cell) => {
+            let cells = Vec::from_slice(alloc, &[cell])?;
+            Event::Draw(number, EditSpec::Cells(CellList::of_vec(cells)))
+        }
+        Step::Send(number) => Event::SendState(number),
+        Step::Deliver(message, number) => Event::Deliver(message, number),
+        Step::Show(number, x, y) => Event::Show(number, x, y),
+    })
+}
+
+fn draw(number: u32, x: i32, y: i32, state: u8) -> Step {
+    Step::Draw(number, Cell { x, y, state })
 }
 
 fn run(alloc: Global, rule: &[u8], n: u16, events: &[Event]) -> Result<Vec<Reply>, Fail> {
@@ -18,9 +38,24 @@ fn run(alloc: Global, rule: &[u8], n: u16, events: &[Event]) -> Result<Vec<Reply
     Ok(replies)
 }
 
-fn drawn(counter: u64, replica: u16) -> Result<Reply, Fail> {
-    let stamp = Stamp::new(counter, replica).ok_or("a stamp in range")?;
-    Ok(Reply::Drawn(stamp))
+/// What a world under /2/3 answers to the steps, and the replies that stand beside them.
+fn answers(
+    alloc: Global,
+    n: u16,
+    rows: &[(Step, Reply)],
+) -> Result<(Vec<Reply>, Vec<Reply>), Fail> {
+    let mut events = Vec::new(alloc);
+    let mut wanted = Vec::new(alloc);
+    for (step, reply) in rows {
+        events.push(event(alloc, *step)?)?;
+        wanted.push(*reply)?;
+    }
+    Ok((run(alloc, b"/2/3", n, &events)?, wanted))
+}
+
+/// (No draw is answered by `Taken`: it stands for a stamp out of range.)
+fn drawn(counter: u64, replica: u16) -> Reply {
+    Stamp::new(counter, replica).map_or(Reply::Taken, |stamp| Reply::Drawn(stamp))
 }
 
 fn shown(counter: u64, replica: u16, state: u8) -> Reply {
@@ -30,52 +65,36 @@ fn shown(counter: u64, replica: u16, state: u8) -> Reply {
 
 #[test]
 fn opens(rt: HostRuntime) -> Result<(), Fail> {
-    let alloc = rt.alloc();
-    let world = World::new(alloc, Rule::parse(b"/2/3")?, 3)?;
-    for (number, there) in [
-        (0, false),
-        (1, true),
-        (3, true),
-        (4, false),
-        (u32::MAX, false),
-    ] {
-        assert_eq!(rt; world.replica(number).is_some(), there, "{number}");
-    }
-    let last = world.replica(3).ok_or("replica 3")?;
-    assert_eq!(rt; last.number(), 3);
-    assert_eq!(rt; last.journal().len(), 0);
-    assert!(rt;
-        World::new(alloc, Rule::parse(b"/2/3")?, 0)?
-            .replica(1)
-            .is_none()
-    );
+    let world = World::new(rt.alloc(), Rule::parse(b"/2/3")?, 3)?;
+    let are_there = [0, 1, 3, 4, u32::MAX].map(|number| world.replica(number).is_some());
+    assert_eq!(rt; are_there, [false, true, true, false, false]);
+    let last = world
+        .replica(3)
+        .map(|last| (last.number(), last.journal().len()));
+    assert_eq!(rt; last, Some((3, 0)));
+    Ok(())
+}
+
+#[test]
+fn opens_without_replicas(rt: HostRuntime) -> Result<(), Fail> {
+    let world = World::new(rt.alloc(), Rule::parse(b"/2/3")?, 0)?;
+    assert!(rt; world.replica(1).is_none());
     Ok(())
 }
 
 #[test]
 fn settles_a_tie(rt: HostRuntime) -> Result<(), Fail> {
-    let alloc = rt.alloc();
-    let events = [
-        draw(alloc, 1, 0, 0, 1)?,
-        draw(alloc, 2, 0, 0, 2)?,
-        Event::SendState(1),
-        Event::SendState(2),
-        Event::Deliver(1, 2),
-        Event::Deliver(2, 1),
-        Event::Show(1, 0, 0),
-        Event::Show(2, 0, 0),
+    let rows = [
+        (draw(1, 0, 0, 1), drawn(1, 1)),
+        (draw(2, 0, 0, 2), drawn(1, 2)),
+        (Step::Send(1), Reply::Sent(1)),
+        (Step::Send(2), Reply::Sent(2)),
+        (Step::Deliver(1, 2), Reply::Taken),
+        (Step::Deliver(2, 1), Reply::Taken),
+        (Step::Show(1, 0, 0), shown(1, 2, 2)),
+        (Step::Show(2, 0, 0), shown(1, 2, 2)),
     ];
-    let replies = run(alloc, b"/2/3", 2, &events)?;
-    let wanted = [
-        drawn(1, 1)?,
-        drawn(1, 2)?,
-        Reply::Sent(1),
-        Reply::Sent(2),
-        Reply::Taken,
-        Reply::Taken,
-        shown(1, 2, 2),
-        shown(1, 2, 2),
-    ];
+    let (replies, wanted) = answers(rt.alloc(), 2, &rows)?;
     assert_eq!(rt; replies.as_slice(), wanted.as_slice());
     Ok(())
 }
@@ -83,31 +102,20 @@ fn settles_a_tie(rt: HostRuntime) -> Result<(), Fail> {
 /// A replica that took a map draws past the counters in it.
 #[test]
 fn raises_the_clock(rt: HostRuntime) -> Result<(), Fail> {
-    let alloc = rt.alloc();
-    let mut events = Vec::new(alloc);
-    for _ in 0..5 {
-        events.push(draw(alloc, 1, 3, 3, 1)?)?;
-    }
-    events.push(Event::SendState(1))?;
-    events.push(Event::Deliver(1, 2))?;
-    events.push(draw(alloc, 2, 3, 3, 2)?)?;
-    events.push(Event::SendState(2))?;
-    events.push(Event::Deliver(2, 1))?;
-    events.push(Event::Show(1, 3, 3))?;
-    let replies = run(alloc, b"/2/3", 2, &events)?;
-    let wanted = [
-        drawn(1, 1)?,
-        drawn(2, 1)?,
-        drawn(3, 1)?,
-        drawn(4, 1)?,
-        drawn(5, 1)?,
-        Reply::Sent(1),
-        Reply::Taken,
-        drawn(6, 2)?,
-        Reply::Sent(2),
-        Reply::Taken,
-        shown(6, 2, 2),
+    let rows = [
+        (draw(1, 3, 3, 1), drawn(1, 1)),
+        (draw(1, 3, 3, 1), drawn(2, 1)),
+        (draw(1, 3, 3, 1), drawn(3, 1)),
+        (draw(1, 3, 3, 1), drawn(4, 1)),
+        (draw(1, 3, 3, 1), drawn(5, 1)),
+        (Step::Send(1), Reply::Sent(1)),
+        (Step::Deliver(1, 2), Reply::Taken),
+        (draw(2, 3, 3, 2), drawn(6, 2)),
+        (Step::Send(2), Reply::Sent(2)),
+        (Step::Deliver(2, 1), Reply::Taken),
+        (Step::Show(1, 3, 3), shown(6, 2, 2)),
     ];
+    let (replies, wanted) = answers(rt.alloc(), 2, &rows)?;
     assert_eq!(rt; replies.as_slice(), wanted.as_slice());
     Ok(())
 }
@@ -115,34 +123,26 @@ fn raises_the_clock(rt: HostRuntime) -> Result<(), Fail> {
 /// Each refusal, the first of two where both stand.
 #[test]
 fn refuses(rt: HostRuntime) -> Result<(), Fail> {
-    let alloc = rt.alloc();
-    let events = [
-        draw(alloc, 0, 0, 0, 9)?,
-        draw(alloc, 2, 0x4000_0000, 0, 1)?,
-        draw(alloc, 1, 0x4000_0000, 0, 9)?,
-        draw(alloc, 1, 0, 0, 3)?,
-        Event::SendState(3),
-        Event::Deliver(1, 9),
-        Event::Deliver(0, 1),
-        Event::Show(2, 0, 0),
-        Event::SendState(1),
-        Event::Deliver(1, 2),
-        Event::Show(1, 0, 0),
+    let rows = [
+        (draw(0, 0, 0, 9), Reply::Refused(Fault::NoReplica)),
+        (draw(2, 0x4000_0000, 0, 1), Reply::Refused(Fault::NoReplica)),
+        (
+            draw(1, 0x4000_0000, 0, 9),
+            Reply::Refused(Fault::Edit(EditFault::OutOfPlane)),
+        ),
+        (
+            draw(1, 0, 0, 3),
+            Reply::Refused(Fault::Edit(EditFault::StateRange)),
+        ),
+        (Step::Send(3), Reply::Refused(Fault::NoReplica)),
+        (Step::Deliver(1, 9), Reply::Refused(Fault::NoMessage)),
+        (Step::Deliver(0, 1), Reply::Refused(Fault::NoMessage)),
+        (Step::Show(2, 0, 0), Reply::Refused(Fault::NoReplica)),
+        (Step::Send(1), Reply::Sent(1)),
+        (Step::Deliver(1, 2), Reply::Refused(Fault::NoReplica)),
+        (Step::Show(1, 0, 0), shown(0, 0, 0)),
     ];
-    let replies = run(alloc, b"/2/3", 1, &events)?;
-    let wanted = [
-        Reply::Refused(Fault::NoReplica),
-        Reply::Refused(Fault::NoReplica),
-        Reply::Refused(Fault::Edit(EditFault::OutOfPlane)),
-        Reply::Refused(Fault::Edit(EditFault::StateRange)),
-        Reply::Refused(Fault::NoReplica),
-        Reply::Refused(Fault::NoMessage),
-        Reply::Refused(Fault::NoMessage),
-        Reply::Refused(Fault::NoReplica),
-        Reply::Sent(1),
-        Reply::Refused(Fault::NoReplica),
-        shown(0, 0, 0),
-    ];
+    let (replies, wanted) = answers(rt.alloc(), 1, &rows)?;
     assert_eq!(rt; replies.as_slice(), wanted.as_slice());
     Ok(())
 }
@@ -167,16 +167,16 @@ impl Dice {
 }
 
 /// An event among three replicas on a field of 4 by 4 cells; there are some messages.
-fn by_chance(alloc: Global, dice: &mut Dice, messages: u32) -> Result<Event, AllocError> {
+fn by_chance(dice: &mut Dice, messages: u32) -> Step {
     let number = 1 + dice.roll(3);
-    Ok(match dice.roll(4) {
+    match dice.roll(4) {
         0 | 1 => {
             let (x, y) = (dice.roll(4) as i32, dice.roll(4) as i32);
-            draw(alloc, number, x, y, dice.roll(3) as u8)?
+            draw(number, x, y, dice.roll(3) as u8)
         }
-        2 if messages > 0 => Event::Deliver(u64::from(1 + dice.roll(messages)), number),
-        _ => Event::SendState(number),
-    })
+        2 if messages > 0 => Step::Deliver(u64::from(1 + dice.roll(messages)), number),
+        _ => Step::Send(number),
+    }
 }
 
 /// 200 events by chance, and then a map of each replica; the number of messages that were sent.
@@ -185,11 +185,11 @@ fn scattered(alloc: Global) -> Result<(Vec<Event>, u32), AllocError> {
     let mut events = Vec::new(alloc);
     let mut messages = 0u32;
     for _ in 0..200 {
-        let event = by_chance(alloc, &mut dice, messages)?;
-        if let Event::SendState(_) = event {
+        let step = by_chance(&mut dice, messages);
+        if let Step::Send(_) = step {
             messages = messages.saturating_add(1);
         }
-        events.push(event)?;
+        events.push(event(alloc, step)?)?;
     }
     for number in 1..=3 {
         events.push(Event::SendState(number))?;
@@ -212,28 +212,44 @@ fn gather(events: &mut Vec<Event>, order: &[u32]) -> Result<(), AllocError> {
     Ok(())
 }
 
+/// The messages from the first to the last, or the other way round.
+fn order(alloc: Global, messages: u32, is_reversed: bool) -> Result<Vec<u32>, AllocError> {
+    if is_reversed {
+        (1..=messages).rev().collect(alloc)
+    } else {
+        (1..=messages).collect(alloc)
+    }
+}
+
 /// What is shown in the end: three fields of 16 cells.
-fn fields(alloc: Global, order: &[u32]) -> Result<Vec<Reply>, Fail> {
-    let (mut events, _) = scattered(alloc)?;
-    gather(&mut events, order)?;
+fn fields(alloc: Global, is_reversed: bool) -> Result<Vec<Reply>, Fail> {
+    let (mut events, messages) = scattered(alloc)?;
+    gather(&mut events, &order(alloc, messages, is_reversed)?)?;
     let mut replies = run(alloc, b"/2/3", 3, &events)?;
-    let last = replies.split_off(replies.len().saturating_sub(48))?;
-    Ok(last)
+    Ok(replies.split_off(replies.len().saturating_sub(48))?)
 }
 
 #[test]
-fn agrees_in_any_order(rt: HostRuntime) -> Result<(), Fail> {
-    let alloc = rt.alloc();
-    let (events, messages) = scattered(alloc)?;
+fn scatters_events(rt: HostRuntime) -> Result<(), Fail> {
+    let (events, _) = scattered(rt.alloc())?;
     assert_eq!(rt; events.len(), 203);
-    let order: Vec<u32> = (1..=messages).collect(alloc)?;
-    let shown = fields(alloc, &order)?;
+    Ok(())
+}
+
+#[test]
+fn each_shows_the_same(rt: HostRuntime) -> Result<(), Fail> {
+    let shown = fields(rt.alloc(), false)?;
     assert_eq!(rt; shown.len(), 48);
     let mut of_each = shown.chunks(16);
     let first = of_each.next();
     assert!(rt; of_each.all(|field| Some(field) == first));
-    let reversed: Vec<u32> = (1..=messages).rev().collect(alloc)?;
-    let again = fields(alloc, &reversed)?;
+    Ok(())
+}
+
+#[test]
+fn agrees_in_any_order(rt: HostRuntime) -> Result<(), Fail> {
+    let shown = fields(rt.alloc(), false)?;
+    let again = fields(rt.alloc(), true)?;
     assert_eq!(rt; again.as_slice(), shown.as_slice());
     Ok(())
 }
