@@ -1,7 +1,7 @@
 //! Pastes and clears at replicas.
 
 use crate::{CellList, EditSpec, Fault, Replica};
-use edit_stamps::{Cell, EditFault, Pattern, Rect};
+use edit_stamps::{Cell, EditFault, Pattern, Rect, counter_of};
 use generations_rule::Rule;
 use multistate_rle::parse;
 use std::alloc::{AllocError, Global};
@@ -37,7 +37,7 @@ fn drawn_on(alloc: Global) -> Result<Replica, Fail> {
 /// Counter and state at a coordinate.
 fn read(replica: &Replica, x: i32, y: i32) -> (u64, u8) {
     let write = replica.get(x, y);
-    (write.stamp / 65536, write.state)
+    (counter_of(write.stamp), write.state)
 }
 
 fn pattern(alloc: Global) -> Result<Pattern, Fail> {

@@ -80,6 +80,19 @@ fn held(replica: &Replica) -> Held {
 }
 
 #[test]
+fn a_list_of_cells_gives_them_back(rt: HostRuntime) -> Result<(), AllocError> {
+    let cells = [Cell {
+        x: 4,
+        y: -2,
+        state: 3,
+    }];
+    let list = CellList::of_vec(Vec::from_slice(rt.alloc(), &cells)?);
+    assert_eq!(rt; list.as_slice(), cells.as_slice());
+    assert_eq!(rt; list.into_vec().as_slice(), cells.as_slice());
+    Ok(())
+}
+
+#[test]
 fn begins_empty(rt: HostRuntime) -> Result<(), Fail> {
     let rule = Rule::parse(b"/2/3")?;
     let replica = Replica::new(rt.alloc(), rule, 7)?;
