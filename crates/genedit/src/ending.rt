@@ -37,18 +37,31 @@ impl Ending {
 }
 
 impl From<Error> for Ending {
+    ghost use Rattle.genedit.specs.declared.ending.Ending.TheVariants as ending;
+
+    ghost from_gives = { λ error given. given ≡ ending.Words error };
+
     fn from(error: Error) -> Ending {
         Ending::Words(error)
     }
 }
 
 impl From<AllocError> for Ending {
+    ghost use Rattle.genedit.specs.declared.ending.Ending.TheVariants as ending;
+    ghost use Rattle.genedit_io.specs.declared.fault.RunFault.TheVariants.{Memory};
+
+    ghost from_gives = { λ _ given. given ≡ ending.Run Memory };
+
     fn from(_error: AllocError) -> Ending {
         Ending::Run(RunFault::Memory)
     }
 }
 
 impl From<RunFault> for Ending {
+    ghost use Rattle.genedit.specs.declared.ending.Ending.TheVariants as ending;
+
+    ghost from_gives = { λ fault given. given ≡ ending.Run fault };
+
     fn from(fault: RunFault) -> Ending {
         Ending::Run(fault)
     }
