@@ -14,7 +14,7 @@ use Rattle.clap.specs.Faults.{check_fault, defaults_fault, entered_fault, fault_
 use Rattle.clap.specs.declared.parser.matches.ValueSource.TheVariants.{CommandLine}
 use Rattle.genedit.proofs.Stops.{both_pass, stops_at_help, walk_passes}
 use Rattle.genedit.proofs.RowValues.{both_true, IsWellUsed, UsesWell, changed_values, has_value, have_values, settled_well, walk_well}
-use Rattle.genedit.specs.Words.{Asks, EndsWords, genedit_app, run_app, rle_app, rle_task, rule_asked, rule_option, task_of}
+use Rattle.genedit.specs.Words.{Asks, EndsWords, genedit_app, run_shape, rle_shape, rle_task, rule_asked, rule_option, task_of}
 use Rattle.genedit.specs.declared.words.Task.TheVariants.{Run}
 use Rattle.std.specs.Borrow.{Bor}
 use Rattle.std.specs.Prelude.{Err, IfErr, IsErrAnd, IsSome, Result}
@@ -39,7 +39,7 @@ whole = built genedit_app
 -- `rle` as it is built, with its option and the flag for help
 -- `rle` as it is built, with its option and the flag for help
 abbrev rle_built : Shape
-rle_built = built_leaf (inherited whole.top rle_app.top)
+rle_built = built_leaf (inherited whole.top rle_shape)
 
 -- ---- each row of `rle` has a value
 
@@ -144,7 +144,7 @@ rle_has_rule words passes =
 -- ---- which subcommand the words name
 
 abbrev run_built : Shape
-run_built = built_leaf (inherited whole.top run_app.top)
+run_built = built_leaf (inherited whole.top run_shape)
 
 -- `run`, or `rle` with a rule
 abbrev pub IsNamed : Option (Text × List Row) → Type 0

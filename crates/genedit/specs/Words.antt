@@ -1,10 +1,10 @@
 -- What the words of the command line ask for.
-use Rattle.std.specs.Prelude.{◌≡◌, ◌⊎◌, [], ℕ, List, Option, Some, None, Result, Ok, Err, codes}
-use Rattle.std.specs.Prelude.{true, if◌then◌else◌, option_map, option_and_then}
+use Rattle.std.specs.Prelude.{◌≡◌, ◌⊎◌, ◌∷◌, [], ℕ, List, Option, Some, None, Result, Ok, Err, codes}
+use Rattle.std.specs.Prelude.{true, false, if◌then◌else◌, option_map, option_and_then}
 use Rattle.std.specs.Str.{bytes_eq}
-use Rattle.clap.specs.Words.{App, HasKind, Row, Rule, Shape, Text, fault_of, first_of, new_app, new_rule}
-use Rattle.clap.specs.Words.{subcommand_of, with_rule, with_subcommand}
-use Rattle.clap.specs.Simple.{on_top}
+use Rattle.clap.specs.Words.{App, HasKind, Row, Rule, Shape, Text, fault_of, first_of, new_rule}
+use Rattle.clap.specs.Words.{subcommand_of}
+use Rattle.clap.specs.Simple.{new_shape}
 use Rattle.clap.specs.declared.builder.action.ArgAction.TheVariants.{Set}
 use Rattle.generations_rule.specs.declared.fault.RuleFault.{RuleFault}
 use Rattle.generations_rule.specs.Rule.{GenerationsRule}
@@ -36,20 +36,22 @@ rule_option = record (new_rule (codes "rule")) {
   required = true;
 }
 
-abbrev pub run_app : App
-run_app = new_app (codes "run")
+abbrev pub run_shape : Shape
+run_shape = new_shape (codes "run")
 
-abbrev pub rle_app : App
-rle_app = with_rule (new_app (codes "rle")) rule_option
+abbrev pub rle_shape : Shape
+rle_shape = record (new_shape (codes "rle")) { rules = rule_option ∷ [] }
 
--- a program with a version, which does nothing by itself
-abbrev pub needs_subcommand : Shape → Shape
-needs_subcommand shape = record shape { has_version = true; subcommand_required = true }
-
--- `genedit`, with its two subcommands
+-- `genedit` has a version and no arguments, and one of its two subcommands has to be given
 abbrev pub genedit_app : App
-genedit_app = with_subcommand
-    (with_subcommand (on_top needs_subcommand (new_app (codes "genedit"))) run_app.top) rle_app.top
+genedit_app = record {
+  top = record (new_shape (codes "genedit")) {
+    is_leaf = false;
+    has_version = true;
+    subcommand_required = true;
+  };
+  subs = run_shape ∷ rle_shape ∷ [];
+}
 
 -- ---- what words ask for
 

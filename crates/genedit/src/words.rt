@@ -1,9 +1,9 @@
 //! The words of the command line.
 
 ghost use Rattle.std.specs.Prelude.{◌≡◌, IfErr, IfOk, false, map, string_bytes};
-ghost use Rattle.clap.specs.Words.{app_of};
+ghost use Rattle.clap.specs.Words.{app_of, shape_of};
 ghost use Rattle.clap.specs.declared.builder.command.Command.TheViews.{out-Command as fields_of};
-ghost use Rattle.genedit.specs.Words.{Asks, EndsWords, genedit_app, rle_app, rule_asked, run_app};
+ghost use Rattle.genedit.specs.Words.{Asks, EndsWords, genedit_app, rle_shape, rule_asked, run_shape};
 
 use crate::ending::Ending;
 use clap::{Arg, ArgAction, Command};
@@ -89,7 +89,7 @@ fn command<'a>(alloc: Global) -> Result<Command<'a>, AllocError>
 }
 
 fn run_command<'a>(alloc: Global) -> Command<'a>
-    ensures app { app_of result ≡ run_app }
+    ensures shape { shape_of result ≡ run_shape }
     ensures local { (fields_of result).has_globals ≡ false }
 {
     Command::new(alloc, "run")
@@ -98,7 +98,7 @@ fn run_command<'a>(alloc: Global) -> Command<'a>
 }
 
 fn rle_command<'a>(alloc: Global) -> Result<Command<'a>, AllocError>
-    ensures app { IfOk result (λ command. app_of command ≡ rle_app) }
+    ensures shape { IfOk result (λ command. shape_of command ≡ rle_shape) }
     ensures local { IfOk result (λ command. (fields_of command).has_globals ≡ false) }
 {
     let rule = Arg::new(alloc, "rule")
