@@ -1,5 +1,5 @@
 use Rattle.std.proofs.Common.{map, string_bytes, refl, sym, true≢false, Err, Ok}
-use Rattle.genedit.proofs.CommandLaws.{asks_by_rule, ends_unruled, has_rule, is_parse, run_is_asked}
+use Rattle.genedit.proofs.ParseLaws.{asks_by_rule, ends_unruled, has_rule, is_parse, run_is_asked}
 use Rattle.genedit.proofs.words.asked.Goals as goal
 
 pub unwrap-text-requires : goal.unwrap-text-requires
