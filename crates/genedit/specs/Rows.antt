@@ -1,7 +1,11 @@
 -- Worked values of the definitions.
-use Rattle.std.specs.Prelude.{◌≡◌, codes, refl, Err, Some, None}
+use Rattle.std.specs.Prelude.{◌≡◌, ◌∷◌, [], codes, refl, Ok, Err, Some, None, List, true}
+use Rattle.clap.proofs.OnLiterals.{clap_on_literals}
+use Rattle.clap.specs.Words.{Text, fault_of, is_simple_and_free}
+use Rattle.clap.specs.declared.error.kind.ErrorKind.TheVariants as kind
 use Rattle.genedit_io.specs.declared.fault.RunFault.TheVariants.{Refused}
-use Rattle.genedit.specs.Words.{rule_asked}
+use Rattle.genedit.specs.declared.words.Task.TheVariants.{Run}
+use Rattle.genedit.specs.Words.{Asks, genedit_app, rle_task, rule_asked}
 
 pub no_slashes : rule_asked (codes "23/3") ≡ Err (Refused 1 None)
 no_slashes = refl
@@ -11,3 +15,64 @@ no_digit = refl
 
 pub too_many_states : rule_asked (codes "23/3/257") ≡ Err (Refused 3 None)
 too_many_states = refl
+
+-- ---- command lines
+
+-- clap's contracts say all that they can of such a command
+is_simple : is_simple_and_free genedit_app ≡ true
+is_simple = refl
+
+abbrev genedit : List Text → List Text
+genedit words = codes "genedit" ∷ words
+
+abbrev rle : List Text → List Text
+rle words = genedit (codes "rle" ∷ words)
+
+script : Asks (genedit (codes "run" ∷ [])) (Ok Run)
+unfolding clap_on_literals
+script = (refl, refl)
+
+form : Asks (rle (codes "--rule" ∷ codes "23/3/2" ∷ [])) (rle_task (rule_asked (codes "23/3/2")))
+unfolding clap_on_literals
+form = (refl, refl)
+
+form_by_equals : Asks (rle (codes "--rule=/2/3" ∷ [])) (rle_task (rule_asked (codes "/2/3")))
+unfolding clap_on_literals
+form_by_equals = (refl, refl)
+
+refused_rule : Asks (rle (codes "--rule" ∷ codes "23/3" ∷ [])) (Err (Refused 1 None))
+unfolding clap_on_literals
+refused_rule = (refl, refl)
+
+no_word : fault_of genedit_app (genedit []) ≡ kind.MissingSubcommand ∷ []
+unfolding clap_on_literals
+no_word = refl
+
+-- a word that is neither may be meant as a value or as a subcommand
+unknown_word : fault_of genedit_app (genedit (codes "jump" ∷ [])) ≡ kind.UnknownArgument ∷ kind.InvalidSubcommand ∷ []
+unfolding clap_on_literals
+unknown_word = refl
+
+word_too_many : fault_of genedit_app (genedit (codes "run" ∷ codes "now" ∷ [])) ≡ kind.UnknownArgument ∷ []
+unfolding clap_on_literals
+word_too_many = refl
+
+no_rule : fault_of genedit_app (rle []) ≡ kind.MissingRequiredArgument ∷ []
+unfolding clap_on_literals
+no_rule = refl
+
+no_text : fault_of genedit_app (rle (codes "--rule" ∷ [])) ≡ kind.InvalidValue ∷ []
+unfolding clap_on_literals
+no_text = refl
+
+two_rules : fault_of genedit_app (rle (codes "--rule=/2/3" ∷ codes "--rule=/2/3" ∷ [])) ≡ kind.ArgumentConflict ∷ []
+unfolding clap_on_literals
+two_rules = refl
+
+help : fault_of genedit_app (genedit (codes "--help" ∷ [])) ≡ kind.DisplayHelp ∷ []
+unfolding clap_on_literals
+help = refl
+
+version : fault_of genedit_app (genedit (codes "-V" ∷ [])) ≡ kind.DisplayVersion ∷ []
+unfolding clap_on_literals
+version = refl

@@ -1,6 +1,8 @@
 //! Why the program ends, and what it says of it.
 
 ghost use Rattle.std.specs.Prelude.{◌≡◌};
+ghost use Rattle.clap.specs.Words.{kind_of};
+ghost use Rattle.genedit.specs.Ending.{IsStatusOf, IsWordsStatus};
 ghost use Rattle.genedit_io.specs.RunFault.{exit_status};
 
 use clap::Error;
@@ -24,7 +26,9 @@ pub enum Ending {
 
 impl Ending {
     /// Says it on standard error, or gives help on standard output; the status of the process.
-    pub fn tell<R: Print + Eprint + AllocGlobal>(self, rt: &R) -> u8 {
+    pub fn tell<R: Print + Eprint + AllocGlobal>(self, rt: &R) -> u8
+        ensures { IsStatusOf self result }
+    {
         match self {
             Ending::Words(error) => tell_words(rt, &error),
             Ending::NoText => {
@@ -37,18 +41,31 @@ impl Ending {
 }
 
 impl From<Error> for Ending {
+    ghost use Rattle.genedit.specs.declared.ending.Ending.TheVariants as ending;
+
+    ghost from_gives = { λ error given. given ≡ ending.Words error };
+
     fn from(error: Error) -> Ending {
         Ending::Words(error)
     }
 }
 
 impl From<AllocError> for Ending {
+    ghost use Rattle.genedit.specs.declared.ending.Ending.TheVariants as ending;
+    ghost use Rattle.genedit_io.specs.declared.fault.RunFault.TheVariants.{Memory};
+
+    ghost from_gives = { λ _ given. given ≡ ending.Run Memory };
+
     fn from(_error: AllocError) -> Ending {
         Ending::Run(RunFault::Memory)
     }
 }
 
 impl From<RunFault> for Ending {
+    ghost use Rattle.genedit.specs.declared.ending.Ending.TheVariants as ending;
+
+    ghost from_gives = { λ fault given. given ≡ ending.Run fault };
+
     fn from(fault: RunFault) -> Ending {
         Ending::Run(fault)
     }
@@ -61,7 +78,9 @@ fn tell_fault<R: Eprint>(rt: &R, fault: RunFault) -> u8
     fault.exit_status()
 }
 
-fn tell_words<R: Print + Eprint + AllocGlobal>(rt: &R, error: &Error) -> u8 {
+fn tell_words<R: Print + Eprint + AllocGlobal>(rt: &R, error: &Error) -> u8
+    ensures { IsWordsStatus (kind_of error.now) result }
+{
     if error.kind() == ErrorKind::OutOfMemory {
         return tell_fault(rt, RunFault::Memory);
     }

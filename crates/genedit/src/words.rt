@@ -1,7 +1,9 @@
 //! The words of the command line.
 
-ghost use Rattle.std.specs.Prelude.{◌≡◌};
-ghost use Rattle.genedit.specs.Words.{rule_asked};
+ghost use Rattle.std.specs.Prelude.{◌≡◌, IfErr, IfOk, false, map, string_bytes};
+ghost use Rattle.clap.specs.Words.{app_of, shape_of};
+ghost use Rattle.clap.specs.declared.builder.command.Command.TheViews.{out-Command as fields_of};
+ghost use Rattle.genedit.specs.Words.{Asks, EndsWords, genedit_app, rle_shape, rule_asked, run_shape};
 
 use crate::ending::Ending;
 use clap::{Arg, ArgAction, Command};
@@ -49,11 +51,18 @@ pub fn given<R: Env + AllocGlobal>(rt: &R) -> Result<Vec<String>, Ending> {
 }
 
 /// What the words ask for. Help and the version come as an error, too.
-pub fn asked(alloc: Global, words: &[String]) -> Result<Task, Ending> {
+pub fn asked(alloc: Global, words: &[String]) -> Result<Task, Ending>
+    ensures asks { IfOk result (λ task. Asks (map string_bytes words.now) (Ok task)) }
+    ensures ends { IfErr result (EndsWords (map string_bytes words.now)) }
+{
     let matches = command(alloc)?.try_get_matches_from(words)?;
     match matches.subcommand_matches("rle") {
-        // the words have a rule, since it is required
-        Some(words) => Ok(Task::Rle(rule_of(words.get_str("rule").unwrap_or(""))?)),
+        Some(words) => {
+            // the option is required, so the words have it
+            let text = words.get_str("rule").unwrap();
+            let rule = rule_of(text)?;
+            Ok(Task::Rle(rule))
+        }
         None => Ok(Task::Run),
     }
 }
@@ -68,7 +77,9 @@ fn rule_of(text: &str) -> Result<Rule, RunFault>
     }
 }
 
-fn command<'a>(alloc: Global) -> Result<Command<'a>, AllocError> {
+fn command<'a>(alloc: Global) -> Result<Command<'a>, AllocError>
+    ensures { IfOk result (λ command. app_of command ≡ genedit_app) }
+{
     Command::new(alloc, "genedit")
         .version("0.1.0")
         .about("Edits patterns of Generations automata on replicas that agree")
@@ -77,13 +88,19 @@ fn command<'a>(alloc: Global) -> Result<Command<'a>, AllocError> {
         .subcommand(rle_command(alloc)?)
 }
 
-fn run_command<'a>(alloc: Global) -> Command<'a> {
+fn run_command<'a>(alloc: Global) -> Command<'a>
+    ensures shape { shape_of result ≡ run_shape }
+    ensures local { (fields_of result).has_globals ≡ false }
+{
     Command::new(alloc, "run")
         .about("Runs a script from standard input and prints what happened")
         .after_help(SCRIPT_HELP)
 }
 
-fn rle_command<'a>(alloc: Global) -> Result<Command<'a>, AllocError> {
+fn rle_command<'a>(alloc: Global) -> Result<Command<'a>, AllocError>
+    ensures shape { IfOk result (λ command. shape_of command ≡ rle_shape) }
+    ensures local { IfOk result (λ command. (fields_of command).has_globals ≡ false) }
+{
     let rule = Arg::new(alloc, "rule")
         .long("rule")
         .value_name("TEXT")

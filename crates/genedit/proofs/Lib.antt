@@ -1,0 +1,4 @@
+pub mod Stops
+pub mod RowValues
+pub mod CommandLaws
+pub mod ParseLaws
