@@ -1,225 +1,217 @@
 -- Finding an edit by its stamp: what the links of a journal say, and how they are kept.
-use Rattle.std.proofs.Common.{◌≡◌, ◌∙◌, ℕ, zero, suc, ◌+◌, ◌-◌, ◌<◌, ◌≤◌, ◌==◌, Bool, true, false, List, [], ◌∷◌, ◌++◌, length, take, get_or, refl, sym, ap, subst, arith, add-one, inl, inr, get_or-set_same, get_or-set_other}
-use Rattle.std.specs.Prelude.{if◌then◌else◌, ◌||◌, Some, slice_get, slice_set, slice_index, IsSome}
+use Rattle.std.proofs.Common.{◌≡◌, ◌∙◌, ℕ, zero, suc, ◌+◌, ◌<◌, ◌≤◌, ◌==◌, false, List, [], ◌∷◌, ◌++◌, length, get_or, refl, sym, ap, subst, arith, inl, inr}
+use Rattle.std.specs.Prelude.{if◌then◌else◌, Some, None, IsSomeAnd, slice_get, slice_set, Option}
 use Rattle.std.specs.List.{list_any}
 use Rattle.std.specs.Ordering.{nat_cmp}
-use Rattle.std.specs.BTreeMap.{BTreeMap, get}
-use Rattle.std.proofs.lemmas.Bool.{cases_eq}
-use Rattle.std.proofs.lemmas.Bool.Decides.{nat_tests, eqb_tells}
-use Rattle.std.proofs.lemmas.List.{take_more, take_all, take-take, take-append-le, length-take-le}
-use Rattle.std.proofs.lemmas.Option.{slice_get_within, get_or_from_slice_get, slice_get_read}
+use Rattle.std.specs.BTreeMap.{is_at}
+use Rattle.std.proofs.lemmas.Bool.{cases_eq, cases_lt}
+use Rattle.std.proofs.lemmas.Bool.Decides.{eqb_tells, nat_tests}
+use Rattle.std.proofs.lemmas.Option.{slice_get_within, slice_get_read, slice_get-get_or, same_Some}
 use Rattle.edit_stamps.specs.Edit.{PlaneEdit, is_edit}
-use Rattle.edit_journal.specs.Journal.{behind, latest_in, IsLinked, IsChained, HasStarts}
+use Rattle.edit_journal.specs.Journal.{HasStamp, IsFreeOf, IsLastBelow, IsLinked, IsChained}
 
--- ---- the last edit of a stamp
+-- ---- the last place of a stamp
 
-behind-le : (b : Bool) (n m : ℕ) → n ≤ m → behind b n ≤ suc m
-behind-le true zero m h = omega arith
-behind-le false zero m h = omega arith
-behind-le b (suc n) m h = omega arith
+stamped : (E : List PlaneEdit) (s k : ℕ) (e : PlaneEdit) → slice_get E k ≡ Some e → e.stamp ≡ s → HasStamp E s k
+stamped E s k e there is = subst (λ o. IsSomeAnd o (λ (x : PlaneEdit). x.stamp ≡ s)) (sym there) is
 
--- the place is in the list
-pub latest-within : (E : List PlaneEdit) (s : ℕ) → latest_in E s ≤ length E
-latest-within [] s = omega arith
-latest-within (e ∷ E) s = behind-le (s == e.stamp) (latest_in E s) (length E) (latest-within E s)
+stamp_of : (E : List PlaneEdit) (s k : ℕ) (e : PlaneEdit) → slice_get E k ≡ Some e → HasStamp E s k → e.stamp ≡ s
+stamp_of E s k e there has = subst (λ o. IsSomeAnd o (λ (x : PlaneEdit). x.stamp ≡ s)) there has
 
-behind-if : (b c : Bool) (m n : ℕ) → behind b (if c then m + 1 else n) ≡ (if c then suc m + 1 else behind b n)
-behind-if b true m n = rw (add-one m, add-one (suc m)) refl
-behind-if b false m n = refl
+stamped_in : (E F : List PlaneEdit) (s k : ℕ) → slice_get E k ≡ slice_get F k → HasStamp E s k → HasStamp F s k
+stamped_in E F s k same has = subst (λ o. IsSomeAnd o (λ (x : PlaneEdit). x.stamp ≡ s)) same has
 
--- one more edit is the last of its stamp, and changes no other
-pub latest-push : (E : List PlaneEdit) (e : PlaneEdit) (s : ℕ) → latest_in (E ++ e ∷ []) s ≡ (if s == e.stamp then length E + 1 else latest_in E s)
-latest-push [] e s = refl
-latest-push (x ∷ E) e s = rw (latest-push E e s) (behind-if (s == x.stamp) (s == e.stamp) (length E) (latest_in E s))
+-- which place is the last depends on the edits below alone
+last_in : (E F : List PlaneEdit) (s to : ℕ) (place : Option ℕ) → ((k : ℕ) → k < to → slice_get E k ≡ slice_get F k) → IsLastBelow E s to place → IsLastBelow F s to place
+last_in E F s to None same free = λ k from below has. free k from below (stamped_in F E s k (sym (same k below)) has)
+last_in E F s to (Some p) same last = (
+  last.0,
+  (
+    stamped_in E F s p (same p last.0) last.1.0,
+    λ k from below has. last.1.1 k from below (stamped_in F E s k (sym (same k below)) has),
+  ),
+)
 
-taken-behind : (E : List PlaneEdit) (x : PlaneEdit) (s : ℕ) (b : Bool) (n : ℕ) → b ≡ (s == x.stamp) → latest_in (take n E) s ≡ n → latest_in (take (behind b n) (x ∷ E)) s ≡ behind b n
-taken-behind E x s true zero e h = rw (← e) refl
-taken-behind E x s false zero e h = refl
-taken-behind E x s b (suc n) e h = rw h refl
+-- an edit is the last of its stamp up to itself
+last_here : (E : List PlaneEdit) (n : ℕ) (x : PlaneEdit) → slice_get E n ≡ Some x → IsLastBelow E x.stamp (n + 1) (Some n)
+last_here E n x here = (omega arith, (stamped E x.stamp n x here refl, λ k from below has. absurd (omega arith)))
 
--- up to the last edit of a stamp, that edit is the last
-pub latest-taken : (E : List PlaneEdit) (s : ℕ) → latest_in (take (latest_in E s) E) s ≡ latest_in E s
-latest-taken [] s = refl
-latest-taken (x ∷ E) s = taken-behind E x s (s == x.stamp) (latest_in E s) refl (latest-taken E s)
+free_more : (E : List PlaneEdit) (s from n : ℕ) → (HasStamp E s n → ⊥) → IsFreeOf E s from n → IsFreeOf E s from (n + 1)
+free_more E s from n other free k low below has = elim (cases_eq k n) [
+  | inl at ↦ other (subst (λ i. HasStamp E s i) at has)
+  | inr apart ↦ free k low (omega arith) has
+]
 
-any-behind : (E : List PlaneEdit) (x edit : PlaneEdit) (b : Bool) (n : ℕ) → b ≡ (edit.stamp == x.stamp) →
-    list_any (is_edit edit) (take n E) ≡ list_any (is_edit edit) E → list_any (is_edit edit) (take (behind b n) (x ∷ E)) ≡ list_any (is_edit edit) (x ∷ E)
-any-behind E x edit true zero e h = rw (← h) refl
-any-behind E x edit false zero e h = rw (← h, ← e) refl
-any-behind E x edit b (suc n) e h = rw h refl
-
--- an edit is in a list where it is among those up to the last of its stamp
-pub any-latest : (E : List PlaneEdit) (edit : PlaneEdit) → list_any (is_edit edit) (take (latest_in E edit.stamp) E) ≡ list_any (is_edit edit) E
-any-latest [] edit = refl
-any-latest (x ∷ E) edit = any-behind E x edit (edit.stamp == x.stamp) (latest_in E edit.stamp) refl (any-latest E edit)
+-- an edit of another stamp changes nothing
+last_more : (E : List PlaneEdit) (s n : ℕ) (place : Option ℕ) → (HasStamp E s n → ⊥) → IsLastBelow E s n place → IsLastBelow E s (n + 1) place
+last_more E s n None other free = free_more E s 0 n other free
+last_more E s n (Some p) other last = let below = last.0 in (omega arith, (last.1.0, free_more E s (p + 1) n other last.1.1))
 
 -- ---- the way along the edits of one stamp
 
-pub take_push : (E : List PlaneEdit) (i : ℕ) (x : PlaneEdit) → slice_get E i ≡ Some x → take (i + 1) E ≡ take i E ++ x ∷ []
-take_push E i x h = take_more E i x (slice_get_within E i x h) ∙ ap (λ y. take i E ++ y ∷ []) (get_or_from_slice_get E i x x h)
+-- no edit from a place on is the one that is looked for
+abbrev IsPast : List PlaneEdit → PlaneEdit → ℕ → Type 0
+IsPast E edit from = (k : ℕ) (e : PlaneEdit) → from ≤ k → slice_get E k ≡ Some e → is_edit edit e ≡ false
 
-pub length-taken : (E : List PlaneEdit) (i : ℕ) (x : PlaneEdit) → slice_get E i ≡ Some x → length (take i E) ≡ i
-length-taken E i x h = let within = slice_get_within E i x h in length-take-le i E (omega arith)
+-- how many edits may still be compared
+abbrev pub edits_ahead : Option ℕ → ℕ
+edits_ahead None = 0
+edits_ahead (Some place) = place + 1
 
--- what is left to be compared when the way has come to a place
-pub record IsOnWay (E : List PlaneEdit) (edit : PlaneEdit) (place : ℕ) : Type 0 where
-  pub within : place ≤ length E
-  pub start : latest_in (take place E) edit.stamp ≡ place
-  pub rest : list_any (is_edit edit) (take place E) ≡ list_any (is_edit edit) E
+-- what is known when the way has come to a place, or to its end
+pub record IsOnWay (E : List PlaneEdit) (edit : PlaneEdit) (here : Option ℕ) : Type 0 where
+  pub within : (place : ℕ) → here ≡ Some place → place < length E
+  pub stamp : (place : ℕ) → here ≡ Some place → HasStamp E edit.stamp place
+  pub past : IsPast E edit (edits_ahead here)
 
-any-push_other : (F : List PlaneEdit) (x edit : PlaneEdit) → is_edit edit x ≡ false → list_any (is_edit edit) (F ++ x ∷ []) ≡ list_any (is_edit edit) F
-any-push_other [] x edit h = rw h refl
-any-push_other (y ∷ F) x edit h = ap (λ b. is_edit edit y || b) (any-push_other F x edit h)
-
-way_begins : (E : List PlaneEdit) (edit : PlaneEdit) (place : ℕ) → place ≡ latest_in E edit.stamp → IsOnWay E edit place
-way_begins E edit place is = subst (λ p. IsOnWay E edit p) (sym is) (record {
-  within = latest-within E edit.stamp;
-  start = latest-taken E edit.stamp;
-  rest = any-latest E edit;
-})
-
--- the way begins where the edit's stamp leads
-pub way_begins_at : (E : List PlaneEdit) {earlier : List ℕ} {latest : ℕ → ℕ} (edit : PlaneEdit) (place : ℕ) → IsChained E earlier latest → place ≡ latest edit.stamp → IsOnWay E edit place
-way_begins_at E edit place chained is =
-    way_begins E edit place (is ∙ chained.linked.starts edit.stamp ∙ ap (λ l. latest_in l edit.stamp) (take_all (length E) E (omega arith)))
-
--- the edit at the end of the way has the stamp
-same_stamp : (F : List PlaneEdit) (x : PlaneEdit) (s n : ℕ) → length F ≡ n → latest_in (F ++ x ∷ []) s ≡ n + 1 → s ≡ x.stamp
-same_stamp F x s n len last = elim (eqb_tells s x.stamp) [
-  | inl h ↦ h.1
-  | inr h ↦
-      let pushed : latest_in F s ≡ n + 1 = subst (λ b. (if b then length F + 1 else latest_in F s) ≡ n + 1) h.0 (sym (latest-push F x s) ∙ last) in
-      let within = latest-within F s in
-      absurd (omega arith)
+other_edit : (edit e : PlaneEdit) → (e.stamp ≡ edit.stamp → ⊥) → is_edit edit e ≡ false
+other_edit edit e other = elim (eqb_tells edit.stamp e.stamp) [
+  | inl h ↦ absurd (other (sym h.1))
+  | inr h ↦ rw h.0 refl
 ]
 
--- the way goes on at the edit before with the stamp
-way_goes_on : (E : List PlaneEdit) (edit x : PlaneEdit) (at q : ℕ) → IsOnWay E edit (at + 1) → slice_get E at ≡ Some x → is_edit edit x ≡ false →
-    q ≡ latest_in (take at E) x.stamp → (q ≤ at) × IsOnWay E edit q
-way_goes_on E edit x at q way there other is =
-    let F = take at E in
-    let len = length-taken E at x there in
-    let more = take_push E at x there in
-    let last : latest_in (F ++ x ∷ []) edit.stamp ≡ at + 1 = subst (λ l. latest_in l edit.stamp ≡ at + 1) more way.start in
-    let stamp : edit.stamp ≡ x.stamp = same_stamp F x edit.stamp at len last in
-    let here : q ≡ latest_in F edit.stamp = is ∙ ap (λ s. latest_in F s) (sym stamp) in
-    let on_way = way_begins F edit q here in
-    let short : q ≤ at = subst (λ n. q ≤ n) len on_way.within in
-    let taken : take q F ≡ take q E = take-take q at E short in
-    let within_all = way.within in (
-      short,
-      record {
-        within = omega arith;
-        start = subst (λ l. latest_in l edit.stamp ≡ q) taken on_way.start;
-        rest =
-            ap (λ l. list_any (is_edit edit) l) (sym taken)
-            ∙ on_way.rest
-            ∙ sym (any-push_other F x edit other)
-            ∙ ap (λ l. list_any (is_edit edit) l) (sym more)
-            ∙ way.rest;
-      },
+past_free : (E : List PlaneEdit) (edit : PlaneEdit) (from to : ℕ) → IsFreeOf E edit.stamp from to → IsPast E edit to → IsPast E edit from
+past_free E edit from to free past k e low there = elim (cases_lt k to) [
+  | inl below ↦ other_edit edit e (λ is. free k low below (stamped E edit.stamp k e there is))
+  | inr above ↦ past k e above there
+]
+
+within_stamped : (E : List PlaneEdit) (s place : ℕ) → HasStamp E s place → place < length E
+within_stamped [] s place has = absurd has
+within_stamped (e ∷ E) s zero has = omega arith
+within_stamped (e ∷ E) s (suc place) has = let within = within_stamped E s place has in omega arith
+
+way_from : (E : List PlaneEdit) (edit : PlaneEdit) (to : ℕ) (here : Option ℕ) → IsLastBelow E edit.stamp to here → IsPast E edit to → IsOnWay E edit here
+way_from E edit to None free past = record { within = λ place is. absurd (cc); stamp = λ place is. absurd (cc); past = past_free E edit 0 to free past }
+way_from E edit to (Some p) last past = record {
+  within = λ place is. subst (λ q. q < length E) (same_Some p place is) (within_stamped E edit.stamp p last.1.0);
+  stamp = λ place is. subst (λ q. HasStamp E edit.stamp q) (same_Some p place is) last.1.0;
+  past = past_free E edit (p + 1) to last.1.1 past;
+}
+
+-- the way begins where the edit's stamp leads
+pub way_begins : (E : List PlaneEdit) {earlier : List (Option ℕ)} {latest : ℕ → Option ℕ} (edit : PlaneEdit) (here : Option ℕ) → IsChained E earlier latest → here ≡ latest edit.stamp →
+    IsOnWay E edit here
+way_begins E {earlier} {latest} edit here chained is =
+    subst (λ o. IsOnWay E edit o) (sym is)
+    (way_from E edit (length E) (latest edit.stamp) (chained.linked.starts edit.stamp) (λ k e from there. let within = slice_get_within E k e there in absurd (omega arith)))
+
+same_edit : (E : List PlaneEdit) (n k : ℕ) (x e : PlaneEdit) → k ≡ n → slice_get E n ≡ Some x → slice_get E k ≡ Some e → x ≡ e
+same_edit E n k x e at here there =
+    let same : Some x ≡ Some e = sym here ∙ ap (λ i. slice_get E i) (sym at) ∙ there in
+    cc
+
+past_here : (E : List PlaneEdit) (edit x : PlaneEdit) (place : ℕ) → slice_get E place ≡ Some x → is_edit edit x ≡ false → IsPast E edit (place + 1) → IsPast E edit place
+past_here E edit x place here other past k e low there = elim (cases_eq k place) [
+  | inl at ↦ subst (λ y. is_edit edit y ≡ false) (same_edit E place k x e at here there) other
+  | inr apart ↦ past k e (omega arith) there
+]
+
+fewer_ahead : (E : List PlaneEdit) (s place : ℕ) (next : Option ℕ) → IsLastBelow E s place next → edits_ahead next < place + 1
+fewer_ahead E s place None last = omega arith
+fewer_ahead E s place (Some p) last = let below = last.0 in omega arith
+
+-- an edit on the way is another one: the way goes on along its link
+pub way_goes_on : (E : List PlaneEdit) {earlier : List (Option ℕ)} {latest : ℕ → Option ℕ} (edit x : PlaneEdit) (here : Option ℕ) (place : ℕ) → IsChained E earlier latest →
+    IsOnWay E edit here → here ≡ Some place → x ≡ get_or E place x → is_edit edit x ≡ false →
+    (edits_ahead (get_or earlier place None) < edits_ahead here) × IsOnWay E edit (get_or earlier place None)
+way_goes_on E {earlier} edit x here place chained way at read other =
+    let within = way.within place at in
+    let room = chained.room in
+    let there = slice_get_read E (length E) place x refl within read in
+    let stamp : x.stamp ≡ edit.stamp = stamp_of E edit.stamp place x there (way.stamp place at) in
+    let next = get_or earlier place None in
+    let linked = slice_get-get_or earlier place None (omega arith) in
+    let link : IsLastBelow E x.stamp place next = subst (λ o. IsSomeAnd o (λ p. IsLastBelow E x.stamp place p)) linked (chained.linked.links place x within there) in
+    let last : IsLastBelow E edit.stamp place next = subst (λ s. IsLastBelow E s place next) stamp link in
+    let past : IsPast E edit (place + 1) = subst (λ o. IsPast E edit (edits_ahead o)) at way.past in (
+      subst (λ o. edits_ahead next < edits_ahead o) (sym at) (fewer_ahead E edit.stamp place next last),
+      way_from E edit place next last (past_here E edit x place there other past),
     )
 
--- an edit on the way is another one: the way goes back along its link
-pub way_goes_back : (E : List PlaneEdit) {earlier : List ℕ} {latest : ℕ → ℕ} (edit x : PlaneEdit) (place : ℕ) → IsChained E earlier latest → IsOnWay E edit place → 0 < place →
-    x ≡ get_or E (place - 1) x → is_edit edit x ≡ false → (slice_index earlier (place - 1) < place) × IsOnWay E edit (slice_index earlier (place - 1))
-way_goes_back E {earlier} edit x place chained way some read other =
-    let within = way.within in
-    let here : place - 1 < length E = omega arith in
-    let there = slice_get_read E (length E) (place - 1) x refl here read in
-    let at : place ≡ place - 1 + 1 = omega arith in
-    let on = way_goes_on E edit x (place - 1) (slice_index earlier (place - 1)) (subst (λ p. IsOnWay E edit p) at way) there other (chained.linked.links (place - 1) x here there) in
-    let short = on.0 in
-    (omega arith, on.1)
+none_left : {X : Type 0} (o : Option X) → ((x : X) → o ≡ Some x → ⊥) → o ≡ None
+none_left None other = refl
+none_left (Some x) other = absurd (other x refl)
+
+none_past : (E : List PlaneEdit) (edit : PlaneEdit) → IsPast E edit 0 → list_any (is_edit edit) E ≡ false
+none_past [] edit past = refl
+none_past (e ∷ E) edit past = rw (past 0 e (omega arith) refl) (none_past E edit (λ k x low there. past (suc k) x (omega arith) there))
+
+-- at the end of the way the edit was not found
+pub way_ends : (E : List PlaneEdit) (edit : PlaneEdit) (here : Option ℕ) → IsOnWay E edit here → ((place : ℕ) → here ≡ Some place → ⊥) → list_any (is_edit edit) E ≡ false
+way_ends E edit here way end = none_past E edit (subst (λ o. IsPast E edit (edits_ahead o)) (none_left here end) way.past)
 
 -- ---- links
+
+-- a map of stamps tells them apart as numbers
+pub tells_stamp : (a b : ℕ) → is_at (nat_cmp a) b ≡ (a == b)
+tells_stamp a b = grind (arith, nat_tests)
 
 slice_get-append : (E F : List PlaneEdit) (k : ℕ) → k < length E → slice_get (E ++ F) k ≡ slice_get E k
 slice_get-append [] F k h = absurd (omega arith)
 slice_get-append (x ∷ E) F zero h = refl
 slice_get-append (x ∷ E) F (suc k) h = slice_get-append E F k (omega arith)
 
-same_test : (a b : ℕ) → (a == b) ≡ (b == a)
-same_test a b = grind (arith, nat_tests)
+set_here : (L : List (Option ℕ)) (n : ℕ) (v : Option ℕ) → n < length L → slice_get (slice_set L n v) n ≡ Some v
+set_here [] n v within = absurd (omega arith)
+set_here (x ∷ L) zero v within = refl
+set_here (x ∷ L) (suc n) v within = set_here L n v (omega arith)
 
-start_more : (E : List PlaneEdit) (latest after : ℕ → ℕ) (n : ℕ) (x : PlaneEdit) (s : ℕ) → latest s ≡ latest_in (take n E) s → slice_get E n ≡ Some x →
-    after s ≡ (if x.stamp == s then n + 1 else latest s) → after s ≡ latest_in (take (n + 1) E) s
-start_more E latest after n x s start here is =
-    is
-    ∙ ap (λ b. if b then n + 1 else latest s) (same_test x.stamp s)
-    ∙ ap (λ m. if s == x.stamp then n + 1 else m) start
-    ∙ ap (λ m. if s == x.stamp then m + 1 else latest_in (take n E) s) (sym (length-taken E n x here))
-    ∙ sym (latest-push (take n E) x s)
-    ∙ ap (λ l. latest_in l s) (sym (take_push E n x here))
+set_apart : (L : List (Option ℕ)) (n k : ℕ) (v : Option ℕ) → (k ≡ n → ⊥) → slice_get (slice_set L n v) k ≡ slice_get L k
+set_apart [] n k v apart = refl
+set_apart (x ∷ L) zero zero v apart = absurd (apart refl)
+set_apart (x ∷ L) zero (suc k) v apart = refl
+set_apart (x ∷ L) (suc n) zero v apart = refl
+set_apart (x ∷ L) (suc n) (suc k) v apart = set_apart L n k v (λ e. apart (ap suc e))
 
-same_edit : (E : List PlaneEdit) (n k : ℕ) (x e : PlaneEdit) → k ≡ n → slice_get E n ≡ Some x → slice_get E k ≡ Some e → x ≡ e
-same_edit E n k x e at here there = sym (get_or_from_slice_get E n x x here) ∙ ap (λ i. get_or E i x) (sym at) ∙ get_or_from_slice_get E k e x there
-
-link_here : (E : List PlaneEdit) (earlier : List ℕ) (latest : ℕ → ℕ) (n : ℕ) (x : PlaneEdit) (k : ℕ) (e : PlaneEdit) → latest x.stamp ≡ latest_in (take n E) x.stamp →
-    n < length earlier → slice_get E n ≡ Some x → k ≡ n → slice_get E k ≡ Some e → slice_index (slice_set earlier n (latest x.stamp)) k ≡ latest_in (take k E) e.stamp
-link_here E earlier latest n x k e start room here at there =
-    ap (λ i. slice_index (slice_set earlier n (latest x.stamp)) i) at
-    ∙ get_or-set_same earlier n (latest x.stamp) 0 room
-    ∙ start
-    ∙ ap (λ (y : PlaneEdit). latest_in (take n E) y.stamp) (same_edit E n k x e at here there)
-    ∙ ap (λ i. latest_in (take i E) e.stamp) (sym at)
-
--- links stay where places are added behind them
-pub linked_longer : {E : List PlaneEdit} {earlier : List ℕ} {latest : ℕ → ℕ} (F : List PlaneEdit) → IsLinked E earlier latest (length E) → IsLinked (E ++ F) earlier latest (length E)
-linked_longer {E} {earlier} {latest} F linked = record {
-  starts = λ s. linked.starts s ∙ ap (λ l. latest_in l s) (sym (take-append-le (length E) E F (omega arith)));
-  links = λ k e below there.
-      linked.links k e below (sym (slice_get-append E F k below) ∙ there)
-      ∙ ap (λ l. latest_in l e.stamp) (sym (take-append-le k E F (omega arith)));
-}
+link_in : (E F : List PlaneEdit) (s k : ℕ) (o p : Option (Option ℕ)) → o ≡ p → ((i : ℕ) → i < k → slice_get E i ≡ slice_get F i) →
+    IsSomeAnd o (λ place. IsLastBelow E s k place) → IsSomeAnd p (λ place. IsLastBelow F s k place)
+link_in E F s k None p is edits link = absurd link
+link_in E F s k (Some place) p is edits link = subst (λ q. IsSomeAnd q (λ y. IsLastBelow F s k y)) is (last_in E F s k place edits link)
 
 -- links stay where what is read stays
-pub linked_same : {E : List PlaneEdit} {earlier wider : List ℕ} {latest after : ℕ → ℕ} (n : ℕ) → IsLinked E earlier latest n → n ≤ length earlier →
-    ((k : ℕ) → k < length earlier → slice_index wider k ≡ slice_index earlier k) → ((s : ℕ) → after s ≡ latest s) → IsLinked E wider after n
-linked_same n linked room same starts = record {
-  starts = λ s. starts s ∙ linked.starts s;
-  links = λ k e below there. same k (omega arith) ∙ linked.links k e below there;
+linked_same : {E F : List PlaneEdit} {earlier wider : List (Option ℕ)} {latest : ℕ → Option ℕ} (n : ℕ) → IsLinked E earlier latest n →
+    ((k : ℕ) → k < n → slice_get E k ≡ slice_get F k) → ((k : ℕ) → k < n → slice_get earlier k ≡ slice_get wider k) → IsLinked F wider latest n
+linked_same {E} {F} {earlier} {wider} {latest} n linked edits same = record {
+  starts = λ s. last_in E F s n (latest s) edits (linked.starts s);
+  links = λ k e below there.
+      link_in E F e.stamp k (slice_get earlier k) (slice_get wider k) (same k below) (λ i under. edits i (omega arith))
+      (linked.links k e below (edits k below ∙ there));
 }
+
+-- links stay where edits are put behind them
+pub linked_ahead : {E all : List PlaneEdit} {earlier wider : List (Option ℕ)} {latest : ℕ → Option ℕ} (F : List PlaneEdit) (n : ℕ) → all ≡ E ++ F → n ≡ length E →
+    IsChained E earlier latest → ((k : ℕ) → k < length earlier → slice_get wider k ≡ slice_get earlier k) → IsLinked all wider latest n
+linked_ahead {E} {all} {earlier} {wider} {latest} F n is len chained same =
+    let room = chained.room in
+    let linked : IsLinked (E ++ F) wider latest (length E) =
+    linked_same (length E) chained.linked (λ k below. sym (slice_get-append E F k below)) (λ k below. sym (same k (omega arith))) in
+    subst (λ l. IsLinked l wider latest n) (sym is) (subst (λ m. IsLinked (E ++ F) wider latest m) (sym len) linked)
+
+start_more : (E : List PlaneEdit) (n : ℕ) (x : PlaneEdit) (s : ℕ) (place : Option ℕ) → slice_get E n ≡ Some x → IsLastBelow E s n place →
+    IsLastBelow E s (n + 1) (if x.stamp == s then Some n else place)
+start_more E n x s place here last = elim (eqb_tells x.stamp s) [
+  | inl h ↦ subst (λ b. IsLastBelow E s (n + 1) (if b then Some n else place)) (sym h.0) (subst (λ t. IsLastBelow E t (n + 1) (Some n)) h.1 (last_here E n x here))
+  | inr h ↦
+      subst (λ b. IsLastBelow E s (n + 1) (if b then Some n else place)) (sym h.0)
+      (last_more E s n place (λ has. h.1 (stamp_of E s n x here has)) last)
+]
 
 -- one more edit is linked
-pub linked_more : {E : List PlaneEdit} {earlier : List ℕ} {latest after : ℕ → ℕ} (n : ℕ) (x : PlaneEdit) → IsLinked E earlier latest n → n < length earlier →
-    slice_get E n ≡ Some x → ((s : ℕ) → after s ≡ (if x.stamp == s then n + 1 else latest s)) → IsLinked E (slice_set earlier n (latest x.stamp)) after (n + 1)
+pub linked_more : {E : List PlaneEdit} {earlier : List (Option ℕ)} {latest after : ℕ → Option ℕ} (n : ℕ) (x : PlaneEdit) → IsLinked E earlier latest n → n < length earlier →
+    slice_get E n ≡ Some x → ((s : ℕ) → after s ≡ (if x.stamp == s then Some n else latest s)) → IsLinked E (slice_set earlier n (latest x.stamp)) after (n + 1)
 linked_more {E} {earlier} {latest} {after} n x linked room here starts = record {
-  starts = λ s. start_more E latest after n x s (linked.starts s) here (starts s);
+  starts = λ s. subst (λ o. IsLastBelow E s (n + 1) o) (sym (starts s)) (start_more E n x s (latest s) here (linked.starts s));
   links = λ k e below there. elim (cases_eq k n) [
-    | inl at ↦ link_here E earlier latest n x k e (linked.starts x.stamp) room here at there
-    | inr apart ↦ get_or-set_other earlier n k (latest x.stamp) 0 apart ∙ linked.links k e (omega arith) there
+    | inl at ↦
+        let stamp : x.stamp ≡ e.stamp = ap (λ (y : PlaneEdit). y.stamp) (same_edit E n k x e at here there) in
+        let last : IsLastBelow E e.stamp k (latest x.stamp) =
+        subst (λ i. IsLastBelow E e.stamp i (latest x.stamp)) (sym at) (subst (λ s. IsLastBelow E s n (latest x.stamp)) stamp (linked.starts x.stamp)) in
+        subst (λ o. IsSomeAnd o (λ place. IsLastBelow E e.stamp k place))
+        (sym (ap (λ i. slice_get (slice_set earlier n (latest x.stamp)) i) at ∙ set_here earlier n (latest x.stamp) room))
+        last
+    | inr apart ↦
+        subst (λ o. IsSomeAnd o (λ place. IsLastBelow E e.stamp k place)) (sym (set_apart earlier n k (latest x.stamp) apart))
+        (linked.links k e (omega arith) there)
   ];
 }
-
--- the same, with the stamp and the place that it led to as they were read
-pub linked_by : {E : List PlaneEdit} {earlier : List ℕ} {latest after : ℕ → ℕ} (n : ℕ) (x : PlaneEdit) (stamp v : ℕ) → stamp ≡ x.stamp → v ≡ latest stamp →
-    IsLinked E earlier latest n → n < length earlier → slice_get E n ≡ Some x → ((s : ℕ) → after s ≡ (if stamp == s then n + 1 else latest s)) →
-    IsLinked E (slice_set earlier n v) after (n + 1)
-linked_by {E} {earlier} {latest} {after} n x stamp v is read linked room here starts =
-    let led : v ≡ latest x.stamp = read ∙ ap (λ t. latest t) is in
-    let onward : (s : ℕ) → after s ≡ (if x.stamp == s then n + 1 else latest s) = λ s. starts s ∙ ap (λ t. if t == s then n + 1 else latest s) is in
-    subst (λ w. IsLinked E (slice_set earlier n w) after (n + 1)) (sym led) (linked_more n x linked room here onward)
-
--- edits put behind a journal leave its links
-pub linked_ahead : {E all : List PlaneEdit} {earlier wider : List ℕ} {latest after : ℕ → ℕ} (F : List PlaneEdit) (n : ℕ) → all ≡ E ++ F → n ≡ length E → IsChained E earlier latest →
-    ((k : ℕ) → k < length earlier → slice_index wider k ≡ slice_index earlier k) → ((s : ℕ) → after s ≡ latest s) → IsLinked all wider after n
-linked_ahead {E} {all} {earlier} {wider} {latest} {after} F n is len chained same starts =
-    let linked : IsLinked (E ++ F) earlier latest (length E) = linked_longer F chained.linked in
-    let kept : IsLinked (E ++ F) wider after (length E) = linked_same (length E) linked chained.room same starts in
-    subst (λ l. IsLinked l wider after n) (sym is) (subst (λ m. IsLinked (E ++ F) wider after m) (sym len) kept)
-
-slice_get-append-add : (E F : List PlaneEdit) (k i : ℕ) → k ≡ length E + i → slice_get (E ++ F) k ≡ slice_get F i
-slice_get-append-add [] F k i h = let same : k ≡ i = omega arith in ap (λ j. slice_get F j) same
-slice_get-append-add (x ∷ E) F zero i h = absurd (omega arith)
-slice_get-append-add (x ∷ E) F (suc k) i h = slice_get-append-add E F k i (omega arith)
-
--- the stamps of edits put behind a journal have entries
-pub starts_ahead : (E F : List PlaneEdit) {all : List PlaneEdit} (latest : BTreeMap ℕ ℕ) (n : ℕ) → all ≡ E ++ F → n ≡ length E → HasStarts latest F 0 → HasStarts latest all n
-starts_ahead E F {all} latest n is len has k e from there =
-    let at : k ≡ length E + (k - length E) = omega arith in
-    has (k - length E) e (omega arith) (sym (slice_get-append-add E F k (k - length E) at) ∙ ap (λ l. slice_get l k) (sym is) ∙ there)
-
-pub start_alone : (latest : BTreeMap ℕ ℕ) (edit : PlaneEdit) → IsSome (get nat_cmp latest edit.stamp) → HasStarts latest (edit ∷ []) 0
-start_alone latest edit has zero e above there = let same : edit ≡ e = cc in subst (λ (x : PlaneEdit). IsSome (get nat_cmp latest x.stamp)) same has
-start_alone latest edit has (suc k) e above there = absurd (cc)

@@ -1,2 +1,3 @@
 pub mod JournalLaws
+mod JournalRows
 pub mod NotedLaws

@@ -1,10 +1,10 @@
 -- Worked values of the definitions.
 use Rattle.std.specs.Prelude.{◌≡◌, ℕ, [], ◌∷◌, None, pos, refl}
 use Rattle.edit_stamps.specs.Edit.{PlaneEdit}
-use Rattle.edit_journal.specs.Journal.{latest_in, noted}
+use Rattle.edit_journal.specs.Journal.{noted}
 
 -- an edit of one cell
-abbrev one : ℕ → ℕ → PlaneEdit
+abbrev pub one : ℕ → ℕ → PlaneEdit
 one stamp state = record { stamp = stamp; area = None; cells = record { x = pos 0; y = pos 0; state = state } ∷ [] }
 
 pub nothing_noted : noted (one 65537 1 ∷ []) [] ≡ one 65537 1 ∷ []
@@ -19,9 +19,3 @@ noted_already = refl
 -- another edit of a noted stamp is another edit
 pub one_stamp_two_edits : noted (one 65537 1 ∷ []) (one 65537 2 ∷ []) ≡ one 65537 1 ∷ one 65537 2 ∷ []
 one_stamp_two_edits = refl
-
-pub latest_of_a_stamp : latest_in (one 65537 1 ∷ one 131073 1 ∷ one 65537 2 ∷ []) 65537 ≡ 3
-latest_of_a_stamp = refl
-
-pub latest_of_no_stamp : latest_in (one 65537 1 ∷ []) 65538 ≡ 0
-latest_of_no_stamp = refl

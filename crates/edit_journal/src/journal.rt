@@ -1,11 +1,11 @@
 //! The edits that a replica drew or was given in messages, in order.
 
-ghost use Rattle.std.specs.Prelude.{◌≡◌, ℕ, Some, slice_get, ◌+◌, ◌<◌, ◌≤◌, ◌++◌, ◌∷◌, [], ◌==◌, if◌then◌else◌, IfOk, OnOk, OnErr, IsSome, length, take, slice_index};
+ghost use Rattle.std.specs.Prelude.{◌≡◌, ℕ, ◌+◌, ◌<◌, ◌≤◌, ◌++◌, ◌∷◌, [], ◌==◌, if◌then◌else◌, IfOk, OnOk, OnErr, IsSome, length, take, slice_get};
 ghost use Rattle.std.specs.List.{list_any};
 ghost use Rattle.std.specs.Ordering.{nat_cmp};
 ghost use Rattle.std.specs.BTreeMap.{get};
 ghost use Rattle.edit_stamps.specs.Edit.{PlaneEdit, is_edit};
-ghost use Rattle.edit_journal.specs.Journal.{noted, start_in, latest_in, IsLinked, IsChained, HasStarts};
+ghost use Rattle.edit_journal.specs.Journal.{noted, IsLinked, IsChained};
 
 use edit_stamps::Edit;
 use std::alloc::{AllocError, Global};
@@ -21,23 +21,25 @@ mod tests;
 #[derive(Debug, Drop)]
 pub struct Journal {
     edits: Vec<Edit>,
-    /// For each edit, one more than the place of the next earlier edit of its stamp, or 0. It may
-    /// be longer than the edits, so that room for more is made without a change of the journal.
-    earlier: Vec<usize>,
-    /// For a stamp, one more than the place of its latest edit, or 0.
+    /// For each edit, the last place before it with an edit of its stamp. It may be longer than the
+    /// edits, so that room for more is made without a change of the journal.
+    earlier: Vec<Option<usize>>,
+    /// For each stamp in the journal, the last place with an edit of it.
     latest: BTreeMap<u64, usize>,
 }
 
 impl Model for Journal {
     ghost use Rattle.std.specs.Prelude.{List};
     ghost use Rattle.edit_stamps.specs.Edit.{PlaneEdit};
-    ghost use Rattle.edit_journal.specs.Journal.{IsChained, start_in};
+    ghost use Rattle.std.specs.Ordering.{nat_cmp};
+    ghost use Rattle.std.specs.BTreeMap.{get};
+    ghost use Rattle.edit_journal.specs.Journal.{IsChained};
 
     ghost Value = { List PlaneEdit };
 
     ghost view = { λ j. j.edits.items };
 
-    ghost invariant = { λ j. IsChained j.edits.items j.earlier.items (start_in j.latest) };
+    ghost invariant = { λ j. IsChained j.edits.items j.earlier.items (get nat_cmp j.latest) };
 }
 
 impl Journal {
@@ -97,134 +99,153 @@ impl Journal {
     }
 }
 
-fn start_of(latest: &BTreeMap<u64, usize>, stamp: u64) -> usize
-    ensures { result ≡ start_in latest.now stamp }
-{
-    latest.get(&stamp).copied().unwrap_or(0)
-}
-
-// Whether the edit is among those of its stamp.
+/// Whether the edit is among those of its stamp.
 fn is_on_chain(
     edits: &[Edit],
-    earlier: &[usize],
+    earlier: &[Option<usize>],
     latest: &BTreeMap<u64, usize>,
     edit: &Edit,
 ) -> bool
-    requires { IsChained edits.now earlier.now (start_in latest.now) }
+    requires { IsChained edits.now earlier.now (get nat_cmp latest.now) }
     ensures { result ≡ list_any (is_edit edit.now) edits.now }
 {
-    let mut place = start_of(latest, edit.stamp().number());
-    while place > 0 {
-        let at = place - 1;
-        if edit.same(&edits[at]) {
+    let mut next = latest.get(&edit.stamp().number()).copied();
+    while let Some(place) = next {
+        if edit.same(&edits[place]) {
             return true;
         }
-        place = earlier[at];
+        next = earlier[place];
     }
     false
 }
 
-// Makes room for a number of links.
-fn make_places(earlier: &mut Vec<usize>, places: usize) -> Result<(), AllocError>
+/// Makes room for a number of links.
+fn make_places(earlier: &mut Vec<Option<usize>>, places: usize) -> Result<(), AllocError>
     ensures room { OnOk result (places ≤ length earlier.new.items) }
     ensures grows { length earlier.old.items ≤ length earlier.new.items }
-    ensures same { (k : ℕ) → k < length earlier.old.items → slice_index earlier.new.items k ≡ slice_index earlier.old.items k }
+    ensures same { (k : ℕ) → k < length earlier.old.items → slice_get earlier.new.items k ≡ slice_get earlier.old.items k }
 {
     if earlier.len() < places {
-        earlier.resize(places, 0)?;
+        earlier.resize(places, None)?;
     }
     Ok(())
 }
 
-// Makes room for the place of a stamp.
-fn make_start(latest: &mut BTreeMap<u64, usize>, stamp: u64) -> Result<(), AllocError>
-    ensures there { OnOk result (IsSome (get nat_cmp latest.new stamp)) }
-    ensures kept { (s : ℕ) → IsSome (get nat_cmp latest.old s) → IsSome (get nat_cmp latest.new s) }
-    ensures same { (s : ℕ) → start_in latest.new s ≡ start_in latest.old s }
-{
-    if !latest.contains_key(&stamp) {
-        latest.insert(stamp, 0)?;
-    }
-    Ok(())
-}
-
-// Makes room for the places of each edit's stamp.
-fn make_starts(latest: &mut BTreeMap<u64, usize>, edits: &[Edit]) -> Result<(), AllocError>
-    ensures there { OnOk result (HasStarts latest.new edits.now 0) }
-    ensures same { (s : ℕ) → start_in latest.new s ≡ start_in latest.old s }
-{
-    for edit in edits {
-        make_start(latest, edit.stamp().number())?;
-    }
-    Ok(())
-}
-
-// Leads a stamp to another place, and says where it led.
-fn restart(latest: &mut BTreeMap<u64, usize>, stamp: u64, place: usize) -> usize
+/// Leads a stamp of the map to another place, or takes it out.
+fn redirect(latest: &mut BTreeMap<u64, usize>, stamp: u64, place: Option<usize>)
     requires { IsSome (get nat_cmp latest.old stamp) }
-    ensures before { result ≡ start_in latest.old stamp }
-    ensures after { (s : ℕ) → start_in latest.new s ≡ (if stamp == s then place else start_in latest.old s) }
-    ensures kept { (s : ℕ) → IsSome (get nat_cmp latest.old s) → IsSome (get nat_cmp latest.new s) }
+    ensures { (s : ℕ) → get nat_cmp latest.new s ≡ (if stamp == s then place else get nat_cmp latest.old s) }
 {
-    match latest.get_mut(&stamp) {
-        Some(start) => {
-            let before = *start;
-            *start = place;
-            before
+    match place {
+        Some(place) => {
+            if let Some(last) = latest.get_mut(&stamp) {
+                *last = place;
+            }
         }
-        None => 0,
+        None => {
+            latest.remove(&stamp);
+        }
     }
 }
 
-// Links the edits from a place on.
-fn link(edits: &[Edit], earlier: &mut [usize], latest: &mut BTreeMap<u64, usize>, from: usize)
+/// Leads the map back to where it led before the edits from a place on were linked: the last first,
+/// since each leads to the one before it.
+fn unlink(
+    edits: &[Edit],
+    earlier: &[Option<usize>],
+    latest: &mut BTreeMap<u64, usize>,
+    from: usize,
+    linked: usize,
+)
+    requires within { from ≤ linked }
+    requires there { linked ≤ length edits.now }
+    requires room { length edits.now ≤ length earlier.now }
+    requires linked { IsLinked edits.now earlier.now (get nat_cmp latest.old) linked }
+    ensures { IsLinked edits.now earlier.now (get nat_cmp latest.new) from }
+{
+    for place in (from..linked).rev() {
+        redirect(latest, edits[place].stamp().number(), earlier[place]);
+    }
+}
+
+/// Links the edits from a place on. Where memory is refused, the map leads to none of them.
+fn link(
+    edits: &[Edit],
+    earlier: &mut [Option<usize>],
+    latest: &mut BTreeMap<u64, usize>,
+    from: usize,
+) -> Result<(), AllocError>
     requires within { from ≤ length edits.now }
     requires room { length edits.now ≤ length earlier.old }
-    requires linked { IsLinked edits.now earlier.old (start_in latest.old) from }
-    requires there { HasStarts latest.old edits.now from }
-    ensures { IsLinked edits.now earlier.new (start_in latest.new) (length edits.now) }
+    requires linked { IsLinked edits.now earlier.old (get nat_cmp latest.old) from }
+    ensures ok { OnOk result (IsLinked edits.now earlier.new (get nat_cmp latest.new) (length edits.now)) }
+    ensures err { OnErr result (IsLinked edits.now earlier.new (get nat_cmp latest.new) from) }
 {
     for place in from..edits.len() {
-        earlier[place] = restart(latest, edits[place].stamp().number(), place + 1);
+        match latest.insert(edits[place].stamp().number(), place) {
+            Ok(before) => earlier[place] = before,
+            Err(refused) => {
+                unlink(edits, earlier, latest, from, place);
+                return Err(AllocError::from(refused));
+            }
+        }
     }
+    Ok(())
 }
 
-// `Journal::push` on the fields.
+/// Links the edits from a place on, or drops them where memory is refused.
+fn link_or_drop(
+    edits: &mut Vec<Edit>,
+    earlier: &mut [Option<usize>],
+    latest: &mut BTreeMap<u64, usize>,
+    from: usize,
+) -> Result<(), AllocError>
+    requires within { from ≤ length edits.old.items }
+    requires room { length edits.old.items ≤ length earlier.old }
+    requires linked { IsLinked edits.old.items earlier.old (get nat_cmp latest.old) from }
+    ensures ok { OnOk result (edits.new.items ≡ edits.old.items) }
+    ensures err { OnErr result (edits.new.items ≡ take from edits.old.items) }
+    ensures chained { IsChained edits.new.items earlier.new (get nat_cmp latest.new) }
+{
+    let linked = link(edits, earlier, latest, from);
+    if linked.is_err() {
+        edits.truncate(from);
+    }
+    linked
+}
+
+/// `Journal::push` on the fields.
 fn push_linked(
     edits: &mut Vec<Edit>,
-    earlier: &mut Vec<usize>,
+    earlier: &mut Vec<Option<usize>>,
     latest: &mut BTreeMap<u64, usize>,
     edit: Edit,
 ) -> Result<(), AllocError>
-    requires { IsChained edits.old.items earlier.old.items (start_in latest.old) }
+    requires { IsChained edits.old.items earlier.old.items (get nat_cmp latest.old) }
     ensures ok { OnOk result (edits.new.items ≡ edits.old.items ++ edit ∷ []) }
     ensures err { OnErr result (edits.new.items ≡ edits.old.items) }
-    ensures chained { IsChained edits.new.items earlier.new.items (start_in latest.new) }
+    ensures chained { IsChained edits.new.items earlier.new.items (get nat_cmp latest.new) }
 {
     let linked = edits.len();
     make_places(earlier, linked + 1)?;
-    make_start(latest, edit.stamp().number())?;
     edits.push(edit)?;
-    link(edits, earlier, latest, linked);
-    Ok(())
+    link_or_drop(edits, earlier, latest, linked)
 }
 
-// `Journal::append` on the fields.
+/// `Journal::append` on the fields.
 fn append_linked(
     edits: &mut Vec<Edit>,
-    earlier: &mut Vec<usize>,
+    earlier: &mut Vec<Option<usize>>,
     latest: &mut BTreeMap<u64, usize>,
     mut fresh: Vec<Edit>,
 ) -> Result<(), AllocError>
-    requires { IsChained edits.old.items earlier.old.items (start_in latest.old) }
+    requires { IsChained edits.old.items earlier.old.items (get nat_cmp latest.old) }
     ensures ok { OnOk result (edits.new.items ≡ edits.old.items ++ fresh.items) }
     ensures err { OnErr result (edits.new.items ≡ edits.old.items) }
-    ensures chained { IsChained edits.new.items earlier.new.items (start_in latest.new) }
+    ensures chained { IsChained edits.new.items earlier.new.items (get nat_cmp latest.new) }
 {
     let linked = edits.len();
     make_places(earlier, linked + fresh.len())?;
-    make_starts(latest, &fresh)?;
     edits.append(&mut fresh)?;
-    link(edits, earlier, latest, linked);
-    Ok(())
+    link_or_drop(edits, earlier, latest, linked)
 }

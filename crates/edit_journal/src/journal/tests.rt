@@ -6,7 +6,7 @@ use generations_rule::Rule;
 use std::alloc::Global;
 use std::test::Fail;
 
-// The edit that writes a state at the origin.
+/// The edit that writes a state at the origin.
 fn edit(alloc: Global, counter: u64, state: u8) -> Result<Edit, Fail> {
     let rule = Rule::parse(b"345/2/6")?;
     let stamp = Stamp::new(counter, 1).ok_or("in range")?;
@@ -22,7 +22,7 @@ fn edits(alloc: Global, drawn: &[(u64, u8)]) -> Result<Vec<Edit>, Fail> {
     Ok(edits)
 }
 
-// Counter and state of each edit.
+/// Counter and state of each edit.
 fn drawn(alloc: Global, edits: &[Edit]) -> Result<Vec<(u64, u8)>, Fail> {
     let mut drawn = Vec::new(alloc);
     for edit in edits {

@@ -1,8 +1,8 @@
-use Rattle.edit_journal.proofs.JournalLaws.{IsOnWay}
+use Rattle.edit_journal.proofs.JournalLaws.{IsOnWay, edits_ahead}
 use Rattle.edit_journal.proofs.journal.is_on_chain.Given as goal
 
-abbrev pub invariant-loop-place : goal.invariant-loop-place
-invariant-loop-place l = IsOnWay l.edits l.edit l.place
+abbrev pub invariant-loop-next : goal.invariant-loop-next
+invariant-loop-next l = IsOnWay l.edits l.edit l.next
 
-abbrev pub decreases-loop-place : goal.decreases-loop-place
-decreases-loop-place l = l.place
+abbrev pub decreases-loop-next : goal.decreases-loop-next
+decreases-loop-next l = edits_ahead l.next

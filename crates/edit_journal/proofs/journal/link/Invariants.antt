@@ -1,10 +1,11 @@
 use Rattle.std.proofs.Common.{◌≤◌, length}
-use Rattle.edit_journal.specs.Journal.{start_in, IsLinked, HasStarts}
+use Rattle.std.specs.Ordering.{nat_cmp}
+use Rattle.std.specs.BTreeMap.{get}
+use Rattle.edit_journal.specs.Journal.{IsLinked}
 use Rattle.edit_journal.proofs.journal.link.Given as goal
 
 abbrev pub invariant-loop-place : goal.invariant-loop-place
 invariant-loop-place l = record {
   room : length l.edits ≤ length l.earlier;
-  linked : IsLinked l.edits l.earlier (start_in l.latest) l.place;
-  there : HasStarts l.latest l.edits l.place;
+  linked : IsLinked l.edits l.earlier (get nat_cmp l.latest) l.place;
 }

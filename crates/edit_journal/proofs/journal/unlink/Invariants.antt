@@ -1,0 +1,11 @@
+use Rattle.std.proofs.Common.{◌≤◌}
+use Rattle.std.specs.Ordering.{nat_cmp}
+use Rattle.std.specs.BTreeMap.{get}
+use Rattle.edit_journal.specs.Journal.{IsLinked}
+use Rattle.edit_journal.proofs.journal.unlink.Given as goal
+
+abbrev pub invariant-loop-place : goal.invariant-loop-place
+invariant-loop-place l = record {
+  above : l.from ≤ l.place;
+  linked : IsLinked l.edits l.earlier (get nat_cmp l.latest) l.place;
+}
