@@ -11,7 +11,7 @@ use Rattle.multistate_rle.specs.Bytes.{is_digit, is_blank, is_line_end, past, �
 use Rattle.std.proofs.lemmas.List.Folds.{list_all-append}
 use Rattle.multistate_rle.specs.Header.{most_side, symbol, number_in_front, side, may_end, header_of}
 use Rattle.multistate_rle.specs.Position.{words, signed, is_comma, position_in, generation_in, with_item, items_in, no_items, origin_from, origin_in_words, origin_of, item_by}
-use Rattle.multistate_rle.specs.Laws.{FitsPlane}
+use Rattle.multistate_rle.specs.Laws.{IsSignedWord}
 use Rattle.multistate_rle.proofs.SplitLemmas.{split_at, later_parts, has_bytes, has_some}
 use Rattle.multistate_rle.proofs.NumberLemmas.{is_number}
 use Rattle.multistate_rle.proofs.PatternLaws.{and_parts}
@@ -70,7 +70,7 @@ signed_digits n (c ∷ ds) is le =
     let parts = and_parts (is_digit c) (list_all is_digit ds) is.digits in
     rw (digit_is_no c parts.0 45 (omega arith)) (ap (option_map pos) (number_back 2147483647 n (c ∷ ds) is le))
 
-pub signed_back : (z : ℤ) → FitsPlane z → signed (signed_decimal z) ≡ Some z
+pub signed_back : (z : ℤ) → IsSignedWord z → signed (signed_decimal z) ≡ Some z
 signed_back (pos n) fits = signed_digits n (decimal n) (printed n (omega arith)) fits
 signed_back (negsuc n) fits = ap (option_map (λ n. neg_ℤ (pos n))) (number_back 2147483648 (suc n) (decimal (suc n)) (printed (suc n) (omega arith)) (omega arith))
 
@@ -109,7 +109,7 @@ digits_pass p each (d ∷ ds) all =
     let parts = and_parts (is_digit d) (list_all is_digit ds) all in
     rw (each d parts.0, digits_pass p each ds parts.1) refl
 
-pub signed_pass : (p : ℕ → Bool) → ((c : ℕ) → is_digit c ≡ true → p c ≡ true) → p 45 ≡ true → (z : ℤ) → FitsPlane z → list_all p (signed_decimal z) ≡ true
+pub signed_pass : (p : ℕ → Bool) → ((c : ℕ) → is_digit c ≡ true → p c ≡ true) → p 45 ≡ true → (z : ℤ) → IsSignedWord z → list_all p (signed_decimal z) ≡ true
 signed_pass p each minus (pos n) fits = digits_pass p each (decimal n) (printed n (omega arith)).digits
 signed_pass p each minus (negsuc n) fits = rw minus (digits_pass p each (decimal (suc n)) (printed (suc n) (omega arith)).digits)
 
@@ -147,21 +147,21 @@ gen_word g = codes "Gen=" ++ decimal g
 abbrev pub origin_line : ℤ → ℤ → ℕ → List ℕ
 origin_line x y g = codes "#CXRLE" ++ 32 ∷ (pos_word x y ++ 32 ∷ gen_word g)
 
-pos_no_blank : (x y : ℤ) → FitsPlane x → FitsPlane y → list_all (λ c. not (is_blank c)) (pos_word x y) ≡ true
+pos_no_blank : (x y : ℤ) → IsSignedWord x → IsSignedWord y → list_all (λ c. not (is_blank c)) (pos_word x y) ≡ true
 pos_no_blank x y fx fy =
     both_pass (λ c. not (is_blank c)) (signed_decimal x) (44 ∷ signed_decimal y) (signed_pass (λ c. not (is_blank c)) digit_no_blank refl x fx) (signed_pass (λ c. not (is_blank c)) digit_no_blank refl y fy)
 
 gen_no_blank : (g : ℕ) → g < 2 ^ 64 → list_all (λ c. not (is_blank c)) (gen_word g) ≡ true
 gen_no_blank g small = digits_pass (λ c. not (is_blank c)) digit_no_blank (decimal g) (printed g small).digits
 
-origin_words : (x y : ℤ) (g : ℕ) → FitsPlane x → FitsPlane y → g < 2 ^ 64 → words (origin_line x y g) ≡ codes "#CXRLE" ∷ pos_word x y ∷ gen_word g ∷ []
+origin_words : (x y : ℤ) (g : ℕ) → IsSignedWord x → IsSignedWord y → g < 2 ^ 64 → words (origin_line x y g) ≡ codes "#CXRLE" ∷ pos_word x y ∷ gen_word g ∷ []
 origin_words x y g fx fy small =
     ap (filter has_bytes)
     (split_blank (codes "#CXRLE") (pos_word x y ++ 32 ∷ gen_word g) refl
     ∙ ap (λ rest. codes "#CXRLE" ∷ rest) (split_blank (pos_word x y) (gen_word g) (pos_no_blank x y fx fy) ∙ ap (λ rest. pos_word x y ∷ rest) (split_last (gen_word g) (gen_no_blank g small))))
     ∙ rw (has_some 80 (codes "os=" ++ (signed_decimal x ++ 44 ∷ signed_decimal y)), has_some 71 (codes "en=" ++ decimal g)) refl
 
-position_back : (x y : ℤ) → FitsPlane x → FitsPlane y → position_in (pos_word x y) ≡ Some (x, y)
+position_back : (x y : ℤ) → IsSignedWord x → IsSignedWord y → position_in (pos_word x y) ≡ Some (x, y)
 position_back x y fx fy =
     let comma = signed_pass (λ c. not (is_comma c)) digit_no_comma refl x fx in
     (λ i. signed (front_is (λ c. not (is_comma c)) (signed_decimal x) 44 (signed_decimal y) comma refl i) >=> λ first.
@@ -182,7 +182,7 @@ second_item : (word : List ℕ) (p : ℤ × ℤ) (g : ℕ) → position_in word 
     with_item word (record { pos = Some p; generation = None }) ≡ Some (record { pos = Some p; generation = Some g })
 second_item word p g none is = λ i. item_by (none i) (is i) (record { pos = Some p; generation = None })
 
-pub origin_back : (x y : ℤ) (g : ℕ) → FitsPlane x → FitsPlane y → g < 2 ^ 64 → origin_of (origin_line x y g) ≡ Some (record { pos = (x, y); generation = g })
+pub origin_back : (x y : ℤ) (g : ℕ) → IsSignedWord x → IsSignedWord y → g < 2 ^ 64 → origin_of (origin_line x y g) ≡ Some (record { pos = (x, y); generation = g })
 origin_back x y g fx fy small =
     ap origin_in_words (origin_words x y g fx fy small)
     ∙ ap (λ o. option_map origin_from (o >=> λ items. items_in items (gen_word g ∷ []))) (first_item (pos_word x y) (x, y) (position_back x y fx fy))

@@ -13,7 +13,7 @@ use Rattle.multistate_rle.specs.Pattern.{RlePattern, are_within}
 use Rattle.multistate_rle.specs.Tokens.{tokens_from}
 use Rattle.multistate_rle.specs.Reading.{lines_of, lines_read, body_read, pattern_of}
 use Rattle.multistate_rle.specs.Writing.{head, body}
-use Rattle.multistate_rle.specs.Laws.{FitsPlane, ReadsBoxesBack}
+use Rattle.multistate_rle.specs.Laws.{IsSignedWord, ReadsBoxesBack}
 use Rattle.multistate_rle.proofs.LineLemmas.{line_step, line_read, comment_read, header_is_read}
 use Rattle.multistate_rle.proofs.PatternLaws.{and_parts, each_all, reach, reach_least, reach_most}
 use Rattle.multistate_rle.proofs.BodyLaws.{reads_bodies_back}
@@ -32,7 +32,7 @@ line_first end origin n line rest ends =
 abbrev size_line : ℕ → ℕ → List ℕ → List ℕ
 size_line w h rule = codes "x = " ++ (decimal w ++ (codes ", y = " ++ (decimal h ++ (codes ", rule = " ++ rule))))
 
-origin_ends : (x y : ℤ) (g : ℕ) → FitsPlane x → FitsPlane y → g < 2 ^ 64 → list_all (λ c. not (is_line_end c)) (origin_line x y g) ≡ true
+origin_ends : (x y : ℤ) (g : ℕ) → IsSignedWord x → IsSignedWord y → g < 2 ^ 64 → list_all (λ c. not (is_line_end c)) (origin_line x y g) ≡ true
 origin_ends x y g fx fy small =
     both_pass (λ c. not (is_line_end c)) (codes "Pos=" ++ (signed_decimal x ++ 44 ∷ signed_decimal y)) (32 ∷ (codes "Gen=" ++ decimal g))
     (both_pass (λ c. not (is_line_end c)) (signed_decimal x) (44 ∷ signed_decimal y) (signed_pass (λ c. not (is_line_end c)) digit_no_end refl x fx) (signed_pass (λ c. not (is_line_end c)) digit_no_end refl y fy))
@@ -44,7 +44,7 @@ size_ends w h rule wide high ends =
     (both_pass (λ c. not (is_line_end c)) (decimal h) (codes ", rule = " ++ rule) (digits_pass (λ c. not (is_line_end c)) digit_no_end (decimal h) (printed h (omega arith)).digits) ends)
 
 -- the two lines in front, and what follows
-pub head_read : (end : ℕ) (x y : ℤ) (g w h : ℕ) (rule rest : List ℕ) (meant : Result RlePattern RleFault) → FitsPlane x → FitsPlane y → g < 2 ^ 64 → w ≤ 4294967295 → h ≤ 4294967295 → list_all (λ c. not (is_line_end c)) rule ≡ true →
+pub head_read : (end : ℕ) (x y : ℤ) (g w h : ℕ) (rule rest : List ℕ) (meant : Result RlePattern RleFault) → IsSignedWord x → IsSignedWord y → g < 2 ^ 64 → w ≤ 4294967295 → h ≤ 4294967295 → list_all (λ c. not (is_line_end c)) rule ≡ true →
     ((n : ℕ) → body_read end (record { pos = (x, y); generation = g }) (w, h) (lines_of (enumerate_from n rest)) ≡ meant) →
     lines_read end None (lines_of (enumerate_from 0 (origin_line x y g ++ 10 ∷ (size_line w h rule ++ 10 ∷ rest)))) ≡ meant
 head_read end x y g w h rule rest meant fx fy small wide high ends is =

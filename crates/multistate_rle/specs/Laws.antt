@@ -106,15 +106,15 @@ ReadsBodiesBack = (end : ℕ) (origin : Origin) (sides : ℕ × ℕ) (n : ℕ) (
     body_read end origin sides (lines_of (enumerate_from n (body two (tokens_from 0 0 cells)))) ≡ Ok (pattern_of origin sides cells)
 
 -- a signed number of 32 bits
-abbrev pub FitsPlane : ℤ → Type 0
-FitsPlane (pos n) = n ≤ 2147483647
-FitsPlane (negsuc n) = n ≤ 2147483647
+abbrev pub IsSignedWord : ℤ → Type 0
+IsSignedWord (pos n) = n ≤ 2147483647
+IsSignedWord (negsuc n) = n ≤ 2147483647
 
 -- A whole text that is written of cells in a box, with sides below 2^32, is read as the cells in that box, with its
 -- position and generation. The rule stands in the header as any text without a line's end.
 abbrev pub ReadsBoxesBack : Type 0
 ReadsBoxesBack = (rule : List ℕ) (g : ℕ) (b : Bounds) (two : Bool) (cells : List PatternCell) →
-    FitsPlane b.x → FitsPlane b.y → g < 2 ^ 64 → b.width ≤ 4294967295 → b.height ≤ 4294967295 →
+    IsSignedWord b.x → IsSignedWord b.y → g < 2 ^ 64 → b.width ≤ 4294967295 → b.height ≤ 4294967295 →
     list_all (λ c. not (is_line_end c)) rule ≡ true → are_sorted cells ≡ true → are_alive cells ≡ true →
     are_within b.width b.height cells ≡ true → length cells ≤ 2 ^ 20 →
     list_all (λ cell. nat_le cell.state (if two then 1 else 255)) cells ≡ true →
@@ -125,7 +125,7 @@ ReadsBoxesBack = (rule : List ℕ) (g : ℕ) (b : Bounds) (two : Bool) (cells : 
 -- 2^32, is read again: the same cells less the position, the same box, position and generation.
 abbrev pub ReadsBack : Type 0
 ReadsBack = (r : GenerationsRule) (g : ℕ) (cells : List Cell) → IsRule r → g < 2 ^ 64 →
-    FitsPlane (box_of cells).x → FitsPlane (box_of cells).y →
+    IsSignedWord (box_of cells).x → IsSignedWord (box_of cells).y →
     is_sorted cells ≡ true → are_nonzero cells ≡ true → are_below r.states cells ≡ true → length cells ≤ 2 ^ 20 →
     (box_of cells).width < 2 ^ 32 → (box_of cells).height < 2 ^ 32 →
     parsed (rle_text r g cells)
