@@ -1,5 +1,5 @@
 -- What a script prints: a line for each command.
-use Rattle.std.specs.Prelude.{◌≡◌, ℕ, List, [], ◌∷◌, ◌++◌, length, map, if◌then◌else◌, codes, decimal, bytes_eq, Option, Some, None, Result, Ok, Err}
+use Rattle.std.specs.Prelude.{◌≡◌, ℕ, List, [], ◌∷◌, ◌++◌, length, map, if◌then◌else◌, codes, decimal, bytes_eq, option_map, Option, Some, None, Result, Ok, Err}
 use Rattle.std.specs.Fmt.{signed_decimal}
 use Rattle.multistate_rle.specs.declared.fault.RleFault.{RleFault}
 use Rattle.multistate_rle.specs.Pattern.{RlePattern}
@@ -11,6 +11,7 @@ use Rattle.replica_core.specs.declared.event.Event.{Event}
 use Rattle.replica_core.specs.declared.event.Event.TheVariants.{Draw}
 use Rattle.replica_core.specs.declared.event.Reply.{Reply}
 use Rattle.replica_core.specs.declared.event.Reply.TheVariants.{Drawn, Sent, Taken, Shown, Refused}
+use Rattle.replica_core.specs.declared.spec.EditSpec.{EditSpec}
 use Rattle.replica_core.specs.declared.spec.EditSpec.TheVariants.{Copy, Or}
 use Rattle.replica_core.specs.Fault.{fault_number, fault_text}
 use Rattle.replica_core.specs.World.{opening, AreReplies}
@@ -83,24 +84,24 @@ with_text patterns name (Err fault) = patterns
 
 -- ---- commands
 
--- the draw of a named pattern, or that there is none of the name
-abbrev pub paste_step : (RlePattern → Event) → Option RlePattern → Step
-paste_step event (Some pattern) = Happens (event pattern)
-paste_step event None = Says no_pattern_text
+-- the draw of a paste, or that no pattern has its name
+abbrev pub paste_step : ℕ → Option EditSpec → Step
+paste_step replica (Some spec) = Happens (Draw replica spec)
+paste_step replica None = Says no_pattern_text
 
 -- what a command comes to
 abbrev pub step : Patterns → Command → Step
 step patterns (Does event) = Happens event
 step patterns (Names name text) = Says (naming_text name (parsed text))
-step patterns (Copies replica name x y) = paste_step (λ pattern. Draw replica (Copy pattern x y)) (patterns name)
-step patterns (Ors replica name x y) = paste_step (λ pattern. Draw replica (Or pattern x y)) (patterns name)
+step patterns (Copies paste) = paste_step paste.replica (option_map (λ pattern. Copy pattern paste.x paste.y) (patterns paste.name))
+step patterns (Ors paste) = paste_step paste.replica (option_map (λ pattern. Or pattern paste.x paste.y) (patterns paste.name))
 
 -- the names after a command
 abbrev pub after_command : Patterns → Command → Patterns
 after_command patterns (Names name text) = with_text patterns name (parsed text)
 after_command patterns (Does event) = patterns
-after_command patterns (Copies replica name x y) = patterns
-after_command patterns (Ors replica name x y) = patterns
+after_command patterns (Copies paste) = patterns
+after_command patterns (Ors paste) = patterns
 
 -- the steps of commands; names are looked up as the commands go
 abbrev pub steps : Patterns → List Command → List Step

@@ -11,6 +11,7 @@ use Rattle.replica_core.specs.declared.spec.EditSpec.{EditSpec}
 use Rattle.replica_core.specs.declared.event.Reply.{Reply}
 use Rattle.replica_core.specs.declared.event.Reply.TheVariants.{Drawn, Sent, Taken, Shown, Refused}
 use Rattle.genedit_script.specs.declared.command.Command.TheVariants.{Does, Names, Copies, Ors}
+use Rattle.genedit_script.specs.declared.command.Paste.{Paste}
 use Rattle.genedit_lib.specs.Run.{PrintsAs}
 use Rattle.replica_core.specs.declared.fault.Fault.TheVariants.{Edit}
 use Rattle.genedit_lib.specs.Output.{no_pattern_text, pattern_text, reply_line}
@@ -78,6 +79,10 @@ both_show_what_replica_2_drew = record {
 abbrev pastes : List ℕ
 pastes = codes "rule /2/3\nreplicas 1\npattern a\n#CXRLE Pos=-1,2 Gen=7\nx = 2, y = 1\nA.!\nend\ncopy 1 a 3 4\nor 1 a 0 0\nclear 1 3 4 1 1\nshow 1 3 4\npattern b\nx = 3, y = 1\np!\nend\ncopy 1 b 0 0\n"
 
+-- a paste at replica 1
+abbrev paste_of : List ℕ → ℕ → ℕ → Paste
+paste_of name x y = record { replica = 1; name = name; x = pos x; y = pos y }
+
 pub pasted_cleared_and_refused :
     PrintsAs pastes (codes "pattern a 2 1 1 -1 2 7\ndrawn 1 1\ndrawn 2 1\ndrawn 3 1\ncell 0 3 1\nrefused 5 Tag 14\nrefused 38 NoPattern\n")
 unfolding digits
@@ -85,9 +90,9 @@ pasted_cleared_and_refused = record {
   script = record {
     rule = rule_of_text (codes "/2/3");
     replicas = 1;
-    commands = Names (codes "a") (codes "#CXRLE Pos=-1,2 Gen=7\nx = 2, y = 1\nA.!\n") ∷ Copies 1 (codes "a") (pos 3) (pos 4) ∷ Ors 1 (codes "a") (pos 0) (pos 0)
+    commands = Names (codes "a") (codes "#CXRLE Pos=-1,2 Gen=7\nx = 2, y = 1\nA.!\n") ∷ Copies (paste_of (codes "a") 3 4) ∷ Ors (paste_of (codes "a") 0 0)
         ∷ Does (Draw 1 (Clear (record { x = pos 3; y = pos 4; width = 1; height = 1 }))) ∷ Does (Show 1 (pos 3) (pos 4))
-        ∷ Names (codes "b") (codes "x = 3, y = 1\np!\n") ∷ Copies 1 (codes "b") (pos 0) (pos 0) ∷ [];
+        ∷ Names (codes "b") (codes "x = 3, y = 1\np!\n") ∷ Copies (paste_of (codes "b") 0 0) ∷ [];
   };
   read = refl;
   printed = record {

@@ -3,7 +3,7 @@
 ghost use Rattle.std.specs.Prelude.{◌≡◌, ◌↔◌, List, ℕ, map, IfOk, IsErr, OnOk};
 ghost use Rattle.multistate_rle.specs.Reading.{parsed};
 ghost use Rattle.genedit_lib.specs.declared.step.Step.TheVariants.{Says};
-ghost use Rattle.genedit_lib.specs.Output.{after_command, events_among, line_of, naming_text, no_patterns, step as step_of, steps, with_text};
+ghost use Rattle.genedit_lib.specs.Output.{after_command, events_among, line_of, naming_text, no_patterns, paste_step, step as step_of, steps, with_text};
 ghost use Rattle.genedit_lib.specs.Patterns.{pattern_in};
 
 use crate::output::{no_pattern_text, pattern_text, text_refusal};
@@ -59,14 +59,26 @@ fn next_step(alloc: Global, patterns: &mut Patterns, command: Command) -> Result
     match command {
         Command::Does(event) => Ok(Step::Happens(event)),
         Command::Names(name, text) => give_name(alloc, patterns, name, &text),
-        Command::Copies(replica, name, x, y) => match patterns.copy_of(&name)? {
-            Some(pattern) => Ok(Step::Happens(Event::Draw(replica, EditSpec::Copy(pattern, x, y)))),
-            None => Ok(Step::Says(no_pattern_text(alloc)?)),
-        },
-        Command::Ors(replica, name, x, y) => match patterns.copy_of(&name)? {
-            Some(pattern) => Ok(Step::Happens(Event::Draw(replica, EditSpec::Or(pattern, x, y)))),
-            None => Ok(Step::Says(no_pattern_text(alloc)?)),
-        },
+        Command::Copies(paste) => {
+            let pattern = patterns.copy_of(&paste.name)?;
+            let spec = pattern.map(|pattern| EditSpec::Copy(pattern, paste.x, paste.y));
+            drawn(alloc, paste.replica, spec)
+        }
+        Command::Ors(paste) => {
+            let pattern = patterns.copy_of(&paste.name)?;
+            let spec = pattern.map(|pattern| EditSpec::Or(pattern, paste.x, paste.y));
+            drawn(alloc, paste.replica, spec)
+        }
+    }
+}
+
+/// The draw of a paste, or the line that no pattern has its name.
+fn drawn(alloc: Global, replica: u32, spec: Option<EditSpec>) -> Result<Step, AllocError>
+    ensures { IfOk result (λ step. step ≡ paste_step replica spec) }
+{
+    match spec {
+        Some(spec) => Ok(Step::Happens(Event::Draw(replica, spec))),
+        None => Ok(Step::Says(no_pattern_text(alloc)?)),
     }
 }
 

@@ -86,10 +86,10 @@ clear_without_height = refl
 pub clear_of_a_negative_side : event_in (words (codes "clear 2 -3 4 5 -6")) ≡ None
 clear_of_a_negative_side = refl
 
-pub copied : command_in (words (codes "copy 2 Glider7 -3 4")) ≡ Some (Copies 2 (codes "Glider7") (negsuc 2) (pos 4))
+pub copied : command_in (words (codes "copy 2 Glider7 -3 4")) ≡ Some (Copies (record { replica = 2; name = codes "Glider7"; x = negsuc 2; y = pos 4 }))
 copied = refl
 
-pub drawn_over : command_in (words (codes "or 2 Glider7 -3 4")) ≡ Some (Ors 2 (codes "Glider7") (negsuc 2) (pos 4))
+pub drawn_over : command_in (words (codes "or 2 Glider7 -3 4")) ≡ Some (Ors (record { replica = 2; name = codes "Glider7"; x = negsuc 2; y = pos 4 }))
 drawn_over = refl
 
 pub copied_with_a_word_too_many : command_in (words (codes "copy 2 Glider7 -3 4 5")) ≡ None
@@ -158,7 +158,7 @@ pub block :
     ≡ Ok (record {
       rule = rule_of_text (codes "/2/3");
       replicas = 1;
-      commands = Names (codes "a") (codes "#C b\n\n \n# c\n end\nend \nends\n") ∷ Copies 1 (codes "a") (pos 0) (pos 0) ∷ [];
+      commands = Names (codes "a") (codes "#C b\n\n \n# c\n end\nend \nends\n") ∷ Copies (record { replica = 1; name = codes "a"; x = pos 0; y = pos 0 }) ∷ [];
     })
 block = refl
 

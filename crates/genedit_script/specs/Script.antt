@@ -1,5 +1,5 @@
 -- Scripts: a text's lines, their words, and the commands that they spell; or the line of the first fault.
-use Rattle.std.specs.Prelude.{ℕ, ℤ, ◌+◌, Bool, false, not, ◌&&◌, ◌==◌, nat_le, if◌then◌else◌, List, [], ◌∷◌, ◌++◌, length, codes, Option, Some, None, option_map, Result, Ok, Err}
+use Rattle.std.specs.Prelude.{ℕ, ◌+◌, Bool, false, not, ◌&&◌, ◌==◌, nat_le, if◌then◌else◌, List, [], ◌∷◌, ◌++◌, length, codes, Option, Some, None, option_map, Result, Ok, Err}
 use Rattle.std.specs.Char.{is_ascii_alphanumeric}
 use Rattle.std.specs.List.{list_all}
 use Rattle.std.specs.Option.{ok_or}
@@ -18,6 +18,7 @@ use Rattle.replica_core.specs.declared.event.Event.TheVariants.{Draw, SendState,
 use Rattle.replica_core.specs.declared.spec.EditSpec.TheVariants.{Cells, Clear}
 use Rattle.genedit_script.specs.declared.command.Command.{Command}
 use Rattle.genedit_script.specs.declared.command.Command.TheVariants.{Does, Names, Copies, Ors}
+use Rattle.genedit_script.specs.declared.command.Paste.{Paste}
 
 -- a world's rule and number of replicas, and what is asked for in it
 pub record ScriptValue : Type 0 where
@@ -94,13 +95,6 @@ is_name word = nat_le 1 (length word) && nat_le (length word) 16 && list_all is_
 abbrev pub name_in : List ℕ → Option (List ℕ)
 name_in word = if is_name word then Some word else None
 
--- a replica, the name of a pattern, and where its box's corner goes
-pub record Paste : Type 0 where
-  pub replica : ℕ
-  pub name : List ℕ
-  pub x : ℤ
-  pub y : ℤ
-
 -- R NAME x y
 abbrev pub paste_in : List (List ℕ) → Option Paste
 paste_in (replica ∷ name ∷ x ∷ y ∷ []) =
@@ -112,8 +106,8 @@ paste_in _ = None
 abbrev pub command_in : List (List ℕ) → Option Command
 command_in [] = None
 command_in (name ∷ words) =
-    if bytes_eq name (codes "copy") then option_map (λ paste. Copies paste.replica paste.name paste.x paste.y) (paste_in words)
-    else (if bytes_eq name (codes "or") then option_map (λ paste. Ors paste.replica paste.name paste.x paste.y) (paste_in words)
+    if bytes_eq name (codes "copy") then option_map Copies (paste_in words)
+    else (if bytes_eq name (codes "or") then option_map Ors (paste_in words)
     else option_map Does (event_in (name ∷ words)))
 
 -- the one word behind a name

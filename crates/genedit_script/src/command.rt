@@ -14,9 +14,20 @@ pub enum Command {
     /// From here on the name stands for the pattern of the text, if it is one.
     Names(PatternName, PatternText),
     /// `copy R NAME x y`: a replica draws every cell of the named pattern's box.
-    Copies(u32, PatternName, i32, i32),
+    Copies(Paste),
     /// `or R NAME x y`: a replica draws the nonzero cells of the named pattern.
-    Ors(u32, PatternName, i32, i32),
+    Ors(Paste),
+}
+
+/// Who pastes which pattern, and where the upper left corner of its box goes.
+#[derive(Debug, Drop)]
+pub struct Paste {
+    /// The number of the replica that draws.
+    pub replica: u32,
+    /// The name of the pattern.
+    pub name: PatternName,
+    pub x: i32,
+    pub y: i32,
 }
 
 /// The name of a pattern: in a script that was read, 1 to 16 ASCII letters and digits.

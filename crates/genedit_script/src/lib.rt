@@ -8,7 +8,7 @@ mod name;
 mod script;
 mod spelling;
 
-pub use command::{Command, PatternName, PatternText};
+pub use command::{Command, Paste, PatternName, PatternText};
 pub use fault::ScriptFault;
 pub use script::{Script, read_script};
 

@@ -4,10 +4,9 @@ ghost use Rattle.std.specs.Prelude.{◌≡◌, ◌∷◌, [], IfOk, IfSome, Matc
 ghost use Rattle.std.specs.Char.{is_ascii_alphanumeric};
 ghost use Rattle.std.specs.List.{list_all};
 ghost use Rattle.multistate_rle.specs.Position.{words};
-ghost use Rattle.genedit_script.specs.declared.command.Command.TheVariants.{Copies, Ors};
 ghost use Rattle.genedit_script.specs.Script.{argument_of as argument_behind, rule_in as rule_of, replicas_in as replicas_of, cell_in as cell_of, cells_in as cells_of, number_in as number_of, draw_in as draw_of, send_in as sending_of, delivery_in as delivery_of, show_in as show_of, area_in as area_of, clear_in as clear_of, event_in as event_of, is_name as is_pattern_name, name_in as name_of, paste_in as paste_of, command_in as command_of, opened_in as opened_of};
 
-use crate::command::{Command, PatternName};
+use crate::command::{Command, Paste, PatternName};
 use edit_stamps::Rect;
 use generations_rule::Rule;
 use multistate_rle::{Cell, number, signed, split_word};
@@ -45,9 +44,11 @@ pub fn command_in(alloc: Global, line: &[u8]) -> Result<Option<Command>, AllocEr
         return Ok(None);
     };
     if name == b"copy".as_slice() {
-        copy_in(alloc, arguments)
+        let paste = paste_in(alloc, arguments)?;
+        Ok(paste.map(Command::Copies))
     } else if name == b"or".as_slice() {
-        or_in(alloc, arguments)
+        let paste = paste_in(alloc, arguments)?;
+        Ok(paste.map(Command::Ors))
     } else {
         let event = event_in(alloc, name, arguments)?;
         Ok(event.map(Command::Does))
@@ -55,30 +56,23 @@ pub fn command_in(alloc: Global, line: &[u8]) -> Result<Option<Command>, AllocEr
 }
 
 /// `R NAME x y`
-fn copy_in(alloc: Global, arguments: &[u8]) -> Result<Option<Command>, AllocError>
-    ensures { IfOk result (λ command. command ≡ option_map (λ paste. Copies paste.replica paste.name paste.x paste.y) (paste_of (words arguments.now))) }
+fn paste_in(alloc: Global, arguments: &[u8]) -> Result<Option<Paste>, AllocError>
+    ensures { IfOk result (λ paste. paste ≡ paste_of (words arguments.now)) }
 {
-    let Some(paste) = paste_in(arguments) else {
+    let Some(spelled) = spelled_paste(arguments) else {
         return Ok(None);
     };
-    let name = PatternName::of(alloc, paste.name)?;
-    Ok(Some(Command::Copies(paste.replica, name, paste.x, paste.y)))
+    Ok(Some(Paste {
+        replica: spelled.replica,
+        name: PatternName::of(alloc, spelled.name)?,
+        x: spelled.x,
+        y: spelled.y,
+    }))
 }
 
-/// `R NAME x y`
-fn or_in(alloc: Global, arguments: &[u8]) -> Result<Option<Command>, AllocError>
-    ensures { IfOk result (λ command. command ≡ option_map (λ paste. Ors paste.replica paste.name paste.x paste.y) (paste_of (words arguments.now))) }
-{
-    let Some(paste) = paste_in(arguments) else {
-        return Ok(None);
-    };
-    let name = PatternName::of(alloc, paste.name)?;
-    Ok(Some(Command::Ors(paste.replica, name, paste.x, paste.y)))
-}
-
-/// A replica, the name of a pattern, and where its box's corner goes.
+/// A paste whose name still stands in the text.
 #[derive(Clone, Copy, Debug)]
-struct Paste<'a> {
+struct SpelledPaste<'a> {
     replica: u32,
     name: &'a [u8],
     x: i32,
@@ -86,7 +80,7 @@ struct Paste<'a> {
 }
 
 /// `R NAME x y`
-fn paste_in(arguments: &[u8]) -> Option<Paste<'_>>
+fn spelled_paste(arguments: &[u8]) -> Option<SpelledPaste<'_>>
     ensures { option_map (λ paste. record { replica = paste.replica; name = paste.name.now; x = paste.x; y = paste.y }) result ≡ paste_of (words arguments.now) }
 {
     let (replica, rest) = split_word(arguments)?;
@@ -100,7 +94,7 @@ fn paste_in(arguments: &[u8]) -> Option<Paste<'_>>
     let name = name_in(name)?;
     let x = signed(x)?;
     let y = signed(y)?;
-    Some(Paste {
+    Some(SpelledPaste {
         replica,
         name,
         x,

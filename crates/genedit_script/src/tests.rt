@@ -1,6 +1,6 @@
 //! Whole scripts.
 
-use crate::{Command, Script, ScriptFault, read_script};
+use crate::{Command, Paste, Script, ScriptFault, read_script};
 use edit_stamps::Rect;
 use generations_rule::Rule;
 use replica_core::{EditSpec, Event};
@@ -53,16 +53,21 @@ fn blocks_are_read(rt: HostRuntime) -> Result<(), Fail> {
     Ok(())
 }
 
+fn is_of_glider(paste: &Paste, replica: u32, x: i32, y: i32) -> bool {
+    let at = (paste.replica, paste.x, paste.y);
+    at == (replica, x, y) && paste.name.as_bytes() == b"Glider7".as_slice()
+}
+
 #[test]
 fn pastes_are_read(rt: HostRuntime) -> Result<(), Fail> {
     let script = script_of(rt.alloc(), EVERY_COMMAND)?;
     let copied = match script.commands().get(3) {
-        Some(Command::Copies(2, name, -1, 7)) => name.as_bytes() == b"Glider7".as_slice(),
+        Some(Command::Copies(paste)) => is_of_glider(paste, 2, -1, 7),
         _ => false,
     };
     assert!(rt; copied);
     let drawn_over = match script.commands().get(4) {
-        Some(Command::Ors(3, name, 8, -2)) => name.as_bytes() == b"Glider7".as_slice(),
+        Some(Command::Ors(paste)) => is_of_glider(paste, 3, 8, -2),
         _ => false,
     };
     assert!(rt; drawn_over);

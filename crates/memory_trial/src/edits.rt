@@ -1,9 +1,7 @@
 //! Edits.
 
 use crate::texts;
-use edit_stamps::{
-    Corner, Edit, EditFault, Rect, Stamp, are_placeable, placed_cells,
-};
+use edit_stamps::{Corner, Edit, EditFault, Rect, Stamp, are_placeable, placed_cells};
 use generations_rule::Rule;
 use multistate_rle::{Cell, Pattern};
 use std::alloc::{AllocError, Global};

@@ -3,7 +3,7 @@ use Rattle.std.specs.Prelude.{None}
 use Rattle.std.proofs.lemmas.Bool.{false≢true}
 use Rattle.multistate_rle.specs.Position.{words}
 use Rattle.genedit_script.specs.Script.{paste_in}
-use Rattle.genedit_script.proofs.spelling.paste_in.Goals as goal
+use Rattle.genedit_script.proofs.spelling.spelled_paste.Goals as goal
 
 -- a fifth word is too many
 longer : (replica name x y : List ℕ) (more : List (List ℕ)) → (more ≡ [] → ⊥) → None ≡ paste_in (replica ∷ name ∷ x ∷ y ∷ more)
