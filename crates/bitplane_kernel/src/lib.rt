@@ -16,6 +16,3 @@ mod step;
 
 pub use block::Block;
 pub use leaf::BitLeaf;
-
-#[cfg(test)]
-mod tests;

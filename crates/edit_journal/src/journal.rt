@@ -12,9 +12,6 @@ use std::alloc::{AllocError, Global};
 use std::collections::BTreeMap;
 use std::marker::Model;
 
-#[cfg(test)]
-mod tests;
-
 /// A journal finds an edit by its stamp, so that noting does not compare each edit with each. Edits
 /// of one stamp, which only peers that share a replica's number draw, are chained from the latest
 /// to the earliest.

@@ -26,8 +26,3 @@ pub use placing::{Corner, are_placeable, have_states_below, placed_cells};
 pub use rect::Rect;
 pub use stamp::{Stamp, counter_of, replica_of};
 pub use write::Write;
-
-#[cfg(test)]
-mod paste_tests;
-#[cfg(test)]
-mod tests;

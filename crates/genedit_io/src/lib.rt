@@ -8,6 +8,3 @@ mod pull;
 pub use fault::RunFault;
 pub use laws::name_laws;
 pub use pull::pull_all;
-
-#[cfg(test)]
-mod tests;

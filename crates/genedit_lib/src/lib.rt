@@ -10,8 +10,3 @@ mod text;
 
 pub use genedit_io::RunFault;
 pub use run::{run_script, run_script_within};
-
-#[cfg(test)]
-mod pattern_tests;
-#[cfg(test)]
-mod tests;

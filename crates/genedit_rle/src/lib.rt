@@ -7,6 +7,3 @@ mod run;
 
 pub use genedit_io::RunFault;
 pub use run::{rle_text, rle_text_within};
-
-#[cfg(test)]
-mod tests;

@@ -11,6 +11,3 @@ mod spelling;
 pub use command::{Command, Paste, PatternName, PatternText};
 pub use fault::ScriptFault;
 pub use script::{Script, read_script};
-
-#[cfg(test)]
-mod tests;

@@ -12,6 +12,3 @@ mod text;
 pub use fault::RuleFault;
 pub use laws::{evolution_laws, text_laws};
 pub use rule::Rule;
-
-#[cfg(test)]
-mod tests;

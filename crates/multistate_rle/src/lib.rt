@@ -34,8 +34,3 @@ pub use reading::parse;
 pub use word::split_word;
 pub use writable::{are_below, are_writable};
 pub use writing::write;
-
-#[cfg(test)]
-mod round_trips;
-#[cfg(test)]
-mod tests;

@@ -18,8 +18,3 @@ pub use message::Message;
 pub use replica::Replica;
 pub use spec::{CellList, EditSpec};
 pub use world::{World, replay};
-
-#[cfg(test)]
-mod paste_tests;
-#[cfg(test)]
-mod tests;

@@ -20,9 +20,6 @@ use generations_rule::Rule;
 use std::alloc::Global;
 use std::marker::Model;
 
-#[cfg(test)]
-mod tests;
-
 /// Replicas of one rule with the numbers 1, 2, .. and the messages that they sent.
 #[derive(Debug, Drop)]
 pub struct World {

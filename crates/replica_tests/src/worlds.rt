@@ -2,7 +2,7 @@
 
 ghost use Rattle.std.specs.Prelude.{◌≤◌, ◌<◌};
 
-use crate::{CellList, EditSpec, Event, Fault, Reply, World, replay};
+use replica_core::{CellList, EditSpec, Event, Fault, Reply, World, replay};
 use edit_stamps::{Cell, EditFault, Stamp, Write};
 use generations_rule::Rule;
 use std::alloc::{AllocError, Global};

@@ -3,7 +3,7 @@
 
 ghost use Rattle.std.specs.Prelude.{◌≤◌, ◌^◌, IfOk};
 
-use crate::{Cell, RleFault, parse, write};
+use multistate_rle::{Cell, RleFault, parse, write};
 use generations_rule::Rule;
 use std::alloc::Global;
 use std::test::Fail;

@@ -2,7 +2,7 @@
 
 ghost use Rattle.std.specs.Prelude.{◌≤◌, ◌<◌};
 
-use crate::{Cell, Pattern, are_writable, parse, write};
+use multistate_rle::{Cell, Pattern, are_writable, parse, write};
 use generations_rule::Rule;
 use std::alloc::{AllocError, Global};
 use std::process::Abort;

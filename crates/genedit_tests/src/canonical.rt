@@ -2,7 +2,7 @@
 
 ghost use Rattle.std.specs.Prelude.{None};
 
-use crate::{RunFault, rle_text, rle_text_within};
+use genedit_rle::{RunFault, rle_text, rle_text_within};
 use generations_rule::Rule;
 use replica_core::{Failed, ReadSource, Sink, Source, WriteSink};
 use std::alloc::Global;

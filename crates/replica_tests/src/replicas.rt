@@ -2,7 +2,7 @@
 
 ghost use Rattle.std.specs.Prelude.{◌≤◌};
 
-use crate::{CellList, EditSpec, Fault, Message, Replica};
+use replica_core::{CellList, EditSpec, Fault, Message, Replica};
 use edit_stamps::{Cell, Edit, EditFault, Stamp, Write};
 use generations_rule::Rule;
 use std::alloc::{AllocError, Global};

@@ -2,7 +2,7 @@
 
 ghost use Rattle.std.specs.Prelude.{None};
 
-use crate::{RunFault, run_script, run_script_within};
+use genedit_lib::{RunFault, run_script, run_script_within};
 use replica_core::{Failed, ReadSource, Sink, Source, WriteSink};
 use std::alloc::Global;
 

@@ -1,6 +1,6 @@
 //! Pastes and clears at replicas.
 
-use crate::{CellList, EditSpec, Fault, Replica};
+use replica_core::{CellList, EditSpec, Fault, Replica};
 use edit_stamps::{Cell, EditFault, Pattern, Rect, counter_of};
 use generations_rule::Rule;
 use multistate_rle::parse;

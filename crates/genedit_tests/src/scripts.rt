@@ -1,6 +1,6 @@
 //! Whole scripts.
 
-use crate::{Command, Paste, Script, ScriptFault, read_script};
+use genedit_script::{Command, Paste, Script, ScriptFault, read_script};
 use edit_stamps::Rect;
 use generations_rule::Rule;
 use replica_core::{EditSpec, Event};

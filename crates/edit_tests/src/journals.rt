@@ -1,6 +1,6 @@
 //! Journals of a few edits, two of them with one stamp.
 
-use super::Journal;
+use edit_journal::Journal;
 use edit_stamps::{Cell, Edit, Stamp};
 use generations_rule::Rule;
 use std::alloc::Global;

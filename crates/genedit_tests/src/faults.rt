@@ -1,6 +1,6 @@
 //! What is said of faults, and all bytes of a source.
 
-use crate::{RunFault, pull_all};
+use genedit_io::{RunFault, pull_all};
 use replica_core::{ReadSource, Stop};
 use std::alloc::AllocError;
 use std::test::Fail;

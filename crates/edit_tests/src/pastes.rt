@@ -1,6 +1,8 @@
 //! Pastes and clears of small patterns.
 
-use crate::{Corner, Edit, EditFault, Rect, Stamp, are_placeable, have_states_below, placed_cells};
+use edit_stamps::{
+    Corner, Edit, EditFault, Rect, Stamp, are_placeable, have_states_below, placed_cells,
+};
 use generations_rule::Rule;
 use multistate_rle::{Cell, Pattern, parse};
 use std::alloc::Global;

@@ -1,6 +1,6 @@
 //! Each call once, and what is refused, in order.
 
-use crate::{Cell, Edit, EditFault, EditList, Stamp, Write};
+use edit_stamps::{Cell, Edit, EditFault, EditList, Stamp, Write};
 use generations_rule::Rule;
 use std::test::Fail;
 

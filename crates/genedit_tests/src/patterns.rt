@@ -1,6 +1,6 @@
 //! Scripts that name patterns, paste them and clear areas, from end to end.
 
-use crate::{RunFault, run_script};
+use genedit_lib::{RunFault, run_script};
 use replica_core::{ReadSource, WriteSink};
 use std::alloc::Global;
 

@@ -1,0 +1,9 @@
+//! Tests of `edit_stamps`, `stamped_map` and `edit_journal`.
+#![tactic(auto)]
+
+#[cfg(test)]
+mod edits;
+#[cfg(test)]
+mod journals;
+#[cfg(test)]
+mod pastes;

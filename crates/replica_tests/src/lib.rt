@@ -1,0 +1,9 @@
+//! Tests of `replica_core`.
+#![tactic(auto)]
+
+#[cfg(test)]
+mod pastes;
+#[cfg(test)]
+mod replicas;
+#[cfg(test)]
+mod worlds;

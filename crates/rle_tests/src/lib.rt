@@ -1,0 +1,7 @@
+//! Tests of `multistate_rle`.
+#![tactic(auto)]
+
+#[cfg(test)]
+mod round_trips;
+#[cfg(test)]
+mod texts;
