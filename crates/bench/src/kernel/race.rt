@@ -1,11 +1,12 @@
 //! Blocks of both kinds, stepped side by side.
 
-use crate::cells::Cells;
+use crate::kernel::cells::Cells;
 use bitplane_kernel::Block;
 use generations_rule::Rule;
 use std::alloc::{AllocError, Global};
 use std::io;
-use std::time::{Clock, Duration, Instant};
+use std::rt::Clock;
+use std::time::{Duration, Instant};
 
 /// The same blocks on bit planes and cell by cell.
 #[derive(Drop)]
@@ -43,6 +44,11 @@ impl Race {
         for cells in self.cells.iter_mut() {
             cells.step(&self.rule);
         }
+    }
+
+    /// How many blocks there are of each.
+    pub fn count(&self) -> u64 {
+        self.blocks.len() as u64
     }
 
     /// How many cells are the same in both.

@@ -1,6 +1,6 @@
 //! Reading, writing and summing, measured in turn.
 
-use crate::picture::cells_of;
+use crate::patterns::picture::cells_of;
 use anyhow::{Result, bail};
 use generations_rule::Rule;
 use multistate_rle::{Cell, are_writable, parse, write};

@@ -1,7 +1,5 @@
-//! Measures `multistate_rle` on a text of 2^20 nonzero cells: how fast it is read, and how fast the
-//! cells that were read are written again. Prints what was made, which is the same on every machine;
-//! with the word `--time` also the speeds, beside that of a pass that only sums the text's bytes.
-#![tactic(auto)]
+//! A text of 2^20 nonzero cells: how fast it is read, and how fast the cells that were read are written
+//! again, beside a pass that only sums the text's bytes.
 
 mod picture;
 mod race;
@@ -11,15 +9,15 @@ use generations_rule::Rule;
 use multistate_rle::parse;
 use picture::{cells_of, picture, text_of};
 use race::{Times, quickest};
+use std::alloc::Global;
+use std::io;
+use std::rt::Clock;
 use std::time::Duration;
-use std::{env, io};
 
 /// How many measurements are made of each; the quickest counts.
 const ROUNDS: u32 = 16;
 
-fn main(rt: HostRuntime) -> Result<()> {
-    let alloc = rt.alloc();
-    let is_timed = env::args(&rt)?.any(|word| word.as_str() == "--time");
+pub fn run(rt: &(impl Clock + Print), alloc: Global, is_timed: bool) -> Result<()> {
     let rule = Rule::parse(b"345/2/64")?;
     let text = text_of(alloc, &rule, &picture(alloc)?)?;
     let pattern = parse(alloc, &text)?;
@@ -32,8 +30,8 @@ fn main(rt: HostRuntime) -> Result<()> {
         again == text
     )?;
     if is_timed {
-        let times = quickest(&rt, alloc, &rule, &text, ROUNDS)?;
-        report(&rt, text.len() as u64, &times)?;
+        let times = quickest(rt, alloc, &rule, &text, ROUNDS)?;
+        report(rt, text.len() as u64, &times)?;
     }
     Ok(())
 }

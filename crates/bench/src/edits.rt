@@ -1,7 +1,4 @@
-//! Measures `Edit::cells` at its limit: 2^20 entries in random order, a sixteenth of which repeat a
-//! coordinate. Prints what was made, which is the same on every machine; with the word `--time` also
-//! how many entries were settled in a second.
-#![tactic(auto)]
+//! `Edit::cells` at its limit: 2^20 entries in random order, a sixteenth of which repeat a coordinate.
 
 use anyhow::{Context, Result};
 use edit_stamps::{Cell, Edit, Stamp};
@@ -9,7 +6,7 @@ use generations_rule::Rule;
 use rand::seq::SliceRandom;
 use rand_pcg::Pcg32;
 use std::alloc::{AllocError, Global};
-use std::env;
+use std::rt::Clock;
 use std::time::Instant;
 
 /// How many entries an edit may have.
@@ -32,25 +29,19 @@ fn entries(alloc: Global) -> Result<Vec<Cell>, AllocError> {
     Ok(cells)
 }
 
-fn wants_time(rt: &(impl env::Env + Alloc)) -> Result<bool> {
-    let mut words = env::args(rt)?;
-    Ok(words.any(|word| word.as_str() == "--time"))
-}
-
-fn main(rt: HostRuntime) -> Result<()> {
-    let alloc = rt.alloc();
+pub fn run(rt: &(impl Clock + Print), alloc: Global, is_timed: bool) -> Result<()> {
     let rule = Rule::parse(b"/2/3")?;
     let stamp = Stamp::new(1, 1).context("a stamp in range")?;
     let cells = entries(alloc)?;
-    let start = Instant::now(&rt)?;
+    let start = Instant::now(rt)?;
     let edit = Edit::cells(alloc, &rule, stamp, &cells)?;
-    let taken = start.elapsed(&rt)?;
+    let taken = start.elapsed(rt)?;
     println!(rt;
         "Edit::cells: {} entries, {} cells",
         cells.len(),
         edit.listed_cells().len()
     )?;
-    if wants_time(&rt)? {
+    if is_timed {
         let rate = f64::from(ENTRIES) / taken.as_secs_f64();
         println!(rt; "Edit::cells: {rate:.0} entries a second")?;
     }

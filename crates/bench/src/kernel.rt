@@ -1,17 +1,16 @@
-//! How fast a block is advanced on bit planes, against the rule applied cell by cell.
-//!
-//! Both step the same blocks by one generation and are compared. With the argument `--time` there is
-//! a megabyte of blocks, and the cells a second of both are printed; without it there are a few
-//! blocks, and what is printed is the same on every machine.
-#![tactic(auto)]
+//! How fast a block is advanced on bit planes, against the rule applied cell by cell. Both step the same
+//! blocks by one generation and are compared: a megabyte of them where it is timed, else a few.
 
 mod cells;
 mod race;
 
+use anyhow::Result;
 use generations_rule::Rule;
 use race::Race;
-use std::time::{Clock, Duration};
-use std::{env, io};
+use std::alloc::Global;
+use std::io;
+use std::rt::Clock;
+use std::time::Duration;
 
 /// Star Wars' counts, with two states up to the most.
 const RULES: [&[u8]; 5] = [
@@ -36,31 +35,36 @@ const STEPS: u32 = 2;
 /// How many measurements are made of each; the quickest counts.
 const ROUNDS: u32 = 8;
 
-fn main(rt: HostRuntime) -> io::Result<()> {
-    let is_timed = env::args(&rt)?.any(|word| word.as_str() == "--time");
+pub fn run(rt: &(impl Clock + Print), alloc: Global, is_timed: bool) -> Result<()> {
     for text in RULES {
-        let Ok(rule) = Rule::parse(text) else {
-            continue;
-        };
-        let count = if is_timed { MEGABYTE } else { 8 };
-        let mut race = Race::new(rt.alloc(), rule, count)?;
-        race.advance();
-        race.step();
-        println!(rt;
-            "{} states: {} of {} cells are the same",
-            race.rule.states(),
-            race.same(),
-            count * INNER
-        )?;
+        let rule = Rule::parse(text)?;
+        let mut race = Race::new(alloc, rule, if is_timed { MEGABYTE } else { 8 })?;
+        compare(rt, &mut race)?;
         if is_timed {
-            let (planes, cells) = quickest(&rt, &mut race)?;
-            println!(rt;
-                "  {planes} million cells a second on planes, {cells} cell by cell: {} times",
-                planes / cells.max(1)
-            )?;
+            report(rt, &mut race)?;
         }
     }
     Ok(())
+}
+
+/// Makes one generation of both, and tells how many cells are the same.
+fn compare(rt: &impl Print, race: &mut Race) -> io::Result<()> {
+    race.advance();
+    race.step();
+    println!(rt;
+        "{} states: {} of {} cells are the same",
+        race.rule.states(),
+        race.same(),
+        race.count().saturating_mul(INNER)
+    )
+}
+
+fn report(rt: &(impl Clock + Print), race: &mut Race) -> io::Result<()> {
+    let (planes, cells) = quickest(rt, race)?;
+    println!(rt;
+        "  {planes} million cells a second on planes, {cells} cell by cell: {} times",
+        planes / cells.max(1)
+    )
 }
 
 /// The best rates of several measurements, on planes and cell by cell, taken in turn.

@@ -1,0 +1,29 @@
+//! Measures edits, pattern texts, blocks, replicas and worlds, and asserts nothing. Prints what came of
+//! each, which is the same on every machine; with the word `--time` there is more of most, and it is
+//! also told how fast.
+#![tactic(auto)]
+
+mod edits;
+mod kernel;
+mod patterns;
+mod random;
+mod replicas;
+mod worlds;
+
+use anyhow::Result;
+use std::env;
+
+fn wants_time(rt: &(impl env::Env + Alloc)) -> Result<bool> {
+    let mut words = env::args(rt)?;
+    Ok(words.any(|word| word.as_str() == "--time"))
+}
+
+fn main(rt: HostRuntime) -> Result<()> {
+    let alloc = rt.alloc();
+    let is_timed = wants_time(&rt)?;
+    edits::run(&rt, alloc, is_timed)?;
+    patterns::run(&rt, alloc, is_timed)?;
+    kernel::run(&rt, alloc, is_timed)?;
+    replicas::run(&rt, alloc, is_timed)?;
+    worlds::run(&rt, alloc, is_timed)
+}
