@@ -7,3 +7,7 @@ mod edits;
 mod journals;
 #[cfg(test)]
 mod pastes;
+#[cfg(test)]
+mod planes;
+#[cfg(test)]
+mod told;
