@@ -1,10 +1,12 @@
-//! Tests of `edit_stamps`, `stamped_map` and `edit_journal`.
+//! Tests of `edit_stamps`, `leaf_merge_lanes`, `stamped_map` and `edit_journal`.
 #![tactic(auto)]
 
 #[cfg(test)]
 mod edits;
 #[cfg(test)]
 mod journals;
+#[cfg(test)]
+mod leaves;
 #[cfg(test)]
 mod pastes;
 #[cfg(test)]
