@@ -73,6 +73,9 @@ impl Script {
 /// none of them skipped, each with one LF behind it. A block without its `end` has its fault at its
 /// `pattern` line. Whether its text is a pattern, and whether a name stands for one, is asked when
 /// the script runs. A text that ends before its `replicas` has its fault at the line behind its last.
+///
+/// Memory is first taken behind the `replicas` line: a fault up to there is told, and want of memory
+/// is not.
 pub fn read_script(alloc: Global, text: &[u8]) -> Result<Script, ScriptFault>
     ensures script { IfOk result (λ script. script_of text.now ≡ Ok script) }
     ensures fault { IfErr result (λ fault. IsFaultOf fault (script_of text.now)) }
