@@ -19,3 +19,4 @@ pub mod LetterLaws
 pub mod WordLemmas
 pub mod RunLemmas
 pub mod SideLemmas
+pub mod FrontLemmas

@@ -8,8 +8,8 @@ use Rattle.std.proofs.lemmas.Bool.{ne_eqb}
 use Rattle.std.proofs.lemmas.Bool.Decides.{nat_tests}
 use Rattle.generations_rule.specs.Refusal.{◌>>=◌}
 use Rattle.multistate_rle.specs.declared.fault.RleFault.TheVariants.{State, Count, TooMany}
-use Rattle.multistate_rle.specs.declared.role.Role.TheVariants as role
-use Rattle.multistate_rle.specs.declared.tokens.Begun.{Begun}
+use Rattle.multistate_rle.specs.Role as role
+use Rattle.multistate_rle.specs.Reading.{Begun}
 use Rattle.multistate_rle.specs.Bytes.{is_digit}
 use Rattle.multistate_rle.specs.Letters.{IsPlain, IsLetter}
 use Rattle.multistate_rle.specs.Tokens.{Token, Cells, Rows, drawn, count_of}

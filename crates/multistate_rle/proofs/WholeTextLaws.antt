@@ -3,7 +3,7 @@ use Rattle.std.proofs.Common.{◌≡◌, ℕ, ◌+◌, Bool, true, false, List, 
 use Rattle.std.specs.Prelude.{Option, Some, None, Ok, Result, unwrap_or, not, ◌||◌, if◌then◌else◌}
 use Rattle.std.specs.List.{list_all, enumerate_from, position_or_len}
 use Rattle.std.proofs.lemmas.Bool.{eqb-true}
-use Rattle.multistate_rle.specs.declared.origin.Origin.{Origin}
+use Rattle.multistate_rle.specs.Position.{Origin}
 use Rattle.multistate_rle.specs.declared.line.Line.{Line}
 use Rattle.multistate_rle.specs.declared.line.Line.TheVariants.{Start}
 use Rattle.multistate_rle.specs.declared.fault.RleFault.{RleFault}

@@ -4,15 +4,13 @@ use Rattle.generations_rule.specs.Rule.{GenerationsRule, IsRule}
 use Rattle.multistate_rle.specs.declared.pattern.PatternCell.{PatternCell}
 use Rattle.multistate_rle.specs.declared.cell.Cell.{Cell}
 use Rattle.multistate_rle.specs.Cells.{is_sorted, are_nonzero, are_below}
-use Rattle.multistate_rle.specs.Bounds.{box_of, in_box}
+use Rattle.multistate_rle.specs.Bounds.{Bounds, box_of, in_box}
 use Rattle.multistate_rle.specs.Pattern.{are_sorted, are_alive, are_within}
 use Rattle.std.specs.List.{list_all, enumerate_from}
 use Rattle.std.specs.Str.Parse.{digits_value}
-use Rattle.multistate_rle.specs.declared.origin.Origin.{Origin}
 use Rattle.multistate_rle.specs.Bytes.{is_digit, is_blank, is_line_end}
 use Rattle.multistate_rle.specs.Header.{header_of}
-use Rattle.multistate_rle.specs.Position.{origin_of, origin_from, no_items}
-use Rattle.multistate_rle.specs.declared.bounds.Bounds.{Bounds}
+use Rattle.multistate_rle.specs.Position.{Origin, origin_of, origin_from, no_items}
 use Rattle.multistate_rle.specs.Letters.{letters, letters_text, IsStateTag}
 use Rattle.multistate_rle.specs.Tokens.{Token, Cells, Rows, IsTokensOf, count_of, drawn, tokens_from}
 use Rattle.multistate_rle.specs.Reading.{parsed, Mark, bytes_of, bare, start, AreFine, body_read, pattern_of, lines_of, is_comment, or_else}
