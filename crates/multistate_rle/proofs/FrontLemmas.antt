@@ -1,13 +1,17 @@
 -- What is read of a text, from what stands before its tokens and from what the tokens draw.
-use Rattle.std.proofs.Common.{◌≡◌, ℕ, ◌≤◌, List, length, drop, ◌∙◌, sym, ap, subst}
-use Rattle.std.specs.Prelude.{Ok, max}
+use Rattle.std.proofs.Common.{◌≡◌, ℕ, ◌≤◌, List, length, drop, ◌∙◌, sym, ap, subst, inl, inr}
+use Rattle.std.specs.Prelude.{Result, Ok, Err, max}
 use Rattle.std.specs.List.{enumerate_from}
 use Rattle.generations_rule.specs.Refusal.{AnswersAs, ◌>>=◌}
-use Rattle.multistate_rle.specs.declared.fault.RleFault.TheVariants.{Memory}
+use Rattle.multistate_rle.specs.declared.fault.RleFault.{RleFault}
+use Rattle.multistate_rle.specs.declared.fault.RleFault.TheVariants.{Header, Memory}
+use Rattle.multistate_rle.specs.declared.pattern.PatternCell.{PatternCell}
+use Rattle.multistate_rle.specs.HeaderLine.{HasNoHeader}
 use Rattle.multistate_rle.specs.declared.reading.Front.{Front}
 use Rattle.multistate_rle.specs.declared.tokens.Reader.{Reader}
 use Rattle.multistate_rle.specs.Pattern.{RlePattern, IsPattern}
 use Rattle.multistate_rle.specs.Reading.{parsed, lines_of, bare, body_read, cells_read, pattern_of, width_of, height_of}
+use Rattle.multistate_rle.proofs.HeaderlessLaws.{cells_never, body_never, refuses_without_header}
 use Rattle.multistate_rle.proofs.BodyLemmas.{answered_is}
 use Rattle.multistate_rle.proofs.PatternLaws.{read_pattern}
 use Rattle.multistate_rle.proofs.SideLemmas.{width_is, height_is}
@@ -24,6 +28,30 @@ abbrev pub IsDrawn : List ℕ → Front → Reader → Type 0
 IsDrawn text front drawn =
     AnswersAs (λ (reader : Reader) meant. reader.cells.items ≡ meant) (λ fault. fault ≡ Memory) (Ok drawn)
     (cells_read (length text) (bare (lines_of (enumerate_from front.body (drop front.body text)))))
+
+-- a text with a header is not refused as one without
+pub has_header : (text : List ℕ) (front : Front) → IsFrontOf text front → HasNoHeader text → ⊥
+has_header text front is none =
+    body_never (length text) front.origin (front.width, front.height) (lines_of (enumerate_from front.body (drop front.body text)))
+    (sym is.0 ∙ (refuses_without_header text).0 none)
+
+never_wanted : (fault : RleFault) (meant : Result (List PatternCell) RleFault) → (meant ≡ Err Header → ⊥) →
+    AnswersAs (λ (reader : Reader) meant. reader.cells.items ≡ meant) (λ fault. fault ≡ Memory) (Err fault) meant → fault ≡ Header → ⊥
+never_wanted fault (Ok cells) never answers is = absurd (cc)
+never_wanted fault (Err meant) never (inl want) is = absurd (cc)
+never_wanted fault (Err meant) never (inr same) is = never (ap (λ f. Err f) (sym same ∙ is))
+
+abbrev pub IsRefused : List ℕ → RleFault → Front → Type 0
+IsRefused text fault front =
+    AnswersAs (λ (reader : Reader) meant. reader.cells.items ≡ meant) (λ fault. fault ≡ Memory) (Err fault)
+    (cells_read (length text) (bare (lines_of (enumerate_from front.body (drop front.body text)))))
+    → fault ≡ Header → ⊥
+
+-- what its tokens are refused for is another fault
+pub other_fault : (text : List ℕ) (fault : RleFault) (front : Front) → IsRefused text fault front
+other_fault text fault front answers is =
+    let marks = bare (lines_of (enumerate_from front.body (drop front.body text))) in
+    never_wanted fault (cells_read (length text) marks) (cells_never (length text) marks) answers is
 
 abbrev pub pattern_read : Front → Reader → ℕ → ℕ → RlePattern
 pattern_read front drawn width height =

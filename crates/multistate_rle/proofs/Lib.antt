@@ -19,4 +19,5 @@ pub mod LetterLaws
 pub mod WordLemmas
 pub mod RunLemmas
 pub mod SideLemmas
+pub mod HeaderlessLaws
 pub mod FrontLemmas

@@ -1,5 +1,5 @@
 -- What the definitions obey.
-use Rattle.std.specs.Prelude.{◌↔◌, Option, Some, None, unwrap_or, ◌||◌, ◌≡◌, ◌⊎◌, ℕ, ◌≤◌, ◌<◌, ◌^◌, ℤ, pos, negsuc, not, Bool, List, [], ◌∷◌, ◌++◌, true, false, nat_le, if◌then◌else◌, length, Ok, ⊤, codes}
+use Rattle.std.specs.Prelude.{◌↔◌, Option, Some, None, unwrap_or, ◌||◌, ◌≡◌, ◌⊎◌, ℕ, ◌≤◌, ◌<◌, ◌^◌, ℤ, pos, negsuc, not, Bool, List, [], ◌∷◌, ◌++◌, true, false, nat_le, if◌then◌else◌, length, Ok, Err, ⊤, codes}
 use Rattle.generations_rule.specs.Rule.{GenerationsRule, IsRule}
 use Rattle.multistate_rle.specs.declared.pattern.PatternCell.{PatternCell}
 use Rattle.multistate_rle.specs.declared.cell.Cell.{Cell}
@@ -11,6 +11,8 @@ use Rattle.std.specs.Str.Parse.{digits_value}
 use Rattle.multistate_rle.specs.Bytes.{is_digit, is_blank, is_line_end}
 use Rattle.multistate_rle.specs.Header.{header_of}
 use Rattle.multistate_rle.specs.Position.{Origin, origin_of, origin_from, no_items}
+use Rattle.multistate_rle.specs.HeaderLine.{HasNoHeader}
+use Rattle.multistate_rle.specs.declared.fault.RleFault.TheVariants.{Header}
 use Rattle.multistate_rle.specs.Letters.{letters, letters_text, IsStateTag}
 use Rattle.multistate_rle.specs.Tokens.{Token, Cells, Rows, IsTokensOf, count_of, drawn, tokens_from}
 use Rattle.multistate_rle.specs.Reading.{parsed, Mark, bytes_of, bare, start, AreFine, body_read, pattern_of, lines_of, is_comment, or_else}
@@ -95,6 +97,10 @@ ReadsTexts = (front : List (List ℕ × ℕ)) (header : List ℕ) (end : ℕ) (s
     bare_text text ≡ spelt ++ tail → IsSpelling tokens spelt → EndsTokens tail → AreFine start tokens →
     parsed (with_lines front (header ++ end ∷ text))
     ≡ Ok (pattern_of (unwrap_or (first_origin None front) (origin_from no_items)) sides (drawn tokens 0 0))
+
+-- A text is refused as one without a header exactly where it has none.
+abbrev pub RefusesWithoutHeader : Type 0
+RefusesWithoutHeader = (text : List ℕ) → HasNoHeader text ↔ (parsed text ≡ Err Header)
 
 -- The body that is written of cells is read as the cells, behind any header and from any place of a text on.
 abbrev pub ReadsBodiesBack : Type 0
