@@ -20,4 +20,5 @@ pub mod WordLemmas
 pub mod RunLemmas
 pub mod SideLemmas
 pub mod HeaderlessLaws
+pub mod FaultLaws
 pub mod FrontLemmas

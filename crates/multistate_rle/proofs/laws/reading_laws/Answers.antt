@@ -3,6 +3,7 @@ use Rattle.multistate_rle.proofs.BodyLaws.{reads_bodies_back}
 use Rattle.multistate_rle.proofs.TextBackLaws.{text_back}
 use Rattle.multistate_rle.proofs.BoxLaws.{reads_back}
 use Rattle.multistate_rle.proofs.WholeTextLaws.{reads_texts}
+use Rattle.multistate_rle.proofs.FaultLaws.{refuses_faults}
 use Rattle.multistate_rle.proofs.HeaderlessLaws.{refuses_without_header}
 use Rattle.multistate_rle.proofs.laws.reading_laws.Goals as goal
 
@@ -11,6 +12,9 @@ returns-clause-spellings c = reads_spellings
 
 pub returns-clause-whole : goal.returns-clause-whole
 returns-clause-whole c = reads_texts
+
+pub returns-clause-faults : goal.returns-clause-faults
+returns-clause-faults c = refuses_faults
 
 pub returns-clause-headers : goal.returns-clause-headers
 returns-clause-headers c = refuses_without_header
