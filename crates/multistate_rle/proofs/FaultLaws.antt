@@ -1,28 +1,19 @@
 -- The first faulty token of a text is told.
-use Rattle.std.proofs.Common.{◌≡◌, ℕ, ◌+◌, ◌-◌, ◌*◌, ◌≤◌, ◌<◌, Bool, true, false, List, [], ◌∷◌, ◌++◌, refl, sym, ◌∙◌, ap, arith, inl, inr, subst, length, drop, append_assoc, length-append}
-use Rattle.std.specs.Prelude.{Option, Some, None, Ok, Err, Result, unwrap_or, not, ◌||◌, ◌==◌, nat_le, ◌⊎◌, if◌then◌else◌}
-use Rattle.std.specs.List.{list_all, enumerate_from, position_or_len}
+use Rattle.std.proofs.Common.{◌≡◌, ℕ, ◌-◌, ◌≤◌, Bool, true, false, List, [], ◌∷◌, ◌++◌, refl, sym, ◌∙◌, ap, arith, inl, inr, subst, append_assoc}
+use Rattle.std.specs.Prelude.{Some, None, Err, unwrap_or, not, ◌||◌, ◌==◌, nat_le, ◌⊎◌}
+use Rattle.std.specs.List.{list_all}
 use Rattle.std.proofs.lemmas.Bool.Decides.{nat_tests}
-use Rattle.std.proofs.lemmas.List.Folds.{length-prefix_len}
-use Rattle.generations_rule.specs.Refusal.{◌>>=◌}
 use Rattle.multistate_rle.specs.declared.fault.RleFault.{RleFault}
 use Rattle.multistate_rle.specs.declared.fault.RleFault.TheVariants.{Tag}
 use Rattle.multistate_rle.specs.Role as role
-use Rattle.multistate_rle.specs.Bytes.{is_digit, is_blank, is_line_end}
-use Rattle.multistate_rle.specs.Header.{header_of}
-use Rattle.multistate_rle.specs.Position.{Origin, origin_of, origin_from, no_items}
-use Rattle.multistate_rle.specs.Pattern.{RlePattern}
-use Rattle.multistate_rle.specs.Tokens.{Token, Cells, Rows, count_of, drawn}
-use Rattle.multistate_rle.specs.Reading.{Mark, Begun, Pen, start, fresh, with_digit, with_prefix, moved, fault_of, followed, is_prefix, is_letter, role_of, bare_role, tokens_of, bytes_of, bare, lines_of, lines_read, is_comment, or_else, AreFine, pattern_of}
-use Rattle.multistate_rle.specs.Spelling.{IsCount, IsTag, IsSpelling, IsLine, IsFront, with_lines, first_origin, bare_from}
+use Rattle.multistate_rle.specs.Bytes.{is_digit}
+use Rattle.multistate_rle.specs.Tokens.{Token, Cells, Rows, count_of}
+use Rattle.multistate_rle.specs.Reading.{Mark, Begun, Pen, fresh, with_digit, with_prefix, moved, fault_of, followed, is_prefix, is_letter, role_of, tokens_of, bytes_of, AreFine}
+use Rattle.multistate_rle.specs.Spelling.{IsCount, IsTag, IsSpelling}
 use Rattle.multistate_rle.specs.Faulty.{pen_behind, first_place, may_stand, MeetsStray, lacks_letter, LacksLetter, DrawsIll, BeginsFaulty}
-use Rattle.multistate_rle.specs.Laws.{RefusesFaults}
 use Rattle.multistate_rle.proofs.PatternLaws.{and_parts}
 use Rattle.multistate_rle.proofs.ReadLemmas.{step_is}
-use Rattle.multistate_rle.proofs.HeadLaws.{front_is}
-use Rattle.multistate_rle.proofs.LineLemmas.{line_read, header_is_read}
-use Rattle.multistate_rle.proofs.SpellingLaws.{letter_role, no_letter, prefix_role, digit_role, byte_role, counted, count_is, count_digits, fine_at}
-use Rattle.multistate_rle.proofs.WholeTextLaws.{line_first, front_line, no_comment, no_blank}
+use Rattle.multistate_rle.proofs.SpellingLaws.{letter_role, prefix_role, digit_role, byte_role, counted, count_is, count_digits, fine_at}
 
 -- ---- the digits of a token
 
@@ -167,7 +158,7 @@ ill_told end marks pen fault is =
     ∙ token_read end is.token is.digits is.tag is.rest pen is.count_is is.tag_is
     ∙ ap (λ f. followed f is.token rest) (ap (λ ms. fault_of (first_place 0 ms) pen is.token) (sym is.marks_are) ∙ is.fault_is)
 
-fault_told : (end : ℕ) (marks : List Mark) (pen : Pen) (fault : RleFault) → BeginsFaulty end pen marks fault → tokens_of end marks fresh pen ≡ Err fault
+pub fault_told : (end : ℕ) (marks : List Mark) (pen : Pen) (fault : RleFault) → BeginsFaulty end pen marks fault → tokens_of end marks fresh pen ≡ Err fault
 fault_told end marks pen fault (inl is) = stray_told end marks pen fault is
 fault_told end marks pen fault (inr (inl is)) = lacking_told end marks pen fault is
 fault_told end marks pen fault (inr (inr is)) = ill_told end marks pen fault is
@@ -213,44 +204,3 @@ spelt_then end (token ∷ tokens) spelt rest pen fault is fine told =
     ap (λ ms. tokens_of end ms fresh pen) parts
     ∙ token_read end token first.left second.left (second.right ++ rest) pen count tag
     ∙ (λ i. followed (fine_at (first_place 0 (first.left ++ (second.left ++ (second.right ++ rest)))) pen token fine.0 i) token (spelt_then end tokens second.right rest (moved token pen) fault more fine.1 told i))
-
--- ---- a whole text
-
-line_len : (line : List ℕ) (end : ℕ) (rest : List ℕ) → IsLine line → is_line_end end ≡ true → position_or_len is_line_end (line ++ end ∷ rest) ≡ length line
-line_len line end rest is ends =
-    sym (length-prefix_len (λ c. not (is_line_end c)) (line ++ end ∷ rest)) ∙ ap length (front_is (λ c. not (is_line_end c)) line end rest is (rw ends refl))
-
--- the lines in front, with the place of what stands behind them
-front_placed : (len : ℕ) (origin : Option Origin) (n : ℕ) (front : List (List ℕ × ℕ)) (rest : List ℕ) (fault : RleFault) → IsFront front →
-    ((found : Option Origin) → lines_read len found (lines_of (enumerate_from (n + length (with_lines front [])) rest)) ≡ Err fault) →
-    lines_read len origin (lines_of (enumerate_from n (with_lines front rest))) ≡ Err fault
-front_placed len origin n [] rest fault is behind = ap (λ k. lines_read len origin (lines_of (enumerate_from k rest))) (omega arith) ∙ behind origin
-front_placed len origin n (line ∷ front) rest fault is behind =
-    let next = n + position_or_len is_line_end (line.0 ++ line.1 ∷ with_lines front rest) + 1 in
-    let same : next + length (with_lines front []) ≡ n + length (line.0 ++ line.1 ∷ with_lines front []) =
-    omega (arith, line_len line.0 line.1 (with_lines front rest) is.0 is.1.0, length-append line.0 (line.1 ∷ with_lines front [])) in
-    line_first len origin n line.0 line.1 (with_lines front rest) is.0 is.1.0
-    ∙ front_line len origin line.0 next (with_lines front rest) (is_comment line.0) (list_all is_blank line.0) refl refl is.1.1.0
-    ∙ front_placed len (if is_comment line.0 then or_else origin (origin_of line.0) else origin) next front rest fault is.1.1.1 (λ found. ap (λ k. lines_read len found (lines_of (enumerate_from k rest))) same ∙ behind found)
-
-front_len : (front : List (List ℕ × ℕ)) (rest : List ℕ) → length (with_lines front rest) ≡ length (with_lines front []) + length rest
-front_len [] rest = omega arith
-front_len (line ∷ front) rest = omega (arith, front_len front rest, length-append line.0 (line.1 ∷ with_lines front rest), length-append line.0 (line.1 ∷ with_lines front []))
-
-body_refused : (len : ℕ) (sides : ℕ × ℕ) (marks : List Mark) (origin : Origin) (fault : RleFault) → tokens_of len marks fresh start ≡ Err fault →
-    ((tokens_of len marks fresh start >>= λ tokens. Ok (drawn tokens 0 0)) >>= λ cells. Ok (pattern_of origin sides cells)) ≡ Err fault
-body_refused len sides marks origin fault told = ap (λ read. (read >>= λ tokens. Ok (drawn tokens 0 0)) >>= λ cells. Ok (pattern_of origin sides cells)) told
-
-pub refuses_faults : RefusesFaults
-refuses_faults front header end sides text tokens spelt faulty fault is_front is_header is ends bytes spells fine ill =
-    let len = length (with_lines front (header ++ end ∷ text)) in
-    let told = spelt_then len tokens spelt faulty start fault spells fine (fault_told len faulty (pen_behind start tokens) fault ill) in
-    front_placed len None 0 front (header ++ end ∷ text) fault is_front
-    (λ found.
-    let k = 0 + length (with_lines front []) in
-    let next = k + position_or_len is_line_end (header ++ end ∷ text) + 1 in
-    let place : next ≡ length (with_lines front header) + 1 = omega (arith, front_len front header, line_len header end text is_header ends) in
-    line_first len found k header end text is_header ends
-    ∙ header_is_read len found header next text sides (no_comment header sides (is_comment header) refl is) (no_blank header sides (list_all is_blank header) refl is) is
-    ∙ body_refused len sides (bare (lines_of (enumerate_from next text))) (unwrap_or found (origin_from no_items)) fault
-    (ap (λ ms. tokens_of len ms fresh start) (ap (λ k. bare_from k text) place ∙ bytes) ∙ told))

@@ -1,7 +1,7 @@
 -- A text is refused as one without a header exactly where it has none.
 use Rattle.std.proofs.Common.{◌≡◌, ℕ, ◌+◌, ◌-◌, ◌^◌, Bool, true, false, List, [], ◌∷◌, refl, sym, ◌∙◌, ap, length, map}
 use Rattle.std.specs.Prelude.{Option, Some, None, Ok, Err, Result, unwrap_or, not, ◌||◌, ◌==◌, nat_lt, filter}
-use Rattle.std.specs.List.{list_all, enumerate_from, slice_split, onto_first}
+use Rattle.std.specs.List.{list_all, enumerate_from, onto_first}
 use Rattle.std.proofs.lemmas.List.Splits.{slice_split-cons_yes, slice_split-cons_no}
 use Rattle.generations_rule.specs.Refusal.{when, first_of, ◌>>=◌}
 use Rattle.multistate_rle.specs.declared.fault.RleFault.{RleFault}

@@ -21,4 +21,7 @@ pub mod RunLemmas
 pub mod SideLemmas
 pub mod HeaderlessLaws
 pub mod FaultLaws
+pub mod ReadOrRefused
+pub mod PartLaws
+pub mod ExactLaws
 pub mod FrontLemmas

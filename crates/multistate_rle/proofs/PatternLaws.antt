@@ -160,7 +160,7 @@ drawn_few (Rows n ∷ tokens) pen few fine = drawn_few tokens (moved (Rows n) pe
 
 -- ---- what is read has no fault
 
-fine_anywhere : (place : ℕ) (pen : Pen) (token : Token) → fault_of place pen token ≡ None → fault_of 0 pen token ≡ None
+pub fine_anywhere : (place : ℕ) (pen : Pen) (token : Token) → fault_of place pen token ≡ None → fault_of 0 pen token ≡ None
 fine_anywhere place pen (Cells n s) none =
     let three = none_of_three (nat_lt 255 s) (n == 0 || nat_lt (2 ^ 32) (pen.column + n)) (nat_lt (2 ^ 20) (pen.cells + cells_of (Cells n s))) (State place) (Count place) TooMany none in
     rw (three.0, three.1, three.2) refl

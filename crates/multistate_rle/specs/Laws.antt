@@ -1,24 +1,24 @@
 -- What the definitions obey.
-use Rattle.std.specs.Prelude.{◌↔◌, Option, Some, None, unwrap_or, ◌||◌, ◌≡◌, ◌⊎◌, ℕ, ◌+◌, ◌≤◌, ◌<◌, ◌^◌, ℤ, pos, negsuc, not, Bool, List, [], ◌∷◌, ◌++◌, true, false, nat_le, if◌then◌else◌, length, Ok, Err, ⊤, codes}
+use Rattle.std.specs.Prelude.{◌↔◌, Some, None, unwrap_or, ◌≡◌, ◌⊎◌, ℕ, ◌+◌, ◌≤◌, ◌<◌, ◌^◌, ℤ, pos, negsuc, not, Bool, List, ◌∷◌, ◌++◌, true, false, nat_le, if◌then◌else◌, length, Ok, Err}
 use Rattle.generations_rule.specs.Rule.{GenerationsRule, IsRule}
 use Rattle.multistate_rle.specs.declared.pattern.PatternCell.{PatternCell}
 use Rattle.multistate_rle.specs.declared.cell.Cell.{Cell}
 use Rattle.multistate_rle.specs.Cells.{is_sorted, are_nonzero, are_below}
 use Rattle.multistate_rle.specs.Bounds.{Bounds, box_of, in_box}
-use Rattle.multistate_rle.specs.Pattern.{are_sorted, are_alive, are_within}
+use Rattle.multistate_rle.specs.Pattern.{RlePattern, are_sorted, are_alive, are_within}
 use Rattle.std.specs.List.{list_all, enumerate_from}
-use Rattle.std.specs.Str.Parse.{digits_value}
-use Rattle.multistate_rle.specs.Bytes.{is_digit, is_blank, is_line_end}
+use Rattle.multistate_rle.specs.Bytes.{is_line_end}
 use Rattle.multistate_rle.specs.Header.{header_of}
-use Rattle.multistate_rle.specs.Position.{Origin, origin_of, origin_from, no_items}
+use Rattle.multistate_rle.specs.Position.{Origin, origin_from, no_items}
 use Rattle.multistate_rle.specs.HeaderLine.{HasNoHeader}
 use Rattle.multistate_rle.specs.declared.fault.RleFault.{RleFault}
 use Rattle.multistate_rle.specs.declared.fault.RleFault.TheVariants.{Header}
 use Rattle.multistate_rle.specs.Letters.{letters, letters_text, IsStateTag}
-use Rattle.multistate_rle.specs.Tokens.{Token, Cells, Rows, IsTokensOf, count_of, drawn, tokens_from}
-use Rattle.multistate_rle.specs.Reading.{parsed, Mark, bytes_of, bare, start, AreFine, body_read, pattern_of, lines_of, is_comment, or_else}
+use Rattle.multistate_rle.specs.Tokens.{Token, IsTokensOf, drawn, tokens_from}
+use Rattle.multistate_rle.specs.Reading.{parsed, Mark, bytes_of, bare, start, AreFine, body_read, pattern_of, lines_of}
 use Rattle.multistate_rle.specs.Spelling.{IsSpelling, EndsTokens, IsLine, IsFront, with_lines, first_origin, bare_from, bare_text}
 use Rattle.multistate_rle.specs.Faulty.{pen_behind, BeginsFaulty}
+use Rattle.multistate_rle.specs.Parts.{SpellsPattern, IsWrong}
 use Rattle.multistate_rle.specs.Writing.{rle_text, IsRleText, head, body}
 
 -- a finite set of nonzero cells, as its sorted list, has a canonical token list
@@ -68,6 +68,14 @@ RefusesFaults = (front : List (List ℕ × ℕ)) (header : List ℕ) (end : ℕ)
 -- A text is refused as one without a header exactly where it has none.
 abbrev pub RefusesWithoutHeader : Type 0
 RefusesWithoutHeader = (text : List ℕ) → HasNoHeader text ↔ (parsed text ≡ Err Header)
+
+-- A text is read as a pattern exactly where it spells it.
+abbrev pub ReadsExactly : Type 0
+ReadsExactly = (text : List ℕ) (p : RlePattern) → SpellsPattern text p ↔ (parsed text ≡ Ok p)
+
+-- And it is refused for a fault exactly where it is wrong in that way.
+abbrev pub RefusesExactly : Type 0
+RefusesExactly = (text : List ℕ) (fault : RleFault) → IsWrong text fault ↔ (parsed text ≡ Err fault)
 
 -- The body that is written of cells is read as the cells, behind any header and from any place of a text on.
 abbrev pub ReadsBodiesBack : Type 0

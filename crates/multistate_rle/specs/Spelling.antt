@@ -1,5 +1,5 @@
 -- Texts as they are written by hand: counts with any digits, and comment lines, line ends and blanks anywhere.
-use Rattle.std.specs.Prelude.{◌≡◌, ◌⊎◌, ℕ, Bool, true, not, ◌||◌, List, [], ◌∷◌, ◌++◌, Option, if◌then◌else◌, ⊤, codes}
+use Rattle.std.specs.Prelude.{◌≡◌, ◌⊎◌, ℕ, true, not, ◌||◌, List, [], ◌∷◌, ◌++◌, Option, if◌then◌else◌, ⊤, codes}
 use Rattle.std.specs.List.{list_all, enumerate_from}
 use Rattle.std.specs.Str.Parse.{digits_value}
 use Rattle.multistate_rle.specs.Bytes.{is_digit, is_blank, is_line_end}

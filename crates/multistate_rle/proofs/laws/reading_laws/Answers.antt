@@ -3,7 +3,7 @@ use Rattle.multistate_rle.proofs.BodyLaws.{reads_bodies_back}
 use Rattle.multistate_rle.proofs.TextBackLaws.{text_back}
 use Rattle.multistate_rle.proofs.BoxLaws.{reads_back}
 use Rattle.multistate_rle.proofs.WholeTextLaws.{reads_texts}
-use Rattle.multistate_rle.proofs.FaultLaws.{refuses_faults}
+use Rattle.multistate_rle.proofs.ExactLaws.{refuses_faults, reads_exactly, refuses_exactly}
 use Rattle.multistate_rle.proofs.HeaderlessLaws.{refuses_without_header}
 use Rattle.multistate_rle.proofs.laws.reading_laws.Goals as goal
 
@@ -18,6 +18,12 @@ returns-clause-faults c = refuses_faults
 
 pub returns-clause-headers : goal.returns-clause-headers
 returns-clause-headers c = refuses_without_header
+
+pub returns-clause-read : goal.returns-clause-read
+returns-clause-read c = reads_exactly
+
+pub returns-clause-refused : goal.returns-clause-refused
+returns-clause-refused c = refuses_exactly
 
 pub returns-clause-bodies : goal.returns-clause-bodies
 returns-clause-bodies c = reads_bodies_back
