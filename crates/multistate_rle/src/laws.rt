@@ -13,8 +13,9 @@ pub fn token_laws()
 {}
 
 /// A text that spells tokens, with any digits for their counts, and with blanks, line ends and
-/// comment lines anywhere, is read as what the tokens draw; and what is written of cells is
-/// read as the cells, with their box, position and generation.
+/// comment lines anywhere, is read as what the tokens draw, or refused for the first faulty one, or
+/// for want of a header; no other text is read, or refused. And what is written of cells is read as
+/// the cells, with their box, position and generation.
 pub fn reading_laws()
     ensures spellings { ReadsSpellings }
     ensures whole { ReadsTexts }
