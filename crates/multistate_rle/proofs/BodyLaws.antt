@@ -1,5 +1,5 @@
 -- What is written of cells, behind any header, is read as the cells.
-use Rattle.std.proofs.Common.{◌≡◌, ◌≢◌, ℕ, zero, suc, ◌+◌, ◌-◌, ◌/◌, ◌%◌, ◌≤◌, ◌<◌, ◌^◌, Bool, true, false, List, [], ◌∷◌, ◌++◌, refl, sym, ◌∙◌, ap, arith, subst, append_assoc, append-nil, length, length-append, map}
+use Rattle.std.proofs.Common.{◌≡◌, ◌≢◌, ℕ, zero, suc, ◌+◌, ◌-◌, ◌/◌, ◌%◌, ◌≤◌, ◌<◌, ◌^◌, Bool, true, false, List, [], ◌∷◌, ◌++◌, refl, sym, ◌∙◌, ap, arith, inl, subst, append_assoc, append-nil, length, length-append, map}
 use Rattle.std.specs.Prelude.{Some, None, Ok, ◌==◌, ◌&&◌, ◌||◌, not, nat_lt, nat_le, if◌then◌else◌, ⊤, codes, decimal}
 use Rattle.std.specs.List.{list_all, enumerate_from}
 use Rattle.std.specs.Str.Parse.{digits_value, AllDigits}
@@ -15,7 +15,8 @@ use Rattle.multistate_rle.specs.Tokens.{Token, Cells, Rows, run, cells_in_row, d
 use Rattle.multistate_rle.specs.Reading.{Pen, bytes_of, start, fault_of, moved, cells_of, AreFine, bare, lines_of, pattern_of}
 use Rattle.multistate_rle.specs.Writing.{count_text, spelling, token_text, filled, body}
 use Rattle.multistate_rle.proofs.LetterLaws.{written_letters}
-use Rattle.multistate_rle.specs.Laws.{IsCount, IsTag, IsSpelling, ReadsBodiesBack}
+use Rattle.multistate_rle.specs.Spelling.{IsCount, IsTag, IsSpelling}
+use Rattle.multistate_rle.specs.Laws.{ReadsBodiesBack}
 use Rattle.multistate_rle.proofs.SpellingLaws.{reads_spellings}
 use Rattle.multistate_rle.proofs.StepLemmas.{length_run}
 use Rattle.multistate_rle.proofs.LineLemmas.{left_drops, left_keeps, left_nothing, left_is_bare}
@@ -359,5 +360,5 @@ reads_bodies_back end origin sides n two cells sorted alive within few states =
     let count : length (drawn tokens 0 0) ≡ length cells = ap length is.draws in
     let fine : AreFine start tokens = all_fine tokens start is.canonical (states_below two tokens (all_states (most_state two) cells 0 0 states)) near (omega (arith, count, few)) in
     reads_spellings end origin sides (lines_of (enumerate_from n (body two tokens))) tokens (joined (map (token_text two) tokens)) (33 ∷ [])
-    (body_left two tokens start n fine) (tokens_spelt two tokens start fine (all_states (most_state two) cells 0 0 states)) refl fine
+    (body_left two tokens start n fine) (tokens_spelt two tokens start fine (all_states (most_state two) cells 0 0 states)) (inl refl) fine
     ∙ ap (λ drawn_cells. Ok (pattern_of origin sides drawn_cells)) is.draws

@@ -5,7 +5,7 @@ use Rattle.std.proofs.lemmas.List.{map-append, drop_all}
 use Rattle.std.proofs.lemmas.Bool.{ne_eqb}
 use Rattle.std.proofs.lemmas.Fmt.{decimal_digit}
 use borrow.Author.Tests.{eqb-true}
-use Rattle.multistate_rle.specs.declared.letters.Letters.{Letters}
+use Rattle.multistate_rle.specs.Letters.{Letters}
 use Rattle.multistate_rle.specs.Letters.{letters_text}
 use Rattle.std.proofs.lemmas.Bool.Decides.{nat_tests}
 use Rattle.multistate_rle.specs.declared.lines.Lines.{Lines}
@@ -15,7 +15,7 @@ use Rattle.multistate_rle.specs.declared.pattern.PatternCell.{PatternCell}
 use Rattle.multistate_rle.specs.Tokens.{Token, Cells, Rows, with_run, tokens_from, gap, skip}
 use Rattle.std.proofs.lemmas.List.Folds.{list_all_at}
 use Rattle.multistate_rle.specs.declared.cell.Cell.{Cell}
-use Rattle.multistate_rle.specs.declared.bounds.Bounds.{Bounds}
+use Rattle.multistate_rle.specs.Bounds.{Bounds}
 use Rattle.multistate_rle.specs.Bounds.{seen_from}
 use Rattle.multistate_rle.specs.Cells.{are_nonzero}
 use Rattle.multistate_rle.specs.Writing.{token_text, filled, count_text, spelling}

@@ -19,3 +19,9 @@ pub mod LetterLaws
 pub mod WordLemmas
 pub mod RunLemmas
 pub mod SideLemmas
+pub mod HeaderlessLaws
+pub mod FaultLaws
+pub mod ReadOrRefused
+pub mod PartLaws
+pub mod ExactLaws
+pub mod FrontLemmas

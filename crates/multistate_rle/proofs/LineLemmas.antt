@@ -7,7 +7,7 @@ use Rattle.std.proofs.lemmas.List.Splits.{slice_split-cons_yes, slice_split-cons
 use Rattle.std.proofs.lemmas.List.Folds.{length-prefix_len}
 use Rattle.multistate_rle.specs.declared.fault.RleFault.{RleFault}
 use Rattle.multistate_rle.specs.declared.fault.RleFault.TheVariants.{Header}
-use Rattle.multistate_rle.specs.declared.origin.Origin.{Origin}
+use Rattle.multistate_rle.specs.Position.{Origin}
 use Rattle.multistate_rle.specs.declared.line.Line.{Line}
 use Rattle.multistate_rle.specs.declared.line.Line.TheVariants.{Start, Inside, Comment}
 use Rattle.multistate_rle.specs.Bytes.{is_blank, is_line_end}

@@ -11,10 +11,10 @@ use Rattle.generations_rule.specs.Refusal.{when, first_of, ◌>>=◌}
 use Rattle.multistate_rle.specs.declared.fault.RleFault.{RleFault}
 use Rattle.multistate_rle.specs.declared.fault.RleFault.TheVariants.{State, Count, TooMany}
 use Rattle.multistate_rle.specs.declared.fault.RleFault.TheVariants.{Tag}
-use Rattle.multistate_rle.specs.declared.role.Role.{Role}
-use Rattle.multistate_rle.specs.declared.role.Role.TheVariants as role
-use Rattle.multistate_rle.specs.declared.tokens.Begun.{Begun}
-use Rattle.multistate_rle.specs.declared.origin.Origin.{Origin}
+use Rattle.multistate_rle.specs.Role.{Role}
+use Rattle.multistate_rle.specs.Role as role
+use Rattle.multistate_rle.specs.Reading.{Begun}
+use Rattle.multistate_rle.specs.Position.{Origin}
 use Rattle.multistate_rle.specs.Reading.{Mark, Pen, start, fresh, moved, fault_of, cells_of, AreFine, followed, ended, tokens_of, role_of, with_digit, with_prefix, cells_read, pattern_of, width_of, height_of}
 use Rattle.multistate_rle.proofs.ReadLemmas.{by_role, step_is}
 use Rattle.multistate_rle.proofs.StepLemmas.{length_run}
@@ -160,7 +160,7 @@ drawn_few (Rows n ∷ tokens) pen few fine = drawn_few tokens (moved (Rows n) pe
 
 -- ---- what is read has no fault
 
-fine_anywhere : (place : ℕ) (pen : Pen) (token : Token) → fault_of place pen token ≡ None → fault_of 0 pen token ≡ None
+pub fine_anywhere : (place : ℕ) (pen : Pen) (token : Token) → fault_of place pen token ≡ None → fault_of 0 pen token ≡ None
 fine_anywhere place pen (Cells n s) none =
     let three = none_of_three (nat_lt 255 s) (n == 0 || nat_lt (2 ^ 32) (pen.column + n)) (nat_lt (2 ^ 20) (pen.cells + cells_of (Cells n s))) (State place) (Count place) TooMany none in
     rw (three.0, three.1, three.2) refl

@@ -5,9 +5,9 @@ use Rattle.std.proofs.lemmas.Bool.Decides.{nat_tests}
 use Rattle.generations_rule.specs.Refusal.{when, first_of}
 use Rattle.multistate_rle.specs.declared.fault.RleFault.{RleFault}
 use Rattle.multistate_rle.specs.declared.fault.RleFault.TheVariants.{State, Count, Tag}
-use Rattle.multistate_rle.specs.declared.role.Role.{Role}
-use Rattle.multistate_rle.specs.declared.role.Role.TheVariants as role
-use Rattle.multistate_rle.specs.declared.tokens.Begun.{Begun}
+use Rattle.multistate_rle.specs.Role.{Role}
+use Rattle.multistate_rle.specs.Role as role
+use Rattle.multistate_rle.specs.Reading.{Begun}
 use Rattle.multistate_rle.specs.Tokens.{Token, Cells, Rows}
 use Rattle.multistate_rle.specs.Reading.{Mark, Pen, role_of, fresh, with_digit, with_prefix, ended, fault_of, followed, moved, tokens_of}
 use Rattle.multistate_rle.specs.Begun.{capped}

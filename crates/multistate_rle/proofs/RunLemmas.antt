@@ -7,8 +7,8 @@ use Rattle.std.proofs.lemmas.Bool.Decides.{nat_tests}
 use Rattle.generations_rule.specs.Refusal.{◌>>=◌}
 use Rattle.multistate_rle.specs.declared.fault.RleFault.{RleFault}
 use Rattle.multistate_rle.specs.declared.line.Line.TheVariants.{Inside}
-use Rattle.multistate_rle.specs.declared.role.Role.TheVariants as role
-use Rattle.multistate_rle.specs.declared.tokens.Begun.{Begun}
+use Rattle.multistate_rle.specs.Role as role
+use Rattle.multistate_rle.specs.Reading.{Begun}
 use Rattle.multistate_rle.specs.declared.tokens.Reader.{Reader}
 use Rattle.multistate_rle.specs.Bytes.{is_digit}
 use Rattle.multistate_rle.specs.Lines.{left, left_from}

@@ -8,27 +8,28 @@ use Rattle.std.proofs.lemmas.Bool.{ne_eqb}
 use Rattle.std.proofs.lemmas.Bool.Decides.{nat_tests}
 use Rattle.generations_rule.specs.Refusal.{◌>>=◌}
 use Rattle.multistate_rle.specs.declared.fault.RleFault.TheVariants.{State, Count, TooMany}
-use Rattle.multistate_rle.specs.declared.role.Role.TheVariants as role
-use Rattle.multistate_rle.specs.declared.tokens.Begun.{Begun}
+use Rattle.multistate_rle.specs.Role as role
+use Rattle.multistate_rle.specs.Reading.{Begun}
 use Rattle.multistate_rle.specs.Bytes.{is_digit}
 use Rattle.multistate_rle.specs.Letters.{IsPlain, IsLetter}
 use Rattle.multistate_rle.specs.Tokens.{Token, Cells, Rows, drawn, count_of}
-use Rattle.multistate_rle.specs.Reading.{Mark, Pen, bytes_of, bare_role, role_of, start, fresh, with_digit, with_prefix, fault_of, followed, moved, cells_of, tokens_of, AreFine, bare, pattern_of}
-use Rattle.multistate_rle.specs.Laws.{IsCount, IsTag, IsSpelling, EndsTokens, ReadsSpellings}
+use Rattle.multistate_rle.specs.Reading.{Mark, Pen, bytes_of, bare_role, role_of, start, fresh, with_digit, with_prefix, fault_of, followed, moved, cells_of, ended, tokens_of, AreFine, bare, pattern_of}
+use Rattle.multistate_rle.specs.Spelling.{IsCount, IsTag, IsSpelling, EndsTokens}
+use Rattle.multistate_rle.specs.Laws.{ReadsSpellings}
 use Rattle.multistate_rle.proofs.NumberLemmas.{digit_is}
 use Rattle.multistate_rle.proofs.ReadLemmas.{step_is}
 use Rattle.multistate_rle.proofs.PatternLaws.{and_parts, none_of_three, none_of_one}
 
 -- ---- what bytes are
 
-letter_role : (prefix : Option ℕ) (c : ℕ) → 65 ≤ c → c ≤ 88 → role_of prefix c ≡ role.State (24 * unwrap_or prefix 0 + (c - 64))
+pub letter_role : (prefix : Option ℕ) (c : ℕ) → 65 ≤ c → c ≤ 88 → role_of prefix c ≡ role.State (24 * unwrap_or prefix 0 + (c - 64))
 letter_role prefix c low high =
     let mark : (c == 33) ≡ false = ne_eqb c 33 (omega arith) in
     let first : nat_le 65 c ≡ true = grind (arith, nat_tests) in
     let last : nat_le c 88 ≡ true = grind (arith, nat_tests) in
     rw (mark, first, last) refl
 
-no_letter : (c : ℕ) → 88 < c → role_of None c ≡ bare_role c
+pub no_letter : (c : ℕ) → 88 < c → role_of None c ≡ bare_role c
 no_letter c high =
     let mark : (c == 33) ≡ false = ne_eqb c 33 (omega arith) in
     let first : nat_le 65 c ≡ true = grind (arith, nat_tests) in
@@ -55,11 +56,11 @@ digit_role c digit =
 -- ---- counts
 
 -- what is read of a count, with digits behind it
-counted : Option ℕ → List ℕ → Option ℕ
+unfoldable pub counted : Option ℕ → List ℕ → Option ℕ
 counted count [] = count
 counted count (c ∷ ds) = counted (Some (10 * unwrap_or count 0 + (c - 48))) ds
 
-counted_is : (n : ℕ) (ds : List ℕ) → list_all is_digit ds ≡ true → counted (Some n) ds ≡ Some (digits_value_after 10 n ds)
+pub counted_is : (n : ℕ) (ds : List ℕ) → list_all is_digit ds ≡ true → counted (Some n) ds ≡ Some (digits_value_after 10 n ds)
 unfolding counted
 counted_is n [] digits = refl
 counted_is n (c ∷ ds) digits =
@@ -67,7 +68,7 @@ counted_is n (c ∷ ds) digits =
     let next : 10 * n + (c - 48) ≡ n * 10 + digit_value c = omega (arith, digit_is c parts.0) in
     counted_is (10 * n + (c - 48)) ds parts.1 ∙ ap (λ m. Some (digits_value_after 10 m ds)) next
 
-count_is : (n : ℕ) (ds : List ℕ) → IsCount n ds → unwrap_or (counted None ds) 1 ≡ n
+pub count_is : (n : ℕ) (ds : List ℕ) → IsCount n ds → unwrap_or (counted None ds) 1 ≡ n
 unfolding counted
 count_is n [] is = sym is
 count_is n (c ∷ ds) is =
@@ -75,7 +76,7 @@ count_is n (c ∷ ds) is =
     let first : 10 * 0 + (c - 48) ≡ 0 * 10 + digit_value c = omega (arith, digit_is c parts.0) in
     ap (λ o. unwrap_or o 1) (counted_is (10 * 0 + (c - 48)) ds parts.1 ∙ ap (λ m. Some (digits_value_after 10 m ds)) first) ∙ is.1
 
-count_digits : (n : ℕ) (ds : List ℕ) → IsCount n ds → list_all is_digit ds ≡ true
+pub count_digits : (n : ℕ) (ds : List ℕ) → IsCount n ds → list_all is_digit ds ≡ true
 count_digits n [] is = refl
 count_digits n (c ∷ ds) is = is.0
 
@@ -110,7 +111,7 @@ digits_read end (c ∷ ds) rest (m ∷ marks) b pen bytes none digits =
 
 -- ---- tags
 
-fine_at : (place : ℕ) (pen : Pen) (token : Token) → fault_of 0 pen token ≡ None → fault_of place pen token ≡ None
+pub fine_at : (place : ℕ) (pen : Pen) (token : Token) → fault_of 0 pen token ≡ None → fault_of place pen token ≡ None
 fine_at place pen (Cells n s) none =
     let three = none_of_three (nat_lt 255 s) (n == 0 || nat_lt (2 ^ 32) (pen.column + n)) (nat_lt (2 ^ 20) (pen.cells + cells_of (Cells n s))) (State 0) (Count 0) TooMany none in
     rw (three.0, three.1, three.2) refl
@@ -160,7 +161,7 @@ row_byte end n more (m ∷ marks) b pen tokens bytes none count fine rest =
     rows_end end m marks b pen n tokens (λ i. role_of (none i) (byte i)) count fine (rest marks behind)
 
 -- a state's one byte
-byte_role : (c s : ℕ) → IsPlain s c ⊎ IsLetter s c → role_of None c ≡ role.State s
+pub byte_role : (c s : ℕ) → IsPlain s c ⊎ IsLetter s c → role_of None c ≡ role.State s
 byte_role c s (inl (inl is)) = let none : s ≡ 0 = is.0 in let dot : c ≡ 46 = is.1 in rw (none, dot) refl
 byte_role c s (inl (inr (inl is))) = let none : s ≡ 0 = is.0 in let b : c ≡ 98 = is.1 in rw (none, b) refl
 byte_role c s (inl (inr (inr is))) = let one : s ≡ 1 = is.0 in let o : c ≡ 111 = is.1 in rw (one, o) refl
@@ -183,16 +184,25 @@ tag_read end (Rows n) tag more marks b pen tokens is bytes none count fine rest 
 
 -- ---- whole spellings
 
-ends_read : (end : ℕ) (tail : List ℕ) (marks : List Mark) (pen : Pen) → bytes_of marks ≡ tail → EndsTokens tail → tokens_of end marks fresh pen ≡ Ok []
-ends_read end tail [] pen bytes ends = refl
-ends_read end [] (m ∷ marks) pen bytes ends = absurd (cc)
-ends_read end (c ∷ tail) (m ∷ marks) pen bytes ends =
+-- the end of a text behind digits without a tag
+pub well_ended : (place : ℕ) (b : Begun) → b.prefix ≡ None → ended place b ≡ Ok []
+well_ended place b none = rw none refl
+
+ends_read : (end : ℕ) (tail : List ℕ) (marks : List Mark) (b : Begun) (pen : Pen) → bytes_of marks ≡ tail → b.prefix ≡ None → EndsTokens tail → tokens_of end marks b pen ≡ Ok []
+ends_read end tail [] b pen bytes none ends = well_ended end b none
+ends_read end [] (m ∷ marks) b pen bytes none ends = absurd (cc)
+ends_read end (c ∷ tail) (m ∷ marks) b pen bytes none (inl mark) =
     let byte : m.1 ≡ c = cc in
-    step_is end m marks fresh pen role.EndMark (ap (role_of None) (byte ∙ ends))
+    step_is end m marks b pen role.EndMark (λ i. role_of (none i) ((byte ∙ mark) i)) ∙ well_ended m.0 b none
+ends_read end (c ∷ tail) (m ∷ marks) b pen bytes none (inr digit) =
+    let byte : m.1 ≡ c = cc in
+    let more : bytes_of marks ≡ tail = cc in
+    step_is end m marks b pen (role.Digit (c - 48)) ((λ i. role_of (none i) (byte i)) ∙ digit_role c digit.0)
+    ∙ ends_read end tail marks (with_digit m.0 (c - 48) b) pen more none digit.1
 
 pub spelling_read : (end : ℕ) (tokens : List Token) (spelt tail : List ℕ) (marks : List Mark) (pen : Pen) → bytes_of marks ≡ spelt ++ tail → IsSpelling tokens spelt → EndsTokens tail → AreFine pen tokens →
     tokens_of end marks fresh pen ≡ Ok tokens
-spelling_read end [] spelt tail marks pen bytes is ends fine = ends_read end tail marks pen (bytes ∙ ap (λ s. s ++ tail) is) ends
+spelling_read end [] spelt tail marks pen bytes is ends fine = ends_read end tail marks fresh pen (bytes ∙ ap (λ s. s ++ tail) is) refl ends
 spelling_read end (token ∷ tokens) spelt tail marks pen bytes is ends fine =
     let digits = is.0 in
     let tag = is.1 in

@@ -4,7 +4,7 @@ use Rattle.std.specs.Prelude.{not, ◌==◌, filter, option_map, None, if◌then
 use Rattle.std.specs.List.{slice_split, onto_first, position_or_len, prefix_len}
 use Rattle.std.specs.Str.{bytes_eq}
 use Rattle.std.proofs.lemmas.Bool.{ne_eqb}
-use Rattle.multistate_rle.specs.declared.origin.Items.{Items}
+use Rattle.multistate_rle.specs.Position.{Items}
 use Rattle.multistate_rle.specs.Bytes.{is_blank, past, ◌>=>◌}
 use Rattle.multistate_rle.specs.Position.{words, origin_in_words, origin_from, items_in, no_items, with_item}
 

@@ -3,7 +3,7 @@ use Rattle.std.proofs.Common.{◌≡◌, ℕ, ◌+◌, Bool, true, false, List, 
 use Rattle.std.specs.Prelude.{Option, Some, None, Ok, Result, unwrap_or, not, ◌||◌, if◌then◌else◌}
 use Rattle.std.specs.List.{list_all, enumerate_from, position_or_len}
 use Rattle.std.proofs.lemmas.Bool.{eqb-true}
-use Rattle.multistate_rle.specs.declared.origin.Origin.{Origin}
+use Rattle.multistate_rle.specs.Position.{Origin}
 use Rattle.multistate_rle.specs.declared.line.Line.{Line}
 use Rattle.multistate_rle.specs.declared.line.Line.TheVariants.{Start}
 use Rattle.multistate_rle.specs.declared.fault.RleFault.{RleFault}
@@ -14,14 +14,15 @@ use Rattle.multistate_rle.specs.Pattern.{RlePattern}
 use Rattle.multistate_rle.specs.Tokens.{drawn}
 use Rattle.multistate_rle.specs.Lines.{line_after, is_dropped}
 use Rattle.multistate_rle.specs.Reading.{bytes_of, bare, pattern_of, lines_of, lines_read, is_comment, or_else}
-use Rattle.multistate_rle.specs.Laws.{IsLine, IsFront, with_lines, first_origin, bare_text, ReadsTexts}
+use Rattle.multistate_rle.specs.Spelling.{IsLine, IsFront, with_lines, first_origin, bare_text}
+use Rattle.multistate_rle.specs.Laws.{ReadsTexts}
 use Rattle.multistate_rle.proofs.LineLemmas.{line_step, line_read, comment_read, blank_read, header_is_read, left_is_bare}
 use Rattle.multistate_rle.specs.Lines.{left}
 use Rattle.multistate_rle.proofs.HeadLaws.{front_is, past_is, past_all}
 use Rattle.multistate_rle.proofs.SpellingLaws.{reads_spellings}
 
 -- a line and its end decide
-line_first : (len : ℕ) (origin : Option Origin) (n : ℕ) (line : List ℕ) (end : ℕ) (rest : List ℕ) → IsLine line → is_line_end end ≡ true →
+pub line_first : (len : ℕ) (origin : Option Origin) (n : ℕ) (line : List ℕ) (end : ℕ) (rest : List ℕ) → IsLine line → is_line_end end ≡ true →
     lines_read len origin (lines_of (enumerate_from n (line ++ end ∷ rest))) ≡ line_read len origin line (n + position_or_len is_line_end (line ++ end ∷ rest) + 1) rest
 line_first len origin n line end rest is ends =
     let stops : not (is_line_end end) ≡ false = rw ends refl in
@@ -30,7 +31,7 @@ line_first len origin n line end rest is ends =
 
 -- ---- the lines in front
 
-front_line : (len : ℕ) (origin : Option Origin) (line : List ℕ) (next : ℕ) (rest : List ℕ) (comment blank : Bool) → is_comment line ≡ comment → list_all is_blank line ≡ blank → (comment || blank) ≡ true →
+pub front_line : (len : ℕ) (origin : Option Origin) (line : List ℕ) (next : ℕ) (rest : List ℕ) (comment blank : Bool) → is_comment line ≡ comment → list_all is_blank line ≡ blank → (comment || blank) ≡ true →
     line_read len origin line next rest ≡ lines_read len (if comment then or_else origin (origin_of line) else origin) (lines_of (enumerate_from next rest))
 front_line len origin line next rest true blank c b either = comment_read len origin line next rest c
 front_line len origin line next rest false true c b either = blank_read len origin line next rest c b
@@ -48,13 +49,13 @@ front_read len origin n (line ∷ front) rest meant is behind =
 
 -- ---- the header
 
-no_comment : (header : List ℕ) (sides : ℕ × ℕ) (comment : Bool) → is_comment header ≡ comment → header_of header ≡ Some sides → comment ≡ false
+pub no_comment : (header : List ℕ) (sides : ℕ × ℕ) (comment : Bool) → is_comment header ≡ comment → header_of header ≡ Some sides → comment ≡ false
 no_comment [] sides false c is = refl
 no_comment [] sides true c is = absurd (cc)
 no_comment (d ∷ header) sides false c is = refl
 no_comment (d ∷ header) sides true c is = let hash : d ≡ 35 = eqb-true d 35 c in let none : header_of (35 ∷ header) ≡ None = refl in absurd (cc)
 
-no_blank : (header : List ℕ) (sides : ℕ × ℕ) (blank : Bool) → list_all is_blank header ≡ blank → header_of header ≡ Some sides → blank ≡ false
+pub no_blank : (header : List ℕ) (sides : ℕ × ℕ) (blank : Bool) → list_all is_blank header ≡ blank → header_of header ≡ Some sides → blank ≡ false
 no_blank header sides false b is = refl
 no_blank header sides true b is =
     let none : header_of header ≡ None =
@@ -75,7 +76,7 @@ unfolding left
 same_left line m n [] = refl
 same_left line m n (c ∷ xs) = same_left_step line m n c xs (is_dropped (line_after line c) c) refl (same_left (line_after line c) (m + 1) (n + 1) xs)
 
-bare_anywhere : (n : ℕ) (text : List ℕ) → bytes_of (bare (lines_of (enumerate_from n text))) ≡ bare_text text
+pub bare_anywhere : (n : ℕ) (text : List ℕ) → bytes_of (bare (lines_of (enumerate_from n text))) ≡ bare_text text
 bare_anywhere n text =
     ap bytes_of (sym (left_is_bare (enumerate_from n text))) ∙ same_left Start n 0 text ∙ ap bytes_of (left_is_bare (enumerate_from 0 text))
 

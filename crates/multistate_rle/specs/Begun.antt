@@ -1,6 +1,6 @@
 -- A count of any number of digits, kept in 64 bits.
 use Rattle.std.specs.Prelude.{option_map, min}
-use Rattle.multistate_rle.specs.declared.tokens.Begun.{Begun}
+use Rattle.multistate_rle.specs.Reading.{Begun}
 
 -- The count, or 2^32 + 1 if it is more: both lead too far, wherever they stand.
 abbrev pub capped : Begun → Begun

@@ -2,8 +2,14 @@
 use Rattle.std.specs.Prelude.{ℕ, ◌+◌, List, [], ◌∷◌, map, fold, ℤ, pos, ◌-ℤ◌, nat_abs}
 use Rattle.std.specs.Int.{int_max, int_min}
 use Rattle.multistate_rle.specs.declared.cell.Cell.{Cell}
-use Rattle.multistate_rle.specs.declared.bounds.Bounds.{Bounds}
 use Rattle.multistate_rle.specs.declared.pattern.PatternCell.{PatternCell}
+
+-- a box: its upper left corner, and its sides
+pub record Bounds : Type 0 where
+  pub x : ℤ
+  pub y : ℤ
+  pub width : ℕ
+  pub height : ℕ
 
 -- how many from the one to the other, both counted
 abbrev pub span : ℤ → ℤ → ℕ

@@ -1,21 +1,24 @@
 -- What the definitions obey.
-use Rattle.std.specs.Prelude.{◌↔◌, Option, Some, None, unwrap_or, ◌||◌, ◌≡◌, ◌⊎◌, ℕ, ◌≤◌, ◌<◌, ◌^◌, ℤ, pos, negsuc, not, Bool, List, [], ◌∷◌, ◌++◌, true, false, nat_le, if◌then◌else◌, length, Ok, ⊤, codes}
+use Rattle.std.specs.Prelude.{◌↔◌, Some, None, unwrap_or, ◌≡◌, ◌⊎◌, ℕ, ◌+◌, ◌≤◌, ◌<◌, ◌^◌, ℤ, pos, negsuc, not, Bool, List, ◌∷◌, ◌++◌, true, false, nat_le, if◌then◌else◌, length, Ok, Err}
 use Rattle.generations_rule.specs.Rule.{GenerationsRule, IsRule}
 use Rattle.multistate_rle.specs.declared.pattern.PatternCell.{PatternCell}
 use Rattle.multistate_rle.specs.declared.cell.Cell.{Cell}
 use Rattle.multistate_rle.specs.Cells.{is_sorted, are_nonzero, are_below}
-use Rattle.multistate_rle.specs.Bounds.{box_of, in_box}
-use Rattle.multistate_rle.specs.Pattern.{are_sorted, are_alive, are_within}
+use Rattle.multistate_rle.specs.Bounds.{Bounds, box_of, in_box}
+use Rattle.multistate_rle.specs.Pattern.{RlePattern, are_sorted, are_alive, are_within}
 use Rattle.std.specs.List.{list_all, enumerate_from}
-use Rattle.std.specs.Str.Parse.{digits_value}
-use Rattle.multistate_rle.specs.declared.origin.Origin.{Origin}
-use Rattle.multistate_rle.specs.Bytes.{is_digit, is_blank, is_line_end}
+use Rattle.multistate_rle.specs.Bytes.{is_line_end}
 use Rattle.multistate_rle.specs.Header.{header_of}
-use Rattle.multistate_rle.specs.Position.{origin_of, origin_from, no_items}
-use Rattle.multistate_rle.specs.declared.bounds.Bounds.{Bounds}
+use Rattle.multistate_rle.specs.Position.{Origin, origin_from, no_items}
+use Rattle.multistate_rle.specs.HeaderLine.{HasNoHeader}
+use Rattle.multistate_rle.specs.declared.fault.RleFault.{RleFault}
+use Rattle.multistate_rle.specs.declared.fault.RleFault.TheVariants.{Header}
 use Rattle.multistate_rle.specs.Letters.{letters, letters_text, IsStateTag}
-use Rattle.multistate_rle.specs.Tokens.{Token, Cells, Rows, IsTokensOf, count_of, drawn, tokens_from}
-use Rattle.multistate_rle.specs.Reading.{parsed, Mark, bytes_of, bare, start, AreFine, body_read, pattern_of, lines_of, is_comment, or_else}
+use Rattle.multistate_rle.specs.Tokens.{Token, IsTokensOf, drawn, tokens_from}
+use Rattle.multistate_rle.specs.Reading.{parsed, Mark, bytes_of, bare, start, AreFine, body_read, pattern_of, lines_of}
+use Rattle.multistate_rle.specs.Spelling.{IsSpelling, EndsTokens, IsLine, IsFront, with_lines, first_origin, bare_from, bare_text}
+use Rattle.multistate_rle.specs.Faulty.{pen_behind, BeginsFaulty}
+use Rattle.multistate_rle.specs.Parts.{SpellsPattern, IsWrong}
 use Rattle.multistate_rle.specs.Writing.{rle_text, IsRleText, head, body}
 
 -- a finite set of nonzero cells, as its sorted list, has a canonical token list
@@ -37,57 +40,12 @@ HasLetters = (s : ℕ) (tag : List ℕ) → s ≤ 255 →
 
 -- ---- texts by hand
 
--- the digits of a count: none for 1, or any that write it
-abbrev pub IsCount : ℕ → List ℕ → Type 0
-IsCount n [] = n ≡ 1
-IsCount n (c ∷ digits) = (list_all is_digit (c ∷ digits) ≡ true) × (digits_value 10 (c ∷ digits) ≡ n)
-
--- the letters of a state, or `$`
-abbrev pub IsTag : Token → List ℕ → Type 0
-IsTag (Cells n s) tag = IsStateTag s tag
-IsTag (Rows n) tag = tag ≡ codes "$"
-
--- bytes spell tokens: each is a count and a tag
-abbrev pub IsSpelling : List Token → List ℕ → Type 0
-IsSpelling [] bytes = bytes ≡ []
-IsSpelling (token ∷ tokens) bytes =
-    (digits : List ℕ) × (tag : List ℕ) × (more : List ℕ) × (IsCount (count_of token) digits × (IsTag token tag × (IsSpelling tokens more × (bytes ≡ digits ++ (tag ++ more)))))
-
--- nothing, or the end mark and anything
-abbrev pub EndsTokens : List ℕ → Type 0
-EndsTokens [] = ⊤
-EndsTokens (c ∷ rest) = c ≡ 33
-
 -- Where what is left of the lines behind a header, without comment lines and blanks, spells tokens that are not faulty,
 -- what is read is what the tokens draw.
 abbrev pub ReadsSpellings : Type 0
 ReadsSpellings = (end : ℕ) (origin : Origin) (sides : ℕ × ℕ) (lines : List (List Mark)) (tokens : List Token) (spelt tail : List ℕ) →
     bytes_of (bare lines) ≡ spelt ++ tail → IsSpelling tokens spelt → EndsTokens tail → AreFine start tokens →
     body_read end origin sides lines ≡ Ok (pattern_of origin sides (drawn tokens 0 0))
-
--- a line without its end
-abbrev pub IsLine : List ℕ → Type 0
-IsLine line = list_all (λ c. not (is_line_end c)) line ≡ true
-
--- lines in front of a header, each with the byte that ends it: comments and blank lines
-abbrev pub IsFront : List (List ℕ × ℕ) → Type 0
-IsFront [] = ⊤
-IsFront (line ∷ lines) =
-    IsLine line.0 × ((is_line_end line.1 ≡ true) × (((is_comment line.0 || list_all is_blank line.0) ≡ true) × IsFront lines))
-
--- lines and their ends, and the text behind them
-abbrev pub with_lines : List (List ℕ × ℕ) → List ℕ → List ℕ
-with_lines [] rest = rest
-with_lines (line ∷ lines) rest = line.0 ++ line.1 ∷ with_lines lines rest
-
--- the first origin that lines name, or an earlier one
-abbrev pub first_origin : Option Origin → List (List ℕ × ℕ) → Option Origin
-first_origin found [] = found
-first_origin found (line ∷ lines) = first_origin (if is_comment line.0 then or_else found (origin_of line.0) else found) lines
-
--- the bytes of a text that are left without comment lines, line ends and blanks
-abbrev pub bare_text : List ℕ → List ℕ
-bare_text text = bytes_of (bare (lines_of (enumerate_from 0 text)))
 
 -- A whole text: comments and blank lines, a header, and a text that without comment lines, line ends and blanks spells
 -- tokens that are not faulty. It is read as what the tokens draw, with the first origin that a comment names.
@@ -97,6 +55,27 @@ ReadsTexts = (front : List (List ℕ × ℕ)) (header : List ℕ) (end : ℕ) (s
     bare_text text ≡ spelt ++ tail → IsSpelling tokens spelt → EndsTokens tail → AreFine start tokens →
     parsed (with_lines front (header ++ end ∷ text))
     ≡ Ok (pattern_of (unwrap_or (first_origin None front) (origin_from no_items)) sides (drawn tokens 0 0))
+
+-- A whole text: comments and blank lines, a header, and a text that without comment lines, line ends and blanks spells
+-- tokens that are not faulty, behind which a faulty one stands, and anything. It is refused for that token.
+abbrev pub RefusesFaults : Type 0
+RefusesFaults = (front : List (List ℕ × ℕ)) (header : List ℕ) (end : ℕ) (sides : ℕ × ℕ) (text : List ℕ) (tokens : List Token) (spelt faulty : List Mark) (fault : RleFault) →
+    IsFront front → IsLine header → header_of header ≡ Some sides → is_line_end end ≡ true →
+    bare_from (length (with_lines front header) + 1) text ≡ spelt ++ faulty → IsSpelling tokens (bytes_of spelt) → AreFine start tokens →
+    BeginsFaulty (length (with_lines front (header ++ end ∷ text))) (pen_behind start tokens) faulty fault →
+    parsed (with_lines front (header ++ end ∷ text)) ≡ Err fault
+
+-- A text is refused as one without a header exactly where it has none.
+abbrev pub RefusesWithoutHeader : Type 0
+RefusesWithoutHeader = (text : List ℕ) → HasNoHeader text ↔ (parsed text ≡ Err Header)
+
+-- A text is read as a pattern exactly where it spells it.
+abbrev pub ReadsExactly : Type 0
+ReadsExactly = (text : List ℕ) (p : RlePattern) → SpellsPattern text p ↔ (parsed text ≡ Ok p)
+
+-- And it is refused for a fault exactly where it is wrong in that way.
+abbrev pub RefusesExactly : Type 0
+RefusesExactly = (text : List ℕ) (fault : RleFault) → IsWrong text fault ↔ (parsed text ≡ Err fault)
 
 -- The body that is written of cells is read as the cells, behind any header and from any place of a text on.
 abbrev pub ReadsBodiesBack : Type 0

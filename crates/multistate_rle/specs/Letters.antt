@@ -1,6 +1,10 @@
 -- How a token's tag is spelt.
-use Rattle.std.specs.Prelude.{◌≡◌, ◌⊎◌, ◌*◌, ◌≤◌, ℕ, ◌+◌, ◌-◌, ◌/◌, ◌%◌, Bool, nat_le, ◌==◌, if◌then◌else◌, Some, None, List, [], ◌∷◌, ◌++◌, option_to_list}
-use Rattle.multistate_rle.specs.declared.letters.Letters.{Letters}
+use Rattle.std.specs.Prelude.{◌≡◌, ◌⊎◌, ◌*◌, ◌≤◌, ℕ, ◌+◌, ◌-◌, ◌/◌, ◌%◌, Bool, nat_le, ◌==◌, if◌then◌else◌, Option, Some, None, List, [], ◌∷◌, ◌++◌, option_to_list}
+
+-- the letters of a tag: a prefix or none, and the byte that ends it
+pub record Letters : Type 0 where
+  pub prefix : Option ℕ
+  pub last : ℕ
 
 -- a tag of one byte
 abbrev pub plain : ℕ → Letters

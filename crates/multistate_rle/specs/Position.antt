@@ -2,9 +2,17 @@
 use Rattle.std.specs.Prelude.{ℕ, Bool, not, List, [], ◌∷◌, ◌==◌, if◌then◌else◌, Option, Some, None, ℤ, pos, neg_ℤ, codes, length, option_map, unwrap_or, filter, drop}
 use Rattle.std.specs.Str.{bytes_eq}
 use Rattle.std.specs.List.{slice_split, before_first, position_or_len}
-use Rattle.multistate_rle.specs.declared.origin.Origin.{Origin}
-use Rattle.multistate_rle.specs.declared.origin.Items.{Items}
 use Rattle.multistate_rle.specs.Bytes.{is_blank, ◌>=>◌, behind, behind_all, number}
+
+-- where a pattern was in its plane, and at which generation
+pub record Origin : Type 0 where
+  pub pos : ℤ × ℤ
+  pub generation : ℕ
+
+-- the position and the generation that items name, where they do
+pub record Items : Type 0 where
+  pub pos : Option (ℤ × ℤ)
+  pub generation : Option ℕ
 
 -- the words of a line, separated by blanks
 abbrev pub words : List ℕ → List (List ℕ)

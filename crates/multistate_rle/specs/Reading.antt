@@ -6,15 +6,13 @@ use Rattle.generations_rule.specs.Refusal.{when, first_of, ◌>>=◌}
 use Rattle.multistate_rle.specs.declared.pattern.PatternCell.{PatternCell}
 use Rattle.multistate_rle.specs.declared.fault.RleFault.{RleFault}
 use Rattle.multistate_rle.specs.declared.fault.RleFault.TheVariants.{Header, Tag, Count, State, TooMany}
-use Rattle.multistate_rle.specs.declared.role.Role.{Role}
-use Rattle.multistate_rle.specs.declared.role.Role.TheVariants as role
+use Rattle.multistate_rle.specs.Role.{Role}
+use Rattle.multistate_rle.specs.Role as role
 use Rattle.multistate_rle.specs.Bytes.{is_digit, is_blank, is_line_end}
 use Rattle.multistate_rle.specs.Tokens.{Token, Cells, Rows, drawn}
 use Rattle.multistate_rle.specs.Pattern.{RlePattern}
 use Rattle.multistate_rle.specs.Header.{header_of}
-use Rattle.multistate_rle.specs.declared.origin.Origin.{Origin}
-use Rattle.multistate_rle.specs.declared.tokens.Begun.{Begun}
-use Rattle.multistate_rle.specs.Position.{origin_from, no_items, origin_of}
+use Rattle.multistate_rle.specs.Position.{Origin, origin_from, no_items, origin_of}
 
 -- a place and the byte there
 abbrev pub Mark : Type 0
@@ -47,6 +45,12 @@ role_of prefix c =
     else elim prefix [ None ↦ bare_role c | Some k ↦ role.Stray ])
 
 -- ---- tokens
+
+-- what is read of a token that is not at its end: the place of its first byte, its count and its prefix, where it has them
+pub record Begun : Type 0 where
+  pub place : Option ℕ
+  pub count : Option ℕ
+  pub prefix : Option ℕ
 
 abbrev pub fresh : Begun
 fresh = record { place = None; count = None; prefix = None }

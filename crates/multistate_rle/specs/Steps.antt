@@ -5,14 +5,26 @@ use Rattle.multistate_rle.specs.declared.fault.RleFault.{RleFault}
 use Rattle.multistate_rle.specs.declared.fault.RleFault.TheVariants.{Memory}
 use Rattle.multistate_rle.specs.declared.pattern.PatternCell.{PatternCell}
 use Rattle.multistate_rle.specs.declared.tokens.Reader.{Reader}
-use Rattle.multistate_rle.specs.declared.tokens.Begun.{Begun}
+use Rattle.multistate_rle.specs.declared.role.Role as declared
+use Rattle.multistate_rle.specs.declared.role.Role.TheVariants as code
+use Rattle.multistate_rle.specs.Role.{Role}
+use Rattle.multistate_rle.specs.Role as role
 use Rattle.multistate_rle.specs.declared.tokens.Step.{Step}
 use Rattle.multistate_rle.specs.declared.tokens.Step.TheVariants.{Goes, Ends}
 use Rattle.multistate_rle.specs.Lines.{left, left_from}
 use Rattle.std.specs.List.{enumerate_from}
 use Rattle.multistate_rle.specs.declared.line.Line.{Line}
 use Rattle.multistate_rle.specs.Tokens.{Token, drawn}
-use Rattle.multistate_rle.specs.Reading.{Mark, Pen, fresh, moved, fault_of, tokens_of, ended}
+use Rattle.multistate_rle.specs.Reading.{Mark, Pen, Begun, fresh, moved, fault_of, tokens_of, ended}
+
+-- what a role that the code tells stands for
+abbrev pub role_meant : declared.Role → Role
+role_meant code.EndMark = role.EndMark
+role_meant (code.Digit digit) = role.Digit digit
+role_meant (code.Prefix prefix) = role.Prefix prefix
+role_meant (code.State state) = role.State state
+role_meant code.RowEnd = role.RowEnd
+role_meant code.Stray = role.Stray
 
 abbrev pub pen_of : Reader → Pen
 pen_of r = record { column = r.column; row = r.row; cells = length r.cells.items }

@@ -4,10 +4,8 @@ use Rattle.std.specs.Fmt.{signed_decimal}
 use Rattle.generations_rule.specs.Rule.{GenerationsRule}
 use Rattle.generations_rule.specs.RuleText.{text_of}
 use Rattle.multistate_rle.specs.declared.cell.Cell.{Cell}
-use Rattle.multistate_rle.specs.declared.bounds.Bounds.{Bounds}
-use Rattle.multistate_rle.specs.declared.letters.Letters.{Letters}
-use Rattle.multistate_rle.specs.Bounds.{box_of, in_box}
-use Rattle.multistate_rle.specs.Letters.{letters, letters_text, plain}
+use Rattle.multistate_rle.specs.Bounds.{Bounds, box_of, in_box}
+use Rattle.multistate_rle.specs.Letters.{Letters, letters, letters_text, plain}
 use Rattle.multistate_rle.specs.Tokens.{Token, Cells, Rows, IsTokensOf, tokens_from}
 
 -- a count of 1 is left out

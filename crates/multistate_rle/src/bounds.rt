@@ -5,6 +5,7 @@ ghost use Rattle.std.specs.Int.{int_min, int_max};
 ghost use Rattle.multistate_rle.specs.Bounds.{box_of, span as span_of};
 
 use crate::cell::Cell;
+use std::marker::Model;
 
 /// The least box that holds all cells: its corner, and its sides, which can reach 2^32. Without
 /// cells all is 0.
@@ -14,6 +15,16 @@ pub struct Bounds {
     pub y: i32,
     pub width: u64,
     pub height: u64,
+}
+
+impl Model for Bounds {
+    ghost use Rattle.multistate_rle.specs.Bounds.{Bounds as BoundsValue};
+
+    ghost Value = { BoundsValue };
+
+    ghost view = { λ v. record { x = v.x; y = v.y; width = v.width; height = v.height } };
+
+    ghost inverse = { λ v. record { x = v.x; y = v.y; width = v.width; height = v.height } };
 }
 
 pub fn bounds_of(cells: &[Cell]) -> Bounds

@@ -1,6 +1,6 @@
 //! What the definitions obey, for all cells and texts: the contracts of functions that do nothing.
 
-ghost use Rattle.multistate_rle.specs.Laws.{HasTokens, HasOneTokenList, HasOneText, HasLetters, ReadsSpellings, ReadsTexts, ReadsBodiesBack, ReadsBoxesBack, ReadsBack};
+ghost use Rattle.multistate_rle.specs.Laws.{HasTokens, HasOneTokenList, HasOneText, HasLetters, ReadsSpellings, ReadsTexts, RefusesFaults, RefusesWithoutHeader, ReadsExactly, RefusesExactly, ReadsBodiesBack, ReadsBoxesBack, ReadsBack};
 
 /// A finite set of nonzero cells, as its sorted list, has a canonical token list, and only one; so
 /// a rule, a generation and cells have only one text. The letters of a state in it are those of
@@ -13,11 +13,16 @@ pub fn token_laws()
 {}
 
 /// A text that spells tokens, with any digits for their counts, and with blanks, line ends and
-/// comment lines anywhere, is read as what the tokens draw; and what is written of cells is
-/// read as the cells, with their box, position and generation.
+/// comment lines anywhere, is read as what the tokens draw, or refused for the first faulty one, or
+/// for want of a header; no other text is read, or refused. And what is written of cells is read as
+/// the cells, with their box, position and generation.
 pub fn reading_laws()
     ensures spellings { ReadsSpellings }
     ensures whole { ReadsTexts }
+    ensures faults { RefusesFaults }
+    ensures headers { RefusesWithoutHeader }
+    ensures read { ReadsExactly }
+    ensures refused { RefusesExactly }
     ensures bodies { ReadsBodiesBack }
     ensures texts { ReadsBoxesBack }
     ensures back { ReadsBack }

@@ -3,11 +3,23 @@
 ghost use Rattle.std.specs.Prelude.{◌≡◌, length};
 ghost use Rattle.multistate_rle.specs.Letters.{letters as letters_of, letters_text, plain};
 
+use std::marker::Model;
+
 /// The letters of a tag: a prefix or none, and the byte that ends it.
 #[derive(Clone, Copy, Debug, PartialEq, Eq)]
 pub struct Letters {
     pub prefix: Option<u8>,
     pub last: u8,
+}
+
+impl Model for Letters {
+    ghost use Rattle.multistate_rle.specs.Letters.{Letters as LettersValue};
+
+    ghost Value = { LettersValue };
+
+    ghost view = { λ v. record { prefix = v.prefix; last = v.last } };
+
+    ghost inverse = { λ v. record { prefix = v.prefix; last = v.last } };
 }
 
 impl Letters {

@@ -6,6 +6,7 @@ ghost use Rattle.multistate_rle.specs.Position.{is_comma, no_items, words, items
 
 use crate::numbers::{number, signed};
 use crate::scan;
+use std::marker::Model;
 
 /// Where a pattern was in its plane, and at which generation.
 #[derive(Clone, Copy, Debug, PartialEq, Eq)]
@@ -14,11 +15,31 @@ pub struct Origin {
     pub generation: u64,
 }
 
+impl Model for Origin {
+    ghost use Rattle.multistate_rle.specs.Position.{Origin as OriginValue};
+
+    ghost Value = { OriginValue };
+
+    ghost view = { λ v. record { pos = v.pos; generation = v.generation } };
+
+    ghost inverse = { λ v. record { pos = v.pos; generation = v.generation } };
+}
+
 /// What was read of the items of such a line.
 #[derive(Clone, Copy, Debug, PartialEq, Eq)]
 pub struct Items {
     pub pos: Option<(i32, i32)>,
     pub generation: Option<u64>,
+}
+
+impl Model for Items {
+    ghost use Rattle.multistate_rle.specs.Position.{Items as ItemsValue};
+
+    ghost Value = { ItemsValue };
+
+    ghost view = { λ v. record { pos = v.pos; generation = v.generation } };
+
+    ghost inverse = { λ v. record { pos = v.pos; generation = v.generation } };
 }
 
 impl Items {

@@ -1,10 +1,11 @@
 //! Reading an RLE text: the lines up to the header, and the tokens behind it.
 
-ghost use Rattle.std.specs.Prelude.{◌≡◌, ◌+◌, ◌≤◌, ◌<◌, ◌^◌, ◌++◌, Ok, Err, length, drop, take, OnOk, IfErr, MatchOption, unwrap_or, None};
+ghost use Rattle.std.specs.Prelude.{◌≡◌, ◌↔◌, ◌+◌, ◌≤◌, ◌<◌, ◌^◌, ◌++◌, Ok, Err, length, drop, take, OnOk, IfErr, MatchOption, unwrap_or, None};
 ghost use Rattle.std.specs.List.{enumerate_from, position_or_len};
 ghost use Rattle.multistate_rle.specs.Bytes.{is_line_end};
 ghost use Rattle.generations_rule.specs.Refusal.{Answers, AnswersAs};
 ghost use Rattle.multistate_rle.specs.Reading.{parsed, lines_of, body_read, is_comment as begins_comment, cells_read, bare, or_else};
+ghost use Rattle.multistate_rle.specs.HeaderLine.{HasNoHeader};
 ghost use Rattle.multistate_rle.specs.Steps.{ReadsOn};
 
 use crate::fault::RleFault;
@@ -17,12 +18,14 @@ use crate::tokens::{Reader, Step};
 use std::alloc::Global;
 
 /// The pattern that a text in Golly's multi-state RLE spells, or what is wrong with the text; the
-/// fault is `Memory` only where memory was refused.
+/// fault is `Memory` only where memory was refused. A text without a header is told as such, whether
+/// there is memory or not: memory is taken behind the header alone.
 ///
 /// Not proved, but so by its code: the time grows with the text's length and the number of its
 /// cells, and memory is taken for nonzero cells alone.
 pub fn parse(alloc: Global, text: &[u8]) -> Result<Pattern, RleFault>
-    ensures { Answers (λ fault. fault ≡ RleFault.Memory) result (parsed text.now) }
+    ensures answers { Answers (λ fault. fault ≡ RleFault.Memory) result (parsed text.now) }
+    ensures no_header { HasNoHeader text.now ↔ (result ≡ Err RleFault.Header) }
 {
     let Some(front) = front_of(text) else {
         return Err(RleFault::Header);

@@ -21,11 +21,12 @@ pub enum Role {
 
 impl Role {
     ghost use Rattle.multistate_rle.specs.Reading.{role_of, bare_role};
+    ghost use Rattle.multistate_rle.specs.Steps.{role_meant};
 
     /// What a byte is, behind a prefix or none.
     pub fn of(prefix: Option<u8>, byte: u8) -> Role
         requires { IfSome prefix (λ k. k ≤ 10) }
-        ensures { result ≡ role_of prefix byte }
+        ensures { role_meant result ≡ role_of prefix byte }
     {
         match byte {
             b'!' => Role::EndMark,
@@ -40,7 +41,7 @@ impl Role {
     }
 
     fn bare(byte: u8) -> Role
-        ensures { result ≡ bare_role byte }
+        ensures { role_meant result ≡ bare_role byte }
     {
         match byte {
             b'0'..=b'9' => Role::Digit(byte - b'0'),

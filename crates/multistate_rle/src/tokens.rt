@@ -11,6 +11,7 @@ use crate::fault::RleFault;
 use crate::pattern::PatternCell;
 use crate::role::Role;
 use std::alloc::{AllocError, Global};
+use std::marker::Model;
 
 /// More columns, and more rows, than there are: a count above it is as faulty as this one.
 pub const COUNT_LIMIT: u64 = 4_294_967_297;
@@ -24,6 +25,16 @@ pub struct Begun {
     pub place: Option<u64>,
     pub count: Option<u64>,
     pub prefix: Option<u8>,
+}
+
+impl Model for Begun {
+    ghost use Rattle.multistate_rle.specs.Reading.{Begun as BegunValue};
+
+    ghost Value = { BegunValue };
+
+    ghost view = { λ v. record { place = v.place; count = v.count; prefix = v.prefix } };
+
+    ghost inverse = { λ v. record { place = v.place; count = v.count; prefix = v.prefix } };
 }
 
 impl Begun {

@@ -1,5 +1,5 @@
 use Rattle.std.proofs.Common.{◌≡◌, List, ℕ, length}
-use Rattle.multistate_rle.specs.declared.origin.Items.{Items}
+use Rattle.multistate_rle.specs.Position.{Items}
 use Rattle.multistate_rle.specs.Bytes.{is_blank, past}
 use Rattle.multistate_rle.specs.Position.{words, items_in, no_items}
 use Rattle.multistate_rle.proofs.origin.items_of.Given as goal

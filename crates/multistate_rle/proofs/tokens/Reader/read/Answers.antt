@@ -1,4 +1,6 @@
-use Rattle.std.proofs.Common.{sym, ap, ◌++◌}
+use Rattle.std.proofs.Common.{◌∙◌, sym, ap, ◌++◌}
+use Rattle.multistate_rle.specs.declared.tokens.Reader.{Reader}
+use Rattle.multistate_rle.specs.Reading.{role_of}
 use Rattle.std.specs.Prelude.{Ok}
 use Rattle.generations_rule.specs.Refusal.{◌>>=◌}
 use Rattle.multistate_rle.specs.Tokens.{drawn}
@@ -9,4 +11,4 @@ use Rattle.multistate_rle.proofs.tokens.Reader.read.Goals as goal
 pub returns-in-Digit : goal.returns-in-Digit
 returns-in-Digit c = λ end marks.
     ap (λ read. read >>= λ tokens. Ok (c.args.self.now.cells.items ++ drawn tokens c.args.self.now.column c.args.self.now.row))
-    (digit_read end c.args.place c.args.byte c.in-Digit.digit marks c.args.self.now.begun c.with_digit-self.result (pen_of c.args.self.now) (sym c.in-Digit.ensures) c.with_digit-self.ensures)
+    (digit_read end c.args.place c.args.byte c.in-Digit.digit marks c.args.self.now.begun c.with_digit-self.result (pen_of c.args.self.now) (ap (λ (r : Reader). role_of r.begun.prefix c.args.byte) (sym c.self.view_is) ∙ sym c.in-Digit.ensures) c.with_digit-self.ensures)

@@ -1,0 +1,23 @@
+-- Which line of a text is its header.
+use Rattle.std.specs.Prelude.{◌≡◌, ℕ, Bool, not, ◌||◌, List, [], ◌∷◌, Option, None, filter}
+use Rattle.std.specs.List.{list_all, slice_split}
+use Rattle.multistate_rle.specs.Bytes.{is_blank, is_line_end}
+use Rattle.multistate_rle.specs.Header.{header_of}
+use Rattle.multistate_rle.specs.Reading.{is_comment}
+
+-- the lines of a text, without their ends
+abbrev pub text_lines : List ℕ → List (List ℕ)
+text_lines text = slice_split is_line_end text
+
+-- a line may stand in front of the header: it is a comment or blank
+abbrev pub may_precede : List ℕ → Bool
+may_precede line = is_comment line || list_all is_blank line
+
+-- the sides that the first of some lines names, if it is a header
+abbrev pub first_header : List (List ℕ) → Option (ℕ × ℕ)
+first_header [] = None
+first_header (line ∷ lines) = header_of line
+
+-- A text has no header: each of its lines is a comment or blank, or the first that is neither is no header.
+abbrev pub HasNoHeader : List ℕ → Type 0
+HasNoHeader text = first_header (filter (λ line. not (may_precede line)) (text_lines text)) ≡ None
