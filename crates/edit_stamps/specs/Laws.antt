@@ -1,5 +1,6 @@
 -- What writes, maps of writes and edits obey.
 use Rattle.std.specs.Prelude.{◌≡◌, ◌≢◌, ℕ, ℤ, ◌<◌, ◌^◌, ◌⊎◌, ◌↔◌, IsTrue, IfOk, List, ◌++◌, Contains, false, reverse, Some}
+use Rattle.std.specs.List.{AllByRecursion}
 use Rattle.std.specs.Ordering.{nat_cmp}
 use Rattle.generations_rule.specs.Place.{Place}
 use Rattle.generations_rule.specs.Rule.{GenerationsRule}
@@ -8,10 +9,11 @@ use Rattle.multistate_rle.specs.Cells.{is_sorted}
 use Rattle.multistate_rle.specs.Pattern.{RlePattern, IsPattern}
 use Rattle.edit_stamps.specs.declared.rect.Rect.{Rect}
 use Rattle.edit_stamps.specs.declared.write.Write.{Write}
-use Rattle.edit_stamps.specs.Edit.{PlaneEdit, IsEdit, is_edit, greatest, listed, write_by, writes_of, has_states_below}
+use Rattle.edit_stamps.specs.Edit.{PlaneEdit, IsEdit, is_edit, greatest, greatest_counter, listed, write_by, writes_of, has_states_below}
 use Rattle.edit_stamps.specs.Making.{edit_of_cells, settled}
 use Rattle.edit_stamps.specs.Pasting.{box_of, edit_of_clear, edit_of_copy, edit_of_or, state_there}
 use Rattle.edit_stamps.specs.Plane.{is_in}
+use Rattle.edit_stamps.specs.PlaneMap.{IsGreatestStamp}
 use Rattle.edit_stamps.specs.Stamp.{counter_of, is_stamp, replica_of, stamp_cmp, stamp_made, stamp_of}
 use Rattle.edit_stamps.specs.Write.{at_most, greater, unwritten, Writes, AreSame, IsBelow, joined}
 
@@ -96,3 +98,7 @@ pub record MakesPastes : Type 0 where
 -- the test of two edits holds exactly where they are one
 abbrev pub TellsEdits : Type 0
 TellsEdits = (a b : PlaneEdit) → IsTrue (is_edit a b) ↔ (a ≡ b)
+
+-- the greatest counter of edits is that of the greatest stamp in the map of their greatest writes, since each edit writes a cell
+abbrev pub TellsCounter : Type 0
+TellsCounter = (edits : List PlaneEdit) (n : ℕ) → AllByRecursion (λ e. IsEdit e) edits → IsGreatestStamp n (greatest edits) → counter_of n ≡ greatest_counter edits

@@ -1,7 +1,7 @@
 //! What the definitions obey, for all writes, maps and edits: the contracts of functions that do
 //! nothing.
 
-ghost use Rattle.edit_stamps.specs.Laws.{TellsStamps, IsTotal, IsLattice, IsLeastUpperBound, DependsOnMembers, JoinsLists, SettlesEntries, IsToldByReads, MakesEdits, MakesPastes, TellsEdits};
+ghost use Rattle.edit_stamps.specs.Laws.{TellsStamps, IsTotal, IsLattice, IsLeastUpperBound, DependsOnMembers, JoinsLists, SettlesEntries, IsToldByReads, TellsCounter, MakesEdits, MakesPastes, TellsEdits};
 
 /// Stamps. They are ordered by counter, then by replica, as Lamport's are, and each tells both.
 pub fn stamp_laws()
@@ -29,4 +29,10 @@ pub fn edit_laws()
     ensures made { MakesEdits }
     ensures pasted { MakesPastes }
     ensures one { TellsEdits }
+{}
+
+/// The greatest counter of edits is that of the greatest stamp in the map of their greatest writes:
+/// a replica need not keep edits to know its clock.
+pub fn clock_laws()
+    ensures { TellsCounter }
 {}

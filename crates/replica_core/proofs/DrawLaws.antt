@@ -11,10 +11,9 @@ use Rattle.edit_stamps.specs.declared.write.Write.{Write}
 use Rattle.edit_stamps.specs.Edit.{PlaneEdit, is_covered, listed, write_by, writes_of}
 use Rattle.edit_stamps.specs.Making.{cells_fault, settled}
 use Rattle.edit_stamps.specs.Pasting.{box_of, clear_fault, copy_fault, or_fault, placed}
-use Rattle.edit_stamps.specs.PlaneMap.{write_at}
+use Rattle.edit_stamps.specs.PlaneMap.{write_at, IsGreatestStamp, IsPartlyJoined}
 use Rattle.edit_stamps.specs.Stamp.{counter_of, last_counter, stamp_of}
 use Rattle.edit_stamps.specs.Write.{AreSame, greater, joined}
-use Rattle.stamped_map.specs.Plane.{IsGreatestStamp, IsPartlyJoined}
 use Rattle.replica_core.specs.declared.fault.Fault.{Fault}
 use Rattle.replica_core.specs.declared.fault.Fault.TheVariants as faults
 use Rattle.replica_core.specs.declared.spec.EditSpec.{EditSpec}

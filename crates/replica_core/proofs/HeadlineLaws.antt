@@ -7,7 +7,7 @@ use Rattle.edit_stamps.specs.Edit.{PlaneEdit, greatest, is_covered, listed, writ
 use Rattle.edit_stamps.specs.PlaneMap.{write_at}
 use Rattle.edit_stamps.specs.Write.{at_most, greater, AreSame}
 use Rattle.edit_stamps.proofs.WriteLaws.{depends_on_members, is_least_upper_bound, is_total, joins_lists}
-use Rattle.stamped_map.proofs.PartLaws.{made_by_one}
+use Rattle.edit_stamps.proofs.GreatestWrites.{made_by_one}
 use Rattle.replica_core.specs.declared.event.Event.{Event}
 use Rattle.replica_core.specs.declared.fault.Fault.TheVariants as faults
 use Rattle.replica_core.specs.Replica.{ReplicaState}

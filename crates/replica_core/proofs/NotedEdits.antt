@@ -6,12 +6,11 @@ use Rattle.std.proofs.lemmas.Bool.{cases_Bool}
 use Rattle.std.proofs.lemmas.List.Elements.{Contains-append_cases, Contains-push_cases}
 use Rattle.std.proofs.lemmas.Map.Keys.{IsDistinct-push}
 use Rattle.generations_rule.specs.Rule.{GenerationsRule}
-use Rattle.edit_stamps.specs.Edit.{PlaneEdit, IsEdit, greatest, is_edit, writes_of}
-use Rattle.edit_stamps.specs.PlaneMap.{write_at}
+use Rattle.edit_stamps.specs.Edit.{PlaneEdit, IsEdit, greatest, is_edit, writes_of, IsPartlyEdited}
+use Rattle.edit_stamps.specs.PlaneMap.{write_at, IsGreatestStamp, IsPartlyJoined}
 use Rattle.edit_stamps.specs.Write.{at_most, Writes, AreSame, IsBelow, joined}
 use Rattle.edit_stamps.proofs.WriteLaws.{is_least_upper_bound, is_total}
-use Rattle.stamped_map.specs.Plane.{IsGreatestStamp, IsPartlyEdited, IsPartlyJoined}
-use Rattle.stamped_map.proofs.ClockLaws.{stamp_in}
+use Rattle.edit_stamps.proofs.ClockLaws.{stamp_in}
 use Rattle.edit_journal.specs.Journal.{noted}
 use Rattle.edit_journal.proofs.NotedLaws.{contains_told, edits_equiv, noted_distinct, noted_members}
 use Rattle.replica_core.specs.declared.message.Content.{Content}

@@ -1,10 +1,9 @@
 -- Messages, and what they share.
 use Rattle.std.specs.Prelude.{ℕ, List, [], Option, Some, None}
 use Rattle.generations_rule.specs.Rule.{GenerationsRule}
-use Rattle.edit_stamps.specs.Edit.{PlaneEdit, greatest}
-use Rattle.edit_stamps.specs.PlaneMap.{write_at}
+use Rattle.edit_stamps.specs.Edit.{PlaneEdit, greatest, HaveStatesBelow, IsPartlyEdited}
+use Rattle.edit_stamps.specs.PlaneMap.{write_at, HasStatesBelow, IsPartlyJoined}
 use Rattle.edit_stamps.specs.Write.{Writes}
-use Rattle.stamped_map.specs.Plane.{HasStatesBelow, HaveStatesBelow, IsPartlyEdited, IsPartlyJoined}
 use Rattle.replica_core.specs.declared.message.Content.{Content}
 use Rattle.replica_core.specs.declared.message.Content.TheVariants.{Edits, State}
 

@@ -8,7 +8,7 @@ use Rattle.edit_stamps.specs.declared.fault.EditFault.{EditFault}
 use Rattle.edit_stamps.specs.Edit.{PlaneEdit, IsEdit, is_edit, writes_of}
 use Rattle.edit_stamps.specs.Making.{edit_of_cells}
 use Rattle.edit_stamps.specs.Pasting.{edit_of_clear, edit_of_copy, edit_of_or}
-use Rattle.edit_stamps.specs.PlaneMap.{PlaneMap, write_at}
+use Rattle.edit_stamps.specs.PlaneMap.{PlaneMap, write_at, HasStatesBelow, IsPartlyJoined}
 use Rattle.edit_stamps.specs.Stamp.{stamp_of, last_counter}
 use Rattle.edit_stamps.specs.Write.{unwritten, Writes, AreSame, IsBelow, joined}
 use Rattle.replica_core.specs.declared.spec.EditSpec.{EditSpec}
@@ -20,7 +20,6 @@ use Rattle.replica_core.specs.declared.message.Content.TheVariants.{Edits, State
 use Rattle.replica_core.specs.Fault.{fault_of_edit}
 use Rattle.edit_journal.specs.Journal.{noted}
 use Rattle.replica_core.specs.Message.{Shared, writes_in, edits_in, IsPartlyTaken}
-use Rattle.stamped_map.specs.Plane.{HasStatesBelow, IsPartlyJoined}
 
 -- what contracts see of a replica
 pub record ReplicaState : Type 0 where

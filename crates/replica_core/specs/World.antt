@@ -6,7 +6,7 @@ use Rattle.std.proofs.Math.ListN.{replicate}
 use Rattle.generations_rule.specs.Place.{at_place}
 use Rattle.generations_rule.specs.Refusal.{◌>>=◌}
 use Rattle.generations_rule.specs.Rule.{GenerationsRule}
-use Rattle.edit_stamps.specs.Edit.{PlaneEdit, IsEdit, greatest}
+use Rattle.edit_stamps.specs.Edit.{PlaneEdit, IsEdit, greatest, greatest_counter}
 use Rattle.edit_stamps.specs.PlaneMap.{write_at}
 use Rattle.edit_stamps.specs.Write.{AreSame}
 use Rattle.replica_core.specs.declared.event.Event.{Event}
@@ -17,7 +17,6 @@ use Rattle.replica_core.specs.declared.fault.Fault.{Fault}
 use Rattle.replica_core.specs.declared.fault.Fault.TheVariants as faults
 use Rattle.replica_core.specs.declared.message.Content.{Content}
 use Rattle.replica_core.specs.declared.spec.EditSpec.{EditSpec}
-use Rattle.stamped_map.specs.Laws.{greatest_counter}
 use Rattle.replica_core.specs.Message.{Shared}
 use Rattle.replica_core.specs.Replica.{ReplicaState, IsMapOf, edit_drawn}
 

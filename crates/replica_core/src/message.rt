@@ -36,8 +36,8 @@ impl Model for Message {
 impl Message {
     ghost use Rattle.replica_core.specs.declared.message.Content.TheVariants.{Edits, State};
     ghost use Rattle.replica_core.specs.Message.{IsBelowStates, edits_of};
-    ghost use Rattle.stamped_map.specs.Plane.{HaveStatesBelow, HasStatesBelow};
-    ghost use Rattle.edit_stamps.specs.PlaneMap.{write_at};
+    ghost use Rattle.edit_stamps.specs.Edit.{HaveStatesBelow};
+    ghost use Rattle.edit_stamps.specs.PlaneMap.{write_at, HasStatesBelow};
 
     /// A message of edits whose states the rule has.
     pub fn of_edits(rule: Rule, edits: Vec<Edit>) -> Message

@@ -5,14 +5,13 @@ ghost use Rattle.std.specs.Result.{IsOk};
 ghost use Rattle.generations_rule.specs.Refusal.{Answers};
 ghost use Rattle.generations_rule.specs.Place.{at_place};
 ghost use Rattle.edit_stamps.specs.Stamp.{counter_of as counter_in};
-ghost use Rattle.edit_stamps.specs.PlaneMap.{write_at};
+ghost use Rattle.edit_stamps.specs.PlaneMap.{write_at, IsGreatestStamp, IsPartlyJoined, KeepsStates};
 ghost use Rattle.edit_stamps.specs.Write.{unwritten, AreSame, joined};
-ghost use Rattle.edit_stamps.specs.Edit.{PlaneEdit, IsEdit, greatest, has_states_below, writes_of};
+ghost use Rattle.edit_stamps.specs.Edit.{PlaneEdit, IsEdit, greatest, has_states_below, writes_of, HaveStatesBelow, IsPartlyEdited};
 ghost use Rattle.replica_core.specs.Fault.{IsWant};
 ghost use Rattle.edit_journal.specs.Journal.{noted};
 ghost use Rattle.replica_core.specs.Message.{edits_in, writes_in, IsBelowStates, IsPartlyTaken};
 ghost use Rattle.replica_core.specs.Replica.{made, or_edit_fault, stamp_after};
-ghost use Rattle.stamped_map.specs.Plane.{HaveStatesBelow, IsGreatestStamp, IsPartlyEdited, IsPartlyJoined, KeepsStates};
 
 use crate::fault::Fault;
 use crate::message::{Content, Message};
@@ -37,8 +36,7 @@ pub struct Replica {
 
 impl Model for Replica {
     ghost use Rattle.std.specs.Prelude.{◌≤◌};
-    ghost use Rattle.edit_stamps.specs.PlaneMap.{write_at};
-    ghost use Rattle.stamped_map.specs.Plane.{HasStatesBelow};
+    ghost use Rattle.edit_stamps.specs.PlaneMap.{write_at, HasStatesBelow};
     ghost use Rattle.replica_core.specs.Replica.{ReplicaState, IsReplica};
 
     ghost Value = { ReplicaState };

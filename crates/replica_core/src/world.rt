@@ -1,13 +1,12 @@
 //! Worlds of replicas: lists of events, and their replies.
 
 ghost use Rattle.std.specs.Prelude.{◌≡◌, ◌≢◌, ◌≤◌, ◌-◌, ℕ, IfOk, IfErr, SomeIff, Contains, length, MatchResult, option_copied};
-ghost use Rattle.edit_stamps.specs.Edit.{IsEdit, PlaneEdit};
+ghost use Rattle.edit_stamps.specs.Edit.{IsEdit, PlaneEdit, greatest_counter};
 ghost use Rattle.generations_rule.specs.Rule.{GenerationsRule};
 ghost use Rattle.replica_core.specs.declared.event.Event.TheVariants as events;
 ghost use Rattle.replica_core.specs.declared.event.Stop.TheVariants as stops;
 ghost use Rattle.replica_core.specs.declared.event.Reply.TheVariants as replies;
 ghost use Rattle.replica_core.specs.declared.fault.Fault.TheVariants as faults;
-ghost use Rattle.stamped_map.specs.Laws.{greatest_counter};
 ghost use Rattle.replica_core.specs.Replica.{edit_drawn, IsNew, IsSnapshot};
 ghost use Rattle.replica_core.specs.World.{History, ReplicaHistory, Sent, opening, after, after_all, after_drawing, after_message, numbered, AreEdits, AreReplies, IsReply, StandSideBySide, StandsFor, StandsForSent, StandsForWorld};
 

@@ -9,29 +9,18 @@ use Rattle.std.proofs.lemmas.Int.{ints}
 use Rattle.multistate_rle.specs.declared.cell.Cell.{Cell}
 use Rattle.edit_stamps.specs.declared.write.Write.{Write}
 use Rattle.edit_stamps.specs.Plane.{is_in, is_in_plane, is_area_in_plane}
-use Rattle.edit_stamps.specs.PlaneMap.{PlaneMap, write_at}
+use Rattle.edit_stamps.specs.PlaneMap.{PlaneMap, write_at, only, blank, IsGreatestStamp, LiesInPlane}
 use Rattle.edit_stamps.specs.Write.{at_most, greater, unwritten, Writes, AreSame, joined}
 use Rattle.edit_stamps.proofs.PlaceOrder.{one_place, same_itself}
-use Rattle.edit_stamps.proofs.WriteLaws.{is_lattice, is_least_upper_bound}
+use Rattle.edit_stamps.proofs.WriteLaws.{is_lattice, left_of, right_of, stamps_rise, stamp_of_greater, greater-unwritten, unwritten-greater}
 use Rattle.stamped_map.specs.declared.plane.Coordinate.{Coordinate}
 use Rattle.edit_stamps.specs.declared.rect.Rect.{Rect}
-use Rattle.stamped_map.specs.Plane.{place_at, only, written, blank, strip, IsGreatestStamp, LiesInPlane, IsPlane}
-use Rattle.stamped_map.proofs.JoinLemmas.{greater-unwritten, unwritten-greater}
+use Rattle.stamped_map.specs.Plane.{place_at, strip, IsPlane}
+use Rattle.edit_stamps.specs.Edit.{written}
 
 -- ---- the greatest stamp
 
-pub stamps_rise : (v w : Write) → at_most v w ≡ true → v.stamp ≤ w.stamp
-stamps_rise v w h = grind (arith, nat_tests)
-
 -- the greater of two writes is above both, and has a stamp of one of them
-pub left_of : (v w : Write) → at_most v (greater v w) ≡ true
-left_of v w = is_least_upper_bound.left (λ _. v) (λ _. w) (record { x = pos 0; y = pos 0 })
-
-pub right_of : (v w : Write) → at_most w (greater v w) ≡ true
-right_of v w = is_least_upper_bound.right (λ _. v) (λ _. w) (record { x = pos 0; y = pos 0 })
-
-pub stamp_of_greater : (v w : Write) → (greater v w).stamp ≤ max v.stamp w.stamp
-stamp_of_greater v w = elim (cases_Bool (at_most v w)) [ inl t ↦ rw t (omega arith) | inr f ↦ rw f (omega arith) ]
 
 only-here : (c : Place) (w : Write) → only c w c ≡ w
 only-here c w = rw (same_itself c) refl

@@ -8,17 +8,17 @@ use Rattle.std.specs.Ordering.{is_eq, eq_by_cmp}
 use Rattle.std.proofs.lemmas.Int.{ints}
 use Rattle.std.proofs.lemmas.Bool.{cases_Bool}
 use Rattle.edit_stamps.specs.declared.write.Write.{Write}
-use Rattle.edit_stamps.specs.PlaneMap.{PlaneMap, write_at}
+use Rattle.edit_stamps.specs.PlaneMap.{PlaneMap, write_at, only, IsGreatestStamp, HasStatesBelow, IsPartlyJoined, KeepsStates}
 use Rattle.edit_stamps.specs.Write.{at_most, greater, unwritten, Writes, AreSame, joined}
 use Rattle.edit_stamps.proofs.PlaceOrder.{one_place}
-use Rattle.edit_stamps.proofs.WriteLaws.{is_total, is_lattice}
+use Rattle.edit_stamps.proofs.WriteLaws.{is_total, is_lattice, greater-unwritten, unwritten-greater, stamp_of_greater, stamps_rise, left_of, right_of}
 use Rattle.stamped_map.specs.declared.plane.Coordinate.{Coordinate}
-use Rattle.stamped_map.specs.Plane.{map_of_entries, place_at, only, IsGreatestStamp, IsPlane, HasStatesBelow, IsPartlyJoined, KeepsStates}
+use Rattle.stamped_map.specs.Plane.{map_of_entries, place_at, IsPlane}
 use Rattle.stamped_map.specs.Merge.{coordinate_cmp, from_place, wins_over}
 use Rattle.stamped_map.proofs.ReadLemmas.{found, write_at-entries}
-use Rattle.stamped_map.proofs.JoinLemmas.{absorbed, swapped, key_is_place, coordinate, greater-unwritten, unwritten-greater}
+use Rattle.stamped_map.proofs.JoinLemmas.{absorbed, swapped, key_is_place, coordinate}
 use Rattle.stamped_map.proofs.EntryLaws.{same_key, entries_written, written_is_read}
-use Rattle.stamped_map.proofs.JoiningLaws.{greatest_joined, inside_joined, stamp_of_greater, stamps_rise, left_of, right_of}
+use Rattle.stamped_map.proofs.JoiningLaws.{greatest_joined, inside_joined}
 use Rattle.stamped_map.proofs.StateLaws.{joined_below}
 use Rattle.stamped_map.proofs.AheadLaws.{less_before, read_ahead}
 

@@ -6,10 +6,9 @@ use Rattle.generations_rule.specs.Place.{Place, is_place}
 use Rattle.multistate_rle.specs.declared.cell.Cell.{Cell}
 use Rattle.multistate_rle.specs.Cells.{are_below}
 use Rattle.edit_stamps.specs.declared.write.Write.{Write}
-use Rattle.edit_stamps.specs.Edit.{PlaneEdit, greatest, writes_of, has_states_below}
-use Rattle.edit_stamps.specs.PlaneMap.{PlaneMap, write_at}
+use Rattle.edit_stamps.specs.Edit.{PlaneEdit, greatest, writes_of, has_states_below, HaveStatesBelow}
+use Rattle.edit_stamps.specs.PlaneMap.{PlaneMap, write_at, only, HasStatesBelow, KeepsStates}
 use Rattle.edit_stamps.specs.Write.{at_most, greater, Writes, AreSame, joined}
-use Rattle.stamped_map.specs.Plane.{only, HasStatesBelow, HaveStatesBelow, KeepsStates}
 use Rattle.stamped_map.proofs.JoiningLaws.{cell_of}
 
 origin : Place

@@ -6,11 +6,11 @@ mod merge;
 ghost use Rattle.std.specs.Prelude.{◌≡◌, Contains, false, ◌<◌, ◌+ℤ◌, pos, IfOk, IsTrue, OnOk, OnErr, ⊤};
 ghost use Rattle.edit_stamps.specs.Plane.{is_area_in_plane, is_in_plane};
 ghost use Rattle.generations_rule.specs.Place.{at_place};
-ghost use Rattle.edit_stamps.specs.PlaneMap.{write_at};
+ghost use Rattle.edit_stamps.specs.PlaneMap.{write_at, only};
 ghost use Rattle.edit_stamps.specs.Write.{unwritten, AreSame, joined};
 ghost use Rattle.edit_stamps.specs.Edit.{PlaneEdit, IsEdit, greatest, has_states_below, writes_of};
 ghost use Rattle.multistate_rle.specs.Cells.{are_below, is_sorted};
-ghost use Rattle.stamped_map.specs.Plane.{only, map_of_entries, place_at, strip};
+ghost use Rattle.stamped_map.specs.Plane.{map_of_entries, place_at, strip};
 
 use edit_stamps::{Edit, Rect, Write};
 use multistate_rle::Cell;
@@ -87,7 +87,8 @@ impl Model for Plane {
 
 impl Plane {
     ghost use Rattle.edit_stamps.specs.Making.{are_in_plane};
-    ghost use Rattle.stamped_map.specs.Plane.{HasStatesBelow, HaveStatesBelow, IsGreatestStamp, IsPartlyEdited, IsPartlyJoined, KeepsStates, LiesInPlane, blank, written};
+    ghost use Rattle.edit_stamps.specs.Edit.{HaveStatesBelow, IsPartlyEdited, written};
+    ghost use Rattle.edit_stamps.specs.PlaneMap.{HasStatesBelow, IsGreatestStamp, IsPartlyJoined, KeepsStates, LiesInPlane, blank};
 
     /// The plane where nothing was written.
     pub fn new(alloc: Global) -> Plane

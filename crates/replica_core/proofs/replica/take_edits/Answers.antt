@@ -2,8 +2,8 @@ use Rattle.std.proofs.Common.{◌≡◌, sym, ◌∙◌, subst, ap, refl, Err, I
 use Rattle.std.proofs.lemmas.Result.{err_from_is_err_and}
 use Rattle.edit_stamps.specs.PlaneMap.{write_at}
 use Rattle.replica_core.specs.declared.fault.Fault.TheVariants as faults
-use Rattle.stamped_map.specs.Plane.{IsPartlyEdited}
-use Rattle.stamped_map.proofs.PartLaws.{edited_whole}
+use Rattle.edit_stamps.specs.Edit.{IsPartlyEdited}
+use Rattle.edit_stamps.proofs.GreatestWrites.{edited_whole}
 use Rattle.replica_core.proofs.replica.take_edits.Goals as goal
 
 -- the journal had no room for edits that were wholly joined

@@ -1,7 +1,6 @@
 use Rattle.std.proofs.Common.{◌∙◌, sym, ap, subst}
 use Rattle.std.proofs.lemmas.Result.{IfOk-weaker}
-use Rattle.edit_stamps.specs.Edit.{IsEdit}
-use Rattle.stamped_map.specs.Laws.{greatest_counter}
+use Rattle.edit_stamps.specs.Edit.{IsEdit, greatest_counter}
 use Rattle.replica_core.specs.Replica.{edit_drawn}
 use Rattle.replica_core.specs.declared.event.Reply.TheVariants as replies
 use Rattle.replica_core.proofs.StandingLaws.{draws_at_clock, draws_edit, given_ok, given_err, refused_as_meant}

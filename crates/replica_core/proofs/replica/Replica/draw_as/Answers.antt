@@ -2,9 +2,8 @@ use Rattle.std.proofs.Common.{ℕ, sym, ◌∙◌, subst, ap, refl, Ok, Err}
 use Rattle.std.proofs.lemmas.Result.{err_from_is_err_and}
 use Rattle.edit_stamps.specs.Stamp.{counter_of}
 use Rattle.edit_stamps.specs.Edit.{IsEdit}
-use Rattle.edit_stamps.specs.PlaneMap.{write_at}
+use Rattle.edit_stamps.specs.PlaneMap.{write_at, IsGreatestStamp}
 use Rattle.replica_core.specs.Replica.{ReplicaState, edit_drawn, IsDraw, IsJournalOf}
-use Rattle.stamped_map.specs.Plane.{IsGreatestStamp}
 use Rattle.replica_core.proofs.DrawLaws.{draws, next_above, refuses_made, stops}
 use Rattle.replica_core.proofs.NotedEdits.{draw_stopped, drawn_journal}
 use Rattle.replica_core.proofs.replica.Replica.draw_as.Goals as goal

@@ -1,8 +1,8 @@
 use Rattle.std.proofs.Common.{◌+◌, ◌-◌, ◌+ℤ◌, pos, arith}
 use Rattle.std.specs.Prelude.{⊤}
 use Rattle.stamped_map.proofs.StateLaws.{keeps_on}
-use Rattle.edit_stamps.specs.PlaneMap.{write_at}
-use Rattle.stamped_map.specs.Plane.{blank, strip}
+use Rattle.edit_stamps.specs.PlaneMap.{write_at, blank}
+use Rattle.stamped_map.specs.Plane.{strip}
 use Rattle.stamped_map.proofs.JoiningLaws.{joining_starts_at, joining_goes, joining_ends, on_err, first_blank_row, no_blank_row}
 use Rattle.stamped_map.proofs.PartLaws.{partly_starts, partly_goes, partly_whole, row_part}
 use Rattle.stamped_map.proofs.plane.Plane.join_area.Goals as goal

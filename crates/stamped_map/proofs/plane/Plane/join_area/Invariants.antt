@@ -1,6 +1,6 @@
 use Rattle.std.proofs.Common.{◌-◌, pos, ◌+ℤ◌}
-use Rattle.edit_stamps.specs.PlaneMap.{write_at}
-use Rattle.stamped_map.specs.Plane.{blank, strip, IsPartlyJoined, KeepsStates}
+use Rattle.edit_stamps.specs.PlaneMap.{write_at, blank, IsPartlyJoined, KeepsStates}
+use Rattle.stamped_map.specs.Plane.{strip}
 use Rattle.std.specs.Prelude.{⊤}
 use Rattle.stamped_map.proofs.JoiningLaws.{IsJoining}
 use Rattle.stamped_map.proofs.plane.Plane.join_area.Given as goal

@@ -3,8 +3,9 @@ use Rattle.std.proofs.lemmas.List.{drop_all}
 use Rattle.std.specs.Prelude.{IsTrue}
 use Rattle.multistate_rle.specs.Cells.{are_below}
 use Rattle.stamped_map.proofs.StateLaws.{keeps_on, cell_below}
-use Rattle.edit_stamps.specs.PlaneMap.{PlaneMap, write_at}
-use Rattle.stamped_map.specs.Plane.{written, only, place_at, IsPartlyJoined}
+use Rattle.edit_stamps.specs.PlaneMap.{PlaneMap, write_at, only, IsPartlyJoined}
+use Rattle.stamped_map.specs.Plane.{place_at}
+use Rattle.edit_stamps.specs.Edit.{written}
 use Rattle.stamped_map.proofs.JoiningLaws.{joining_goes, joining_ends, on_err, first_written, cell_of}
 use Rattle.stamped_map.proofs.PartLaws.{partly_goes, partly_whole, cell_part}
 use Rattle.stamped_map.proofs.plane.Plane.join_cells.Goals as goal

@@ -1,6 +1,6 @@
 use Rattle.std.proofs.Common.{drop}
-use Rattle.edit_stamps.specs.PlaneMap.{write_at}
-use Rattle.stamped_map.specs.Plane.{written, IsPartlyJoined, KeepsStates}
+use Rattle.edit_stamps.specs.PlaneMap.{write_at, IsPartlyJoined, KeepsStates}
+use Rattle.edit_stamps.specs.Edit.{written}
 use Rattle.multistate_rle.specs.Cells.{are_below}
 use Rattle.std.specs.Prelude.{IsTrue}
 use Rattle.stamped_map.proofs.JoiningLaws.{IsJoining}

@@ -1,9 +1,8 @@
 use Rattle.std.proofs.Common.{◌+◌, ap, arith, drop}
 use Rattle.std.proofs.lemmas.List.{drop_all}
 use Rattle.std.specs.Prelude.{IsTrue}
-use Rattle.edit_stamps.specs.Edit.{greatest, writes_of, has_states_below}
+use Rattle.edit_stamps.specs.Edit.{greatest, writes_of, has_states_below, HaveStatesBelow}
 use Rattle.edit_stamps.specs.PlaneMap.{write_at}
-use Rattle.stamped_map.specs.Plane.{HaveStatesBelow}
 use Rattle.stamped_map.proofs.JoiningLaws.{joining_goes, joining_ends, on_err}
 use Rattle.stamped_map.proofs.PartLaws.{edited_goes, edit_seen, partly_whole, in_edits}
 use Rattle.stamped_map.proofs.StateLaws.{keeps_on, edits_from, first_edit}

@@ -1,7 +1,6 @@
 use Rattle.std.proofs.Common.{◌≡◌, ℕ, ◌<◌, drop, get_or}
-use Rattle.edit_stamps.specs.Edit.{PlaneEdit, IsEdit, greatest}
-use Rattle.edit_stamps.specs.PlaneMap.{write_at}
-use Rattle.stamped_map.specs.Plane.{HaveStatesBelow, IsPartlyEdited, KeepsStates}
+use Rattle.edit_stamps.specs.Edit.{PlaneEdit, IsEdit, greatest, HaveStatesBelow, IsPartlyEdited}
+use Rattle.edit_stamps.specs.PlaneMap.{write_at, KeepsStates}
 use Rattle.stamped_map.proofs.JoiningLaws.{IsJoining}
 use Rattle.stamped_map.proofs.plane.Plane.join_edits.Given as goal
 

@@ -1,8 +1,8 @@
 use Rattle.std.proofs.Common.{◌+◌, ◌-◌, ◌<◌, ◌+ℤ◌, pos, arith, subst, sym}
 use Rattle.std.specs.Prelude.{⊤}
 use Rattle.stamped_map.proofs.StateLaws.{keeps_on, zero_below}
-use Rattle.edit_stamps.specs.PlaneMap.{PlaneMap, write_at}
-use Rattle.stamped_map.specs.Plane.{blank, only, place_at, strip, IsPartlyJoined}
+use Rattle.edit_stamps.specs.PlaneMap.{PlaneMap, write_at, blank, only, IsPartlyJoined}
+use Rattle.stamped_map.specs.Plane.{place_at, strip}
 use Rattle.stamped_map.proofs.JoiningLaws.{joining_goes, joining_ends, first_blank, no_blank_column, only_inside, column_inside, joining_starts_row, on_err}
 use Rattle.stamped_map.proofs.PartLaws.{partly_starts, partly_goes, partly_whole, column_part}
 use Rattle.stamped_map.proofs.plane.Plane.join_row.Goals as goal

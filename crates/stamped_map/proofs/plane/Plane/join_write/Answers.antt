@@ -1,7 +1,7 @@
 use Rattle.std.proofs.Common.{sym, subst}
-use Rattle.edit_stamps.specs.PlaneMap.{PlaneMap, write_at}
+use Rattle.edit_stamps.specs.PlaneMap.{PlaneMap, write_at, only}
 use Rattle.edit_stamps.specs.Write.{AreSame, joined}
-use Rattle.stamped_map.specs.Plane.{map_of_entries, only, place_at, IsPlane}
+use Rattle.stamped_map.specs.Plane.{map_of_entries, place_at, IsPlane}
 use Rattle.stamped_map.proofs.JoiningLaws.{plane_joined}
 use Rattle.stamped_map.proofs.plane.Plane.join_write.Goals as goal
 
