@@ -7,7 +7,7 @@ use Rattle.generations_rule.specs.Place.{Place}
 use Rattle.edit_stamps.specs.declared.write.Write.{Write}
 use Rattle.edit_stamps.specs.Write.{at_most, greater, unwritten}
 use Rattle.edit_stamps.specs.Edit.{PlaneEdit, greatest, writes_of}
-use Rattle.edit_stamps.specs.Laws.{IsTotal, IsLattice, IsLeastUpperBound, DependsOnMembers, JoinsLists}
+use Rattle.edit_stamps.specs.Laws.{IsTotal, IsLattice, IsLatticeOfMaps, IsLeastUpperBound, DependsOnMembers, JoinsLists}
 
 -- the order as a fact on numbers
 Below : Write → Write → Type 0
@@ -109,6 +109,13 @@ is_lattice = record { commutative = commutative; associative = associative; idem
 
 absorbed : (v w : Write) → IsTrue (at_most v w) → greater v w ≡ w
 absorbed v w h = rw h refl
+
+pub is_lattice_of_maps : IsLatticeOfMaps
+is_lattice_of_maps = record {
+  commutative = λ p q c. is_lattice.commutative (p c) (q c);
+  associative = λ p q r c. is_lattice.associative (p c) (q c) (r c);
+  idempotent = λ p c. is_lattice.idempotent (p c);
+}
 
 pub is_least_upper_bound : IsLeastUpperBound
 is_least_upper_bound = record {

@@ -39,6 +39,12 @@ pub record IsLattice : Type 0 where
   pub associative : (u v w : Write) → greater (greater u v) w ≡ greater u (greater v w)
   pub idempotent : (v : Write) → greater v v ≡ v
 
+-- so is the join of maps
+pub record IsLatticeOfMaps : Type 0 where
+  pub commutative : (p q : Writes) → AreSame (joined p q) (joined q p)
+  pub associative : (p q r : Writes) → AreSame (joined (joined p q) r) (joined p (joined q r))
+  pub idempotent : (p : Writes) → AreSame (joined p p) p
+
 -- the join is above both maps and below every map that is above both; p is below q exactly when joining them gives q
 pub record IsLeastUpperBound : Type 0 where
   pub left : (p q : Writes) → IsBelow p (joined p q)
@@ -89,11 +95,14 @@ pub record IsClear (stamp : ℕ) (area : Rect) (e : PlaneEdit) : Type 0 where
   pub in_area : (c : Place) → IsTrue (is_in area c) → writes_of e c ≡ record { stamp = stamp; state = 0 }
   pub elsewhere : (c : Place) → is_in area c ≡ false → writes_of e c ≡ unwritten
 
--- what the makers of pastes and clears make is a copy, an or and a clear
+-- what the makers of pastes and clears make is a copy, an or and a clear, whose states the rule has
 pub record MakesPastes : Type 0 where
   pub copy : (r : GenerationsRule) (stamp : ℕ) (p : RlePattern) (x y : ℤ) → IsTrue (is_stamp stamp) → IsPattern p → IfOk (edit_of_copy r stamp p x y) (IsCopy stamp p x y)
   pub or : (r : GenerationsRule) (stamp : ℕ) (p : RlePattern) (x y : ℤ) → IsTrue (is_stamp stamp) → IsPattern p → IfOk (edit_of_or r stamp p x y) (IsOr stamp p x y)
   pub clear : (stamp : ℕ) (area : Rect) → IsTrue (is_stamp stamp) → IfOk (edit_of_clear stamp area) (IsClear stamp area)
+  pub copy_states : (r : GenerationsRule) (stamp : ℕ) (p : RlePattern) (x y : ℤ) → IfOk (edit_of_copy r stamp p x y) (λ e. IsTrue (has_states_below r.states e))
+  pub or_states : (r : GenerationsRule) (stamp : ℕ) (p : RlePattern) (x y : ℤ) → IfOk (edit_of_or r stamp p x y) (λ e. IsTrue (has_states_below r.states e))
+  pub clear_states : (stamp : ℕ) (area : Rect) (states : ℕ) → IfOk (edit_of_clear stamp area) (λ e. IsTrue (has_states_below states e))
 
 -- the test of two edits holds exactly where they are one
 abbrev pub TellsEdits : Type 0

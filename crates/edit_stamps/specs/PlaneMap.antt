@@ -1,10 +1,11 @@
 -- A map of the plane as plain data: squares, each with one write. The first that covers a place has its write,
 -- and where none does nothing was written.
-use Rattle.std.specs.Prelude.{◌≡◌, ◌⊎◌, ℕ, ◌≤◌, ◌<◌, false, List, find, option_map, unwrap_or, if◌then◌else◌}
+use Rattle.std.specs.Prelude.{◌≡◌, ◌⊎◌, ℕ, ◌≤◌, ◌<◌, Bool, false, ◌||◌, ◌&&◌, ◌==◌, IsTrue, List, find, option_map, unwrap_or, if◌then◌else◌}
 use Rattle.generations_rule.specs.Place.{Place, is_place}
 use Rattle.edit_stamps.specs.declared.write.Write.{Write}
 use Rattle.edit_stamps.specs.declared.rect.Rect.{Rect}
 use Rattle.edit_stamps.specs.Plane.{is_in, is_in_plane}
+use Rattle.edit_stamps.specs.Stamp.{is_stamp}
 use Rattle.edit_stamps.specs.Write.{unwritten, Writes, joined}
 
 pub record Patch : Type 0 where
@@ -22,6 +23,14 @@ square corner side = record { x = corner.x; y = corner.y; width = side; height =
 abbrev pub write_at : PlaneMap → Writes
 write_at patches c = unwrap_or (option_map (λ p. p.write) (find (λ p. is_in (square p.corner p.side) c) patches)) unwritten
 
+-- what contracts see of a plane
+pub record PlaneValue : Type 0 where
+  pub map : PlaneMap
+
+-- what is read of a plane at each place
+abbrev pub map_of : PlaneValue → Writes
+map_of plane = write_at plane.map
+
 -- ---- maps
 
 -- the least number that no stamp of a map is above
@@ -32,6 +41,14 @@ pub record IsGreatestStamp (n : ℕ) (p : Writes) : Type 0 where
 -- nothing is written outside the plane
 abbrev pub LiesInPlane : Writes → Type 0
 LiesInPlane p = (c : Place) → is_in_plane c ≡ false → p c ≡ unwritten
+
+-- nothing was written, or a write with a stamp
+abbrev pub is_plane_write : Write → Bool
+is_plane_write write = is_stamp write.stamp || (write.stamp == 0 && write.state == 0)
+
+-- each write of a map is the least one, or its counter and replica are at least 1
+abbrev pub HasStampedWrites : Writes → Type 0
+HasStampedWrites p = (c : Place) → IsTrue (is_plane_write (p c))
 
 -- each state of a map is below a number of states
 abbrev pub HasStatesBelow : ℕ → Writes → Type 0

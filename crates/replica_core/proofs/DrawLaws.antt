@@ -11,7 +11,7 @@ use Rattle.edit_stamps.specs.declared.write.Write.{Write}
 use Rattle.edit_stamps.specs.Edit.{PlaneEdit, is_covered, listed, write_by, writes_of}
 use Rattle.edit_stamps.specs.Making.{cells_fault, settled}
 use Rattle.edit_stamps.specs.Pasting.{box_of, clear_fault, copy_fault, or_fault, placed}
-use Rattle.edit_stamps.specs.PlaneMap.{write_at, IsGreatestStamp, IsPartlyJoined}
+use Rattle.edit_stamps.specs.PlaneMap.{map_of, IsGreatestStamp, IsPartlyJoined}
 use Rattle.edit_stamps.specs.Stamp.{counter_of, last_counter, stamp_of}
 use Rattle.edit_stamps.specs.Write.{AreSame, greater, joined}
 use Rattle.replica_core.specs.declared.fault.Fault.{Fault}
@@ -64,8 +64,8 @@ next_above n number stamp g spec e next is =
 -- ---- what a draw answers
 
 pub draws : (old new : ReplicaState) (n stamp : ℕ) (spec : EditSpec) (e : PlaneEdit)
-    → IsGreatestStamp n (write_at old.map) → stamp_after (counter_of n) old.number ≡ Ok stamp → or_edit_fault (made old.rule stamp spec) ≡ Ok e
-    → IsOneReplica old new → AreSame (write_at new.map) (joined (write_at old.map) (writes_of e)) → new.journal ≡ old.journal ++ e ∷ []
+    → IsGreatestStamp n (map_of old.plane) → stamp_after (counter_of n) old.number ≡ Ok stamp → or_edit_fault (made old.rule stamp spec) ≡ Ok e
+    → IsOneReplica old new → AreSame (map_of new.plane) (joined (map_of old.plane) (writes_of e)) → new.journal ≡ old.journal ++ e ∷ []
     → IsDraw old new (edit_drawn old.rule (counter_of n) old.number spec) (Ok e)
 draws old new n stamp spec e greatest_is next is one map journal = (
   ap (λ s. s >>= (λ stamp. or_edit_fault (made old.rule stamp spec))) next ∙ is,
@@ -73,10 +73,10 @@ draws old new n stamp spec e greatest_is next is one map journal = (
     one = one;
     map = map;
     journal = journal;
-    wins = λ c some. map c ∙ wins_above (write_at old.map c) (writes_of e c) (
+    wins = λ c some. map c ∙ wins_above (map_of old.plane c) (writes_of e c) (
         let above : n < stamp = above_greatest n old.number stamp (nat_lt (counter_of n) last_counter) next in
         let mine : (writes_of e c).stamp ≡ stamp = stamp_written e.stamp (listed e.cells c) (is_covered e.area c) some ∙ made_stamp old.rule stamp spec e is in
-        let held : (write_at old.map c).stamp ≤ n = greatest_is.above c in
+        let held : (map_of old.plane c).stamp ≤ n = greatest_is.above c in
         omega (arith, above, mine, held)
         );
   },
@@ -85,7 +85,7 @@ draws old new n stamp spec e greatest_is next is one map journal = (
 -- a draw that was refused memory half way
 pub stops : (old new : ReplicaState) (n stamp : ℕ) (spec : EditSpec) (e : PlaneEdit)
     → stamp_after (counter_of n) old.number ≡ Ok stamp → or_edit_fault (made old.rule stamp spec) ≡ Ok e
-    → IsOneReplica old new → new.journal ≡ old.journal → IsPartlyJoined (write_at old.map) (writes_of e) (write_at new.map)
+    → IsOneReplica old new → new.journal ≡ old.journal → IsPartlyJoined (map_of old.plane) (writes_of e) (map_of new.plane)
     → IsDraw old new (edit_drawn old.rule (counter_of n) old.number spec) (Err faults.Memory)
 stops old new n stamp spec e next is one journal part = (
   e,

@@ -7,7 +7,7 @@ use Rattle.std.proofs.lemmas.List.Elements.{Contains-append_cases, Contains-push
 use Rattle.std.proofs.lemmas.Map.Keys.{IsDistinct-push}
 use Rattle.generations_rule.specs.Rule.{GenerationsRule}
 use Rattle.edit_stamps.specs.Edit.{PlaneEdit, IsEdit, greatest, is_edit, writes_of, IsPartlyEdited}
-use Rattle.edit_stamps.specs.PlaneMap.{write_at, IsGreatestStamp, IsPartlyJoined}
+use Rattle.edit_stamps.specs.PlaneMap.{map_of, IsGreatestStamp, IsPartlyJoined}
 use Rattle.edit_stamps.specs.Write.{at_most, Writes, AreSame, IsBelow, joined}
 use Rattle.edit_stamps.proofs.WriteLaws.{is_least_upper_bound, is_total}
 use Rattle.edit_stamps.proofs.ClockLaws.{stamp_in}
@@ -51,7 +51,7 @@ draw_stopped p q e journal part = grown p q journal (part_grows p q (writes_of e
 -- a take that stopped half way
 pub take_stopped : (p q : Writes) (content : Content) (journal : List PlaneEdit) → IsPartlyTaken p content q → IsJournalOf p journal → IsJournalOf q journal
 take_stopped p q (contents.Edits edits) journal part = grown p q journal (edits_grow p q edits part)
-take_stopped p q (contents.State plane) journal part = grown p q journal (part_grows p q (write_at plane) part)
+take_stopped p q (contents.State plane) journal part = grown p q journal (part_grows p q (map_of plane) part)
 
 -- ---- draws
 
@@ -105,4 +105,4 @@ noted_journal p q journal edits are whole is = record {
 pub taken_journal : (p q : Writes) (content : Content) (journal : List PlaneEdit) → ((e : PlaneEdit) → Contains (edits_in content) e → IsEdit e) → AreSame q (joined p (writes_in content))
     → IsJournalOf p journal → IsJournalOf q (noted journal (edits_in content))
 taken_journal p q (contents.Edits edits) journal are whole = noted_journal p q journal edits are whole
-taken_journal p q (contents.State plane) journal are whole = grown p q journal (whole_grows p q (write_at plane) whole)
+taken_journal p q (contents.State plane) journal are whole = grown p q journal (whole_grows p q (map_of plane) whole)

@@ -8,7 +8,7 @@ use Rattle.edit_stamps.specs.declared.fault.EditFault.{EditFault}
 use Rattle.edit_stamps.specs.Edit.{PlaneEdit, IsEdit, is_edit, writes_of}
 use Rattle.edit_stamps.specs.Making.{edit_of_cells}
 use Rattle.edit_stamps.specs.Pasting.{edit_of_clear, edit_of_copy, edit_of_or}
-use Rattle.edit_stamps.specs.PlaneMap.{PlaneMap, write_at, HasStatesBelow, IsPartlyJoined}
+use Rattle.edit_stamps.specs.PlaneMap.{HasStampedWrites, PlaneValue, map_of, HasStatesBelow, IsPartlyJoined}
 use Rattle.edit_stamps.specs.Stamp.{stamp_of, last_counter}
 use Rattle.edit_stamps.specs.Write.{unwritten, Writes, AreSame, IsBelow, joined}
 use Rattle.replica_core.specs.declared.spec.EditSpec.{EditSpec}
@@ -25,7 +25,7 @@ use Rattle.replica_core.specs.Message.{Shared, writes_in, edits_in, IsPartlyTake
 pub record ReplicaState : Type 0 where
   pub rule : GenerationsRule
   pub number : ℕ
-  pub map : PlaneMap
+  pub plane : PlaneValue
   pub journal : List PlaneEdit
 
 -- ---- draws
@@ -59,21 +59,21 @@ pub record IsOneReplica (old new : ReplicaState) : Type 0 where
 -- the edit is joined, stands in the journal, and wins each cell that it writes
 pub record DrawsAs (old new : ReplicaState) (e : PlaneEdit) : Type 0 where
   pub one : IsOneReplica old new
-  pub map : AreSame (write_at new.map) (joined (write_at old.map) (writes_of e))
+  pub map : AreSame (map_of new.plane) (joined (map_of old.plane) (writes_of e))
   pub journal : new.journal ≡ old.journal ++ e ∷ []
-  pub wins : (c : Place) → 0 < (writes_of e c).stamp → write_at new.map c ≡ writes_of e c
+  pub wins : (c : Place) → 0 < (writes_of e c).stamp → map_of new.plane c ≡ writes_of e c
 
 -- the message's writes are joined, and the journal has its edits
 pub record Takes (old new : ReplicaState) (m : Content) : Type 0 where
   pub one : IsOneReplica old new
-  pub map : AreSame (write_at new.map) (joined (write_at old.map) (writes_in m))
+  pub map : AreSame (map_of new.plane) (joined (map_of old.plane) (writes_in m))
   pub journal : new.journal ≡ noted old.journal (edits_in m)
 
 -- after want of memory all but the map is as it was, and of the map as much as is said
 pub record IsPartly (old new : ReplicaState) (IsPartOf : Writes → Writes → Type 0) : Type 0 where
   pub one : IsOneReplica old new
   pub journal : new.journal ≡ old.journal
-  pub map : IsPartOf (write_at old.map) (write_at new.map)
+  pub map : IsPartOf (map_of old.plane) (map_of new.plane)
 
 -- ---- what each call answers, and what it leaves
 
@@ -81,7 +81,7 @@ pub record IsPartly (old new : ReplicaState) (IsPartOf : Writes → Writes → T
 pub record IsNew (rule : GenerationsRule) (number : ℕ) (r : ReplicaState) : Type 0 where
   pub same_rule : r.rule ≡ rule
   pub same_number : r.number ≡ number
-  pub map : AreSame (write_at r.map) (λ _. unwritten)
+  pub map : AreSame (map_of r.plane) (λ _. unwritten)
   pub journal : r.journal ≡ []
 
 -- A draw answers the edit that is drawn at the greatest stamp of the map, or its first refusal, which leaves all as it
@@ -108,14 +108,15 @@ IsTaking old new m (Err faults.NoMessage) = ⊥
 
 -- a message's content is a map equal to p at every place
 abbrev pub IsMapOf : Writes → Content → Type 0
-IsMapOf p (State plane) = AreSame (write_at plane) p
+IsMapOf p (State plane) = AreSame (map_of plane) p
 IsMapOf p (Edits edits) = ⊥
 
--- a message of the replica's rule with its map, whose states the rule has
+-- a message of the replica's rule with its map, whose states the rule has and whose writes have stamps
 pub record IsSnapshot (r : ReplicaState) (m : Shared) : Type 0 where
   pub rule : m.rule ≡ r.rule
-  pub map : IsMapOf (write_at r.map) m.content
-  pub states : HasStatesBelow m.rule.states (write_at r.map)
+  pub map : IsMapOf (map_of r.plane) m.content
+  pub states : HasStatesBelow m.rule.states (map_of r.plane)
+  pub stamped : HasStampedWrites (map_of r.plane)
 
 -- a journal has each edit once, and all that its edits write is in a map
 pub record IsJournalOf (p : Writes) (journal : List PlaneEdit) : Type 0 where
@@ -127,5 +128,5 @@ pub record IsJournalOf (p : Writes) (journal : List PlaneEdit) : Type 0 where
 pub record IsReplica (r : ReplicaState) : Type 0 where
   pub number : 1 ≤ r.number
   pub few : r.number < 2 ^ 16
-  pub states : HasStatesBelow r.rule.states (write_at r.map)
-  pub journal : IsJournalOf (write_at r.map) r.journal
+  pub states : HasStatesBelow r.rule.states (map_of r.plane)
+  pub journal : IsJournalOf (map_of r.plane) r.journal

@@ -7,7 +7,7 @@ use Rattle.generations_rule.specs.Place.{at_place}
 use Rattle.generations_rule.specs.Refusal.{◌>>=◌}
 use Rattle.generations_rule.specs.Rule.{GenerationsRule}
 use Rattle.edit_stamps.specs.Edit.{PlaneEdit, IsEdit, greatest, greatest_counter}
-use Rattle.edit_stamps.specs.PlaneMap.{write_at}
+use Rattle.edit_stamps.specs.PlaneMap.{map_of}
 use Rattle.edit_stamps.specs.Write.{AreSame}
 use Rattle.replica_core.specs.declared.event.Event.{Event}
 use Rattle.replica_core.specs.declared.event.Event.TheVariants.{Draw, SendState, Deliver, Show}
@@ -154,7 +154,7 @@ pub record WorldState : Type 0 where
 pub record StandsFor (rule : GenerationsRule) (number : ℕ) (h : ReplicaHistory) (r : ReplicaState) : Type 0 where
   pub same_rule : r.rule ≡ rule
   pub same_number : r.number ≡ number
-  pub map : AreSame (write_at r.map) (greatest h.taken)
+  pub map : AreSame (map_of r.plane) (greatest h.taken)
   pub journal : r.journal ≡ h.journal
 
 -- what a message carries for what was sent

@@ -31,9 +31,6 @@ only_below n c w h d = elim (cases_Bool (is_place c d)) [ inl t ↦ rw t h | inr
 pub write_keeps : (old new : Writes) (c : Place) (w : Write) → AreSame new (joined old (only c w)) → KeepsStates (λ n. w.state < n) old new
 write_keeps old new c w same n below own = joined_below n old (only c w) new below (only_below n c w own) same
 
-pub same_keeps : (old new : PlaneMap) (P : ℕ → Type 0) → new ≡ old → KeepsStates P (write_at old) (write_at new)
-same_keeps old new P same n below own = subst (λ (p : PlaneMap). HasStatesBelow n (write_at p)) (sym same) below
-
 -- what a step keeps
 pub keeps_on : (P Q : ℕ → Type 0) (old now later : Writes) → KeepsStates P old now → KeepsStates Q now later → ((n : ℕ) → HasStatesBelow n now → P n → Q n) → KeepsStates P old later
 keeps_on P Q old now later far step gives n below own =
