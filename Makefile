@@ -1,4 +1,4 @@
-.PHONY: test run bench memory
+.PHONY: test run bench memory trial
 
 # Everything that must pass: each crate's proofs and tests from nothing, the edits that the prover
 # must refuse, each program's stored run, and then the example scripts through the built program.
@@ -6,19 +6,31 @@
 test:
 	@examples/count rt ci
 
-# Proves, builds and runs `genedit` on its stored script.
-run:
-	@cd crates/genedit && rt run -- run < stdin
+# Runs `genedit` on its stored script. It is proved and built first, unless the gate or an earlier run
+# has built it of the same files.
+run: crates/genedit/out/genedit
+	@crates/genedit/out/genedit run < crates/genedit/stdin
+
+# What is proved and built with the program: all that the gate reads of the crates, tests and programs
+# that measure aside.
+SOURCES := $(shell find crates -name out -prune -o -name trials -prune -o -name must-fail -prune \
+	-o -path '*_tests/*' -prune -o -path 'crates/bench/*' -prune -o -path 'crates/memory_trial/*' -prune \
+	-o \( -name '*.rt' -o -name '*.antt' -o -name src -o -name specs -o -name proofs \) -print)
+
+crates/genedit/out/genedit: $(SOURCES) crates.txt HANDLES
+	@cd crates/genedit && rt run -- --version > /dev/null
+	@touch $@
 
 # Measures; asserts nothing.
 bench:
-	@cd crates/edit_bench && rt run -- --time
-	@cd crates/rle_bench && rt run -- --time
-	@cd crates/kernel_bench && rt run -- --time
-	@cd crates/replica_bench && rt run -- --time
-	@cd crates/world_bench && rt run -- --time
+	@cd crates/bench && rt run -- --time
 	@examples/measure
 
 # Runs each call that takes memory with each allocation refused in turn. Needs a C compiler.
 memory:
 	@examples/refuse
+
+# Tries the wrong bodies that the gate leaves out: the prover must refuse each. `make trial
+# CRATES="a b"` tries those of these crates alone.
+trial:
+	@examples/trial $(CRATES)

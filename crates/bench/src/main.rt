@@ -1,10 +1,11 @@
-//! Measures edits, pattern texts, blocks, replicas and worlds, and asserts nothing. Prints what came of
+//! Measures edits, pattern texts, blocks, leaves, replicas and worlds, and asserts nothing. Prints what came of
 //! each, which is the same on every machine; with the word `--time` there is more of most, and it is
 //! also told how fast.
 #![tactic(auto)]
 
 mod edits;
 mod kernel;
+mod leaves;
 mod patterns;
 mod random;
 mod replicas;
@@ -24,6 +25,7 @@ fn main(rt: HostRuntime) -> Result<()> {
     edits::run(&rt, alloc, is_timed)?;
     patterns::run(&rt, alloc, is_timed)?;
     kernel::run(&rt, alloc, is_timed)?;
+    leaves::run(&rt, alloc, is_timed)?;
     replicas::run(&rt, alloc, is_timed)?;
     worlds::run(&rt, alloc, is_timed)
 }

@@ -1,8 +1,9 @@
 //! Each call once, and what is refused, in order.
 
+use crate::told;
 use edit_stamps::{Cell, Edit, EditFault, EditList, Stamp, Write};
 use generations_rule::Rule;
-use std::test::Fail;
+use std::alloc::{AllocError, Global};
 
 const EDGE: i32 = 0x4000_0000;
 
@@ -10,60 +11,73 @@ fn cell(x: i32, y: i32, state: u8) -> Cell {
     Cell { x, y, state }
 }
 
-#[test]
-fn makes_stamps_in_range(rt: HostRuntime) -> Result<(), Fail> {
-    let first = Stamp::new(1, 1).ok_or("in range")?;
-    assert_eq!(rt; first.number(), 65537);
-    let last = Stamp::new(Stamp::LAST_COUNTER, 65535).ok_or("in range")?;
-    assert_eq!(rt; last.number(), 0xffff_ffff_ffff_ffff);
-    assert_eq!(rt; last.counter(), 0xffff_ffff_ffff);
-    assert_eq!(rt; last.replica(), 65535);
-    for (counter, replica) in [(0, 1), (1, 0), (0, 0), (Stamp::LAST_COUNTER + 1, 1)] {
-        assert!(rt;
-            Stamp::new(counter, replica).is_none(),
-            "{counter} {replica}"
-        );
+/// A stamp's counter, replica and number, as they are told.
+fn stamp(counter: u64, replica: u16) -> Option<(u64, u16, u64)> {
+    let stamp = Stamp::new(counter, replica)?;
+    Some((stamp.counter(), stamp.replica(), stamp.number()))
+}
+
+/// Whether the one stamp is before the other.
+fn is_before(one: (u64, u16), other: (u64, u16)) -> bool {
+    match (Stamp::new(one.0, one.1), Stamp::new(other.0, other.1)) {
+        (Some(one), Some(other)) => one < other,
+        _ => false,
     }
-    let second = Stamp::new(2, 1).ok_or("in range")?;
-    let by_another = Stamp::new(1, 2).ok_or("in range")?;
-    assert!(rt; first < by_another && by_another < second && second < last);
-    Ok(())
+}
+
+#[test]
+fn makes_stamps_in_range(rt: HostRuntime) {
+    assert_eq!(rt; stamp(1, 1), Some((1, 1, 65537)));
+    assert_eq!(rt;
+        stamp(0xffff_ffff_ffff, 65535),
+        Some((0xffff_ffff_ffff, 65535, 0xffff_ffff_ffff_ffff))
+    );
+    assert!(rt; stamp(0, 1).is_none() && stamp(1, 0).is_none() && stamp(0, 0).is_none());
+    assert!(rt; stamp(Stamp::LAST_COUNTER + 1, 1).is_none());
+    assert!(rt; is_before((1, 1), (1, 2)) && is_before((1, 2), (2, 1)));
+    assert!(rt; is_before((2, 1), (Stamp::LAST_COUNTER, 1)) && !is_before((1, 1), (1, 1)));
+}
+
+/// Whether each of some writes is at most those behind it and itself, and no other.
+fn are_in_order(writes: &[Write]) -> bool {
+    for (i, v) in writes.iter().enumerate() {
+        for (j, w) in writes.iter().enumerate() {
+            let greater = if i <= j { *w } else { *v };
+            if v.at_most(*w) != (i <= j) || v.cmp(w) != i.cmp(&j) || v.greater(*w) != greater {
+                return false;
+            }
+        }
+    }
+    true
+}
+
+fn write(stamp: u64, state: u8) -> Write {
+    Write { stamp, state }
 }
 
 #[test]
 fn orders_writes_by_stamp_then_state(rt: HostRuntime) {
-    let writes = [
-        Write::UNWRITTEN,
-        Write {
-            stamp: 65537,
-            state: 1,
-        },
-        Write {
-            stamp: 65537,
-            state: 2,
-        },
-        Write {
-            stamp: 65538,
-            state: 0,
-        },
-        Write {
-            stamp: 131073,
-            state: 0,
-        },
-    ];
-    for (i, v) in writes.iter().enumerate() {
-        for (j, w) in writes.iter().enumerate() {
-            assert_eq!(rt; v.at_most(*w), i <= j, "{v:?} {w:?}");
-            assert_eq!(rt; v.cmp(w), i.cmp(&j), "{v:?} {w:?}");
-            assert_eq!(rt; v.greater(*w), if i <= j { *w } else { *v });
-        }
+    assert!(rt;
+        are_in_order(&[
+            Write::UNWRITTEN,
+            write(65537, 1),
+            write(65537, 2),
+            write(65538, 0),
+            write(131073, 0),
+        ])
+    );
+}
+
+/// What is drawn of cells under /2/4 with counter 2 at replica 1.
+fn drawn(alloc: Global, cells: &[Cell]) -> Result<String, AllocError> {
+    match (Rule::parse(b"345/2/4"), Stamp::new(2, 1)) {
+        (Ok(rule), Some(stamp)) => told::made(alloc, Edit::cells(alloc, &rule, stamp, cells)),
+        _ => Ok(String::new(alloc)),
     }
 }
 
 #[test]
-fn settles_entries(rt: HostRuntime) -> Result<(), Fail> {
-    let rule = Rule::parse(b"345/2/4")?;
-    let stamp = Stamp::new(2, 1).ok_or("in range")?;
+fn settles_entries(rt: HostRuntime) -> Result<(), AllocError> {
     let given = [
         cell(0, 0, 3),
         cell(5, -1, 1),
@@ -73,117 +87,148 @@ fn settles_entries(rt: HostRuntime) -> Result<(), Fail> {
         cell(EDGE - 1, -EDGE, 3),
         cell(-EDGE, EDGE - 1, 3),
     ];
-    let want = [
-        cell(EDGE - 1, -EDGE, 3),
-        cell(5, -1, 0),
-        cell(-5, 0, 0),
-        cell(0, 0, 2),
-        cell(-EDGE, EDGE - 1, 3),
-    ];
-    let edit = Edit::cells(rt.alloc(), &rule, stamp, &given)?;
-    assert_eq!(rt; edit.listed_cells(), want.as_slice());
-    assert_eq!(rt; edit.stamp(), stamp);
-    assert!(rt; edit.area().is_none());
-    let copy = edit.copy()?;
-    assert_eq!(rt; copy.listed_cells(), edit.listed_cells());
-    assert_eq!(rt; copy.stamp(), stamp);
-    assert!(rt; copy.area().is_none());
+    assert_eq!(rt;
+        drawn(rt.alloc(), &given)?.as_str(),
+        "2 1, 1073741823 -1073741824 3, 5 -1 0, -5 0 0, 0 0 2, -1073741824 1073741823 3"
+    );
     Ok(())
 }
 
+/// Whether the edit of some cells at counter 1 and that of others at another counter are one, and
+/// the first is one with its copy.
+fn are_same(alloc: Global, one: &[Cell], other: &[Cell], counter: u64) -> Result<bool, EditFault> {
+    let (Ok(rule), Some(first), Some(second)) = (
+        Rule::parse(b"345/2/4"),
+        Stamp::new(1, 1),
+        Stamp::new(counter, 1),
+    ) else {
+        return Ok(false);
+    };
+    let edit = Edit::cells(alloc, &rule, first, one)?;
+    let is_copied = edit.same(&edit.copy()?);
+    let other = Edit::cells(alloc, &rule, second, other)?;
+    Ok(is_copied && edit.same(&other))
+}
+
 #[test]
-fn tells_edits_apart(rt: HostRuntime) -> Result<(), Fail> {
+fn tells_edits_apart(rt: HostRuntime) {
     let alloc = rt.alloc();
-    let rule = Rule::parse(b"345/2/4")?;
-    let first = Stamp::new(1, 1).ok_or("in range")?;
-    let second = Stamp::new(2, 1).ok_or("in range")?;
-    let edit = Edit::cells(alloc, &rule, first, &[cell(0, 0, 1), cell(1, 0, 2)])?;
-    assert!(rt; edit.same(&edit.copy()?));
+    let cells = [cell(0, 0, 1), cell(1, 0, 2)];
     // the same cells in another order
-    assert!(rt; edit.same(&Edit::cells(alloc, &rule, first, &[cell(1, 0, 2), cell(0, 0, 1)])?));
-    let others = [
-        Edit::cells(alloc, &rule, second, &[cell(0, 0, 1), cell(1, 0, 2)])?,
-        Edit::cells(alloc, &rule, first, &[cell(0, 0, 1), cell(1, 0, 3)])?,
-        Edit::cells(alloc, &rule, first, &[cell(0, 0, 1), cell(2, 0, 2)])?,
-        Edit::cells(alloc, &rule, first, &[cell(0, 0, 1)])?,
-    ];
-    for other in &others {
-        assert!(rt; !edit.same(other), "{other:?}");
-    }
-    Ok(())
+    assert_eq!(rt;
+        are_same(alloc, &cells, &[cell(1, 0, 2), cell(0, 0, 1)], 1),
+        Ok(true)
+    );
+    assert_eq!(rt; are_same(alloc, &cells, &cells, 2), Ok(false));
+    assert_eq!(rt;
+        are_same(alloc, &cells, &[cell(0, 0, 1), cell(1, 0, 3)], 1),
+        Ok(false)
+    );
+    assert_eq!(rt;
+        are_same(alloc, &cells, &[cell(0, 0, 1), cell(2, 0, 2)], 1),
+        Ok(false)
+    );
+    assert_eq!(rt; are_same(alloc, &cells, &[cell(0, 0, 1)], 1), Ok(false));
 }
 
 #[test]
-fn refuses_in_order(rt: HostRuntime) -> Result<(), Fail> {
-    let rule = Rule::parse(b"345/2/4")?;
-    let stamp = Stamp::new(1, 1).ok_or("in range")?;
-    let refused: [(&[Cell], EditFault); 11] = [
-        (&[], EditFault::Nothing),
-        (&[cell(EDGE, 0, 1)], EditFault::OutOfPlane),
-        (&[cell(-EDGE - 1, 0, 1)], EditFault::OutOfPlane),
-        (&[cell(0, EDGE, 1)], EditFault::OutOfPlane),
-        (&[cell(0, -EDGE - 1, 1)], EditFault::OutOfPlane),
-        (&[cell(i32::MIN, i32::MAX, 255)], EditFault::OutOfPlane),
-        (&[cell(0, 0, 4), cell(0, EDGE, 1)], EditFault::OutOfPlane),
-        (&[cell(0, 0, 4)], EditFault::StateRange),
-        (&[cell(0, 0, 255)], EditFault::StateRange),
-        // also where a later entry replaces what is refused
-        (&[cell(0, 0, 5), cell(0, 0, 1)], EditFault::StateRange),
-        (&[cell(1, 1, 1), cell(0, 0, 4)], EditFault::StateRange),
-    ];
-    for (cells, fault) in refused {
-        match Edit::cells(rt.alloc(), &rule, stamp, cells) {
-            Ok(_) => assert!(rt; false, "{cells:?} was accepted"),
-            Err(got) => assert_eq!(rt; got, fault, "{cells:?}"),
-        }
+fn refuses_in_order(rt: HostRuntime) -> Result<(), AllocError> {
+    let alloc = rt.alloc();
+    assert_eq!(rt; drawn(alloc, &[])?.as_str(), "Nothing");
+    for outside in [
+        cell(EDGE, 0, 1),
+        cell(-EDGE - 1, 0, 1),
+        cell(0, EDGE, 1),
+        cell(0, -EDGE - 1, 1),
+        cell(i32::MIN, i32::MAX, 255),
+    ] {
+        assert_eq!(rt;
+            drawn(alloc, &[cell(0, 0, 4), outside])?.as_str(),
+            "OutOfPlane"
+        );
     }
+    assert_eq!(rt;
+        drawn(alloc, &[cell(1, 1, 1), cell(0, 0, 4)])?.as_str(),
+        "StateRange"
+    );
+    assert_eq!(rt; drawn(alloc, &[cell(0, 0, 255)])?.as_str(), "StateRange");
+    // also where a later entry replaces what is refused
+    assert_eq!(rt;
+        drawn(alloc, &[cell(0, 0, 5), cell(0, 0, 1)])?.as_str(),
+        "StateRange"
+    );
     Ok(())
 }
 
-#[test]
-fn takes_2_to_the_20_entries(rt: HostRuntime) -> Result<(), Fail> {
-    let rule = Rule::parse(b"/2/3")?;
-    let stamp = Stamp::new(1, 1).ok_or("in range")?;
-    let mut cells = Vec::with_capacity(rt.alloc(), 0x10_0001)?;
+/// 2^20 entries at half as many places, and behind them others that may not stand there.
+fn many(alloc: Global, others: &[Cell]) -> Result<Vec<Cell>, AllocError> {
+    let mut cells = Vec::with_capacity(alloc, 0x10_0001)?;
     for i in 0..0x10_0000i32 {
         cells.push(cell(i % 1024, i / 2048, 1))?;
     }
-    let edit = Edit::cells(rt.alloc(), &rule, stamp, &cells)?;
-    assert_eq!(rt; edit.listed_cells().len(), 0x8_0000);
-    // one more, though it would leave the plane with a state that the rule lacks
-    cells.push(cell(EDGE, 0, 9))?;
-    match Edit::cells(rt.alloc(), &rule, stamp, &cells) {
-        Ok(_) => assert!(rt; false, "2^20 + 1 entries were accepted"),
-        Err(fault) => assert_eq!(rt; fault, EditFault::TooMany),
+    cells.extend_from_slice(others)?;
+    Ok(cells)
+}
+
+/// How many cells an edit of them has.
+fn count(alloc: Global, cells: &[Cell]) -> Result<usize, EditFault> {
+    match (Rule::parse(b"/2/3"), Stamp::new(1, 1)) {
+        (Ok(rule), Some(stamp)) => told::count(Edit::cells(alloc, &rule, stamp, cells)),
+        _ => Ok(0),
     }
-    Ok(())
 }
 
 #[test]
-fn keeps_a_list(rt: HostRuntime) -> Result<(), Fail> {
-    let rule = Rule::parse(b"/2/3")?;
-    let mut edits = Vec::new(rt.alloc());
+fn takes_2_to_the_20_entries(rt: HostRuntime) -> Result<(), AllocError> {
+    let alloc = rt.alloc();
+    assert_eq!(rt; count(alloc, &many(alloc, &[])?), Ok(0x8_0000));
+    // one more, though it would leave the plane with a state that the rule lacks
+    let others = [cell(EDGE, 0, 9)];
+    assert_eq!(rt;
+        count(alloc, &many(alloc, &others)?),
+        Err(EditFault::TooMany)
+    );
+    Ok(())
+}
+
+/// An edit for each counter below 4, put into a list and taken out of it.
+fn listed(alloc: Global) -> Result<(usize, usize), EditFault> {
+    let mut edits = Vec::new(alloc);
     for counter in 1..4u64 {
-        let stamp = Stamp::new(counter, 7).ok_or("in range")?;
-        edits.push(Edit::cells(rt.alloc(), &rule, stamp, &[cell(0, 0, 1)])?)?;
+        if let (Ok(rule), Some(stamp)) = (Rule::parse(b"/2/3"), Stamp::new(counter, 7)) {
+            told::push(
+                &mut edits,
+                Edit::cells(alloc, &rule, stamp, &[cell(0, 0, 1)])?,
+            )?;
+        }
     }
     let list = EditList::of_vec(edits);
-    assert_eq!(rt; list.as_slice().len(), 3);
-    assert_eq!(rt; list.into_vec().len(), 3);
-    Ok(())
+    Ok((list.as_slice().len(), list.into_vec().len()))
 }
 
 #[test]
-fn names_faults(rt: HostRuntime) -> Result<(), Fail> {
-    for (fault, number, name) in [
-        (EditFault::TooMany, 8u8, "TooMany"),
-        (EditFault::Nothing, 9, "Nothing"),
-        (EditFault::OutOfPlane, 10, "OutOfPlane"),
-        (EditFault::StateRange, 11, "StateRange"),
-        (EditFault::Memory, 255, "Memory"),
-    ] {
-        assert_eq!(rt; fault.number(), number);
-        assert_eq!(rt; fault.to_string(rt.alloc())?.as_str(), name);
+fn keeps_a_list(rt: HostRuntime) {
+    assert_eq!(rt; listed(rt.alloc()), Ok((3, 3)));
+}
+
+#[test]
+fn names_faults(rt: HostRuntime) -> Result<(), AllocError> {
+    let alloc = rt.alloc();
+    let faults = [
+        EditFault::TooMany,
+        EditFault::Nothing,
+        EditFault::OutOfPlane,
+        EditFault::StateRange,
+        EditFault::AreaSide,
+        EditFault::Memory,
+    ];
+    let mut names = String::new(alloc);
+    for fault in faults {
+        names = format!(in alloc; "{names} {} {fault}", fault.number())?;
     }
+    assert_eq!(rt;
+        names.as_str(),
+        " 8 TooMany 9 Nothing 10 OutOfPlane 11 StateRange 12 AreaSide 255 Memory"
+    );
     Ok(())
 }

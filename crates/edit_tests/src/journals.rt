@@ -1,120 +1,109 @@
 //! Journals of a few edits, two of them with one stamp.
 
+use crate::told;
 use edit_journal::Journal;
-use edit_stamps::{Cell, Edit, Stamp};
+use edit_stamps::{Cell, Edit, EditFault, Stamp};
 use generations_rule::Rule;
-use std::alloc::Global;
-use std::test::Fail;
+use std::alloc::{AllocError, Global};
 
-/// The edit that writes a state at the origin.
-fn edit(alloc: Global, counter: u64, state: u8) -> Result<Edit, Fail> {
-    let rule = Rule::parse(b"345/2/6")?;
-    let stamp = Stamp::new(counter, 1).ok_or("in range")?;
-    let origin = [Cell { x: 0, y: 0, state }];
-    Ok(Edit::cells(alloc, &rule, stamp, &origin)?)
+/// The edit that writes a state at the origin with a counter, at replica 1.
+fn edit(alloc: Global, counter: u64, state: u8) -> Result<Edit, EditFault> {
+    match (Rule::parse(b"345/2/6"), Stamp::new(counter, 1)) {
+        (Ok(rule), Some(stamp)) => {
+            Edit::cells(alloc, &rule, stamp, &[Cell { x: 0, y: 0, state }])
+        }
+        _ => Err(EditFault::Nothing),
+    }
 }
 
-fn edits(alloc: Global, drawn: &[(u64, u8)]) -> Result<Vec<Edit>, Fail> {
+/// The edits of counters and states.
+fn edits(alloc: Global, drawn: &[(u64, u8)]) -> Result<Vec<Edit>, EditFault> {
     let mut edits = Vec::new(alloc);
     for (counter, state) in drawn {
-        edits.push(edit(alloc, *counter, *state)?)?;
+        told::push(&mut edits, edit(alloc, *counter, *state)?)?;
     }
     Ok(edits)
 }
 
-/// Counter and state of each edit.
-fn drawn(alloc: Global, edits: &[Edit]) -> Result<Vec<(u64, u8)>, Fail> {
-    let mut drawn = Vec::new(alloc);
-    for edit in edits {
-        let cells = edit.listed_cells();
-        let cell = cells.first().ok_or("one cell")?;
-        drawn.push((edit.stamp().counter(), cell.state))?;
+/// Counter and state of each edit of a journal, in order.
+fn text(alloc: Global, journal: &Journal) -> Result<String, AllocError> {
+    let mut text = String::new(alloc);
+    for edit in journal.as_slice() {
+        for cell in edit.listed_cells() {
+            text = format!(in alloc; "{text}{} {}, ", edit.stamp().counter(), cell.state)?;
+        }
     }
-    Ok(drawn)
+    Ok(text)
 }
 
-#[test]
-fn starts_empty(rt: HostRuntime) -> Result<(), Fail> {
-    let journal = Journal::new(rt.alloc());
-    assert!(rt; journal.as_slice().is_empty());
-    assert!(rt; !journal.contains(&edit(rt.alloc(), 1, 1)?));
-    Ok(())
-}
-
-#[test]
-fn notes_in_order_each_once(rt: HostRuntime) -> Result<(), Fail> {
-    let alloc = rt.alloc();
+/// A journal of edits that were pushed one by one, and of others that were appended, each once.
+fn journal(alloc: Global, pushed: &[(u64, u8)], given: &[(u64, u8)]) -> Result<Journal, EditFault> {
     let mut journal = Journal::new(alloc);
-    // an edit twice in one list, and two different edits of one stamp with another between them
-    let given = edits(
-        alloc,
-        &[(3, 1), (1, 2), (3, 1), (2, 1), (1, 4), (3, 1), (1, 2)],
-    )?;
-    let fresh = journal.fresh(&given)?;
-    assert!(rt; journal.as_slice().is_empty());
-    let want = [(3, 1), (1, 2), (2, 1), (1, 4)];
-    assert_eq!(rt; drawn(alloc, fresh.as_slice())?.as_slice(), want.as_slice());
+    for (counter, state) in pushed {
+        journal.push(edit(alloc, *counter, *state)?)?;
+    }
+    let fresh = journal.fresh(&edits(alloc, given)?)?;
     journal.append(fresh)?;
-    assert_eq!(rt;
-        drawn(alloc, journal.as_slice())?.as_slice(),
-        want.as_slice()
-    );
-    for (counter, state) in want {
-        assert!(rt;
-            journal.contains(&edit(alloc, counter, state)?),
-            "{counter} {state}"
-        );
+    Ok(journal)
+}
+
+/// What a journal has, pushed and given.
+fn noted(alloc: Global, pushed: &[(u64, u8)], given: &[(u64, u8)]) -> Result<String, EditFault> {
+    Ok(text(alloc, &journal(alloc, pushed, given)?)?)
+}
+
+/// How many of some edits such a journal finds.
+fn found(
+    alloc: Global,
+    pushed: &[(u64, u8)],
+    given: &[(u64, u8)],
+    sought: &[(u64, u8)],
+) -> Result<u32, EditFault> {
+    let journal = journal(alloc, pushed, given)?;
+    let mut found = 0u32;
+    for edit in &edits(alloc, sought)? {
+        if journal.contains(edit) {
+            found = found.saturating_add(1);
+        }
     }
-    for (counter, state) in [(1, 1), (1, 3), (3, 2), (2, 4), (4, 1)] {
-        assert!(rt;
-            !journal.contains(&edit(alloc, counter, state)?),
-            "{counter} {state}"
-        );
-    }
+    Ok(found)
+}
+
+/// An edit twice in one list, and two different edits of one stamp with another between them.
+const GIVEN: [(u64, u8); 7] = [(3, 1), (1, 2), (3, 1), (2, 1), (1, 4), (3, 1), (1, 2)];
+
+const KEPT: [(u64, u8); 4] = [(3, 1), (1, 2), (2, 1), (1, 4)];
+
+#[test]
+fn notes_in_order_each_once(rt: HostRuntime) -> Result<(), EditFault> {
+    let alloc = rt.alloc();
+    assert_eq!(rt; noted(alloc, &[], &[])?.as_str(), "");
+    assert_eq!(rt; noted(alloc, &[], &GIVEN)?.as_str(), "3 1, 1 2, 2 1, 1 4, ");
+    assert_eq!(rt; found(alloc, &[], &GIVEN, &KEPT), Ok(4));
+    let others = [(1, 1), (1, 3), (3, 2), (2, 4), (4, 1)];
+    assert_eq!(rt; found(alloc, &[], &GIVEN, &others), Ok(0));
     // what is noted again adds nothing
-    let again = journal.fresh(&given)?;
-    assert!(rt; again.as_slice().is_empty());
-    journal.append(again)?;
-    assert_eq!(rt; journal.as_slice().len(), 4);
+    assert_eq!(rt;
+        noted(alloc, &KEPT, &GIVEN)?.as_str(),
+        "3 1, 1 2, 2 1, 1 4, "
+    );
     Ok(())
 }
 
+const PUSHED: [(u64, u8); 3] = [(1, 1), (2, 1), (1, 2)];
+
+const ADDED: [(u64, u8); 6] = [(1, 3), (2, 1), (4, 1), (1, 1), (1, 5), (4, 2)];
+
 #[test]
-fn appends_behind_its_own(rt: HostRuntime) -> Result<(), Fail> {
+fn appends_behind_its_own(rt: HostRuntime) -> Result<(), EditFault> {
     let alloc = rt.alloc();
-    let mut journal = Journal::new(alloc);
-    for (counter, state) in [(1, 1), (2, 1), (1, 2)] {
-        journal.push(edit(alloc, counter, state)?)?;
-    }
-    let given = edits(alloc, &[(1, 3), (2, 1), (4, 1), (1, 1), (1, 5), (4, 2)])?;
-    let fresh = journal.fresh(&given)?;
-    journal.append(fresh)?;
-    journal.push(edit(alloc, 2, 5)?)?;
-    let want = [
-        (1, 1),
-        (2, 1),
-        (1, 2),
-        (1, 3),
-        (4, 1),
-        (1, 5),
-        (4, 2),
-        (2, 5),
-    ];
     assert_eq!(rt;
-        drawn(alloc, journal.as_slice())?.as_slice(),
-        want.as_slice()
+        noted(alloc, &PUSHED, &ADDED)?.as_str(),
+        "1 1, 2 1, 1 2, 1 3, 4 1, 1 5, 4 2, "
     );
-    for (counter, state) in want {
-        assert!(rt;
-            journal.contains(&edit(alloc, counter, state)?),
-            "{counter} {state}"
-        );
-    }
-    for (counter, state) in [(1, 4), (2, 2), (4, 3), (3, 1), (5, 1)] {
-        assert!(rt;
-            !journal.contains(&edit(alloc, counter, state)?),
-            "{counter} {state}"
-        );
-    }
+    let all = [(1, 1), (2, 1), (1, 2), (1, 3), (4, 1), (1, 5), (4, 2)];
+    assert_eq!(rt; found(alloc, &PUSHED, &ADDED, &all), Ok(7));
+    let others = [(1, 4), (2, 2), (4, 3), (3, 1), (5, 1)];
+    assert_eq!(rt; found(alloc, &PUSHED, &ADDED, &others), Ok(0));
     Ok(())
 }

@@ -1,4 +1,4 @@
-//! Tests of `edit_stamps`, `stamped_map` and `edit_journal`.
+//! Tests of `edit_stamps`, `leaf_merge_lanes`, `stamped_map` and `edit_journal`.
 #![tactic(auto)]
 
 #[cfg(test)]
@@ -6,4 +6,10 @@ mod edits;
 #[cfg(test)]
 mod journals;
 #[cfg(test)]
+mod leaves;
+#[cfg(test)]
 mod pastes;
+#[cfg(test)]
+mod planes;
+#[cfg(test)]
+mod told;

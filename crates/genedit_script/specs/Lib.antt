@@ -1,3 +1,4 @@
 pub mod Script
 pub mod ScriptFault
+pub mod Laws
 pub mod Rows

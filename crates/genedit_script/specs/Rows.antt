@@ -6,7 +6,7 @@ use Rattle.multistate_rle.specs.Position.{words, signed}
 use Rattle.replica_core.specs.declared.event.Event.TheVariants.{Draw, SendState, Deliver, Show}
 use Rattle.replica_core.specs.declared.spec.EditSpec.TheVariants.{Cells, Clear}
 use Rattle.genedit_script.specs.declared.command.Command.TheVariants.{Does, Names, Copies, Ors}
-use Rattle.genedit_script.specs.Script.{script_of, number_in, event_in, name_in, command_in}
+use Rattle.genedit_script.specs.Script.{script_of, number_in, event_in, name_in, command_in, replicas_in}
 
 -- ---- lines and words
 
@@ -97,6 +97,70 @@ copied_with_a_word_too_many = refl
 
 pub copied_without_a_name : command_in (words (codes "copy 2 -3 4")) ≡ None
 copied_without_a_name = refl
+
+-- ---- `-0` is 0 where a `-` may stand, in coordinates, and no number anywhere else
+
+pub minus_nothing : signed (codes "-0") ≡ Some (pos 0)
+minus_nothing = refl
+
+pub minus_nothing_with_zeros : signed (codes "-000") ≡ Some (pos 0)
+minus_nothing_with_zeros = refl
+
+pub minus_nothing_in_a_cell :
+    event_in (words (codes "cells 1 -0 -0 2")) ≡ Some (Draw 1 (Cells (record { x = pos 0; y = pos 0; state = 2 } ∷ [])))
+minus_nothing_in_a_cell = refl
+
+pub minus_nothing_in_an_area :
+    event_in (words (codes "clear 1 -0 -0 2 3")) ≡ Some (Draw 1 (Clear (record { x = pos 0; y = pos 0; width = 2; height = 3 })))
+minus_nothing_in_an_area = refl
+
+pub minus_nothing_shown : event_in (words (codes "show 1 -0 -0")) ≡ Some (Show 1 (pos 0) (pos 0))
+minus_nothing_shown = refl
+
+pub minus_nothing_copied : command_in (words (codes "copy 1 a -0 -0")) ≡ Some (Copies (record { replica = 1; name = codes "a"; x = pos 0; y = pos 0 }))
+minus_nothing_copied = refl
+
+pub minus_nothing_drawn_over : command_in (words (codes "or 1 a -0 -0")) ≡ Some (Ors (record { replica = 1; name = codes "a"; x = pos 0; y = pos 0 }))
+minus_nothing_drawn_over = refl
+
+pub no_number : number_in (codes "-0") ≡ None
+no_number = refl
+
+pub no_drawing_replica : event_in (words (codes "cells -0 0 0 2")) ≡ None
+no_drawing_replica = refl
+
+pub no_state : event_in (words (codes "cells 1 0 0 -0")) ≡ None
+no_state = refl
+
+pub no_clearing_replica : event_in (words (codes "clear -0 0 0 2 3")) ≡ None
+no_clearing_replica = refl
+
+pub no_width : event_in (words (codes "clear 1 0 0 -0 3")) ≡ None
+no_width = refl
+
+pub no_height : event_in (words (codes "clear 1 0 0 2 -0")) ≡ None
+no_height = refl
+
+pub no_sender : event_in (words (codes "state -0")) ≡ None
+no_sender = refl
+
+pub no_message : event_in (words (codes "deliver -0 1")) ≡ None
+no_message = refl
+
+pub no_receiver : event_in (words (codes "deliver 1 -0")) ≡ None
+no_receiver = refl
+
+pub no_shown_replica : event_in (words (codes "show -0 0 0")) ≡ None
+no_shown_replica = refl
+
+pub no_copying_replica : command_in (words (codes "copy -0 a 0 0")) ≡ None
+no_copying_replica = refl
+
+pub no_replica_drawn_over : command_in (words (codes "or -0 a 0 0")) ≡ None
+no_replica_drawn_over = refl
+
+pub no_count_of_replicas : replicas_in (words (codes "replicas -0")) ≡ None
+no_count_of_replicas = refl
 
 -- ---- names
 

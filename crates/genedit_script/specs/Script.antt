@@ -188,11 +188,25 @@ abbrev pub first_line : ℕ → List NumberedLine → Result (NumberedLine × Li
 first_line end [] = Err end
 first_line end (line ∷ lines) = Ok (line, lines)
 
-abbrev pub script_in : ℕ → List NumberedLine → Result ScriptValue ℕ
-script_in end lines =
+-- the rule and the number of replicas of a script, and its further lines
+pub record Head : Type 0 where
+  pub rule : GenerationsRule
+  pub replicas : ℕ
+  pub behind : List NumberedLine
+
+-- the first line that says something names the rule, the second the number of replicas
+abbrev pub head_in : ℕ → List NumberedLine → Result Head ℕ
+head_in end lines =
     first_line end (past_skipped lines) >>= λ first. ok_or (rule_in (words first.0.text)) first.0.number >>= λ rule.
     first_line end (past_skipped first.1) >>= λ second. ok_or (replicas_in (words second.0.text)) second.0.number >>= λ replicas.
-    commands_in None second.1 >>= λ commands. Ok (record { rule = rule; replicas = replicas; commands = commands })
+    Ok (record { rule = rule; replicas = replicas; behind = second.1 })
 
+-- the head of a text, or the line of its fault: the first or second that says something, or the one behind the last
+abbrev pub head_of : List ℕ → Result Head ℕ
+head_of text = head_in (length (lines text) + 1) (lines_from 1 text)
+
+-- the head, and the commands of the lines behind it
 abbrev pub script_of : List ℕ → Result ScriptValue ℕ
-script_of text = script_in (length (lines text) + 1) (lines_from 1 text)
+script_of text =
+    head_of text >>= λ head. commands_in None head.behind >>= λ commands.
+    Ok (record { rule = head.rule; replicas = head.replicas; commands = commands })

@@ -3,6 +3,7 @@
 
 mod command;
 mod fault;
+mod laws;
 mod line;
 mod name;
 mod script;
@@ -10,4 +11,5 @@ mod spelling;
 
 pub use command::{Command, Paste, PatternName, PatternText};
 pub use fault::ScriptFault;
+pub use laws::script_laws;
 pub use script::{Script, read_script};

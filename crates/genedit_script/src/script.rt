@@ -1,8 +1,8 @@
 //! Scripts, read and checked whole.
 
-ghost use Rattle.std.specs.Prelude.{◌≡◌, ◌+◌, ◌≤◌, ◌∷◌, [], List, Some, None, length, IfOk, IfErr, Ok};
+ghost use Rattle.std.specs.Prelude.{◌≡◌, ◌+◌, ◌≤◌, ◌∷◌, [], ℕ, List, Some, None, length, IfOk, IfErr, Ok, Err};
 ghost use Rattle.std.specs.Str.Lines.{lines as lines_of};
-ghost use Rattle.genedit_script.specs.Script.{commands_in as commands_of, script_of, lines_from, past_skipped, onto, NumberedLine};
+ghost use Rattle.genedit_script.specs.Script.{commands_in as commands_of, head_in as head_of_lines, head_of, script_of, lines_from, past_skipped, onto, NumberedLine};
 ghost use Rattle.genedit_script.specs.ScriptFault.{IsFaultOf};
 
 use crate::command::{Command, PatternName, PatternText};
@@ -73,15 +73,16 @@ impl Script {
 /// none of them skipped, each with one LF behind it. A block without its `end` has its fault at its
 /// `pattern` line. Whether its text is a pattern, and whether a name stands for one, is asked when
 /// the script runs. A text that ends before its `replicas` has its fault at the line behind its last.
+///
+/// Memory is first taken behind the `replicas` line: a fault up to there is told, and want of memory
+/// is not.
 pub fn read_script(alloc: Global, text: &[u8]) -> Result<Script, ScriptFault>
     ensures script { IfOk result (λ script. script_of text.now ≡ Ok script) }
     ensures fault { IfErr result (λ fault. IsFaultOf fault (script_of text.now)) }
+    ensures head { (n : ℕ) → head_of text.now ≡ Err n → result ≡ Err (ScriptFault.Line n) }
 {
     let mut lines = Lines::of(text);
-    let line = required_line(&mut lines)?;
-    let rule = rule_in(line.text).ok_or(ScriptFault::Line(line.number))?;
-    let line = required_line(&mut lines)?;
-    let replicas = replicas_in(line.text).ok_or(ScriptFault::Line(line.number))?;
+    let (rule, replicas) = head_in(&mut lines).map_err(ScriptFault::Line)?;
     let commands = commands_in(alloc, lines)?;
     Ok(Script {
         rule,
@@ -90,17 +91,31 @@ pub fn read_script(alloc: Global, text: &[u8]) -> Result<Script, ScriptFault>
     })
 }
 
-/// The next line that is not skipped; without one, the fault is at the line behind the last.
-fn required_line<'a>(lines: &mut Lines<'a>) -> Result<Line<'a>, ScriptFault>
+/// The rule and the number of replicas, by the next two lines that are not skipped, or the line of
+/// the first fault.
+fn head_in(lines: &mut Lines<'_>) -> Result<(Rule, u16), u64>
+    ensures head { IfOk result (λ head. head_of_lines (lines.old.number + length (lines_of lines.old.rest.now)) (lines_from lines.old.number lines.old.rest.now)
+        ≡ Ok (record { rule = head.0; replicas = head.1; behind = lines_from lines.new.number lines.new.rest.now })) }
+    ensures fault { IfErr result (λ n. head_of_lines (lines.old.number + length (lines_of lines.old.rest.now)) (lines_from lines.old.number lines.old.rest.now) ≡ Err n) }
+{
+    let line = required_line(lines)?;
+    let rule = rule_in(line.text).ok_or(line.number)?;
+    let line = required_line(lines)?;
+    let replicas = replicas_in(line.text).ok_or(line.number)?;
+    Ok((rule, replicas))
+}
+
+/// The next line that is not skipped, or the number of the line behind the last.
+fn required_line<'a>(lines: &mut Lines<'a>) -> Result<Line<'a>, u64>
     ensures line { IfOk result (λ line. past_skipped (lines_from lines.old.number lines.old.rest.now)
         ≡ record { number = line.number; text = line.text.now } ∷ lines_from lines.new.number lines.new.rest.now) }
     ensures all { lines.new.number + length (lines_of lines.new.rest.now) ≡ lines.old.number + length (lines_of lines.old.rest.now) }
-    ensures none { IfErr result (λ fault. (past_skipped (lines_from lines.old.number lines.old.rest.now) ≡ [])
-        × (fault ≡ ScriptFault.Line (lines.old.number + length (lines_of lines.old.rest.now)))) }
+    ensures none { IfErr result (λ n. (past_skipped (lines_from lines.old.number lines.old.rest.now) ≡ [])
+        × (n ≡ lines.old.number + length (lines_of lines.old.rest.now))) }
 {
     match lines.next_spoken() {
         Some(line) => Ok(line),
-        None => Err(ScriptFault::Line(lines.number)),
+        None => Err(lines.number),
     }
 }
 

@@ -2,46 +2,58 @@
 
 use genedit_io::{RunFault, pull_all};
 use replica_core::{ReadSource, Stop};
-use std::alloc::AllocError;
-use std::test::Fail;
+use std::alloc::{AllocError, Global};
+
+/// A fault's text, and its status.
+fn told(alloc: Global, fault: RunFault) -> Result<String, AllocError> {
+    format!(in alloc; "{fault}: {}", fault.exit_status())
+}
 
 #[test]
-fn refusals_have_names(rt: HostRuntime) -> Result<(), Fail> {
-    let texts = [
-        (1, None, "refused 1 Slashes"),
-        (2, Some(3), "refused 2 Digit 3"),
-        (5, Some(14), "refused 5 Tag 14"),
-        (11, None, "refused 11 StateRange"),
-        (12, None, "refused 12 AreaSide"),
-        (13, None, "refused 13 StoreFull"),
-        (27, None, "refused 27 NoMessage"),
-        (38, None, "refused 38 NoPattern"),
-        (0, None, "refused 0 ?"),
-    ];
-    for (number, place, text) in texts {
-        let fault = RunFault::Refused(number, place);
-        assert_eq!(rt; fault.exit_status(), 2);
-        assert_eq!(rt; fault.to_string(rt.alloc())?.as_str(), text);
+fn refusals_have_names(rt: HostRuntime) -> Result<(), AllocError> {
+    let alloc = rt.alloc();
+    let mut names = String::new(alloc);
+    for number in [
+        0, 1, 2, 3, 4, 5, 6, 7, 8, 9, 10, 11, 12, 13, 16, 24, 26, 27, 38, 99,
+    ] {
+        names = format!(in alloc;
+            "{names}{}\n",
+            told(alloc, RunFault::Refused(number, None))?
+        )?;
     }
+    assert_eq!(rt;
+        names.as_str(),
+        "refused 0 ?: 2\nrefused 1 Slashes: 2\nrefused 2 Digit: 2\nrefused 3 States: 2\n\
+        refused 4 Header: 2\nrefused 5 Tag: 2\nrefused 6 Count: 2\nrefused 7 State: 2\n\
+        refused 8 TooMany: 2\nrefused 9 Nothing: 2\nrefused 10 OutOfPlane: 2\n\
+        refused 11 StateRange: 2\nrefused 12 AreaSide: 2\nrefused 13 StoreFull: 2\n\
+        refused 16 OtherRule: 2\nrefused 24 ClockFull: 2\nrefused 26 NoReplica: 2\n\
+        refused 27 NoMessage: 2\nrefused 38 NoPattern: 2\nrefused 99 ?: 2\n"
+    );
     Ok(())
 }
 
 #[test]
-fn faults_have_texts_and_statuses(rt: HostRuntime) -> Result<(), Fail> {
+fn faults_have_texts_and_statuses(rt: HostRuntime) -> Result<(), AllocError> {
+    let alloc = rt.alloc();
     let faults = [
-        (RunFault::Script(7), 2, "script fault at line 7"),
-        (RunFault::Refused(10, None), 2, "refused 10 OutOfPlane"),
-        (RunFault::Refused(2, Some(3)), 2, "refused 2 Digit 3"),
-        (RunFault::Read, 3, "read fault"),
-        (RunFault::Turns, 3, "read fault"),
-        (RunFault::Write, 4, "write fault"),
-        (RunFault::Memory, 5, "out of memory"),
-        (RunFault::StoreFull, 5, "store full"),
+        RunFault::Script(7),
+        RunFault::Refused(2, Some(3)),
+        RunFault::Read,
+        RunFault::Turns,
+        RunFault::Write,
+        RunFault::Memory,
+        RunFault::StoreFull,
     ];
-    for (fault, status, text) in faults {
-        assert_eq!(rt; fault.exit_status(), status);
-        assert_eq!(rt; fault.to_string(rt.alloc())?.as_str(), text);
+    let mut texts = String::new(alloc);
+    for fault in faults {
+        texts = format!(in alloc; "{texts}{}\n", told(alloc, fault)?)?;
     }
+    assert_eq!(rt;
+        texts.as_str(),
+        "script fault at line 7: 2\nrefused 2 Digit 3: 2\nread fault: 3\nread fault: 3\n\
+        write fault: 4\nout of memory: 5\nstore full: 5\n"
+    );
     Ok(())
 }
 
@@ -52,17 +64,27 @@ fn wants_become_faults(rt: HostRuntime) {
     assert_eq!(rt; RunFault::from(Stop::StoreFull), RunFault::StoreFull);
 }
 
+/// How many of 20,000 bytes are pulled in so many turns at most, and how often the source was pulled
+/// and gave nothing.
+fn pulled(alloc: Global, turns: u64) -> (Result<usize, RunFault>, u64, u64) {
+    let text = [7; 20000];
+    let mut source = ReadSource::new(text.as_slice());
+    let all = pull_all(alloc, &mut source, turns).map(|all| {
+        if all.as_slice() == text.as_slice() {
+            all.len()
+        } else {
+            0
+        }
+    });
+    (all, source.pulls(), source.empty_pulls())
+}
+
+/// Three pieces, and a fourth pull that gives nothing.
 #[test]
 fn all_bytes_are_pulled(rt: HostRuntime) {
-    let text = [7; 20000];
-    for (turns, all) in [(2, false), (3, false), (4, true), (100, true)] {
-        let mut source = ReadSource::new(text.as_slice());
-        // three pieces, and a fourth pull that gives nothing
-        match pull_all(rt.alloc(), &mut source, turns) {
-            Ok(pulled) => assert_eq!(rt; (pulled.as_slice() == text.as_slice(), all), (true, true)),
-            Err(fault) => assert_eq!(rt; (fault, all), (RunFault::Turns, false)),
-        }
-        assert_eq!(rt; source.pulls(), turns.min(4));
-        assert_eq!(rt; source.empty_pulls(), u64::from(all));
-    }
+    let alloc = rt.alloc();
+    assert_eq!(rt; pulled(alloc, 2), (Err(RunFault::Turns), 2, 0));
+    assert_eq!(rt; pulled(alloc, 3), (Err(RunFault::Turns), 3, 0));
+    assert_eq!(rt; pulled(alloc, 4), (Ok(20000), 4, 1));
+    assert_eq!(rt; pulled(alloc, 100), (Ok(20000), 4, 1));
 }

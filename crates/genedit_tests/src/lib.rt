@@ -4,6 +4,8 @@
 #[cfg(test)]
 mod canonical;
 #[cfg(test)]
+mod devices;
+#[cfg(test)]
 mod faults;
 #[cfg(test)]
 mod patterns;
@@ -11,3 +13,5 @@ mod patterns;
 mod runs;
 #[cfg(test)]
 mod scripts;
+#[cfg(test)]
+mod told;

@@ -1,149 +1,141 @@
 //! Whole scripts.
 
-use genedit_script::{Command, Paste, Script, ScriptFault, read_script};
+use crate::told;
 use edit_stamps::Rect;
-use generations_rule::Rule;
+use genedit_script::{Command, Paste, Script, ScriptFault, read_script};
 use replica_core::{EditSpec, Event};
-use std::alloc::Global;
-use std::test::Fail;
+use std::alloc::{AllocError, Global};
 
-const EVERY_COMMAND: &str = "# three replicas\r\nrule 345/2/4\nreplicas 03\n\npattern Glider7\r\n\
-    # a comment of the pattern\r\n\r\nx = 3, y = 3\r\nbob$2bo$\n end\n3o!\nend\ncells 1 0 -1 3\n\
+const EVERY_COMMAND: &[u8] = b"# three replicas\r\nrule 345/2/4\nreplicas 03\n\npattern Glider7\r\n\
+    # a comment of the pattern\r\n\r\nx = 3, y = 3\r\nbob$2bo$\n end\n3o!\nend\ncells 1 0 -1 3 2 3 1\n\
     \tclear 1 -4 5 9 8\ncopy 2 Glider7 -1 7\nor 3 Glider7 8 -2\nstate 1\ndeliver 4294967295 2\n\
     show 2 0 -1\n";
 
-const GLIDER: &str = "# a comment of the pattern\n\nx = 3, y = 3\nbob$2bo$\n end\n3o!\n";
-
-fn script_of(alloc: Global, text: &str) -> Result<Script, Fail> {
-    Ok(read_script(alloc, text.as_bytes()).ok().ok_or("a script")?)
-}
-
-fn is_named(command: Option<&Command>, name: &str, text: &str) -> bool {
-    match command {
-        Some(Command::Names(letters, bytes)) => {
-            letters.as_bytes() == name.as_bytes() && bytes.as_bytes() == text.as_bytes()
+/// What a replica draws.
+fn draw_told(alloc: Global, replica: u32, spec: &EditSpec) -> Result<String, AllocError> {
+    match spec {
+        EditSpec::Cells(cells) => {
+            let mut told = format!(in alloc; "cells {replica}")?;
+            for cell in cells.as_slice() {
+                told = format!(in alloc; "{told} {} {} {}", cell.x, cell.y, cell.state)?;
+            }
+            Ok(told)
         }
-        _ => false,
+        EditSpec::Clear(area) => {
+            let Rect {
+                x,
+                y,
+                width,
+                height,
+            } = *area;
+            format!(in alloc; "clear {replica} {x} {y} {width} {height}")
+        }
+        EditSpec::Copy(..) | EditSpec::Or(..) => format!(in alloc; "paste {replica}"),
     }
 }
 
-/// Whether a command draws this area empty.
-fn is_clear(command: Option<&Command>, replica: u32, area: Rect) -> bool {
+fn event_told(alloc: Global, event: &Event) -> Result<String, AllocError> {
+    match event {
+        Event::Draw(replica, spec) => draw_told(alloc, *replica, spec),
+        Event::SendState(replica) => format!(in alloc; "state {replica}"),
+        Event::Deliver(message, replica) => format!(in alloc; "deliver {message} {replica}"),
+        Event::Show(replica, x, y) => format!(in alloc; "show {replica} {x} {y}"),
+    }
+}
+
+fn paste_told(alloc: Global, mode: &str, paste: &Paste) -> Result<String, AllocError> {
+    let name = String::from_utf8_lossy(alloc, paste.name.as_bytes())?;
+    format!(in alloc; "{mode} {} {name} {} {}", paste.replica, paste.x, paste.y)
+}
+
+fn command_told(alloc: Global, command: &Command) -> Result<String, AllocError> {
     match command {
-        Some(Command::Does(Event::Draw(r, EditSpec::Clear(cleared)))) => {
-            *r == replica && *cleared == area
+        Command::Does(event) => event_told(alloc, event),
+        Command::Names(name, text) => {
+            let name = String::from_utf8_lossy(alloc, name.as_bytes())?;
+            let text = String::from_utf8_lossy(alloc, text.as_bytes())?;
+            format!(in alloc; "pattern {name}\n{text}end")
         }
-        _ => false,
+        Command::Copies(paste) => paste_told(alloc, "copy", paste),
+        Command::Ors(paste) => paste_told(alloc, "or", paste),
+    }
+}
+
+fn script_told(alloc: Global, script: &Script) -> Result<String, AllocError> {
+    let rule = String::from_utf8_lossy(alloc, &script.rule().write_text(alloc)?)?;
+    let mut told = format!(in alloc; "rule {rule}\nreplicas {}\n", script.replicas())?;
+    for command in script.commands() {
+        told = format!(in alloc; "{told}{}\n", command_told(alloc, command)?)?;
+    }
+    Ok(told)
+}
+
+/// A script as it was understood, or the line of its first fault.
+fn read(alloc: Global, text: &[u8]) -> Result<String, AllocError> {
+    match read_script(alloc, text) {
+        Ok(script) => script_told(alloc, &script),
+        Err(ScriptFault::Line(line)) => format!(in alloc; "{line}"),
+        Err(ScriptFault::Memory) => Err(AllocError),
     }
 }
 
 #[test]
-fn heads_are_read(rt: HostRuntime) -> Result<(), Fail> {
-    let script = script_of(rt.alloc(), EVERY_COMMAND)?;
-    assert_eq!(rt; script.rule(), Rule::parse(b"345/2/4")?);
-    assert_eq!(rt; script.replicas(), 3);
-    assert_eq!(rt; script.commands().len(), 8);
-    Ok(())
-}
-
-#[test]
-fn blocks_are_read(rt: HostRuntime) -> Result<(), Fail> {
-    let script = script_of(rt.alloc(), EVERY_COMMAND)?;
-    assert!(rt; is_named(script.commands().first(), "Glider7", GLIDER));
-    Ok(())
-}
-
-fn is_of_glider(paste: &Paste, replica: u32, x: i32, y: i32) -> bool {
-    let at = (paste.replica, paste.x, paste.y);
-    at == (replica, x, y) && paste.name.as_bytes() == b"Glider7".as_slice()
-}
-
-#[test]
-fn pastes_are_read(rt: HostRuntime) -> Result<(), Fail> {
-    let script = script_of(rt.alloc(), EVERY_COMMAND)?;
-    let copied = match script.commands().get(3) {
-        Some(Command::Copies(paste)) => is_of_glider(paste, 2, -1, 7),
-        _ => false,
-    };
-    assert!(rt; copied);
-    let drawn_over = match script.commands().get(4) {
-        Some(Command::Ors(paste)) => is_of_glider(paste, 3, 8, -2),
-        _ => false,
-    };
-    assert!(rt; drawn_over);
-    Ok(())
-}
-
-#[test]
-fn draws_are_read(rt: HostRuntime) -> Result<(), Fail> {
-    let script = script_of(rt.alloc(), EVERY_COMMAND)?;
-    let count = match script.commands().get(1) {
-        Some(Command::Does(Event::Draw(1, EditSpec::Cells(cells)))) => cells.as_slice().len(),
-        _ => 0,
-    };
-    assert_eq!(rt; count, 1);
-    let area = Rect {
-        x: -4,
-        y: 5,
-        width: 9,
-        height: 8,
-    };
-    assert!(rt; is_clear(script.commands().get(2), 1, area));
-    Ok(())
-}
-
-#[test]
-fn other_events_are_read(rt: HostRuntime) -> Result<(), Fail> {
-    let script = script_of(rt.alloc(), EVERY_COMMAND)?;
-    let commands = script.commands();
-    assert!(rt; matches!(commands.get(5), Some(Command::Does(Event::SendState(1)))));
-    assert!(rt;
-        matches!(
-            commands.get(6),
-            Some(Command::Does(Event::Deliver(4294967295, 2)))
-        )
+fn every_command_is_read(rt: HostRuntime) -> Result<(), AllocError> {
+    assert_eq!(rt;
+        read(rt.alloc(), EVERY_COMMAND)?.as_str(),
+        "rule 345/2/4\nreplicas 3\npattern Glider7\n# a comment of the pattern\n\nx = 3, y = 3\n\
+        bob$2bo$\n end\n3o!\nend\ncells 1 0 -1 3 2 3 1\nclear 1 -4 5 9 8\ncopy 2 Glider7 -1 7\n\
+        or 3 Glider7 8 -2\nstate 1\ndeliver 4294967295 2\nshow 2 0 -1\n"
     );
-    assert!(rt; matches!(commands.get(7), Some(Command::Does(Event::Show(2, 0, -1)))));
     Ok(())
 }
 
+/// Scripts whose block ends with the text.
+const ENDS: [&[u8]; 3] = [
+    b"rule /2/3\nreplicas 0\npattern a\nbo!\nend",
+    b"rule /2/3\nreplicas 0\npattern a\nbo!\nend\n",
+    b"rule /2/3\nreplicas 0\npattern a\nbo!\nend\r\n",
+];
+
 #[test]
-fn a_block_may_end_the_script(rt: HostRuntime) -> Result<(), Fail> {
-    for end in ["end", "end\n", "end\r\n"] {
-        let mut text = Vec::new(rt.alloc());
-        text.extend_from_slice(b"rule /2/3\nreplicas 0\npattern a\nbo!\n")?;
-        text.extend_from_slice(end.as_bytes())?;
-        let script = read_script(rt.alloc(), &text).ok().ok_or("a script")?;
-        assert!(rt;
-            is_named(script.commands().first(), "a", "bo!\n"),
-            "{end:?}"
+fn a_block_may_end_the_script(rt: HostRuntime) -> Result<(), AllocError> {
+    for text in ENDS {
+        assert_eq!(rt;
+            read(rt.alloc(), text)?.as_str(),
+            "rule /2/3\nreplicas 0\npattern a\nbo!\nend\n"
         );
     }
     Ok(())
 }
 
+/// Faulty scripts, in which `|` stands for a line feed, each with the line of its first fault.
+const FAULTS: &str = "\
+rule /2/3|| -> 3
+ -> 1
+rule /2/3|pattern a|end|replicas 1| -> 2
+rule /2/3|replicas 1|end| -> 3
+rule /2/3|replicas 1|pattern a|bo!|end\r -> 3
+rule /2/3|replicas 1|pattern a|end | -> 3
+rule /2/3|replicas 1|state|pattern a| -> 3
+rule /2/3|replicas 1||pattern a b|end| -> 4
+rule /2/3|replicas 1|pattern a|#||end||clear 1 0 0 1| -> 8
+rule /2/3|replicas 1|pattern abcdefghijklmno67|end| -> 3
+rule /2/3|replicas 1|copy 1 a_b 0 0| -> 3
+rule /2/3|replicas 1|or 1 a 0| -> 3
+rule /2/3|replicas 1|clear 1 0 0 -1 1| -> 3
+";
+
+/// The line of a script, with the line of its fault.
+fn faulted(alloc: Global, line: &str) -> Result<String, AllocError> {
+    let text = line.split(" -> ").next().unwrap_or(line);
+    let fault = read(alloc, &told::with_line_feeds(alloc, text)?)?;
+    format!(in alloc; "{text} -> {fault}")
+}
+
 #[test]
-fn the_first_fault_is_told(rt: HostRuntime) {
-    let faults = [
-        ("", 1),
-        ("rule /2/3\n\n", 3),
-        ("rule /2/3\npattern a\nend\nreplicas 1\n", 2),
-        ("rule /2/3\nreplicas 1\nend\n", 3),
-        ("rule /2/3\nreplicas 1\npattern a\nbo!\nend\r", 3),
-        ("rule /2/3\nreplicas 1\npattern a\nend \n", 3),
-        ("rule /2/3\nreplicas 1\nstate\npattern a\n", 3),
-        ("rule /2/3\nreplicas 1\n\npattern a b\nend\n", 4),
-        (
-            "rule /2/3\nreplicas 1\npattern a\n#\n\nend\n\nclear 1 0 0 1\n",
-            8,
-        ),
-        ("rule /2/3\nreplicas 1\npattern abcdefghijklmno67\nend\n", 3),
-        ("rule /2/3\nreplicas 1\ncopy 1 a_b 0 0\n", 3),
-        ("rule /2/3\nreplicas 1\nor 1 a 0\n", 3),
-        ("rule /2/3\nreplicas 1\nclear 1 0 0 -1 1\n", 3),
-    ];
-    for (text, line) in faults {
-        let fault = read_script(rt.alloc(), text.as_bytes()).err();
-        assert_eq!(rt; fault, Some(ScriptFault::Line(line)), "{text:?}");
+fn the_first_fault_is_told(rt: HostRuntime) -> Result<(), AllocError> {
+    for line in FAULTS.lines() {
+        assert_eq!(rt; faulted(rt.alloc(), line)?.as_str(), line);
     }
+    Ok(())
 }

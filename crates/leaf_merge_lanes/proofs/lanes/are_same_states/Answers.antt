@@ -1,0 +1,6 @@
+use mir.Syntax.{w8}
+use Rattle.leaf_merge_lanes.proofs.Select.{same_answer}
+use Rattle.leaf_merge_lanes.proofs.lanes.are_same_states.Goals as goal
+
+pub returns : goal.returns
+returns c = same_answer w8 c.args.a c.args.b c.fits-a.0 c.fits-b.0
