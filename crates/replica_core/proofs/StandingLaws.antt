@@ -1,5 +1,5 @@
 -- A replica that stands for what it took still does after a draw and after a message.
-use Rattle.std.proofs.Common.{◌≡◌, ◌≢◌, ℕ, ◌≤◌, List, [], ◌∷◌, ◌++◌, refl, sym, ◌∙◌, ap, subst, suc, arith}
+use Rattle.std.proofs.Common.{inl, inr, ◌≡◌, ◌≢◌, ℕ, ◌≤◌, List, [], ◌∷◌, ◌++◌, refl, sym, ◌∙◌, ap, subst, suc, arith}
 use Rattle.std.specs.Prelude.{Contains, Result, Ok, Err, MatchResult, pos}
 use Rattle.std.specs.List.{AllByRecursion}
 use Rattle.generations_rule.specs.Rule.{GenerationsRule}
@@ -16,6 +16,7 @@ use Rattle.replica_core.specs.declared.message.Content.TheVariants as contents
 use Rattle.replica_core.specs.declared.spec.EditSpec.{EditSpec}
 use Rattle.edit_stamps.proofs.ClockLaws.{tells_counter}
 use Rattle.replica_core.specs.Message.{Shared}
+use Rattle.replica_core.specs.Fault.{IsWant}
 use Rattle.replica_core.specs.Replica.{ReplicaState, DrawsAs, Takes, IsMapOf, IsSnapshot, IsDraw, edit_drawn}
 use Rattle.replica_core.specs.World.{ReplicaHistory, Sent, State, Carries, StandsFor, StandsForSent, after_drawing, after_message}
 
@@ -92,12 +93,8 @@ given_ok P Q meant x is p = subst (λ r. MatchResult r P Q) (sym is) p
 pub given_err : {A F : Type 0} (P : A → Type 0) (Q : F → Type 0) (meant : Result A F) (fault : F) → meant ≡ Err fault → Q fault → MatchResult meant P Q
 given_err P Q meant fault is q = subst (λ r. MatchResult r P Q) (sym is) q
 
--- a draw that was refused, and not for want of memory
+-- a draw that was refused, and met no want
 pub refused_as_meant : (old new : ReplicaState) (meant : Result PlaneEdit Fault) (fault : Fault)
-    → IsDraw old new meant (Err fault) → fault ≢ faults.Memory → (meant ≡ Err fault) × (new ≡ old)
-refused_as_meant old new meant faults.Memory draw other = absurd (other refl)
-refused_as_meant old new meant faults.ClockFull draw other = draw
-refused_as_meant old new meant (faults.Edit fault) draw other = draw
-refused_as_meant old new meant faults.OtherRule draw other = absurd draw
-refused_as_meant old new meant faults.NoReplica draw other = absurd draw
-refused_as_meant old new meant faults.NoMessage draw other = absurd draw
+    → IsDraw old new meant (Err fault) → ¬ IsWant fault → (meant ≡ Err fault) × (new ≡ old)
+refused_as_meant old new meant fault (inl want) other = absurd (other want.0)
+refused_as_meant old new meant fault (inr is) other = is

@@ -1,11 +1,11 @@
 -- A replica, and what a draw and a message do to it.
-use Rattle.std.specs.Prelude.{◌≡◌, ◌≢◌, ℕ, ◌+◌, ◌^◌, ◌<◌, ◌≤◌, not, nat_lt, List, [], ◌∷◌, ◌++◌, Result, Ok, Err}
+use Rattle.std.specs.Prelude.{◌≡◌, ◌≢◌, ◌⊎◌, IsTrue, ℕ, ◌+◌, ◌^◌, ◌<◌, ◌≤◌, not, nat_lt, List, [], ◌∷◌, ◌++◌, Result, Ok, Err}
 use Rattle.std.specs.List.{Contains, IsDistinct}
 use Rattle.generations_rule.specs.Place.{Place}
 use Rattle.generations_rule.specs.Refusal.{when, unless, ◌>>=◌}
 use Rattle.generations_rule.specs.Rule.{GenerationsRule}
 use Rattle.edit_stamps.specs.declared.fault.EditFault.{EditFault}
-use Rattle.edit_stamps.specs.Edit.{PlaneEdit, IsEdit, is_edit, writes_of}
+use Rattle.edit_stamps.specs.Edit.{PlaneEdit, IsEdit, has_states_below, is_edit, writes_of}
 use Rattle.edit_stamps.specs.Making.{edit_of_cells}
 use Rattle.edit_stamps.specs.Pasting.{edit_of_clear, edit_of_copy, edit_of_or}
 use Rattle.edit_stamps.specs.PlaneMap.{HasStampedWrites, PlaneValue, map_of, HasStatesBelow, IsPartlyJoined}
@@ -17,7 +17,7 @@ use Rattle.replica_core.specs.declared.fault.Fault.{Fault}
 use Rattle.replica_core.specs.declared.fault.Fault.TheVariants as faults
 use Rattle.replica_core.specs.declared.message.Content.{Content}
 use Rattle.replica_core.specs.declared.message.Content.TheVariants.{Edits, State}
-use Rattle.replica_core.specs.Fault.{fault_of_edit}
+use Rattle.replica_core.specs.Fault.{IsWant, fault_of_edit}
 use Rattle.edit_journal.specs.Journal.{noted}
 use Rattle.replica_core.specs.Message.{Shared, writes_in, edits_in, IsPartlyTaken}
 
@@ -56,9 +56,10 @@ pub record IsOneReplica (old new : ReplicaState) : Type 0 where
   pub rule : new.rule ≡ old.rule
   pub number : new.number ≡ old.number
 
--- the edit is joined, stands in the journal, and wins each cell that it writes
+-- the edit has states of the rule; it is joined, stands in the journal, and wins each cell that it writes
 pub record DrawsAs (old new : ReplicaState) (e : PlaneEdit) : Type 0 where
   pub one : IsOneReplica old new
+  pub states : IsTrue (has_states_below old.rule.states e)
   pub map : AreSame (map_of new.plane) (joined (map_of old.plane) (writes_of e))
   pub journal : new.journal ≡ old.journal ++ e ∷ []
   pub wins : (c : Place) → 0 < (writes_of e c).stamp → map_of new.plane c ≡ writes_of e c
@@ -84,27 +85,25 @@ pub record IsNew (rule : GenerationsRule) (number : ℕ) (r : ReplicaState) : Ty
   pub map : AreSame (map_of r.plane) (λ _. unwritten)
   pub journal : r.journal ≡ []
 
+-- a draw that is refused nothing and was stopped half way, where some of its edit may be joined
+abbrev pub IsDrawStopped : ReplicaState → ReplicaState → Result PlaneEdit Fault → Type 0
+IsDrawStopped old new meant = (e : PlaneEdit) × (meant ≡ Ok e) × IsPartly old new (λ p. IsPartlyJoined p (writes_of e))
+
 -- A draw answers the edit that is drawn at the greatest stamp of the map, or its first refusal, which leaves all as it
--- was, or, where nothing is refused, want of memory.
+-- was, or, where nothing is refused, a want.
 abbrev pub IsDraw : ReplicaState → ReplicaState → Result PlaneEdit Fault → Result PlaneEdit Fault → Type 0
 IsDraw old new meant (Ok e) = (meant ≡ Ok e) × DrawsAs old new e
-IsDraw old new meant (Err faults.Memory) = (e : PlaneEdit) × (meant ≡ Ok e) × IsPartly old new (λ p. IsPartlyJoined p (writes_of e))
-IsDraw old new meant (Err faults.ClockFull) = (meant ≡ Err faults.ClockFull) × (new ≡ old)
-IsDraw old new meant (Err (faults.Edit fault)) = (meant ≡ Err (faults.Edit fault)) × (new ≡ old)
-IsDraw old new meant (Err faults.OtherRule) = ⊥
-IsDraw old new meant (Err faults.NoReplica) = ⊥
-IsDraw old new meant (Err faults.NoMessage) = ⊥
+IsDraw old new meant (Err fault) = (IsWant fault × IsDrawStopped old new meant) ⊎ ((meant ≡ Err fault) × (new ≡ old))
 
--- A message is taken whole; one of another rule is refused, which leaves all as it was; nothing else is refused but
--- want of memory.
+-- a take of a message of the replica's own rule that was stopped half way
+abbrev pub IsTakingStopped : ReplicaState → ReplicaState → Shared → Type 0
+IsTakingStopped old new m = (m.rule ≡ old.rule) × IsPartly old new (λ p. IsPartlyTaken p m.content)
+
+-- A message is taken whole; one of another rule is refused, which leaves all as it was; nothing else is refused, and
+-- only a message of the replica's own rule meets a want.
 abbrev pub IsTaking : ReplicaState → ReplicaState → Shared → Result (Unit {0}) Fault → Type 0
 IsTaking old new m (Ok done) = (m.rule ≡ old.rule) × Takes old new m.content
-IsTaking old new m (Err faults.OtherRule) = (m.rule ≢ old.rule) × (new ≡ old)
-IsTaking old new m (Err faults.Memory) = (m.rule ≡ old.rule) × IsPartly old new (λ p. IsPartlyTaken p m.content)
-IsTaking old new m (Err faults.ClockFull) = ⊥
-IsTaking old new m (Err (faults.Edit fault)) = ⊥
-IsTaking old new m (Err faults.NoReplica) = ⊥
-IsTaking old new m (Err faults.NoMessage) = ⊥
+IsTaking old new m (Err fault) = (IsWant fault × IsTakingStopped old new m) ⊎ ((fault ≡ faults.OtherRule) × (m.rule ≢ old.rule) × (new ≡ old))
 
 -- a message's content is a map equal to p at every place
 abbrev pub IsMapOf : Writes → Content → Type 0

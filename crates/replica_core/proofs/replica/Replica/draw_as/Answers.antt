@@ -31,7 +31,7 @@ returns c =
       told.0,
       told.1,
       draws old new told.0 c.in_ok-stamp.stamp c.args.spec.now c.in_ok-edit.edit told.1 (sym told.2 ∙ c.in_ok-stamp.was) c.in_ok-edit.ensures.edit
-          (record { rule = refl; number = refl }) c.in_ok-draw_into.ensures.map c.in_ok-draw_into.ensures.noted,
+          c.in_ok-edit.ensures.states (record { rule = refl; number = refl }) c.in_ok-draw_into.ensures.map c.in_ok-draw_into.ensures.noted,
     )
 
 pub returns-in_err-draw_into : goal.returns-in_err-draw_into
