@@ -5,7 +5,7 @@ use Rattle.generations_rule.specs.Place.{Place}
 use Rattle.generations_rule.specs.Refusal.{when, unless, ◌>>=◌}
 use Rattle.generations_rule.specs.Rule.{GenerationsRule}
 use Rattle.edit_stamps.specs.declared.fault.EditFault.{EditFault}
-use Rattle.edit_stamps.specs.Edit.{PlaneEdit, IsEdit, has_states_below, is_edit, writes_of}
+use Rattle.edit_stamps.specs.Edit.{HaveStatesBelow, PlaneEdit, IsEdit, has_states_below, is_edit, writes_of}
 use Rattle.edit_stamps.specs.Making.{edit_of_cells}
 use Rattle.edit_stamps.specs.Pasting.{edit_of_clear, edit_of_copy, edit_of_or}
 use Rattle.edit_stamps.specs.PlaneMap.{HasStampedWrites, PlaneValue, map_of, HasStatesBelow, IsPartlyJoined}
@@ -129,3 +129,4 @@ pub record IsReplica (r : ReplicaState) : Type 0 where
   pub few : r.number < 2 ^ 16
   pub states : HasStatesBelow r.rule.states (map_of r.plane)
   pub journal : IsJournalOf (map_of r.plane) r.journal
+  pub noted : HaveStatesBelow r.rule.states r.journal

@@ -1,12 +1,12 @@
 -- Worlds of replicas as histories: which edits each replica took, which messages were sent, and what is answered to
 -- each event. The plane of a replica is no part of a history; it is the greatest writes of the edits that it took.
-use Rattle.std.specs.Prelude.{◌≡◌, ℕ, zero, suc, ◌+◌, ◌-◌, List, [], ◌∷◌, ◌++◌, length, Option, Some, None, Result, Ok, Err, slice_get, slice_set, Contains, ◌⊎◌, ⊤}
+use Rattle.std.specs.Prelude.{◌≡◌, IsTrue, ℕ, zero, suc, ◌+◌, ◌-◌, List, [], ◌∷◌, ◌++◌, length, Option, Some, None, Result, Ok, Err, slice_get, slice_set, Contains, ◌⊎◌, ⊤}
 use Rattle.std.specs.Option.{ok_or}
 use Rattle.std.proofs.Math.ListN.{replicate}
 use Rattle.generations_rule.specs.Place.{at_place}
 use Rattle.generations_rule.specs.Refusal.{◌>>=◌}
 use Rattle.generations_rule.specs.Rule.{GenerationsRule}
-use Rattle.edit_stamps.specs.Edit.{PlaneEdit, IsEdit, greatest, greatest_counter}
+use Rattle.edit_stamps.specs.Edit.{PlaneEdit, IsEdit, greatest, greatest_counter, has_states_below}
 use Rattle.edit_stamps.specs.PlaneMap.{map_of}
 use Rattle.edit_stamps.specs.Write.{AreSame}
 use Rattle.replica_core.specs.declared.event.Event.{Event}
@@ -139,8 +139,13 @@ IsSent w e = (m : ℕ) × (sent : Sent) × (message w m ≡ Ok sent) × Contains
 abbrev pub IsIn : History → PlaneEdit → Type 0
 IsIn w e = IsTaken w e ⊎ (IsNoted w e ⊎ IsSent w e)
 
+-- an edit whose states a rule has
+pub record IsEditUnder (rule : GenerationsRule) (e : PlaneEdit) : Type 0 where
+  pub edit : IsEdit e
+  pub states : IsTrue (has_states_below rule.states e)
+
 abbrev pub AreEdits : History → Type 0
-AreEdits w = (e : PlaneEdit) → IsIn w e → IsEdit e
+AreEdits w = (e : PlaneEdit) → IsIn w e → IsEditUnder w.rule e
 
 -- ---- which worlds of replicas stand for a history
 

@@ -84,6 +84,7 @@ impl Replica {
     pub fn journal(&self) -> &[Edit]
         ensures value { result.now ≡ self.now.journal }
         ensures journal { IsJournalOf (map_of self.now.plane) self.now.journal }
+        ensures states { HaveStatesBelow self.now.rule.states self.now.journal }
     {
         self.journal.as_slice()
     }

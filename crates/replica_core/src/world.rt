@@ -7,7 +7,7 @@ ghost use Rattle.replica_core.specs.declared.event.Event.TheVariants as events;
 ghost use Rattle.replica_core.specs.declared.event.Reply.TheVariants as replies;
 ghost use Rattle.replica_core.specs.Fault.{IsStopWant, IsWant};
 ghost use Rattle.replica_core.specs.Replica.{edit_drawn, IsNew, IsSnapshot};
-ghost use Rattle.replica_core.specs.World.{History, ReplicaHistory, Sent, opening, after, after_all, after_drawing, after_message, numbered, AreEdits, AreReplies, IsReply, StandSideBySide, StandsFor, StandsForSent, StandsForWorld};
+ghost use Rattle.replica_core.specs.World.{History, IsEditUnder, ReplicaHistory, Sent, opening, after, after_all, after_drawing, after_message, numbered, AreEdits, AreReplies, IsReply, StandSideBySide, StandsFor, StandsForSent, StandsForWorld};
 
 use crate::event::{Event, Reply, Stop};
 use crate::fault::Fault;
@@ -149,7 +149,7 @@ fn draw_at(replica: &mut Replica, spec: &EditSpec) -> Result<Reply, Stop>
     ensures step { IfOk result (λ reply. (rule : GenerationsRule) (h : ReplicaHistory) → ((e : PlaneEdit) → Contains h.taken e → IsEdit e)
         → StandsFor rule replica.old.number h replica.old
         → MatchResult (edit_drawn rule (greatest_counter h.taken) replica.old.number spec.now)
-        (λ e. (reply ≡ replies.Drawn e.stamp) × StandsFor rule replica.old.number (after_drawing h e) replica.new × IsEdit e)
+        (λ e. (reply ≡ replies.Drawn e.stamp) × StandsFor rule replica.old.number (after_drawing h e) replica.new × IsEditUnder rule e)
         (λ fault. (reply ≡ replies.Refused fault) × (replica.new ≡ replica.old))) }
     ensures err { IfErr result IsStopWant }
 {

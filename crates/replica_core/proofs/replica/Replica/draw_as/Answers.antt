@@ -1,11 +1,11 @@
 use Rattle.std.proofs.Common.{ℕ, sym, ◌∙◌, subst, ap, refl, Ok, Err}
 use Rattle.std.proofs.lemmas.Result.{err_from_is_err_and}
 use Rattle.edit_stamps.specs.Stamp.{counter_of}
-use Rattle.edit_stamps.specs.Edit.{IsEdit}
+use Rattle.edit_stamps.specs.Edit.{HaveStatesBelow, IsEdit}
 use Rattle.edit_stamps.specs.PlaneMap.{map_of, IsGreatestStamp}
 use Rattle.replica_core.specs.Replica.{ReplicaState, edit_drawn, IsDraw, IsJournalOf}
 use Rattle.replica_core.proofs.DrawLaws.{draws, next_above, refuses_made, stops}
-use Rattle.replica_core.proofs.NotedEdits.{draw_stopped, drawn_journal}
+use Rattle.replica_core.proofs.NotedEdits.{below_drawn, draw_stopped, drawn_journal}
 use Rattle.replica_core.proofs.replica.Replica.draw_as.Goals as goal
 
 pub returns-in_err-edit : goal.returns-in_err-edit
@@ -59,6 +59,7 @@ invariant_of-self c =
       states = c.draw_into.ensures.states c.self.inside.rule.states c.self.invariant.states c.in_ok-edit.ensures.states;
       journal = subst (IsJournalOf (map_of c.draw_into.new.plane)) (sym err.1)
           (draw_stopped (map_of c.self.inside.plane) (map_of c.draw_into.new.plane) c.in_ok-edit.edit c.self.inside.journal err.2 c.self.invariant.journal);
+      noted = subst (HaveStatesBelow c.self.inside.rule.states) (sym err.1) c.self.invariant.noted;
     }
 
 pub invariant_of-self-2 : goal.invariant_of-self-2
@@ -73,4 +74,6 @@ invariant_of-self-2 c =
           (drawn_journal told.0 (map_of c.self.inside.plane) (map_of c.draw_into.new.plane) c.self.inside.journal c.in_ok-edit.edit told.1
           (next_above told.0 c.self.inside.number c.in_ok-stamp.stamp c.self.inside.rule c.args.spec.now c.in_ok-edit.edit next c.in_ok-edit.ensures.edit)
           (subst IsEdit c.edit.view_is c.edit.invariant) c.in_ok-draw_into.ensures.map c.self.invariant.journal);
+      noted = subst (HaveStatesBelow c.self.inside.rule.states) (sym c.in_ok-draw_into.ensures.noted)
+          (below_drawn c.self.inside.rule.states c.self.inside.journal c.in_ok-edit.edit c.self.invariant.noted c.in_ok-edit.ensures.states);
     }

@@ -1,4 +1,5 @@
 use Rattle.std.proofs.Common.{sym, subst, arith}
+use Rattle.edit_stamps.specs.Edit.{HaveStatesBelow}
 use Rattle.edit_stamps.specs.PlaneMap.{map_of}
 use Rattle.replica_core.specs.Replica.{IsJournalOf}
 use Rattle.replica_core.proofs.NotedEdits.{no_journal}
@@ -10,4 +11,5 @@ invariant_of-result c = record {
   few = c.ranges.number.fits;
   states = λ at. rw (c.new.ensures at) (omega (arith, c.states-rule.ensures.rule.least));
   journal = subst (IsJournalOf (map_of c.new.result)) (sym c.new-2.ensures) (no_journal (map_of c.new.result));
+  noted = subst (HaveStatesBelow c.args.rule.states) (sym c.new-2.ensures) tt;
 }
