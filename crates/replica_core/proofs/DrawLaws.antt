@@ -89,11 +89,14 @@ pub stops : (old new : ReplicaState) (n stamp : ℕ) (spec : EditSpec) (e : Plan
     → stamp_after (counter_of n) old.number ≡ Ok stamp → or_edit_fault (made old.rule stamp spec) ≡ Ok e
     → IsOneReplica old new → new.journal ≡ old.journal → IsPartlyJoined (map_of old.plane) (writes_of e) (map_of new.plane)
     → IsDraw old new (edit_drawn old.rule (counter_of n) old.number spec) (Err faults.Memory)
-stops old new n stamp spec e next is one journal part = inl (tt, (
-  e,
-  ap (λ s. s >>= (λ stamp. or_edit_fault (made old.rule stamp spec))) next ∙ is,
-  record { one = one; journal = journal; map = part },
-))
+stops old new n stamp spec e next is one journal part = inl (
+  tt,
+  (
+    e,
+    ap (λ s. s >>= (λ stamp. or_edit_fault (made old.rule stamp spec))) next ∙ is,
+    record { one = one; journal = journal; map = part },
+  ),
+)
 
 -- a map to which nothing was joined
 unchanged : (r : ReplicaState) (e : PlaneEdit) → IsPartly r r (λ p. IsPartlyJoined p (writes_of e))

@@ -1,6 +1,6 @@
 -- Worlds of replicas as histories: which edits each replica took, which messages were sent, and what is answered to
 -- each event. The plane of a replica is no part of a history; it is the greatest writes of the edits that it took.
-use Rattle.std.specs.Prelude.{◌≡◌, IsTrue, ℕ, zero, suc, ◌+◌, ◌-◌, List, [], ◌∷◌, ◌++◌, length, Option, Some, None, Result, Ok, Err, slice_get, slice_set, Contains, ◌⊎◌, ⊤}
+use Rattle.std.specs.Prelude.{◌≡◌, ◌≤◌, IsTrue, ℕ, zero, suc, ◌+◌, ◌-◌, List, [], ◌∷◌, ◌++◌, length, Option, Some, None, Result, Ok, Err, slice_get, slice_set, Contains, ◌⊎◌, ⊤}
 use Rattle.std.specs.Option.{ok_or}
 use Rattle.std.proofs.Math.ListN.{replicate}
 use Rattle.generations_rule.specs.Place.{at_place}
@@ -51,6 +51,10 @@ opening rule n = record { rule = rule; replicas = replicate n beginner; messages
 abbrev pub numbered : {A : Type 0} → List A → ℕ → Option A
 numbered xs zero = None
 numbered xs (suc i) = slice_get xs i
+
+-- of so many things one stands at a number, counted from 1
+abbrev pub IsThere : ℕ → ℕ → Type 0
+IsThere number count = (1 ≤ number) × (number ≤ count)
 
 abbrev pub replica : History → ℕ → Result ReplicaHistory Fault
 replica w r = ok_or (numbered w.replicas r) faults.NoReplica

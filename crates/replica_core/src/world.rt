@@ -7,7 +7,7 @@ ghost use Rattle.replica_core.specs.declared.event.Event.TheVariants as events;
 ghost use Rattle.replica_core.specs.declared.event.Reply.TheVariants as replies;
 ghost use Rattle.replica_core.specs.Fault.{IsStopWant, IsWant};
 ghost use Rattle.replica_core.specs.Replica.{edit_drawn, IsNew, IsSnapshot};
-ghost use Rattle.replica_core.specs.World.{History, IsEditUnder, ReplicaHistory, Sent, opening, after, after_all, after_drawing, after_message, numbered, AreEdits, AreReplies, IsReply, StandSideBySide, StandsFor, StandsForSent, StandsForWorld};
+ghost use Rattle.replica_core.specs.World.{History, IsEditUnder, IsThere, ReplicaHistory, Sent, opening, after, after_all, after_drawing, after_message, numbered, AreEdits, AreReplies, IsReply, StandSideBySide, StandsFor, StandsForSent, StandsForWorld};
 
 use crate::event::{Event, Reply, Stop};
 use crate::fault::Fault;
@@ -105,7 +105,7 @@ fn beginner(alloc: Global, rule: Rule, number: u16) -> Result<Replica, Stop>
 
 /// The place in a list of what has a number, counted from 1.
 fn index_of(number: u64, count: usize) -> Option<usize>
-    ensures { SomeIff result ((1 ≤ number) × (number ≤ count)) (number - 1) }
+    ensures { SomeIff result (IsThere number count) (number - 1) }
 {
     if number == 0 || number > count as u64 {
         return None;
@@ -136,7 +136,7 @@ fn draw(replicas: &mut [Replica], number: u32, spec: &EditSpec) -> Result<Reply,
         × StandSideBySide (StandsFor w.rule) (after w (events.Draw number spec.now)).replicas replicas.new) }
     ensures edits { IfOk result (λ _. (w : History) → AreEdits w → StandSideBySide (StandsFor w.rule) w.replicas replicas.old → AreEdits (after w (events.Draw number spec.now))) }
     ensures as_many { length replicas.new ≡ length replicas.old }
-    ensures err { IfErr result IsStopWant }
+    ensures err { IfErr result (λ stop. IsStopWant stop × IsThere number (length replicas.old)) }
 {
     match index_of(u64::from(number), replicas.len()) {
         None => Ok(Reply::Refused(Fault::NoReplica)),
@@ -186,7 +186,7 @@ fn send_state(replicas: &[Replica], messages: &mut Vec<Message>, number: u32) ->
         → StandSideBySide (λ m. StandsForSent w.rule) w.messages messages.old.items →
         IsReply w (events.SendState number) reply
         × StandSideBySide (λ m. StandsForSent w.rule) (after w (events.SendState number)).messages messages.new.items) }
-    ensures err { IfErr result IsStopWant }
+    ensures err { IfErr result (λ stop. IsStopWant stop × IsThere number (length replicas.now)) }
 {
     match index_of(u64::from(number), replicas.len()) {
         None => Ok(Reply::Refused(Fault::NoReplica)),
@@ -219,7 +219,7 @@ fn deliver(
         IsReply w (events.Deliver message number) reply
         × StandSideBySide (StandsFor w.rule) (after w (events.Deliver message number)).replicas replicas.new) }
     ensures as_many { length replicas.new ≡ length replicas.old }
-    ensures err { IfErr result IsStopWant }
+    ensures err { IfErr result (λ stop. IsStopWant stop × IsThere message (length messages.now) × IsThere number (length replicas.old)) }
 {
     let Some(from) = index_of(message, messages.len()) else {
         return Ok(Reply::Refused(Fault::NoMessage));
