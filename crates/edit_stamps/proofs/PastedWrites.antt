@@ -15,13 +15,13 @@ use Rattle.multistate_rle.specs.Cells.{place_of}
 use Rattle.multistate_rle.specs.Pattern.{RlePattern, IsPattern, are_alive}
 use Rattle.edit_stamps.specs.declared.fault.EditFault.{EditFault}
 use Rattle.edit_stamps.specs.declared.rect.Rect.{Rect}
-use Rattle.edit_stamps.specs.Edit.{PlaneEdit, listed, write_by}
+use Rattle.edit_stamps.specs.Edit.{PlaneEdit, has_states_below, listed, write_by}
 use Rattle.edit_stamps.specs.Laws.{IsClear, IsCopy, IsOr, MakesPastes}
 use Rattle.edit_stamps.specs.Pasting.{box_of, clear_fault, copy_fault, or_fault, placed, placed_cell}
 use Rattle.edit_stamps.specs.Plane.{is_in}
 use Rattle.edit_stamps.specs.Stamp.{is_stamp}
 use Rattle.edit_stamps.specs.Write.{unwritten}
-use Rattle.edit_stamps.proofs.PastingLaws.{clear_kept, copy_kept, inside_placed, or_kept}
+use Rattle.edit_stamps.proofs.PastingLaws.{clear_kept, copy_below, copy_kept, inside_placed, or_kept, ored}
 use Rattle.edit_stamps.proofs.PlaceOrder.{one_place}
 
 -- ---- the cell that stands at a place
@@ -152,4 +152,9 @@ makes_pastes = record {
   copy = λ r stamp p x y in_range pattern. unrefused (IsCopy stamp p x y) (copy_fault r.states (box_of p x y) (placed x y p.cells)) _ (copy_of r.states stamp p x y in_range pattern);
   or = λ r stamp p x y in_range pattern. unrefused (IsOr stamp p x y) (or_fault r.states (placed x y p.cells)) _ (or_of r.states stamp p x y in_range pattern);
   clear = λ stamp area in_range. unrefused (IsClear stamp area) (clear_fault area) _ (clear_of stamp area in_range);
+  copy_states = λ r stamp p x y. unrefused (λ e. IsTrue (has_states_below r.states e)) (copy_fault r.states (box_of p x y) (placed x y p.cells)) _
+      (copy_below r.states (box_of p x y) (placed x y p.cells));
+  or_states = λ r stamp p x y. unrefused (λ e. IsTrue (has_states_below r.states e)) (or_fault r.states (placed x y p.cells)) _
+      (λ none. (ored r.states (placed x y p.cells) none).below);
+  clear_states = λ stamp area states. unrefused (λ e. IsTrue (has_states_below states e)) (clear_fault area) _ (λ none. refl);
 }

@@ -1,12 +1,13 @@
 -- The order of writes, and what follows for maps of writes.
-use Rattle.std.proofs.Common.{◌≡◌, ◌⊎◌, inl, inr, zero, suc, ◌<◌, ◌≤◌, false, List, [], ◌∷◌, refl, sym, ◌∙◌, ap, subst, arith}
+use Rattle.std.proofs.Common.{◌≡◌, ◌⊎◌, inl, inr, zero, suc, ◌<◌, ◌≤◌, max, true, false, List, [], ◌∷◌, refl, sym, ◌∙◌, ap, subst, arith}
 use Rattle.std.specs.Prelude.{IsTrue, nat_lt, Contains}
+use Rattle.std.proofs.lemmas.Bool.Decides.{nat_tests}
 use Rattle.std.proofs.lemmas.Bool.{or_cases, and_parts, ltb-true, leb-true, eqb-true, lt-ltb, le-leb, eq-eqb, cases_Bool, cases_order, cases_lt}
 use Rattle.generations_rule.specs.Place.{Place}
 use Rattle.edit_stamps.specs.declared.write.Write.{Write}
 use Rattle.edit_stamps.specs.Write.{at_most, greater, unwritten}
 use Rattle.edit_stamps.specs.Edit.{PlaneEdit, greatest, writes_of}
-use Rattle.edit_stamps.specs.Laws.{IsTotal, IsLattice, IsLeastUpperBound, DependsOnMembers, JoinsLists}
+use Rattle.edit_stamps.specs.Laws.{IsTotal, IsLattice, IsLatticeOfMaps, IsLeastUpperBound, DependsOnMembers, JoinsLists}
 
 -- the order as a fact on numbers
 Below : Write → Write → Type 0
@@ -73,10 +74,10 @@ is_total = record { reflexive = reflexive; transitive = transitive; antisymmetri
 swapped : (v w : Write) → at_most v w ≡ false → IsTrue (at_most w v)
 swapped v w f = elim (total v w) [ inl t ↦ absurd (cc) | inr t ↦ t ]
 
-left_of : (v w : Write) → IsTrue (at_most v (greater v w))
+pub left_of : (v w : Write) → IsTrue (at_most v (greater v w))
 left_of v w = elim (cases_Bool (at_most v w)) [ inl t ↦ rw t t | inr f ↦ rw f (reflexive v) ]
 
-right_of : (v w : Write) → IsTrue (at_most w (greater v w))
+pub right_of : (v w : Write) → IsTrue (at_most w (greater v w))
 right_of v w = elim (cases_Bool (at_most v w)) [ inl t ↦ rw t (reflexive w) | inr f ↦ rw f (swapped v w f) ]
 
 under : (v w u : Write) → IsTrue (at_most v u) → IsTrue (at_most w u) → IsTrue (at_most (greater v w) u)
@@ -109,6 +110,13 @@ is_lattice = record { commutative = commutative; associative = associative; idem
 absorbed : (v w : Write) → IsTrue (at_most v w) → greater v w ≡ w
 absorbed v w h = rw h refl
 
+pub is_lattice_of_maps : IsLatticeOfMaps
+is_lattice_of_maps = record {
+  commutative = λ p q c. is_lattice.commutative (p c) (q c);
+  associative = λ p q r c. is_lattice.associative (p c) (q c) (r c);
+  idempotent = λ p c. is_lattice.idempotent (p c);
+}
+
 pub is_least_upper_bound : IsLeastUpperBound
 is_least_upper_bound = record {
   left = λ p q c. left_of (p c) (q c);
@@ -139,3 +147,17 @@ depends_on_members E F same c = antisymmetric (greatest E c) (greatest F c)
 pub joins_lists : JoinsLists
 joins_lists [] F c = sym (absorbed unwritten (greatest F c) (least (greatest F c)))
 joins_lists (e ∷ E) F c = ap (greater (writes_of e c)) (joins_lists E F c) ∙ sym (associative (writes_of e c) (greatest E c) (greatest F c))
+
+-- ---- the greater write
+
+pub stamps_rise : (v w : Write) → at_most v w ≡ true → v.stamp ≤ w.stamp
+stamps_rise v w h = grind (arith, nat_tests)
+
+pub stamp_of_greater : (v w : Write) → (greater v w).stamp ≤ max v.stamp w.stamp
+stamp_of_greater v w = elim (cases_Bool (at_most v w)) [ inl t ↦ rw t (omega arith) | inr f ↦ rw f (omega arith) ]
+
+pub greater-unwritten : (v : Write) → greater v unwritten ≡ v
+greater-unwritten v = is_lattice.commutative v unwritten ∙ rw (is_total.least v) refl
+
+pub unwritten-greater : (v : Write) → greater unwritten v ≡ v
+unwritten-greater v = rw (is_total.least v) refl

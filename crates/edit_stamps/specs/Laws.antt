@@ -1,5 +1,6 @@
 -- What writes, maps of writes and edits obey.
 use Rattle.std.specs.Prelude.{◌≡◌, ◌≢◌, ℕ, ℤ, ◌<◌, ◌^◌, ◌⊎◌, ◌↔◌, IsTrue, IfOk, List, ◌++◌, Contains, false, reverse, Some}
+use Rattle.std.specs.List.{AllByRecursion}
 use Rattle.std.specs.Ordering.{nat_cmp}
 use Rattle.generations_rule.specs.Place.{Place}
 use Rattle.generations_rule.specs.Rule.{GenerationsRule}
@@ -8,10 +9,11 @@ use Rattle.multistate_rle.specs.Cells.{is_sorted}
 use Rattle.multistate_rle.specs.Pattern.{RlePattern, IsPattern}
 use Rattle.edit_stamps.specs.declared.rect.Rect.{Rect}
 use Rattle.edit_stamps.specs.declared.write.Write.{Write}
-use Rattle.edit_stamps.specs.Edit.{PlaneEdit, IsEdit, is_edit, greatest, listed, write_by, writes_of, has_states_below}
+use Rattle.edit_stamps.specs.Edit.{PlaneEdit, IsEdit, is_edit, greatest, greatest_counter, listed, write_by, writes_of, has_states_below}
 use Rattle.edit_stamps.specs.Making.{edit_of_cells, settled}
 use Rattle.edit_stamps.specs.Pasting.{box_of, edit_of_clear, edit_of_copy, edit_of_or, state_there}
 use Rattle.edit_stamps.specs.Plane.{is_in}
+use Rattle.edit_stamps.specs.PlaneMap.{IsGreatestStamp}
 use Rattle.edit_stamps.specs.Stamp.{counter_of, is_stamp, replica_of, stamp_cmp, stamp_made, stamp_of}
 use Rattle.edit_stamps.specs.Write.{at_most, greater, unwritten, Writes, AreSame, IsBelow, joined}
 
@@ -36,6 +38,12 @@ pub record IsLattice : Type 0 where
   pub commutative : (v w : Write) → greater v w ≡ greater w v
   pub associative : (u v w : Write) → greater (greater u v) w ≡ greater u (greater v w)
   pub idempotent : (v : Write) → greater v v ≡ v
+
+-- so is the join of maps
+pub record IsLatticeOfMaps : Type 0 where
+  pub commutative : (p q : Writes) → AreSame (joined p q) (joined q p)
+  pub associative : (p q r : Writes) → AreSame (joined (joined p q) r) (joined p (joined q r))
+  pub idempotent : (p : Writes) → AreSame (joined p p) p
 
 -- the join is above both maps and below every map that is above both; p is below q exactly when joining them gives q
 pub record IsLeastUpperBound : Type 0 where
@@ -87,12 +95,19 @@ pub record IsClear (stamp : ℕ) (area : Rect) (e : PlaneEdit) : Type 0 where
   pub in_area : (c : Place) → IsTrue (is_in area c) → writes_of e c ≡ record { stamp = stamp; state = 0 }
   pub elsewhere : (c : Place) → is_in area c ≡ false → writes_of e c ≡ unwritten
 
--- what the makers of pastes and clears make is a copy, an or and a clear
+-- what the makers of pastes and clears make is a copy, an or and a clear, whose states the rule has
 pub record MakesPastes : Type 0 where
   pub copy : (r : GenerationsRule) (stamp : ℕ) (p : RlePattern) (x y : ℤ) → IsTrue (is_stamp stamp) → IsPattern p → IfOk (edit_of_copy r stamp p x y) (IsCopy stamp p x y)
   pub or : (r : GenerationsRule) (stamp : ℕ) (p : RlePattern) (x y : ℤ) → IsTrue (is_stamp stamp) → IsPattern p → IfOk (edit_of_or r stamp p x y) (IsOr stamp p x y)
   pub clear : (stamp : ℕ) (area : Rect) → IsTrue (is_stamp stamp) → IfOk (edit_of_clear stamp area) (IsClear stamp area)
+  pub copy_states : (r : GenerationsRule) (stamp : ℕ) (p : RlePattern) (x y : ℤ) → IfOk (edit_of_copy r stamp p x y) (λ e. IsTrue (has_states_below r.states e))
+  pub or_states : (r : GenerationsRule) (stamp : ℕ) (p : RlePattern) (x y : ℤ) → IfOk (edit_of_or r stamp p x y) (λ e. IsTrue (has_states_below r.states e))
+  pub clear_states : (stamp : ℕ) (area : Rect) (states : ℕ) → IfOk (edit_of_clear stamp area) (λ e. IsTrue (has_states_below states e))
 
 -- the test of two edits holds exactly where they are one
 abbrev pub TellsEdits : Type 0
 TellsEdits = (a b : PlaneEdit) → IsTrue (is_edit a b) ↔ (a ≡ b)
+
+-- the greatest counter of edits is that of the greatest stamp in the map of their greatest writes, since each edit writes a cell
+abbrev pub TellsCounter : Type 0
+TellsCounter = (edits : List PlaneEdit) (n : ℕ) → AllByRecursion (λ e. IsEdit e) edits → IsGreatestStamp n (greatest edits) → counter_of n ≡ greatest_counter edits

@@ -19,7 +19,7 @@ mod write;
 
 pub use edit::Edit;
 pub use fault::EditFault;
-pub use laws::{edit_laws, stamp_laws, write_laws};
+pub use laws::{clock_laws, edit_laws, stamp_laws, write_laws};
 pub use list::EditList;
 pub use multistate_rle::{Cell, Pattern};
 pub use placing::{Corner, are_placeable, have_states_below, placed_cells};

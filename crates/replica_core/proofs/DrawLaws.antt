@@ -1,6 +1,6 @@
 -- A draw: the stamp of what is drawn, which cells it wins, and what a refusal says.
 use Rattle.std.proofs.Common.{◌≡◌, ◌⊎◌, ℕ, ◌+◌, ◌<◌, ◌≤◌, Bool, true, false, [], ◌∷◌, ◌++◌, refl, sym, ◌∙◌, ap, subst, arith, inl, inr}
-use Rattle.std.specs.Prelude.{Option, Some, None, Result, Ok, Err, nat_lt, not}
+use Rattle.std.specs.Prelude.{IsTrue, Option, Some, None, Result, Ok, Err, nat_lt, not}
 use Rattle.std.specs.Result.{IsOk}
 use Rattle.std.proofs.lemmas.Bool.Decides.{nat_tests}
 use Rattle.generations_rule.specs.Refusal.{◌>>=◌, when, unless}
@@ -8,13 +8,12 @@ use Rattle.generations_rule.specs.Rule.{GenerationsRule}
 use Rattle.edit_stamps.specs.declared.fault.EditFault.{EditFault}
 use Rattle.edit_stamps.specs.declared.fault.EditFault.TheVariants as edit_faults
 use Rattle.edit_stamps.specs.declared.write.Write.{Write}
-use Rattle.edit_stamps.specs.Edit.{PlaneEdit, is_covered, listed, write_by, writes_of}
+use Rattle.edit_stamps.specs.Edit.{has_states_below, PlaneEdit, is_covered, listed, write_by, writes_of}
 use Rattle.edit_stamps.specs.Making.{cells_fault, settled}
 use Rattle.edit_stamps.specs.Pasting.{box_of, clear_fault, copy_fault, or_fault, placed}
-use Rattle.edit_stamps.specs.PlaneMap.{write_at}
+use Rattle.edit_stamps.specs.PlaneMap.{map_of, IsGreatestStamp, IsPartlyJoined}
 use Rattle.edit_stamps.specs.Stamp.{counter_of, last_counter, stamp_of}
 use Rattle.edit_stamps.specs.Write.{AreSame, greater, joined}
-use Rattle.stamped_map.specs.Plane.{IsGreatestStamp, IsPartlyJoined}
 use Rattle.replica_core.specs.declared.fault.Fault.{Fault}
 use Rattle.replica_core.specs.declared.fault.Fault.TheVariants as faults
 use Rattle.replica_core.specs.declared.spec.EditSpec.{EditSpec}
@@ -65,19 +64,21 @@ next_above n number stamp g spec e next is =
 -- ---- what a draw answers
 
 pub draws : (old new : ReplicaState) (n stamp : ℕ) (spec : EditSpec) (e : PlaneEdit)
-    → IsGreatestStamp n (write_at old.map) → stamp_after (counter_of n) old.number ≡ Ok stamp → or_edit_fault (made old.rule stamp spec) ≡ Ok e
-    → IsOneReplica old new → AreSame (write_at new.map) (joined (write_at old.map) (writes_of e)) → new.journal ≡ old.journal ++ e ∷ []
+    → IsGreatestStamp n (map_of old.plane) → stamp_after (counter_of n) old.number ≡ Ok stamp → or_edit_fault (made old.rule stamp spec) ≡ Ok e
+    → IsTrue (has_states_below old.rule.states e)
+    → IsOneReplica old new → AreSame (map_of new.plane) (joined (map_of old.plane) (writes_of e)) → new.journal ≡ old.journal ++ e ∷ []
     → IsDraw old new (edit_drawn old.rule (counter_of n) old.number spec) (Ok e)
-draws old new n stamp spec e greatest_is next is one map journal = (
+draws old new n stamp spec e greatest_is next is states one map journal = (
   ap (λ s. s >>= (λ stamp. or_edit_fault (made old.rule stamp spec))) next ∙ is,
   record {
     one = one;
+    states = states;
     map = map;
     journal = journal;
-    wins = λ c some. map c ∙ wins_above (write_at old.map c) (writes_of e c) (
+    wins = λ c some. map c ∙ wins_above (map_of old.plane c) (writes_of e c) (
         let above : n < stamp = above_greatest n old.number stamp (nat_lt (counter_of n) last_counter) next in
         let mine : (writes_of e c).stamp ≡ stamp = stamp_written e.stamp (listed e.cells c) (is_covered e.area c) some ∙ made_stamp old.rule stamp spec e is in
-        let held : (write_at old.map c).stamp ≤ n = greatest_is.above c in
+        let held : (map_of old.plane c).stamp ≤ n = greatest_is.above c in
         omega (arith, above, mine, held)
         );
   },
@@ -86,12 +87,15 @@ draws old new n stamp spec e greatest_is next is one map journal = (
 -- a draw that was refused memory half way
 pub stops : (old new : ReplicaState) (n stamp : ℕ) (spec : EditSpec) (e : PlaneEdit)
     → stamp_after (counter_of n) old.number ≡ Ok stamp → or_edit_fault (made old.rule stamp spec) ≡ Ok e
-    → IsOneReplica old new → new.journal ≡ old.journal → IsPartlyJoined (write_at old.map) (writes_of e) (write_at new.map)
+    → IsOneReplica old new → new.journal ≡ old.journal → IsPartlyJoined (map_of old.plane) (writes_of e) (map_of new.plane)
     → IsDraw old new (edit_drawn old.rule (counter_of n) old.number spec) (Err faults.Memory)
-stops old new n stamp spec e next is one journal part = (
-  e,
-  ap (λ s. s >>= (λ stamp. or_edit_fault (made old.rule stamp spec))) next ∙ is,
-  record { one = one; journal = journal; map = part },
+stops old new n stamp spec e next is one journal part = inl (
+  tt,
+  (
+    e,
+    ap (λ s. s >>= (λ stamp. or_edit_fault (made old.rule stamp spec))) next ∙ is,
+    record { one = one; journal = journal; map = part },
+  ),
 )
 
 -- a map to which nothing was joined
@@ -103,42 +107,16 @@ unchanged r e = record {
 }
 
 -- an edit that the maker means is one that the draw means
-wants : (r : ReplicaState) (meant : Result PlaneEdit Fault) (made_now : Result PlaneEdit EditFault) → meant ≡ or_edit_fault made_now → IsOk made_now → IsDraw r r meant (Err faults.Memory)
-wants r meant (Ok e) is ok = (e, is, unchanged r e)
-wants r meant (Err fault) is ok = absurd (cc)
-
--- which refusals an edit's maker has
-abbrev is_of_edit : Fault → Bool
-is_of_edit (faults.Edit fault) = true
-is_of_edit faults.Memory = true
-is_of_edit faults.OtherRule = false
-is_of_edit faults.ClockFull = false
-is_of_edit faults.NoReplica = false
-is_of_edit faults.NoMessage = false
-
-maker_refuses : (made_now : Result PlaneEdit EditFault) (fault : Fault) → or_edit_fault made_now ≡ Err fault → is_of_edit fault ≡ true
-maker_refuses (Ok e) fault same = absurd (cc)
-maker_refuses (Err edit_faults.Memory) fault same = let is : faults.Memory ≡ fault = cc in subst (λ f. is_of_edit f ≡ true) is refl
-maker_refuses (Err edit_faults.Nothing) fault same = let is : faults.Edit edit_faults.Nothing ≡ fault = cc in subst (λ f. is_of_edit f ≡ true) is refl
-maker_refuses (Err edit_faults.TooMany) fault same = let is : faults.Edit edit_faults.TooMany ≡ fault = cc in subst (λ f. is_of_edit f ≡ true) is refl
-maker_refuses (Err edit_faults.OutOfPlane) fault same = let is : faults.Edit edit_faults.OutOfPlane ≡ fault = cc in subst (λ f. is_of_edit f ≡ true) is refl
-maker_refuses (Err edit_faults.StateRange) fault same = let is : faults.Edit edit_faults.StateRange ≡ fault = cc in subst (λ f. is_of_edit f ≡ true) is refl
-maker_refuses (Err edit_faults.AreaSide) fault same = let is : faults.Edit edit_faults.AreaSide ≡ fault = cc in subst (λ f. is_of_edit f ≡ true) is refl
+wants : (r : ReplicaState) (meant : Result PlaneEdit Fault) (made_now : Result PlaneEdit EditFault) (fault : Fault) → IsWant fault
+    → meant ≡ or_edit_fault made_now → IsOk made_now → IsDraw r r meant (Err fault)
+wants r meant (Ok e) fault want is ok = inl (want, (e, is, unchanged r e))
+wants r meant (Err refusal) fault want is ok = absurd (cc)
 
 -- a refusal of the maker is one of the draw
 pub refuses : (r : ReplicaState) (meant : Result PlaneEdit Fault) (made_now : Result PlaneEdit EditFault) (fault : Fault) → meant ≡ or_edit_fault made_now
     → IsWant fault ⊎ (or_edit_fault made_now ≡ Err fault) → (IsWant fault → IsOk made_now) → IsDraw r r meant (Err fault)
-refuses r meant made_now faults.Memory is told last = wants r meant made_now is (last tt)
-refuses r meant made_now faults.ClockFull is (inl want) last = absurd want
-refuses r meant made_now faults.ClockFull is (inr same) last = (is ∙ same, refl)
-refuses r meant made_now (faults.Edit fault) is (inl want) last = absurd want
-refuses r meant made_now (faults.Edit fault) is (inr same) last = (is ∙ same, refl)
-refuses r meant made_now faults.OtherRule is (inl want) last = absurd want
-refuses r meant made_now faults.OtherRule is (inr same) last = absurd (let no = maker_refuses made_now faults.OtherRule same in cc)
-refuses r meant made_now faults.NoReplica is (inl want) last = absurd want
-refuses r meant made_now faults.NoReplica is (inr same) last = absurd (let no = maker_refuses made_now faults.NoReplica same in cc)
-refuses r meant made_now faults.NoMessage is (inl want) last = absurd want
-refuses r meant made_now faults.NoMessage is (inr same) last = absurd (let no = maker_refuses made_now faults.NoMessage same in cc)
+refuses r meant made_now fault is (inl want) last = wants r meant made_now fault want is (last want)
+refuses r meant made_now fault is (inr same) last = inr (is ∙ same, refl)
 
 pub refuses_made : (r : ReplicaState) (n stamp : ℕ) (spec : EditSpec) (fault : Fault)
     → stamp_after (counter_of n) r.number ≡ Ok stamp → IsWant fault ⊎ (or_edit_fault (made r.rule stamp spec) ≡ Err fault)

@@ -3,7 +3,7 @@ use Rattle.std.proofs.Common.{◌≡◌, ℕ, suc, ◌-◌, ◌≤◌, List, [],
 use Rattle.std.specs.Prelude.{Contains, Some, slice_get, slice_set, Result, Ok, Err, MatchResult}
 use Rattle.std.specs.Option.{ok_or}
 use Rattle.generations_rule.specs.Refusal.{◌>>=◌}
-use Rattle.edit_stamps.specs.Edit.{PlaneEdit, IsEdit}
+use Rattle.edit_stamps.specs.Edit.{PlaneEdit, IsEdit, greatest_counter}
 use Rattle.replica_core.specs.declared.event.Event.{Event}
 use Rattle.replica_core.specs.declared.event.Event.TheVariants.{Draw, SendState, Deliver, Show}
 use Rattle.replica_core.specs.declared.event.Reply.{Reply}
@@ -11,10 +11,9 @@ use Rattle.replica_core.specs.declared.event.Reply.TheVariants as replies
 use Rattle.replica_core.specs.declared.fault.Fault.{Fault}
 use Rattle.replica_core.specs.declared.fault.Fault.TheVariants as faults
 use Rattle.replica_core.specs.declared.spec.EditSpec.{EditSpec}
-use Rattle.stamped_map.specs.Laws.{greatest_counter}
 use Rattle.replica_core.specs.Message.{Shared}
 use Rattle.replica_core.specs.Replica.{ReplicaState, edit_drawn}
-use Rattle.replica_core.specs.World.{History, ReplicaHistory, Sent, State, AreEdits, Given, IsReply, StandSideBySide, StandsFor, StandsForSent, StandsForWorld, WorldState, after, after_drawing, after_message, changed, delivered, drawn, message, next_message, numbered, replica, with_message, with_replica}
+use Rattle.replica_core.specs.World.{IsEditUnder, History, ReplicaHistory, Sent, State, AreEdits, Given, IsReply, StandSideBySide, StandsFor, StandsForSent, StandsForWorld, WorldState, after, after_drawing, after_message, changed, delivered, drawn, message, next_message, numbered, replica, with_message, with_replica}
 use Rattle.replica_core.proofs.HistoryLaws.{edits_drawn}
 use Rattle.replica_core.proofs.SideBySide.{beside, numbered_at, numbered_past, set_same, side_set, side_push}
 
@@ -38,7 +37,7 @@ answered_draw : (w : History) (rs : List ReplicaState) (r i : ℕ) (h : ReplicaH
     → i ≡ r - 1 → 1 ≤ r → slice_get rs i ≡ Some old → StandSideBySide (StandsFor w.rule) w.replicas rs → old.number ≡ r
     → replica w r ≡ Ok h → AreEdits w
     → MatchResult d
-    (λ e. (reply ≡ replies.Drawn e.stamp) × StandsFor w.rule old.number (after_drawing h e) new × IsEdit e)
+    (λ e. (reply ≡ replies.Drawn e.stamp) × StandsFor w.rule old.number (after_drawing h e) new × IsEditUnder w.rule e)
     (λ fault. (reply ≡ replies.Refused fault) × (new ≡ old))
     → Answered w rs r i new reply (d >>= (λ e. Ok (e, after_drawing h e)))
 answered_draw w rs r i h old new reply (Ok e) at one there side number is valid told = (
@@ -58,7 +57,7 @@ pub draws_in_world : (w : History) (rs : List ReplicaState) (r i : ℕ) (old new
     → AreEdits w → StandSideBySide (StandsFor w.rule) w.replicas rs → 1 ≤ r → i ≡ r - 1 → slice_get rs i ≡ Some old
     → ((h : ReplicaHistory) → ((e : PlaneEdit) → Contains h.taken e → IsEdit e) → StandsFor w.rule old.number h old
     → MatchResult (edit_drawn w.rule (greatest_counter h.taken) old.number spec)
-    (λ e. (reply ≡ replies.Drawn e.stamp) × StandsFor w.rule old.number (after_drawing h e) new × IsEdit e)
+    (λ e. (reply ≡ replies.Drawn e.stamp) × StandsFor w.rule old.number (after_drawing h e) new × IsEditUnder w.rule e)
     (λ fault. (reply ≡ replies.Refused fault) × (new ≡ old)))
     → IsReply w (Draw r spec) reply × StandSideBySide (StandsFor w.rule) (after w (Draw r spec)).replicas (slice_set rs i new) × AreEdits (after w (Draw r spec))
 draws_in_world w rs r i old new spec reply valid side one at there step =
@@ -70,7 +69,7 @@ draws_in_world w rs r i old new spec reply valid side one at there step =
     subst (λ (o : Result ReplicaHistory Fault). Answered w rs r i new reply (o >>= (λ k. edit_drawn w.rule (greatest_counter k.taken) r spec >>= (λ e. Ok (e, after_drawing k e))))) (sym is)
     (subst (λ k. Answered w rs r i new reply (edit_drawn w.rule (greatest_counter h.taken) k spec >>= (λ e. Ok (e, after_drawing h e)))) number
     (answered_draw w rs r i h old new reply (edit_drawn w.rule (greatest_counter h.taken) old.number spec) at one there side number is valid
-    (step h (λ e here. valid e (inl (r, h, is, here))) stands)))
+    (step h (λ e here. (valid e (inl (r, h, is, here))).edit) stands)))
 
 -- a draw of no replica
 pub draws_nowhere : (w : History) (rs : List ReplicaState) (r : ℕ) (spec : EditSpec) → AreEdits w → StandSideBySide (StandsFor w.rule) w.replicas rs

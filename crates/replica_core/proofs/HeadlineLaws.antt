@@ -4,10 +4,10 @@ use Rattle.std.specs.Prelude.{IsTrue, Some, slice_get, slice_index_or}
 use Rattle.generations_rule.specs.Place.{Place}
 use Rattle.generations_rule.specs.Rule.{GenerationsRule}
 use Rattle.edit_stamps.specs.Edit.{PlaneEdit, greatest, is_covered, listed, writes_of}
-use Rattle.edit_stamps.specs.PlaneMap.{write_at}
+use Rattle.edit_stamps.specs.PlaneMap.{map_of}
 use Rattle.edit_stamps.specs.Write.{at_most, greater, AreSame}
 use Rattle.edit_stamps.proofs.WriteLaws.{depends_on_members, is_least_upper_bound, is_total, joins_lists}
-use Rattle.stamped_map.proofs.PartLaws.{made_by_one}
+use Rattle.edit_stamps.proofs.GreatestWrites.{made_by_one}
 use Rattle.replica_core.specs.declared.event.Event.{Event}
 use Rattle.replica_core.specs.declared.fault.Fault.TheVariants as faults
 use Rattle.replica_core.specs.Replica.{ReplicaState}
@@ -18,9 +18,9 @@ use Rattle.replica_core.proofs.HistoryLaws.{at_least_one, grows_along, same_ok, 
 use Rattle.replica_core.proofs.SideBySide.{numbered_at}
 
 -- the map of a replica is that of the edits that it took
-map_of : (rule : GenerationsRule) (n : ℕ) (events : List Event) (r : ℕ) (h : ReplicaHistory) (held : ReplicaState)
-    → IsAt rule n events r h held → AreSame (write_at held.map) (greatest h.taken)
-map_of rule n events r h held at =
+held_map : (rule : GenerationsRule) (n : ℕ) (events : List Event) (r : ℕ) (h : ReplicaHistory) (held : ReplicaState)
+    → IsAt rule n events r h held → AreSame (map_of held.plane) (greatest h.taken)
+held_map rule n events r h held at =
     let w : History = after_all (opening rule n) events in
     let one : 1 ≤ r = at_least_one w r h at.history in
     let left : slice_get w.replicas (r - 1) ≡ Some h = sym (numbered_at w.replicas r one) ∙ some_of_ok (numbered w.replicas r) faults.NoReplica h at.history in
@@ -42,11 +42,11 @@ greatest_of edits c = record {
 }
 
 pub holds_greatest : HoldsGreatest
-holds_greatest rule n events r h held at c = subst (IsGreatestOf h.taken c) (sym (map_of rule n events r h held at c)) (greatest_of h.taken c)
+holds_greatest rule n events r h held at c = subst (IsGreatestOf h.taken c) (sym (held_map rule n events r h held at c)) (greatest_of h.taken c)
 
 pub agrees : Agrees
 agrees rule other_rule n m events others r s h k held other at there same c =
-    map_of rule n events r h held at c ∙ depends_on_members h.taken k.taken same c ∙ sym (map_of other_rule m others s k other there c)
+    held_map rule n events r h held at c ∙ depends_on_members h.taken k.taken same c ∙ sym (held_map other_rule m others s k other there c)
 
 pub has_one_edit_a_stamp : HasOneEditAStamp
 has_one_edit_a_stamp rule n events e f few inside also same = (sound_along (opening rule n) events (sound_opening rule n few)).one e f inside also same
@@ -54,7 +54,7 @@ has_one_edit_a_stamp rule n events e f few inside also same = (sound_along (open
 pub has_one_winner : HasOneWinner
 has_one_winner rule n events r h held c e f few at e_here f_here e_wins f_wins some =
     let w : History = after_all (opening rule n) events in
-    let own : (x : PlaneEdit) → writes_of x c ≡ write_at held.map c → x.stamp ≡ (write_at held.map c).stamp =
+    let own : (x : PlaneEdit) → writes_of x c ≡ map_of held.plane c → x.stamp ≡ (map_of held.plane c).stamp =
     λ x wins. sym (stamp_written x.stamp (listed x.cells c) (is_covered x.area c) (subst (λ v. 0 < v.stamp) (sym wins) some)) ∙ ap (λ v. v.stamp) wins in
     has_one_edit_a_stamp rule n events e f few (inl (r, h, at.history, e_here)) (inl (r, h, at.history, f_here)) (own e e_wins ∙ sym (own f f_wins))
 
@@ -68,7 +68,7 @@ never_goes_down rule n events more r h k held later at after_more c =
     let grown = grows_along w more r h at.history in
     let now_is : k ≡ grown.now = same_ok (replica (after_all w more) r) k grown.now (ap (λ v. replica v r) (sym (along_both (opening rule n) events more)) ∙ after_more.history) grown.there in
     let taken_is : k.taken ≡ h.taken ++ grown.more = ap (λ x. x.taken) now_is ∙ grown.grown in
-    let upper : write_at later.map c ≡ greater (greatest h.taken c) (greatest grown.more c) =
-    map_of rule n (events ++ more) r k later after_more c ∙ ap (λ l. greatest l c) taken_is ∙ joins_lists h.taken grown.more c in
-    subst (λ v. IsTrue (at_most v (write_at later.map c))) (sym (map_of rule n events r h held at c))
+    let upper : map_of later.plane c ≡ greater (greatest h.taken c) (greatest grown.more c) =
+    held_map rule n (events ++ more) r k later after_more c ∙ ap (λ l. greatest l c) taken_is ∙ joins_lists h.taken grown.more c in
+    subst (λ v. IsTrue (at_most v (map_of later.plane c))) (sym (held_map rule n events r h held at c))
     (subst (λ v. IsTrue (at_most (greatest h.taken c) v)) (sym upper) (is_least_upper_bound.left (greatest h.taken) (greatest grown.more) c))

@@ -9,16 +9,15 @@ use Rattle.std.proofs.lemmas.List.Elements.{Contains-append_left, Contains-appen
 use Rattle.std.proofs.lemmas.Option.{slice_get_within}
 use Rattle.generations_rule.specs.Refusal.{◌>>=◌, when, unless}
 use Rattle.generations_rule.specs.Rule.{GenerationsRule}
-use Rattle.edit_stamps.specs.Edit.{PlaneEdit, IsEdit}
+use Rattle.edit_stamps.specs.Edit.{PlaneEdit, IsEdit, greatest_counter}
 use Rattle.edit_stamps.specs.Stamp.{counter_of, last_counter, replica_of, stamp_of}
 use Rattle.replica_core.specs.declared.event.Event.{Event}
 use Rattle.replica_core.specs.declared.event.Event.TheVariants.{Draw, SendState, Deliver, Show}
 use Rattle.replica_core.specs.declared.fault.Fault.{Fault}
 use Rattle.replica_core.specs.declared.fault.Fault.TheVariants as faults
 use Rattle.replica_core.specs.declared.spec.EditSpec.{EditSpec}
-use Rattle.stamped_map.specs.Laws.{greatest_counter}
 use Rattle.replica_core.specs.Replica.{edit_drawn, made, or_edit_fault}
-use Rattle.replica_core.specs.World.{History, ReplicaHistory, Sent, State, AreEdits, IsIn, after, after_all, after_drawing, after_message, beginner, changed, delivered, drawn, edits_sent, message, opening, replica, with_message, with_replica}
+use Rattle.replica_core.specs.World.{IsEditUnder, History, ReplicaHistory, Sent, State, AreEdits, IsIn, after, after_all, after_drawing, after_message, beginner, changed, delivered, drawn, edits_sent, message, opening, replica, with_message, with_replica}
 use Rattle.replica_core.proofs.DrawLaws.{made_stamp}
 use Rattle.replica_core.proofs.SideBySide.{get_pushed, get_replicate, get_set_elsewhere, get_set_here, some_is}
 
@@ -382,17 +381,26 @@ sound_along w (event ∷ events) sound = sound_along (after w event) events (sou
 pub edits_opening : (rule : GenerationsRule) (n : ℕ) → AreEdits (opening rule n)
 edits_opening rule n e inside = absurd (nothing_in rule n e inside)
 
-pub edits_drawn : (w : History) (r : ℕ) (h : ReplicaHistory) (e : PlaneEdit) → replica w r ≡ Ok h → AreEdits w → IsEdit e → AreEdits (with_replica w r (after_drawing h e))
+pub edits_drawn : (w : History) (r : ℕ) (h : ReplicaHistory) (e : PlaneEdit) → replica w r ≡ Ok h → AreEdits w → IsEditUnder w.rule e → AreEdits (with_replica w r (after_drawing h e))
 edits_drawn w r h e is valid edit x inside = elim (from_changed w r h (after_drawing h e) x (x ≡ e) is
     (λ here. elim (Contains-append_cases h.taken (e ∷ []) x here) [ inl old ↦ inl (in_replica w r h x is old) | inr last ↦ inr (only_one e x last) ])
     (λ here. elim (Contains-append_cases h.journal (e ∷ []) x here) [ inl old ↦ inl (in_journal w r h x is old) | inr last ↦ inr (only_one e x last) ])
     inside) [
       | inl old ↦ valid x old
-      | inr new ↦ subst IsEdit (sym new) edit
+      | inr new ↦ subst (IsEditUnder w.rule) (sym new) edit
     ]
 
+-- a change that leaves the rule leaves it whether or not it comes
+rule_stays : {A : Type 0} (w : History) (o : Result A Fault) (change : A → History) → ((x : A) → (change x).rule ≡ w.rule) → w.rule ≡ (changed w o change).rule
+rule_stays w (Ok x) change same = sym (same x)
+rule_stays w (Err fault) change same = refl
+
 pub edits_sent_on : (w : History) (r : ℕ) → AreEdits w → AreEdits (after w (SendState r))
-edits_sent_on w r valid e inside = valid e (from_sending w r e (replica w r) refl inside)
+edits_sent_on w r valid e inside =
+    subst (λ (g : GenerationsRule). IsEditUnder g e) (rule_stays w (replica w r) (λ h. with_message w (State h.taken)) (λ h. refl))
+    (valid e (from_sending w r e (replica w r) refl inside))
 
 pub edits_delivered : (w : History) (m r : ℕ) → AreEdits w → AreEdits (after w (Deliver m r))
-edits_delivered w m r valid e inside = valid e (from_delivery w m r e (message w m) (replica w r) refl refl inside)
+edits_delivered w m r valid e inside =
+    subst (λ (g : GenerationsRule). IsEditUnder g e) (rule_stays w (delivered w m r) (λ h. with_replica w r h) (λ h. refl))
+    (valid e (from_delivery w m r e (message w m) (replica w r) refl refl inside))

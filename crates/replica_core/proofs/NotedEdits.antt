@@ -1,17 +1,16 @@
 -- A journal keeps each edit once, and its edits' writes are in the map, as a replica draws and takes.
-use Rattle.std.proofs.Common.{◌≡◌, ℕ, ◌<◌, false, List, [], ◌∷◌, ◌++◌, sym, subst, arith, inl, inr}
+use Rattle.std.proofs.Common.{◌≡◌, ℕ, ◌<◌, Bool, true, false, if◌then◌else◌, List, [], ◌∷◌, ◌++◌, sym, subst, arith, inl, inr}
 use Rattle.std.specs.Prelude.{IsTrue}
 use Rattle.std.specs.List.{Contains, IsDistinct, list_any}
 use Rattle.std.proofs.lemmas.Bool.{cases_Bool}
 use Rattle.std.proofs.lemmas.List.Elements.{Contains-append_cases, Contains-push_cases}
 use Rattle.std.proofs.lemmas.Map.Keys.{IsDistinct-push}
 use Rattle.generations_rule.specs.Rule.{GenerationsRule}
-use Rattle.edit_stamps.specs.Edit.{PlaneEdit, IsEdit, greatest, is_edit, writes_of}
-use Rattle.edit_stamps.specs.PlaneMap.{write_at}
+use Rattle.edit_stamps.specs.Edit.{HaveStatesBelow, has_states_below, PlaneEdit, IsEdit, greatest, is_edit, writes_of, IsPartlyEdited}
+use Rattle.edit_stamps.specs.PlaneMap.{map_of, IsGreatestStamp, IsPartlyJoined}
 use Rattle.edit_stamps.specs.Write.{at_most, Writes, AreSame, IsBelow, joined}
 use Rattle.edit_stamps.proofs.WriteLaws.{is_least_upper_bound, is_total}
-use Rattle.stamped_map.specs.Plane.{IsGreatestStamp, IsPartlyEdited, IsPartlyJoined}
-use Rattle.stamped_map.proofs.ClockLaws.{stamp_in}
+use Rattle.edit_stamps.proofs.ClockLaws.{stamp_in}
 use Rattle.edit_journal.specs.Journal.{noted}
 use Rattle.edit_journal.proofs.NotedLaws.{contains_told, edits_equiv, noted_distinct, noted_members}
 use Rattle.replica_core.specs.declared.message.Content.{Content}
@@ -52,7 +51,7 @@ draw_stopped p q e journal part = grown p q journal (part_grows p q (writes_of e
 -- a take that stopped half way
 pub take_stopped : (p q : Writes) (content : Content) (journal : List PlaneEdit) → IsPartlyTaken p content q → IsJournalOf p journal → IsJournalOf q journal
 take_stopped p q (contents.Edits edits) journal part = grown p q journal (edits_grow p q edits part)
-take_stopped p q (contents.State plane) journal part = grown p q journal (part_grows p q (write_at plane) part)
+take_stopped p q (contents.State plane) journal part = grown p q journal (part_grows p q (map_of plane) part)
 
 -- ---- draws
 
@@ -106,4 +105,28 @@ noted_journal p q journal edits are whole is = record {
 pub taken_journal : (p q : Writes) (content : Content) (journal : List PlaneEdit) → ((e : PlaneEdit) → Contains (edits_in content) e → IsEdit e) → AreSame q (joined p (writes_in content))
     → IsJournalOf p journal → IsJournalOf q (noted journal (edits_in content))
 taken_journal p q (contents.Edits edits) journal are whole = noted_journal p q journal edits are whole
-taken_journal p q (contents.State plane) journal are whole = grown p q journal (whole_grows p q (write_at plane) whole)
+taken_journal p q (contents.State plane) journal are whole = grown p q journal (whole_grows p q (map_of plane) whole)
+
+-- ---- states
+
+below_appended : (n : ℕ) (xs ys : List PlaneEdit) → HaveStatesBelow n xs → HaveStatesBelow n ys → HaveStatesBelow n (xs ++ ys)
+below_appended n [] ys h k = k
+below_appended n (e ∷ xs) ys h k = (h.0, below_appended n xs ys h.1 k)
+
+-- a journal with one edit more
+pub below_drawn : (n : ℕ) (journal : List PlaneEdit) (e : PlaneEdit) → HaveStatesBelow n journal → IsTrue (has_states_below n e) → HaveStatesBelow n (journal ++ e ∷ [])
+below_drawn n journal e h below = below_appended n journal (e ∷ []) h (below, tt)
+
+below_kept : (n : ℕ) (is_there : Bool) (journal : List PlaneEdit) (e : PlaneEdit) → HaveStatesBelow n journal → IsTrue (has_states_below n e)
+    → HaveStatesBelow n (if is_there then journal else journal ++ e ∷ [])
+below_kept n true journal e h below = h
+below_kept n false journal e h below = below_drawn n journal e h below
+
+below_noted : (n : ℕ) (journal edits : List PlaneEdit) → HaveStatesBelow n journal → HaveStatesBelow n edits → HaveStatesBelow n (noted journal edits)
+below_noted n journal [] h k = h
+below_noted n journal (e ∷ edits) h k = below_noted n (if list_any (is_edit e) journal then journal else journal ++ e ∷ []) edits (below_kept n (list_any (is_edit e) journal) journal e h k.0) k.1
+
+-- a journal with what a message brings
+pub below_taken : (n : ℕ) (journal : List PlaneEdit) (content : Content) → HaveStatesBelow n journal → IsBelowStates n content → HaveStatesBelow n (noted journal (edits_in content))
+below_taken n journal (contents.Edits edits) h k = below_noted n journal edits h k
+below_taken n journal (contents.State plane) h k = h

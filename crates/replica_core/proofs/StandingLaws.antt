@@ -1,11 +1,11 @@
 -- A replica that stands for what it took still does after a draw and after a message.
-use Rattle.std.proofs.Common.{◌≡◌, ◌≢◌, ℕ, ◌≤◌, List, [], ◌∷◌, ◌++◌, refl, sym, ◌∙◌, ap, subst, suc, arith}
+use Rattle.std.proofs.Common.{inl, inr, ◌≡◌, ◌≢◌, ℕ, ◌≤◌, List, [], ◌∷◌, ◌++◌, refl, sym, ◌∙◌, ap, subst, suc, arith}
 use Rattle.std.specs.Prelude.{Contains, Result, Ok, Err, MatchResult, pos}
 use Rattle.std.specs.List.{AllByRecursion}
 use Rattle.generations_rule.specs.Rule.{GenerationsRule}
 use Rattle.edit_stamps.specs.declared.write.Write.{Write}
-use Rattle.edit_stamps.specs.Edit.{PlaneEdit, IsEdit, greatest, writes_of}
-use Rattle.edit_stamps.specs.PlaneMap.{write_at}
+use Rattle.edit_stamps.specs.Edit.{PlaneEdit, IsEdit, greatest, writes_of, greatest_counter}
+use Rattle.edit_stamps.specs.PlaneMap.{map_of, IsGreatestStamp}
 use Rattle.edit_stamps.specs.Stamp.{counter_of}
 use Rattle.edit_stamps.specs.Write.{unwritten, greater, Writes, AreSame, joined}
 use Rattle.edit_stamps.proofs.WriteLaws.{is_lattice, is_least_upper_bound, is_total, joins_lists}
@@ -14,19 +14,18 @@ use Rattle.replica_core.specs.declared.fault.Fault.TheVariants as faults
 use Rattle.replica_core.specs.declared.message.Content.{Content}
 use Rattle.replica_core.specs.declared.message.Content.TheVariants as contents
 use Rattle.replica_core.specs.declared.spec.EditSpec.{EditSpec}
-use Rattle.stamped_map.specs.Laws.{greatest_counter}
+use Rattle.edit_stamps.proofs.ClockLaws.{tells_counter}
 use Rattle.replica_core.specs.Message.{Shared}
-use Rattle.stamped_map.specs.Plane.{IsGreatestStamp}
+use Rattle.replica_core.specs.Fault.{IsWant}
 use Rattle.replica_core.specs.Replica.{ReplicaState, DrawsAs, Takes, IsMapOf, IsSnapshot, IsDraw, edit_drawn}
 use Rattle.replica_core.specs.World.{ReplicaHistory, Sent, State, Carries, StandsFor, StandsForSent, after_drawing, after_message}
-use Rattle.stamped_map.proofs.ClockLaws.{tells_counter}
 
 -- ---- messages
 
 -- a map in the place of the same map
-pub map_of_same : (p q : Writes) (content : Content) → AreSame p q → IsMapOf p content → IsMapOf q content
-map_of_same p q (contents.State plane) same map = λ c. map c ∙ same c
-map_of_same p q (contents.Edits edits) same map = map
+pub held_of_same : (p q : Writes) (content : Content) → AreSame p q → IsMapOf p content → IsMapOf q content
+held_of_same p q (contents.State plane) same map = λ c. map c ∙ same c
+held_of_same p q (contents.Edits edits) same map = map
 
 joins_taken : (taken edits : List PlaneEdit) (old new added : Writes) → AreSame old (greatest taken) → AreSame added (greatest edits)
     → AreSame new (joined old added) → AreSame new (greatest (taken ++ edits))
@@ -38,7 +37,7 @@ takes_content : (rule : GenerationsRule) (number : ℕ) (h : ReplicaHistory) (se
 takes_content rule number h (State edits) old new (contents.State plane) stands carries takes = record {
   same_rule = takes.one.rule ∙ stands.same_rule;
   same_number = takes.one.number ∙ stands.same_number;
-  map = joins_taken h.taken edits (write_at old.map) (write_at new.map) (write_at plane) stands.map carries takes.map;
+  map = joins_taken h.taken edits (map_of old.plane) (map_of new.plane) (map_of plane) stands.map carries takes.map;
   journal = takes.journal ∙ stands.journal;
 }
 takes_content rule number h (State edits) old new (contents.Edits given) stands carries takes = absurd carries
@@ -52,7 +51,7 @@ pub sends_taken : (rule : GenerationsRule) (number : ℕ) (h : ReplicaHistory) (
     → StandsFor rule number h r → IsSnapshot r m → StandsForSent rule (State h.taken) m
 sends_taken rule number h r m stands snapshot = record {
   same_rule = snapshot.rule ∙ stands.same_rule;
-  content = map_of_same (write_at r.map) (greatest h.taken) m.content stands.map snapshot.map;
+  content = held_of_same (map_of r.plane) (greatest h.taken) m.content stands.map snapshot.map;
 }
 
 -- ---- draws
@@ -63,7 +62,7 @@ all_recursively (e ∷ edits) each = (each e (0, omega arith, refl), all_recursi
 
 -- the clock that is read of the map is that of the edits
 pub draws_at_clock : (rule : GenerationsRule) (number n : ℕ) (h : ReplicaHistory) (r : ReplicaState) (spec : EditSpec)
-    → ((e : PlaneEdit) → Contains h.taken e → IsEdit e) → StandsFor rule number h r → IsGreatestStamp n (write_at r.map)
+    → ((e : PlaneEdit) → Contains h.taken e → IsEdit e) → StandsFor rule number h r → IsGreatestStamp n (map_of r.plane)
     → edit_drawn r.rule (counter_of n) r.number spec ≡ edit_drawn rule (greatest_counter h.taken) number spec
 draws_at_clock rule number n h r spec valid stands clock =
     let in_edits : IsGreatestStamp n (greatest h.taken) = record {
@@ -82,7 +81,7 @@ pub draws_edit : (rule : GenerationsRule) (number : ℕ) (h : ReplicaHistory) (o
 draws_edit rule number h old new e stands draws = record {
   same_rule = draws.one.rule ∙ stands.same_rule;
   same_number = draws.one.number ∙ stands.same_number;
-  map = joins_taken h.taken (e ∷ []) (write_at old.map) (write_at new.map) (writes_of e) stands.map (λ c. sym (greater-unwritten (writes_of e c))) draws.map;
+  map = joins_taken h.taken (e ∷ []) (map_of old.plane) (map_of new.plane) (writes_of e) stands.map (λ c. sym (greater-unwritten (writes_of e c))) draws.map;
   journal = draws.journal ∙ ap (λ j. j ++ e ∷ []) stands.journal;
 }
 
@@ -94,12 +93,8 @@ given_ok P Q meant x is p = subst (λ r. MatchResult r P Q) (sym is) p
 pub given_err : {A F : Type 0} (P : A → Type 0) (Q : F → Type 0) (meant : Result A F) (fault : F) → meant ≡ Err fault → Q fault → MatchResult meant P Q
 given_err P Q meant fault is q = subst (λ r. MatchResult r P Q) (sym is) q
 
--- a draw that was refused, and not for want of memory
+-- a draw that was refused, and met no want
 pub refused_as_meant : (old new : ReplicaState) (meant : Result PlaneEdit Fault) (fault : Fault)
-    → IsDraw old new meant (Err fault) → fault ≢ faults.Memory → (meant ≡ Err fault) × (new ≡ old)
-refused_as_meant old new meant faults.Memory draw other = absurd (other refl)
-refused_as_meant old new meant faults.ClockFull draw other = draw
-refused_as_meant old new meant (faults.Edit fault) draw other = draw
-refused_as_meant old new meant faults.OtherRule draw other = absurd draw
-refused_as_meant old new meant faults.NoReplica draw other = absurd draw
-refused_as_meant old new meant faults.NoMessage draw other = absurd draw
+    → IsDraw old new meant (Err fault) → ¬ IsWant fault → (meant ≡ Err fault) × (new ≡ old)
+refused_as_meant old new meant fault (inl want) other = absurd (other want.0)
+refused_as_meant old new meant fault (inr is) other = is

@@ -1,5 +1,5 @@
 -- The refusals of replicas and of worlds of replicas, as users meet them.
-use Rattle.std.specs.Prelude.{ℕ, List, codes, ⊤}
+use Rattle.std.specs.Prelude.{ℕ, List, codes, Option, Some, None, ⊤}
 use Rattle.edit_stamps.specs.EditFault.{fault_number as edit_fault_number, fault_text as edit_fault_text}
 use Rattle.edit_stamps.specs.declared.fault.EditFault.{EditFault}
 use Rattle.edit_stamps.specs.declared.fault.EditFault.TheVariants as edit_faults
@@ -34,6 +34,15 @@ IsWant ClockFull = ⊥
 IsWant NoReplica = ⊥
 IsWant NoMessage = ⊥
 
+-- why a list of events stops, where a fault is a want
+abbrev pub stop_of : Fault → Option Stop
+stop_of Memory = Some stops.Memory
+stop_of (Edit fault) = None
+stop_of OtherRule = None
+stop_of ClockFull = None
+stop_of NoReplica = None
+stop_of NoMessage = None
+
 -- an edit's refusal as a replica's
 abbrev pub fault_of_edit : EditFault → Fault
 fault_of_edit edit_faults.Memory = Memory
@@ -44,6 +53,11 @@ fault_of_edit edit_faults.StateRange = Edit edit_faults.StateRange
 fault_of_edit edit_faults.AreaSide = Edit edit_faults.AreaSide
 
 -- ---- why a list of events is not run to its end
+
+-- what stops a list of events is a want; no replica has a store yet that could be full
+abbrev pub IsStopWant : Stop → Type 0
+IsStopWant stops.Memory = ⊤
+IsStopWant stops.StoreFull = ⊥
 
 abbrev pub stop_number : Stop → ℕ
 stop_number stops.Memory = 255

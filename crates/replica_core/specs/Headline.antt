@@ -4,7 +4,7 @@ use Rattle.generations_rule.specs.Place.{Place}
 use Rattle.generations_rule.specs.Rule.{GenerationsRule}
 use Rattle.edit_stamps.specs.declared.write.Write.{Write}
 use Rattle.edit_stamps.specs.Edit.{PlaneEdit, writes_of}
-use Rattle.edit_stamps.specs.PlaneMap.{write_at}
+use Rattle.edit_stamps.specs.PlaneMap.{map_of}
 use Rattle.edit_stamps.specs.Write.{unwritten, at_most, AreSame, IsBelow}
 use Rattle.replica_core.specs.declared.event.Event.{Event}
 use Rattle.replica_core.specs.declared.event.Reply.TheVariants.{Refused}
@@ -31,13 +31,13 @@ HaveSameEdits es fs = (e : PlaneEdit) → Contains es e ↔ Contains fs e
 -- each replica holds at each place the greatest write of the edits that it took
 abbrev pub HoldsGreatest : Type 0
 HoldsGreatest = (rule : GenerationsRule) (n : ℕ) (events : List Event) (r : ℕ) (h : ReplicaHistory) (held : ReplicaState)
-    → IsAt rule n events r h held → (c : Place) → IsGreatestOf h.taken c (write_at held.map c)
+    → IsAt rule n events r h held → (c : Place) → IsGreatestOf h.taken c (map_of held.plane c)
 
 -- two replicas that took the same edits hold the same write at every place, whichever worlds and events brought them there
 abbrev pub Agrees : Type 0
 Agrees = (rule other_rule : GenerationsRule) (n m : ℕ) (events others : List Event) (r s : ℕ) (h k : ReplicaHistory) (held other : ReplicaState)
     → IsAt rule n events r h held → IsAt other_rule m others s k other → HaveSameEdits h.taken k.taken
-    → AreSame (write_at held.map) (write_at other.map)
+    → AreSame (map_of held.plane) (map_of other.plane)
 
 -- two edits of one stamp in one world are one edit
 abbrev pub HasOneEditAStamp : Type 0
@@ -48,12 +48,12 @@ HasOneEditAStamp = (rule : GenerationsRule) (n : ℕ) (events : List Event) (e f
 abbrev pub HasOneWinner : Type 0
 HasOneWinner = (rule : GenerationsRule) (n : ℕ) (events : List Event) (r : ℕ) (h : ReplicaHistory) (held : ReplicaState) (c : Place) (e f : PlaneEdit)
     → n < 2 ^ 16 → IsAt rule n events r h held → Contains h.taken e → Contains h.taken f
-    → writes_of e c ≡ write_at held.map c → writes_of f c ≡ write_at held.map c → 0 < (write_at held.map c).stamp → e ≡ f
+    → writes_of e c ≡ map_of held.plane c → writes_of f c ≡ map_of held.plane c → 0 < (map_of held.plane c).stamp → e ≡ f
 
 -- what a replica holds never goes down as more happens
 abbrev pub NeverGoesDown : Type 0
 NeverGoesDown = (rule : GenerationsRule) (n : ℕ) (events more : List Event) (r : ℕ) (h k : ReplicaHistory) (held later : ReplicaState)
-    → IsAt rule n events r h held → IsAt rule n (events ++ more) r k later → IsBelow (write_at held.map) (write_at later.map)
+    → IsAt rule n events r h held → IsAt rule n (events ++ more) r k later → IsBelow (map_of held.plane) (map_of later.plane)
 
 -- a refused event changes nothing
 abbrev pub RefusalsChangeNothing : Type 0

@@ -1,10 +1,9 @@
 -- Messages, and what they share.
 use Rattle.std.specs.Prelude.{ℕ, List, [], Option, Some, None}
 use Rattle.generations_rule.specs.Rule.{GenerationsRule}
-use Rattle.edit_stamps.specs.Edit.{PlaneEdit, greatest}
-use Rattle.edit_stamps.specs.PlaneMap.{write_at}
+use Rattle.edit_stamps.specs.Edit.{PlaneEdit, greatest, HaveStatesBelow, IsPartlyEdited}
+use Rattle.edit_stamps.specs.PlaneMap.{map_of, HasStatesBelow, IsPartlyJoined}
 use Rattle.edit_stamps.specs.Write.{Writes}
-use Rattle.stamped_map.specs.Plane.{HasStatesBelow, HaveStatesBelow, IsPartlyEdited, IsPartlyJoined}
 use Rattle.replica_core.specs.declared.message.Content.{Content}
 use Rattle.replica_core.specs.declared.message.Content.TheVariants.{Edits, State}
 
@@ -16,7 +15,7 @@ pub record Shared : Type 0 where
 -- what a message's content writes at each place
 abbrev pub writes_in : Content → Writes
 writes_in (Edits edits) = greatest edits
-writes_in (State plane) = write_at plane
+writes_in (State plane) = map_of plane
 
 -- the edits of a message of edits
 abbrev pub edits_of : Content → Option (List PlaneEdit)
@@ -31,9 +30,9 @@ edits_in (State plane) = []
 -- at each place a map has what it had, or what joining one of the content's edits, or its map, makes of it
 abbrev pub IsPartlyTaken : Writes → Content → Writes → Type 0
 IsPartlyTaken old (Edits edits) new = IsPartlyEdited old edits new
-IsPartlyTaken old (State plane) new = IsPartlyJoined old (write_at plane) new
+IsPartlyTaken old (State plane) new = IsPartlyJoined old (map_of plane) new
 
 -- each state of a message is below a number of states
 abbrev pub IsBelowStates : ℕ → Content → Type 0
 IsBelowStates states (Edits edits) = HaveStatesBelow states edits
-IsBelowStates states (State plane) = HasStatesBelow states (write_at plane)
+IsBelowStates states (State plane) = HasStatesBelow states (map_of plane)

@@ -1,14 +1,14 @@
 -- A replica, and what a draw and a message do to it.
-use Rattle.std.specs.Prelude.{◌≡◌, ◌≢◌, ℕ, ◌+◌, ◌^◌, ◌<◌, ◌≤◌, not, nat_lt, List, [], ◌∷◌, ◌++◌, Result, Ok, Err}
+use Rattle.std.specs.Prelude.{◌≡◌, ◌≢◌, ◌⊎◌, IsTrue, ℕ, ◌+◌, ◌^◌, ◌<◌, ◌≤◌, not, nat_lt, List, [], ◌∷◌, ◌++◌, Result, Ok, Err}
 use Rattle.std.specs.List.{Contains, IsDistinct}
 use Rattle.generations_rule.specs.Place.{Place}
 use Rattle.generations_rule.specs.Refusal.{when, unless, ◌>>=◌}
 use Rattle.generations_rule.specs.Rule.{GenerationsRule}
 use Rattle.edit_stamps.specs.declared.fault.EditFault.{EditFault}
-use Rattle.edit_stamps.specs.Edit.{PlaneEdit, IsEdit, is_edit, writes_of}
+use Rattle.edit_stamps.specs.Edit.{HaveStatesBelow, PlaneEdit, IsEdit, has_states_below, is_edit, writes_of}
 use Rattle.edit_stamps.specs.Making.{edit_of_cells}
 use Rattle.edit_stamps.specs.Pasting.{edit_of_clear, edit_of_copy, edit_of_or}
-use Rattle.edit_stamps.specs.PlaneMap.{PlaneMap, write_at}
+use Rattle.edit_stamps.specs.PlaneMap.{HasStampedWrites, PlaneValue, map_of, HasStatesBelow, IsPartlyJoined}
 use Rattle.edit_stamps.specs.Stamp.{stamp_of, last_counter}
 use Rattle.edit_stamps.specs.Write.{unwritten, Writes, AreSame, IsBelow, joined}
 use Rattle.replica_core.specs.declared.spec.EditSpec.{EditSpec}
@@ -17,16 +17,15 @@ use Rattle.replica_core.specs.declared.fault.Fault.{Fault}
 use Rattle.replica_core.specs.declared.fault.Fault.TheVariants as faults
 use Rattle.replica_core.specs.declared.message.Content.{Content}
 use Rattle.replica_core.specs.declared.message.Content.TheVariants.{Edits, State}
-use Rattle.replica_core.specs.Fault.{fault_of_edit}
+use Rattle.replica_core.specs.Fault.{IsWant, fault_of_edit}
 use Rattle.edit_journal.specs.Journal.{noted}
 use Rattle.replica_core.specs.Message.{Shared, writes_in, edits_in, IsPartlyTaken}
-use Rattle.stamped_map.specs.Plane.{HasStatesBelow, IsPartlyJoined}
 
 -- what contracts see of a replica
 pub record ReplicaState : Type 0 where
   pub rule : GenerationsRule
   pub number : ℕ
-  pub map : PlaneMap
+  pub plane : PlaneValue
   pub journal : List PlaneEdit
 
 -- ---- draws
@@ -57,24 +56,25 @@ pub record IsOneReplica (old new : ReplicaState) : Type 0 where
   pub rule : new.rule ≡ old.rule
   pub number : new.number ≡ old.number
 
--- the edit is joined, stands in the journal, and wins each cell that it writes
+-- the edit has states of the rule; it is joined, stands in the journal, and wins each cell that it writes
 pub record DrawsAs (old new : ReplicaState) (e : PlaneEdit) : Type 0 where
   pub one : IsOneReplica old new
-  pub map : AreSame (write_at new.map) (joined (write_at old.map) (writes_of e))
+  pub states : IsTrue (has_states_below old.rule.states e)
+  pub map : AreSame (map_of new.plane) (joined (map_of old.plane) (writes_of e))
   pub journal : new.journal ≡ old.journal ++ e ∷ []
-  pub wins : (c : Place) → 0 < (writes_of e c).stamp → write_at new.map c ≡ writes_of e c
+  pub wins : (c : Place) → 0 < (writes_of e c).stamp → map_of new.plane c ≡ writes_of e c
 
 -- the message's writes are joined, and the journal has its edits
 pub record Takes (old new : ReplicaState) (m : Content) : Type 0 where
   pub one : IsOneReplica old new
-  pub map : AreSame (write_at new.map) (joined (write_at old.map) (writes_in m))
+  pub map : AreSame (map_of new.plane) (joined (map_of old.plane) (writes_in m))
   pub journal : new.journal ≡ noted old.journal (edits_in m)
 
 -- after want of memory all but the map is as it was, and of the map as much as is said
 pub record IsPartly (old new : ReplicaState) (IsPartOf : Writes → Writes → Type 0) : Type 0 where
   pub one : IsOneReplica old new
   pub journal : new.journal ≡ old.journal
-  pub map : IsPartOf (write_at old.map) (write_at new.map)
+  pub map : IsPartOf (map_of old.plane) (map_of new.plane)
 
 -- ---- what each call answers, and what it leaves
 
@@ -82,41 +82,40 @@ pub record IsPartly (old new : ReplicaState) (IsPartOf : Writes → Writes → T
 pub record IsNew (rule : GenerationsRule) (number : ℕ) (r : ReplicaState) : Type 0 where
   pub same_rule : r.rule ≡ rule
   pub same_number : r.number ≡ number
-  pub map : AreSame (write_at r.map) (λ _. unwritten)
+  pub map : AreSame (map_of r.plane) (λ _. unwritten)
   pub journal : r.journal ≡ []
 
+-- a draw that is refused nothing and was stopped half way, where some of its edit may be joined
+abbrev pub IsDrawStopped : ReplicaState → ReplicaState → Result PlaneEdit Fault → Type 0
+IsDrawStopped old new meant = (e : PlaneEdit) × (meant ≡ Ok e) × IsPartly old new (λ p. IsPartlyJoined p (writes_of e))
+
 -- A draw answers the edit that is drawn at the greatest stamp of the map, or its first refusal, which leaves all as it
--- was, or, where nothing is refused, want of memory.
+-- was, or, where nothing is refused, a want.
 abbrev pub IsDraw : ReplicaState → ReplicaState → Result PlaneEdit Fault → Result PlaneEdit Fault → Type 0
 IsDraw old new meant (Ok e) = (meant ≡ Ok e) × DrawsAs old new e
-IsDraw old new meant (Err faults.Memory) = (e : PlaneEdit) × (meant ≡ Ok e) × IsPartly old new (λ p. IsPartlyJoined p (writes_of e))
-IsDraw old new meant (Err faults.ClockFull) = (meant ≡ Err faults.ClockFull) × (new ≡ old)
-IsDraw old new meant (Err (faults.Edit fault)) = (meant ≡ Err (faults.Edit fault)) × (new ≡ old)
-IsDraw old new meant (Err faults.OtherRule) = ⊥
-IsDraw old new meant (Err faults.NoReplica) = ⊥
-IsDraw old new meant (Err faults.NoMessage) = ⊥
+IsDraw old new meant (Err fault) = (IsWant fault × IsDrawStopped old new meant) ⊎ ((meant ≡ Err fault) × (new ≡ old))
 
--- A message is taken whole; one of another rule is refused, which leaves all as it was; nothing else is refused but
--- want of memory.
+-- a take of a message of the replica's own rule that was stopped half way
+abbrev pub IsTakingStopped : ReplicaState → ReplicaState → Shared → Type 0
+IsTakingStopped old new m = (m.rule ≡ old.rule) × IsPartly old new (λ p. IsPartlyTaken p m.content)
+
+-- A message is taken whole; one of another rule is refused, which leaves all as it was; nothing else is refused, and
+-- only a message of the replica's own rule meets a want.
 abbrev pub IsTaking : ReplicaState → ReplicaState → Shared → Result (Unit {0}) Fault → Type 0
 IsTaking old new m (Ok done) = (m.rule ≡ old.rule) × Takes old new m.content
-IsTaking old new m (Err faults.OtherRule) = (m.rule ≢ old.rule) × (new ≡ old)
-IsTaking old new m (Err faults.Memory) = (m.rule ≡ old.rule) × IsPartly old new (λ p. IsPartlyTaken p m.content)
-IsTaking old new m (Err faults.ClockFull) = ⊥
-IsTaking old new m (Err (faults.Edit fault)) = ⊥
-IsTaking old new m (Err faults.NoReplica) = ⊥
-IsTaking old new m (Err faults.NoMessage) = ⊥
+IsTaking old new m (Err fault) = (IsWant fault × IsTakingStopped old new m) ⊎ ((fault ≡ faults.OtherRule) × (m.rule ≢ old.rule) × (new ≡ old))
 
 -- a message's content is a map equal to p at every place
 abbrev pub IsMapOf : Writes → Content → Type 0
-IsMapOf p (State plane) = AreSame (write_at plane) p
+IsMapOf p (State plane) = AreSame (map_of plane) p
 IsMapOf p (Edits edits) = ⊥
 
--- a message of the replica's rule with its map, whose states the rule has
+-- a message of the replica's rule with its map, whose states the rule has and whose writes have stamps
 pub record IsSnapshot (r : ReplicaState) (m : Shared) : Type 0 where
   pub rule : m.rule ≡ r.rule
-  pub map : IsMapOf (write_at r.map) m.content
-  pub states : HasStatesBelow m.rule.states (write_at r.map)
+  pub map : IsMapOf (map_of r.plane) m.content
+  pub states : HasStatesBelow m.rule.states (map_of r.plane)
+  pub stamped : HasStampedWrites (map_of r.plane)
 
 -- a journal has each edit once, and all that its edits write is in a map
 pub record IsJournalOf (p : Writes) (journal : List PlaneEdit) : Type 0 where
@@ -128,5 +127,6 @@ pub record IsJournalOf (p : Writes) (journal : List PlaneEdit) : Type 0 where
 pub record IsReplica (r : ReplicaState) : Type 0 where
   pub number : 1 ≤ r.number
   pub few : r.number < 2 ^ 16
-  pub states : HasStatesBelow r.rule.states (write_at r.map)
-  pub journal : IsJournalOf (write_at r.map) r.journal
+  pub states : HasStatesBelow r.rule.states (map_of r.plane)
+  pub journal : IsJournalOf (map_of r.plane) r.journal
+  pub noted : HaveStatesBelow r.rule.states r.journal

@@ -1,13 +1,13 @@
 -- Worlds of replicas as histories: which edits each replica took, which messages were sent, and what is answered to
 -- each event. The plane of a replica is no part of a history; it is the greatest writes of the edits that it took.
-use Rattle.std.specs.Prelude.{◌≡◌, ℕ, zero, suc, ◌+◌, ◌-◌, List, [], ◌∷◌, ◌++◌, length, Option, Some, None, Result, Ok, Err, slice_get, slice_set, Contains, ◌⊎◌, ⊤}
+use Rattle.std.specs.Prelude.{◌≡◌, ◌≤◌, IsTrue, ℕ, zero, suc, ◌+◌, ◌-◌, List, [], ◌∷◌, ◌++◌, length, Option, Some, None, Result, Ok, Err, slice_get, slice_set, Contains, ◌⊎◌, ⊤}
 use Rattle.std.specs.Option.{ok_or}
 use Rattle.std.proofs.Math.ListN.{replicate}
 use Rattle.generations_rule.specs.Place.{at_place}
 use Rattle.generations_rule.specs.Refusal.{◌>>=◌}
 use Rattle.generations_rule.specs.Rule.{GenerationsRule}
-use Rattle.edit_stamps.specs.Edit.{PlaneEdit, IsEdit, greatest}
-use Rattle.edit_stamps.specs.PlaneMap.{write_at}
+use Rattle.edit_stamps.specs.Edit.{PlaneEdit, IsEdit, greatest, greatest_counter, has_states_below}
+use Rattle.edit_stamps.specs.PlaneMap.{map_of}
 use Rattle.edit_stamps.specs.Write.{AreSame}
 use Rattle.replica_core.specs.declared.event.Event.{Event}
 use Rattle.replica_core.specs.declared.event.Event.TheVariants.{Draw, SendState, Deliver, Show}
@@ -17,7 +17,6 @@ use Rattle.replica_core.specs.declared.fault.Fault.{Fault}
 use Rattle.replica_core.specs.declared.fault.Fault.TheVariants as faults
 use Rattle.replica_core.specs.declared.message.Content.{Content}
 use Rattle.replica_core.specs.declared.spec.EditSpec.{EditSpec}
-use Rattle.stamped_map.specs.Laws.{greatest_counter}
 use Rattle.replica_core.specs.Message.{Shared}
 use Rattle.replica_core.specs.Replica.{ReplicaState, IsMapOf, edit_drawn}
 
@@ -52,6 +51,10 @@ opening rule n = record { rule = rule; replicas = replicate n beginner; messages
 abbrev pub numbered : {A : Type 0} → List A → ℕ → Option A
 numbered xs zero = None
 numbered xs (suc i) = slice_get xs i
+
+-- of so many things one stands at a number, counted from 1
+abbrev pub IsThere : ℕ → ℕ → Type 0
+IsThere number count = (1 ≤ number) × (number ≤ count)
 
 abbrev pub replica : History → ℕ → Result ReplicaHistory Fault
 replica w r = ok_or (numbered w.replicas r) faults.NoReplica
@@ -140,8 +143,13 @@ IsSent w e = (m : ℕ) × (sent : Sent) × (message w m ≡ Ok sent) × Contains
 abbrev pub IsIn : History → PlaneEdit → Type 0
 IsIn w e = IsTaken w e ⊎ (IsNoted w e ⊎ IsSent w e)
 
+-- an edit whose states a rule has
+pub record IsEditUnder (rule : GenerationsRule) (e : PlaneEdit) : Type 0 where
+  pub edit : IsEdit e
+  pub states : IsTrue (has_states_below rule.states e)
+
 abbrev pub AreEdits : History → Type 0
-AreEdits w = (e : PlaneEdit) → IsIn w e → IsEdit e
+AreEdits w = (e : PlaneEdit) → IsIn w e → IsEditUnder w.rule e
 
 -- ---- which worlds of replicas stand for a history
 
@@ -155,7 +163,7 @@ pub record WorldState : Type 0 where
 pub record StandsFor (rule : GenerationsRule) (number : ℕ) (h : ReplicaHistory) (r : ReplicaState) : Type 0 where
   pub same_rule : r.rule ≡ rule
   pub same_number : r.number ≡ number
-  pub map : AreSame (write_at r.map) (greatest h.taken)
+  pub map : AreSame (map_of r.plane) (greatest h.taken)
   pub journal : r.journal ≡ h.journal
 
 -- what a message carries for what was sent

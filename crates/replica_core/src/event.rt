@@ -23,7 +23,7 @@ pub enum Event {
 }
 
 /// What is answered to an event.
-#[derive(Clone, Copy, Debug, PartialEq, Eq)]
+#[derive(Debug, PartialEq, Eq, Drop)]
 pub enum Reply {
     /// The stamp of the edit that was drawn.
     Drawn(Stamp),

@@ -2,6 +2,7 @@
 
 ghost use Rattle.std.specs.Prelude.{◌≡◌};
 
+use crate::event::Stop;
 use edit_stamps::EditFault;
 use std::alloc::AllocError;
 use std::error::Error;
@@ -25,7 +26,7 @@ pub enum Fault {
 }
 
 impl Fault {
-    ghost use Rattle.replica_core.specs.Fault.{fault_number};
+    ghost use Rattle.replica_core.specs.Fault.{fault_number, stop_of};
 
     /// Its number in the table of faults; 255 for want of memory.
     pub fn number(self) -> u8
@@ -38,6 +39,16 @@ impl Fault {
             Fault::NoReplica => 26,
             Fault::NoMessage => 27,
             Fault::Memory => 255,
+        }
+    }
+
+    /// Why a list of events stops, where this is no refusal but a want.
+    pub(crate) fn stop(self) -> Option<Stop>
+        ensures { result ≡ stop_of self }
+    {
+        match self {
+            Fault::Memory => Some(Stop::Memory),
+            _ => None,
         }
     }
 }

@@ -1,6 +1,6 @@
 //! What replicas send to one another.
 
-ghost use Rattle.std.specs.Prelude.{◌≡◌, option_copied};
+ghost use Rattle.std.specs.Prelude.{◌≡◌, IfSome, option_copied};
 
 use edit_stamps::{Edit, EditList};
 use generations_rule::Rule;
@@ -36,8 +36,8 @@ impl Model for Message {
 impl Message {
     ghost use Rattle.replica_core.specs.declared.message.Content.TheVariants.{Edits, State};
     ghost use Rattle.replica_core.specs.Message.{IsBelowStates, edits_of};
-    ghost use Rattle.stamped_map.specs.Plane.{HaveStatesBelow, HasStatesBelow};
-    ghost use Rattle.edit_stamps.specs.PlaneMap.{write_at};
+    ghost use Rattle.edit_stamps.specs.Edit.{HaveStatesBelow};
+    ghost use Rattle.edit_stamps.specs.PlaneMap.{map_of, HasStatesBelow};
 
     /// A message of edits whose states the rule has.
     pub fn of_edits(rule: Rule, edits: Vec<Edit>) -> Message
@@ -52,7 +52,7 @@ impl Message {
 
     /// A message of a map whose states the rule has.
     pub(crate) fn of_plane(rule: Rule, plane: Plane) -> Message
-        requires { HasStatesBelow rule.states (write_at plane) }
+        requires { HasStatesBelow rule.states (map_of plane) }
         ensures { result ≡ record { rule = rule; content = State plane } }
     {
         Message {
@@ -62,14 +62,16 @@ impl Message {
     }
 
     pub fn rule(&self) -> Rule
-        ensures { result ≡ self.now.rule }
+        ensures value { result ≡ self.now.rule }
+        ensures states { IsBelowStates self.now.rule.states self.now.content }
     {
         self.rule
     }
 
     /// Its edits, if it is a message of edits.
     pub fn edits(&self) -> Option<&[Edit]>
-        ensures { option_copied result ≡ edits_of self.now.content }
+        ensures value { option_copied result ≡ edits_of self.now.content }
+        ensures states { IfSome result (λ edits. HaveStatesBelow self.now.rule.states edits.now) }
     {
         match &self.content {
             Content::Edits(edits) => Some(edits.as_slice()),

@@ -5,14 +5,13 @@ ghost use Rattle.std.specs.Result.{IsOk};
 ghost use Rattle.generations_rule.specs.Refusal.{Answers};
 ghost use Rattle.generations_rule.specs.Place.{at_place};
 ghost use Rattle.edit_stamps.specs.Stamp.{counter_of as counter_in};
-ghost use Rattle.edit_stamps.specs.PlaneMap.{write_at};
+ghost use Rattle.edit_stamps.specs.PlaneMap.{map_of, HasStampedWrites, IsGreatestStamp, IsPartlyJoined, KeepsStates};
 ghost use Rattle.edit_stamps.specs.Write.{unwritten, AreSame, joined};
-ghost use Rattle.edit_stamps.specs.Edit.{PlaneEdit, IsEdit, greatest, has_states_below, writes_of};
+ghost use Rattle.edit_stamps.specs.Edit.{PlaneEdit, IsEdit, greatest, has_states_below, writes_of, HaveStatesBelow, IsPartlyEdited};
 ghost use Rattle.replica_core.specs.Fault.{IsWant};
 ghost use Rattle.edit_journal.specs.Journal.{noted};
 ghost use Rattle.replica_core.specs.Message.{edits_in, writes_in, IsBelowStates, IsPartlyTaken};
 ghost use Rattle.replica_core.specs.Replica.{made, or_edit_fault, stamp_after};
-ghost use Rattle.stamped_map.specs.Plane.{HaveStatesBelow, IsGreatestStamp, IsPartlyEdited, IsPartlyJoined, KeepsStates};
 
 use crate::fault::Fault;
 use crate::message::{Content, Message};
@@ -37,15 +36,14 @@ pub struct Replica {
 
 impl Model for Replica {
     ghost use Rattle.std.specs.Prelude.{◌≤◌};
-    ghost use Rattle.edit_stamps.specs.PlaneMap.{write_at};
-    ghost use Rattle.stamped_map.specs.Plane.{HasStatesBelow};
+    ghost use Rattle.edit_stamps.specs.PlaneMap.{map_of, HasStatesBelow};
     ghost use Rattle.replica_core.specs.Replica.{ReplicaState, IsReplica};
 
     ghost Value = { ReplicaState };
 
-    ghost view = { λ r. record { rule = r.rule; number = r.number; map = r.plane; journal = r.journal } };
+    ghost view = { λ r. record { rule = r.rule; number = r.number; plane = r.plane; journal = r.journal } };
 
-    ghost invariant = { λ r. IsReplica (record { rule = r.rule; number = r.number; map = r.plane; journal = r.journal }) };
+    ghost invariant = { λ r. IsReplica (record { rule = r.rule; number = r.number; plane = r.plane; journal = r.journal }) };
 }
 
 impl Replica {
@@ -85,15 +83,17 @@ impl Replica {
     /// The edits that were drawn here or given in messages of edits, in order, each once.
     pub fn journal(&self) -> &[Edit]
         ensures value { result.now ≡ self.now.journal }
-        ensures journal { IsJournalOf (write_at self.now.map) self.now.journal }
+        ensures journal { IsJournalOf (map_of self.now.plane) self.now.journal }
+        ensures states { HaveStatesBelow self.now.rule.states self.now.journal }
     {
         self.journal.as_slice()
     }
 
     /// The write at a coordinate; the least write where nothing was written, and outside the plane.
     pub fn get(&self, x: i32, y: i32) -> Write
-        ensures value { result ≡ write_at self.now.map (at_place x y) }
+        ensures value { result ≡ map_of self.now.plane (at_place x y) }
         ensures outside { is_in_plane (at_place x y) ≡ false → result ≡ unwritten }
+        ensures stamped { HasStampedWrites (map_of self.now.plane) }
     {
         self.plane.get(x, y)
     }
@@ -112,7 +112,7 @@ impl Replica {
     /// then what the maker of the edit refuses; memory is wanted only where neither refuses. After
     /// want of memory the edit may be joined at some places alone.
     pub fn draw(&mut self, spec: EditSpec) -> Result<Edit, Fault>
-        ensures { (n : ℕ) × IsGreatestStamp n (write_at self.old.map)
+        ensures { (n : ℕ) × IsGreatestStamp n (map_of self.old.plane)
             × IsDraw self.old self.new (edit_drawn self.old.rule (counter_in n) self.old.number spec) result }
     {
         self.draw_as(&spec)
@@ -120,7 +120,7 @@ impl Replica {
 
     /// Draws an edit, as `draw`, and leaves what is to be drawn with the caller.
     pub fn draw_as(&mut self, spec: &EditSpec) -> Result<Edit, Fault>
-        ensures { (n : ℕ) × IsGreatestStamp n (write_at self.old.map)
+        ensures { (n : ℕ) × IsGreatestStamp n (map_of self.old.plane)
             × IsDraw self.old self.new (edit_drawn self.old.rule (counter_in n) self.old.number spec.now) result }
     {
         let stamp = next_stamp(&self.plane, self.number)?;
@@ -146,7 +146,7 @@ impl Replica {
 /// Lamport's rule: one more than the greatest counter held.
 fn next_stamp(plane: &Plane, number: u16) -> Result<Stamp, Fault>
     requires { 1 ≤ number }
-    ensures { (n : ℕ) × IsGreatestStamp n (write_at plane.now) × (result ≡ stamp_after (counter_in n) number) }
+    ensures { (n : ℕ) × IsGreatestStamp n (map_of plane.now) × (result ≡ stamp_after (counter_in n) number) }
 {
     let counter = counter_of(plane.greatest_stamp());
     Stamp::new(counter + 1, number).ok_or(Fault::ClockFull)
@@ -169,11 +169,11 @@ fn make(alloc: Global, rule: &Rule, stamp: Stamp, spec: &EditSpec) -> Result<Edi
 
 /// Joins an edit and notes it.
 fn draw_into(plane: &mut Plane, journal: &mut Journal, edit: &Edit) -> Result<(), Fault>
-    ensures map { OnOk result (AreSame (write_at plane.new) (joined (write_at plane.old) (writes_of edit.now))) }
+    ensures map { OnOk result (AreSame (map_of plane.new) (joined (map_of plane.old) (writes_of edit.now))) }
     ensures noted { OnOk result (journal.new ≡ journal.old ++ edit.now ∷ []) }
     ensures err { IfErr result (λ fault. (fault ≡ Fault.Memory) × (journal.new ≡ journal.old)
-        × IsPartlyJoined (write_at plane.old) (writes_of edit.now) (write_at plane.new)) }
-    ensures states { KeepsStates (λ states. IsTrue (has_states_below states edit.now)) (write_at plane.old) (write_at plane.new) }
+        × IsPartlyJoined (map_of plane.old) (writes_of edit.now) (map_of plane.new)) }
+    ensures states { KeepsStates (λ states. IsTrue (has_states_below states edit.now)) (map_of plane.old) (map_of plane.new) }
 {
     let noted = edit.copy()?;
     plane.join_edit(edit)?;
@@ -183,11 +183,11 @@ fn draw_into(plane: &mut Plane, journal: &mut Journal, edit: &Edit) -> Result<()
 
 /// Joins what a message shares, and notes its edits.
 fn take_into(plane: &mut Plane, journal: &mut Journal, content: &Content) -> Result<(), Fault>
-    ensures map { OnOk result (AreSame (write_at plane.new) (joined (write_at plane.old) (writes_in content.now))) }
+    ensures map { OnOk result (AreSame (map_of plane.new) (joined (map_of plane.old) (writes_in content.now))) }
     ensures noted { OnOk result (journal.new ≡ noted journal.old (edits_in content.now)) }
     ensures err { IfErr result (λ fault. (fault ≡ Fault.Memory) × (journal.new ≡ journal.old)
-        × IsPartlyTaken (write_at plane.old) content.now (write_at plane.new)) }
-    ensures states { KeepsStates (λ states. IsBelowStates states content.now) (write_at plane.old) (write_at plane.new) }
+        × IsPartlyTaken (map_of plane.old) content.now (map_of plane.new)) }
+    ensures states { KeepsStates (λ states. IsBelowStates states content.now) (map_of plane.old) (map_of plane.new) }
     ensures edits { OnOk result ((e : PlaneEdit) → Contains (edits_in content.now) e → IsEdit e) }
 {
     match content {
@@ -203,11 +203,11 @@ fn take_into(plane: &mut Plane, journal: &mut Journal, content: &Content) -> Res
 }
 
 fn take_edits(plane: &mut Plane, journal: &mut Journal, edits: &[Edit]) -> Result<(), Fault>
-    ensures map { OnOk result (AreSame (write_at plane.new) (joined (write_at plane.old) (greatest edits.now))) }
+    ensures map { OnOk result (AreSame (map_of plane.new) (joined (map_of plane.old) (greatest edits.now))) }
     ensures noted { OnOk result (journal.new ≡ noted journal.old edits.now) }
     ensures err { IfErr result (λ fault. (fault ≡ Fault.Memory) × (journal.new ≡ journal.old)
-        × IsPartlyEdited (write_at plane.old) edits.now (write_at plane.new)) }
-    ensures states { KeepsStates (λ states. HaveStatesBelow states edits.now) (write_at plane.old) (write_at plane.new) }
+        × IsPartlyEdited (map_of plane.old) edits.now (map_of plane.new)) }
+    ensures states { KeepsStates (λ states. HaveStatesBelow states edits.now) (map_of plane.old) (map_of plane.new) }
     ensures edits { OnOk result ((e : PlaneEdit) → Contains edits.now e → IsEdit e) }
 {
     let fresh = journal.fresh(edits)?;

@@ -1,15 +1,13 @@
 //! Worlds of replicas: lists of events, and their replies.
 
-ghost use Rattle.std.specs.Prelude.{◌≡◌, ◌≢◌, ◌≤◌, ◌-◌, ℕ, IfOk, IfErr, SomeIff, Contains, length, MatchResult, option_copied};
-ghost use Rattle.edit_stamps.specs.Edit.{IsEdit, PlaneEdit};
+ghost use Rattle.std.specs.Prelude.{◌≡◌, ◌≤◌, ◌-◌, ℕ, IfOk, IfErr, SomeIff, Contains, length, MatchResult, option_copied};
+ghost use Rattle.edit_stamps.specs.Edit.{IsEdit, PlaneEdit, greatest_counter};
 ghost use Rattle.generations_rule.specs.Rule.{GenerationsRule};
 ghost use Rattle.replica_core.specs.declared.event.Event.TheVariants as events;
-ghost use Rattle.replica_core.specs.declared.event.Stop.TheVariants as stops;
 ghost use Rattle.replica_core.specs.declared.event.Reply.TheVariants as replies;
-ghost use Rattle.replica_core.specs.declared.fault.Fault.TheVariants as faults;
-ghost use Rattle.stamped_map.specs.Laws.{greatest_counter};
+ghost use Rattle.replica_core.specs.Fault.{IsStopWant, IsWant};
 ghost use Rattle.replica_core.specs.Replica.{edit_drawn, IsNew, IsSnapshot};
-ghost use Rattle.replica_core.specs.World.{History, ReplicaHistory, Sent, opening, after, after_all, after_drawing, after_message, numbered, AreEdits, AreReplies, IsReply, StandSideBySide, StandsFor, StandsForSent, StandsForWorld};
+ghost use Rattle.replica_core.specs.World.{History, IsEditUnder, IsThere, ReplicaHistory, Sent, opening, after, after_all, after_drawing, after_message, numbered, AreEdits, AreReplies, IsReply, StandSideBySide, StandsFor, StandsForSent, StandsForWorld};
 
 use crate::event::{Event, Reply, Stop};
 use crate::fault::Fault;
@@ -41,7 +39,7 @@ impl World {
     /// want of memory.
     pub fn new(alloc: Global, rule: Rule, n: u16) -> Result<World, Stop>
         ensures new { IfOk result (λ world. StandsForWorld (opening rule n) world) }
-        ensures err { IfErr result (λ stop. stop ≡ stops.Memory) }
+        ensures err { IfErr result IsStopWant }
     {
         let replicas = beginners(alloc, rule, n)?;
         Ok(World {
@@ -72,7 +70,7 @@ pub fn replay(
     ensures replies { IfOk result (λ done. AreReplies (opening rule n) events.now done.1.items) }
     ensures world { IfOk result (λ done. StandsForWorld (after_all (opening rule n) events.now) done.0) }
     ensures edits { IfOk result (λ done. AreEdits (after_all (opening rule n) events.now)) }
-    ensures err { IfErr result (λ stop. stop ≡ stops.Memory) }
+    ensures err { IfErr result IsStopWant }
 {
     let mut world = World::new(alloc, rule, n)?;
     let mut replies = Vec::with_capacity(alloc, events.len())?;
@@ -85,7 +83,7 @@ pub fn replay(
 
 fn beginners(alloc: Global, rule: Rule, n: u16) -> Result<Vec<Replica>, Stop>
     ensures new { IfOk result (λ made. StandSideBySide (StandsFor rule) (opening rule n).replicas made.items) }
-    ensures err { IfErr result (λ stop. stop ≡ stops.Memory) }
+    ensures err { IfErr result IsStopWant }
 {
     let mut replicas = Vec::with_capacity(alloc, usize::from(n))?;
     for index in 0..n {
@@ -97,17 +95,17 @@ fn beginners(alloc: Global, rule: Rule, n: u16) -> Result<Vec<Replica>, Stop>
 fn beginner(alloc: Global, rule: Rule, number: u16) -> Result<Replica, Stop>
     requires { 1 ≤ number }
     ensures new { IfOk result (λ replica. IsNew rule number replica) }
-    ensures err { IfErr result (λ stop. stop ≡ stops.Memory) }
+    ensures err { IfErr result IsStopWant }
 {
     match Replica::new(alloc, rule, number) {
         Ok(replica) => Ok(replica),
-        Err(_) => Err(Stop::Memory),
+        Err(fault) => Err(stopped(fault)),
     }
 }
 
 /// The place in a list of what has a number, counted from 1.
 fn index_of(number: u64, count: usize) -> Option<usize>
-    ensures { SomeIff result ((1 ≤ number) × (number ≤ count)) (number - 1) }
+    ensures { SomeIff result (IsThere number count) (number - 1) }
 {
     if number == 0 || number > count as u64 {
         return None;
@@ -120,7 +118,7 @@ fn happen(world: &mut World, event: &Event) -> Result<Reply, Stop>
     ensures step { IfOk result (λ reply. (w : History) → AreEdits w → StandsForWorld w world.old →
         IsReply w event.now reply × StandsForWorld (after w event.now) world.new) }
     ensures edits { IfOk result (λ _. (w : History) → AreEdits w → StandsForWorld w world.old → AreEdits (after w event.now)) }
-    ensures err { IfErr result (λ stop. stop ≡ stops.Memory) }
+    ensures err { IfErr result IsStopWant }
 {
     match event {
         Event::Draw(number, spec) => draw(&mut world.replicas, *number, spec),
@@ -138,7 +136,7 @@ fn draw(replicas: &mut [Replica], number: u32, spec: &EditSpec) -> Result<Reply,
         × StandSideBySide (StandsFor w.rule) (after w (events.Draw number spec.now)).replicas replicas.new) }
     ensures edits { IfOk result (λ _. (w : History) → AreEdits w → StandSideBySide (StandsFor w.rule) w.replicas replicas.old → AreEdits (after w (events.Draw number spec.now))) }
     ensures as_many { length replicas.new ≡ length replicas.old }
-    ensures err { IfErr result (λ stop. stop ≡ stops.Memory) }
+    ensures err { IfErr result (λ stop. IsStopWant stop × IsThere number (length replicas.old)) }
 {
     match index_of(u64::from(number), replicas.len()) {
         None => Ok(Reply::Refused(Fault::NoReplica)),
@@ -151,9 +149,9 @@ fn draw_at(replica: &mut Replica, spec: &EditSpec) -> Result<Reply, Stop>
     ensures step { IfOk result (λ reply. (rule : GenerationsRule) (h : ReplicaHistory) → ((e : PlaneEdit) → Contains h.taken e → IsEdit e)
         → StandsFor rule replica.old.number h replica.old
         → MatchResult (edit_drawn rule (greatest_counter h.taken) replica.old.number spec.now)
-        (λ e. (reply ≡ replies.Drawn e.stamp) × StandsFor rule replica.old.number (after_drawing h e) replica.new × IsEdit e)
+        (λ e. (reply ≡ replies.Drawn e.stamp) × StandsFor rule replica.old.number (after_drawing h e) replica.new × IsEditUnder rule e)
         (λ fault. (reply ≡ replies.Refused fault) × (replica.new ≡ replica.old))) }
-    ensures err { IfErr result (λ stop. stop ≡ stops.Memory) }
+    ensures err { IfErr result IsStopWant }
 {
     match replica.draw_as(spec) {
         Ok(edit) => Ok(Reply::Drawn(edit.stamp())),
@@ -161,14 +159,25 @@ fn draw_at(replica: &mut Replica, spec: &EditSpec) -> Result<Reply, Stop>
     }
 }
 
-/// The reply of a refusal; want of memory is none.
+/// The reply of a refusal; a want is none.
 fn refused(fault: Fault) -> Result<Reply, Stop>
-    ensures reply { IfOk result (λ reply. (fault ≢ faults.Memory) × (reply ≡ replies.Refused fault)) }
-    ensures err { IfErr result (λ stop. (fault ≡ faults.Memory) × (stop ≡ stops.Memory)) }
+    ensures reply { IfOk result (λ reply. (¬ IsWant fault) × (reply ≡ replies.Refused fault)) }
+    ensures err { IfErr result (λ stop. IsWant fault × IsStopWant stop) }
 {
-    match fault {
-        Fault::Memory => Err(Stop::Memory),
-        refusal => Ok(Reply::Refused(refusal)),
+    match fault.stop() {
+        Some(stop) => Err(stop),
+        None => Ok(Reply::Refused(fault)),
+    }
+}
+
+/// Why a list of events stops at a want.
+fn stopped(fault: Fault) -> Stop
+    requires { IsWant fault }
+    ensures { IsStopWant result }
+{
+    match fault.stop() {
+        Some(stop) => stop,
+        None => unreachable!(),
     }
 }
 
@@ -177,7 +186,7 @@ fn send_state(replicas: &[Replica], messages: &mut Vec<Message>, number: u32) ->
         → StandSideBySide (λ m. StandsForSent w.rule) w.messages messages.old.items →
         IsReply w (events.SendState number) reply
         × StandSideBySide (λ m. StandsForSent w.rule) (after w (events.SendState number)).messages messages.new.items) }
-    ensures err { IfErr result (λ stop. stop ≡ stops.Memory) }
+    ensures err { IfErr result (λ stop. IsStopWant stop × IsThere number (length replicas.now)) }
 {
     match index_of(u64::from(number), replicas.len()) {
         None => Ok(Reply::Refused(Fault::NoReplica)),
@@ -191,11 +200,11 @@ fn send_state(replicas: &[Replica], messages: &mut Vec<Message>, number: u32) ->
 
 fn snapshot_of(replica: &Replica) -> Result<Message, Stop>
     ensures snapshot { IfOk result (λ message. IsSnapshot replica.now message) }
-    ensures err { IfErr result (λ stop. stop ≡ stops.Memory) }
+    ensures err { IfErr result IsStopWant }
 {
     match replica.snapshot() {
         Ok(message) => Ok(message),
-        Err(_) => Err(Stop::Memory),
+        Err(fault) => Err(stopped(fault)),
     }
 }
 
@@ -210,7 +219,7 @@ fn deliver(
         IsReply w (events.Deliver message number) reply
         × StandSideBySide (StandsFor w.rule) (after w (events.Deliver message number)).replicas replicas.new) }
     ensures as_many { length replicas.new ≡ length replicas.old }
-    ensures err { IfErr result (λ stop. stop ≡ stops.Memory) }
+    ensures err { IfErr result (λ stop. IsStopWant stop × IsThere message (length messages.now) × IsThere number (length replicas.old)) }
 {
     let Some(from) = index_of(message, messages.len()) else {
         return Ok(Reply::Refused(Fault::NoMessage));
@@ -226,7 +235,7 @@ fn take_at(replica: &mut Replica, message: &Message) -> Result<Reply, Stop>
     ensures step { IfOk result (λ reply. (rule : GenerationsRule) (h : ReplicaHistory) (sent : Sent) → StandsFor rule replica.old.number h replica.old
         → StandsForSent rule sent message.now
         → (reply ≡ replies.Taken) × StandsFor rule replica.old.number (after_message h sent) replica.new) }
-    ensures err { IfErr result (λ stop. stop ≡ stops.Memory) }
+    ensures err { IfErr result IsStopWant }
 {
     match replica.take(message) {
         Ok(()) => Ok(Reply::Taken),

@@ -1,9 +1,9 @@
 //! Pastes and clears at replicas.
 
-use replica_core::{CellList, EditSpec, Fault, Replica};
 use edit_stamps::{Cell, EditFault, Pattern, Rect, counter_of};
 use generations_rule::Rule;
 use multistate_rle::parse;
+use replica_core::{CellList, EditSpec, Fault, Replica};
 use std::alloc::{AllocError, Global};
 use std::test::Fail;
 

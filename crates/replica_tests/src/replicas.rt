@@ -2,9 +2,9 @@
 
 ghost use Rattle.std.specs.Prelude.{◌≤◌};
 
-use replica_core::{CellList, EditSpec, Fault, Message, Replica};
 use edit_stamps::{Cell, Edit, EditFault, Stamp, Write};
 use generations_rule::Rule;
+use replica_core::{CellList, EditSpec, Fault, Message, Replica};
 use std::alloc::{AllocError, Global};
 use std::test::Fail;
 

@@ -2,9 +2,9 @@
 
 ghost use Rattle.std.specs.Prelude.{◌≤◌, ◌<◌};
 
-use replica_core::{CellList, EditSpec, Event, Fault, Reply, World, replay};
-use edit_stamps::{Cell, EditFault, Stamp, Write};
+use edit_stamps::Cell;
 use generations_rule::Rule;
+use replica_core::{CellList, EditSpec, Event, Reply, World, replay};
 use std::alloc::{AllocError, Global};
 use std::test::Fail;
 
@@ -38,29 +38,27 @@ fn run(alloc: Global, rule: &[u8], n: u16, events: &[Event]) -> Result<Vec<Reply
     Ok(replies)
 }
 
-/// What a world under /2/3 answers to the steps, and the replies that stand beside them.
-fn answers(
-    alloc: Global,
-    n: u16,
-    rows: &[(Step, Reply)],
-) -> Result<(Vec<Reply>, Vec<Reply>), Fail> {
-    let mut events = Vec::new(alloc);
-    let mut wanted = Vec::new(alloc);
-    for (step, reply) in rows {
-        events.push(event(alloc, *step)?)?;
-        wanted.push(*reply)?;
+fn reply_told(alloc: Global, reply: &Reply) -> Result<String, AllocError> {
+    match reply {
+        Reply::Drawn(stamp) => format!(in alloc; "drawn {} {}", stamp.counter(), stamp.replica()),
+        Reply::Sent(message) => format!(in alloc; "sent {message}"),
+        Reply::Taken => "taken".to_string(alloc),
+        Reply::Shown(write) => format!(in alloc; "shown {} {}", write.stamp, write.state),
+        Reply::Refused(fault) => fault.to_string(alloc),
     }
-    Ok((run(alloc, b"/2/3", n, &events)?, wanted))
 }
 
-/// (No draw is answered by `Taken`: it stands for a stamp out of range.)
-fn drawn(counter: u64, replica: u16) -> Reply {
-    Stamp::new(counter, replica).map_or(Reply::Taken, |stamp| Reply::Drawn(stamp))
-}
-
-fn shown(counter: u64, replica: u16, state: u8) -> Reply {
-    let stamp = Stamp::new(counter, replica).map_or(0, |stamp| stamp.number());
-    Reply::Shown(Write { stamp, state })
+/// What a world of n replicas under /2/3 answers to the steps.
+fn answers(alloc: Global, n: u16, steps: &[Step]) -> Result<String, Fail> {
+    let mut events = Vec::new(alloc);
+    for step in steps {
+        events.push(event(alloc, *step)?)?;
+    }
+    let mut told = String::new(alloc);
+    for reply in &run(alloc, b"/2/3", n, &events)? {
+        told = format!(in alloc; "{told}{}\n", reply_told(alloc, reply)?)?;
+    }
+    Ok(told)
 }
 
 #[test]
@@ -84,66 +82,68 @@ fn opens_without_replicas(rt: HostRuntime) -> Result<(), Fail> {
 
 #[test]
 fn settles_a_tie(rt: HostRuntime) -> Result<(), Fail> {
-    let rows = [
-        (draw(1, 0, 0, 1), drawn(1, 1)),
-        (draw(2, 0, 0, 2), drawn(1, 2)),
-        (Step::Send(1), Reply::Sent(1)),
-        (Step::Send(2), Reply::Sent(2)),
-        (Step::Deliver(1, 2), Reply::Taken),
-        (Step::Deliver(2, 1), Reply::Taken),
-        (Step::Show(1, 0, 0), shown(1, 2, 2)),
-        (Step::Show(2, 0, 0), shown(1, 2, 2)),
+    let steps = [
+        draw(1, 0, 0, 1),
+        draw(2, 0, 0, 2),
+        Step::Send(1),
+        Step::Send(2),
+        Step::Deliver(1, 2),
+        Step::Deliver(2, 1),
+        Step::Show(1, 0, 0),
+        Step::Show(2, 0, 0),
     ];
-    let (replies, wanted) = answers(rt.alloc(), 2, &rows)?;
-    assert_eq!(rt; replies.as_slice(), wanted.as_slice());
+    assert_eq!(rt;
+        answers(rt.alloc(), 2, &steps)?.as_str(),
+        "drawn 1 1\ndrawn 1 2\nsent 1\nsent 2\ntaken\ntaken\nshown 65538 2\nshown 65538 2\n"
+    );
     Ok(())
 }
 
 /// A replica that took a map draws past the counters in it.
 #[test]
 fn raises_the_clock(rt: HostRuntime) -> Result<(), Fail> {
-    let rows = [
-        (draw(1, 3, 3, 1), drawn(1, 1)),
-        (draw(1, 3, 3, 1), drawn(2, 1)),
-        (draw(1, 3, 3, 1), drawn(3, 1)),
-        (draw(1, 3, 3, 1), drawn(4, 1)),
-        (draw(1, 3, 3, 1), drawn(5, 1)),
-        (Step::Send(1), Reply::Sent(1)),
-        (Step::Deliver(1, 2), Reply::Taken),
-        (draw(2, 3, 3, 2), drawn(6, 2)),
-        (Step::Send(2), Reply::Sent(2)),
-        (Step::Deliver(2, 1), Reply::Taken),
-        (Step::Show(1, 3, 3), shown(6, 2, 2)),
+    let steps = [
+        draw(1, 3, 3, 1),
+        draw(1, 3, 3, 1),
+        draw(1, 3, 3, 1),
+        draw(1, 3, 3, 1),
+        draw(1, 3, 3, 1),
+        Step::Send(1),
+        Step::Deliver(1, 2),
+        draw(2, 3, 3, 2),
+        Step::Send(2),
+        Step::Deliver(2, 1),
+        Step::Show(1, 3, 3),
     ];
-    let (replies, wanted) = answers(rt.alloc(), 2, &rows)?;
-    assert_eq!(rt; replies.as_slice(), wanted.as_slice());
+    assert_eq!(rt;
+        answers(rt.alloc(), 2, &steps)?.as_str(),
+        "drawn 1 1\ndrawn 2 1\ndrawn 3 1\ndrawn 4 1\ndrawn 5 1\nsent 1\ntaken\ndrawn 6 2\n\
+        sent 2\ntaken\nshown 393218 2\n"
+    );
     Ok(())
 }
 
 /// Each refusal, the first of two where both stand.
 #[test]
 fn refuses(rt: HostRuntime) -> Result<(), Fail> {
-    let rows = [
-        (draw(0, 0, 0, 9), Reply::Refused(Fault::NoReplica)),
-        (draw(2, 0x4000_0000, 0, 1), Reply::Refused(Fault::NoReplica)),
-        (
-            draw(1, 0x4000_0000, 0, 9),
-            Reply::Refused(Fault::Edit(EditFault::OutOfPlane)),
-        ),
-        (
-            draw(1, 0, 0, 3),
-            Reply::Refused(Fault::Edit(EditFault::StateRange)),
-        ),
-        (Step::Send(3), Reply::Refused(Fault::NoReplica)),
-        (Step::Deliver(1, 9), Reply::Refused(Fault::NoMessage)),
-        (Step::Deliver(0, 1), Reply::Refused(Fault::NoMessage)),
-        (Step::Show(2, 0, 0), Reply::Refused(Fault::NoReplica)),
-        (Step::Send(1), Reply::Sent(1)),
-        (Step::Deliver(1, 2), Reply::Refused(Fault::NoReplica)),
-        (Step::Show(1, 0, 0), shown(0, 0, 0)),
+    let steps = [
+        draw(0, 0, 0, 9),
+        draw(2, 0x4000_0000, 0, 1),
+        draw(1, 0x4000_0000, 0, 9),
+        draw(1, 0, 0, 3),
+        Step::Send(3),
+        Step::Deliver(1, 9),
+        Step::Deliver(0, 1),
+        Step::Show(2, 0, 0),
+        Step::Send(1),
+        Step::Deliver(1, 2),
+        Step::Show(1, 0, 0),
     ];
-    let (replies, wanted) = answers(rt.alloc(), 1, &rows)?;
-    assert_eq!(rt; replies.as_slice(), wanted.as_slice());
+    assert_eq!(rt;
+        answers(rt.alloc(), 1, &steps)?.as_str(),
+        "NoReplica\nNoReplica\nOutOfPlane\nStateRange\nNoReplica\nNoMessage\nNoMessage\nNoReplica\n\
+        sent 1\nNoReplica\nshown 0 0\n"
+    );
     Ok(())
 }
 

@@ -8,13 +8,13 @@ use Rattle.multistate_rle.specs.declared.cell.Cell.{Cell}
 use Rattle.multistate_rle.specs.Cells.{place_of, is_sorted}
 use Rattle.edit_stamps.specs.declared.rect.Rect.{Rect}
 use Rattle.edit_stamps.specs.declared.write.Write.{Write}
-use Rattle.edit_stamps.specs.Edit.{PlaneEdit, IsEdit, is_covered, listed, write_by, writes_of}
+use Rattle.edit_stamps.specs.Edit.{PlaneEdit, IsEdit, is_covered, listed, write_by, writes_of, written}
 use Rattle.edit_stamps.specs.Plane.{is_in}
 use Rattle.edit_stamps.specs.Write.{at_most, greater, unwritten, Writes, AreSame, joined}
 use Rattle.edit_stamps.proofs.SortedCells.{sorted_tail, listed_behind, listed_here, listed_there}
-use Rattle.stamped_map.specs.Plane.{written, blank, IsPartlyJoined}
-use Rattle.stamped_map.proofs.JoinLemmas.{absorbed, greater-unwritten, unwritten-greater}
-use Rattle.edit_stamps.proofs.WriteLaws.{is_lattice}
+use Rattle.edit_stamps.specs.PlaneMap.{blank, IsPartlyJoined}
+use Rattle.stamped_map.proofs.JoinLemmas.{absorbed}
+use Rattle.edit_stamps.proofs.WriteLaws.{is_lattice, greater-unwritten, unwritten-greater}
 
 -- cells of which each coordinate is listed once
 pub written_is_listed : (stamp : ℕ) (cells : List Cell) → is_sorted cells ≡ true → (c : Place) → written stamp cells c ≡ write_by stamp (listed cells c) false

@@ -9,13 +9,14 @@ use Rattle.std.proofs.lemmas.Int.{ints}
 use Rattle.std.proofs.lemmas.Bool.{cases_Bool}
 use Rattle.generations_rule.specs.Place.{is_place}
 use Rattle.edit_stamps.specs.declared.write.Write.{Write}
-use Rattle.edit_stamps.specs.PlaneMap.{write_at}
+use Rattle.edit_stamps.specs.PlaneMap.{write_at, only}
 use Rattle.edit_stamps.specs.Write.{greater, unwritten, Writes, AreSame}
 use Rattle.stamped_map.specs.declared.plane.Coordinate.{Coordinate}
-use Rattle.stamped_map.specs.Plane.{map_of_entries, place_at, only}
+use Rattle.stamped_map.specs.Plane.{map_of_entries, place_at}
+use Rattle.edit_stamps.proofs.WriteLaws.{greater-unwritten, unwritten-greater}
 use Rattle.stamped_map.specs.Merge.{coordinate_cmp}
 use Rattle.stamped_map.proofs.ReadLemmas.{found, write_at-entries}
-use Rattle.stamped_map.proofs.JoinLemmas.{key_is_place, coordinate, greater-unwritten, unwritten-greater}
+use Rattle.stamped_map.proofs.JoinLemmas.{key_is_place, coordinate}
 
 -- what entries write, joined
 abbrev pub entries_written : List (Coordinate × Write) → Writes

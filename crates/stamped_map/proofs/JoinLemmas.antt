@@ -6,12 +6,12 @@ use Rattle.std.proofs.lemmas.Int.{ints}
 use Rattle.std.proofs.lemmas.Bool.{cases_Bool}
 use Rattle.generations_rule.specs.Place.{Place, is_place}
 use Rattle.edit_stamps.specs.declared.write.Write.{Write}
-use Rattle.edit_stamps.specs.PlaneMap.{write_at}
+use Rattle.edit_stamps.specs.PlaneMap.{write_at, only}
 use Rattle.edit_stamps.specs.Write.{at_most, greater, unwritten, AreSame, joined}
 use Rattle.edit_stamps.proofs.PlaceOrder.{one_place}
-use Rattle.edit_stamps.proofs.WriteLaws.{is_total, is_lattice}
+use Rattle.edit_stamps.proofs.WriteLaws.{is_total, is_lattice, greater-unwritten}
 use Rattle.stamped_map.specs.declared.plane.Coordinate.{Coordinate}
-use Rattle.stamped_map.specs.Plane.{map_of_entries, only, place_at}
+use Rattle.stamped_map.specs.Plane.{map_of_entries, place_at}
 use Rattle.stamped_map.specs.Merge.{coordinate_cmp}
 use Rattle.stamped_map.proofs.ReadLemmas.{found, write_at-entries}
 
@@ -22,12 +22,6 @@ absorbed v w h = rw h refl
 
 pub swapped : (v w : Write) → at_most v w ≡ false → at_most w v ≡ true
 swapped v w f = elim (is_total.total v w) [ inl t ↦ absurd (cc) | inr t ↦ t ]
-
-pub greater-unwritten : (v : Write) → greater v unwritten ≡ v
-greater-unwritten v = is_lattice.commutative v unwritten ∙ absorbed unwritten v (is_total.least v)
-
-pub unwritten-greater : (v : Write) → greater unwritten v ≡ v
-unwritten-greater v = absorbed unwritten v (is_total.least v)
 
 -- ---- one write
 

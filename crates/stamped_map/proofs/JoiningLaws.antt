@@ -1,6 +1,6 @@
 -- A map to which writes are joined one after another.
 use Rattle.std.proofs.Common.{◌≡◌, ℕ, ◌+◌, ◌-◌, ◌≤◌, ◌<◌, max, ℤ, pos, ◌+ℤ◌, length, get_or, drop, drop-cons, add-one, Bool, true, false, List, refl, sym, ◌∙◌, ap, subst, arith, inl, inr, if◌then◌else◌}
-use Rattle.std.specs.Prelude.{Result, Ok, Err, OnErr, ◌||◌, ◌&&◌, int_le, int_lt}
+use Rattle.std.specs.Prelude.{IsTrue, Result, Ok, Err, OnErr, ◌||◌, ◌&&◌, int_le, int_lt}
 use Rattle.std.specs.Ordering.{int_eq}
 use Rattle.std.proofs.lemmas.Bool.{cases_Bool}
 use Rattle.std.proofs.lemmas.Bool.Decides.{nat_tests}
@@ -9,29 +9,19 @@ use Rattle.std.proofs.lemmas.Int.{ints}
 use Rattle.multistate_rle.specs.declared.cell.Cell.{Cell}
 use Rattle.edit_stamps.specs.declared.write.Write.{Write}
 use Rattle.edit_stamps.specs.Plane.{is_in, is_in_plane, is_area_in_plane}
-use Rattle.edit_stamps.specs.PlaneMap.{PlaneMap, write_at}
+use Rattle.edit_stamps.specs.Stamp.{is_stamp}
+use Rattle.edit_stamps.specs.PlaneMap.{HasStampedWrites, is_plane_write, PlaneMap, write_at, only, blank, IsGreatestStamp, LiesInPlane}
 use Rattle.edit_stamps.specs.Write.{at_most, greater, unwritten, Writes, AreSame, joined}
 use Rattle.edit_stamps.proofs.PlaceOrder.{one_place, same_itself}
-use Rattle.edit_stamps.proofs.WriteLaws.{is_lattice, is_least_upper_bound}
+use Rattle.edit_stamps.proofs.WriteLaws.{is_lattice, left_of, right_of, stamps_rise, stamp_of_greater, greater-unwritten, unwritten-greater}
 use Rattle.stamped_map.specs.declared.plane.Coordinate.{Coordinate}
 use Rattle.edit_stamps.specs.declared.rect.Rect.{Rect}
-use Rattle.stamped_map.specs.Plane.{place_at, only, written, blank, strip, IsGreatestStamp, LiesInPlane, IsPlane}
-use Rattle.stamped_map.proofs.JoinLemmas.{greater-unwritten, unwritten-greater}
+use Rattle.stamped_map.specs.Plane.{place_at, strip, IsJoinable, IsPlane}
+use Rattle.edit_stamps.specs.Edit.{written}
 
 -- ---- the greatest stamp
 
-pub stamps_rise : (v w : Write) → at_most v w ≡ true → v.stamp ≤ w.stamp
-stamps_rise v w h = grind (arith, nat_tests)
-
 -- the greater of two writes is above both, and has a stamp of one of them
-pub left_of : (v w : Write) → at_most v (greater v w) ≡ true
-left_of v w = is_least_upper_bound.left (λ _. v) (λ _. w) (record { x = pos 0; y = pos 0 })
-
-pub right_of : (v w : Write) → at_most w (greater v w) ≡ true
-right_of v w = is_least_upper_bound.right (λ _. v) (λ _. w) (record { x = pos 0; y = pos 0 })
-
-pub stamp_of_greater : (v w : Write) → (greater v w).stamp ≤ max v.stamp w.stamp
-stamp_of_greater v w = elim (cases_Bool (at_most v w)) [ inl t ↦ rw t (omega arith) | inr f ↦ rw f (omega arith) ]
 
 only-here : (c : Place) (w : Write) → only c w c ≡ w
 only-here c w = rw (same_itself c) refl
@@ -59,11 +49,25 @@ pub inside_joined : (p q added : Writes) → LiesInPlane p → LiesInPlane added
 inside_joined p q added inside more same d out =
     same d ∙ (λ i. greater (inside d out i) (more d out i)) ∙ greater-unwritten unwritten
 
-pub plane_joined : (g : ℕ) (p q : PlaneMap) (c : Place) (w : Write) → IsPlane g p → LiesInPlane (only c w) →
+-- the greater of two writes is one of them
+greater_stamped : (v w : Write) → IsTrue (is_plane_write v) → IsTrue (is_plane_write w) → IsTrue (is_plane_write (greater v w))
+greater_stamped v w h k = elim (cases_Bool (at_most v w)) [ inl t ↦ rw t k | inr f ↦ rw f h ]
+
+pub stamped_joined : (p q added : Writes) → HasStampedWrites p → HasStampedWrites added → AreSame q (joined p added) → HasStampedWrites q
+stamped_joined p q added own more same c = rw (same c) (greater_stamped (p c) (added c) (own c) (more c))
+
+plane_write : (w : Write) → is_stamp w.stamp ≡ true → is_plane_write w ≡ true
+plane_write w h = rw h refl
+
+only_stamped : (c : Place) (w : Write) → is_stamp w.stamp ≡ true → HasStampedWrites (only c w)
+only_stamped c w h d = elim (cases_Bool (is_place c d)) [ inl t ↦ rw t (plane_write w h) | inr f ↦ rw f refl ]
+
+pub plane_joined : (g : ℕ) (p q : PlaneMap) (c : Place) (w : Write) → IsPlane g p → IsJoinable c w →
     AreSame (write_at q) (joined (write_at p) (only c w)) → IsPlane (max g w.stamp) q
 plane_joined g p q c w plane here same = record {
   greatest = greatest_joined g (write_at p) (write_at q) c w plane.greatest same;
-  inside = inside_joined (write_at p) (write_at q) (only c w) plane.inside here same;
+  inside = inside_joined (write_at p) (write_at q) (only c w) plane.inside here.inside same;
+  stamped = stamped_joined (write_at p) (write_at q) (only c w) plane.stamped (only_stamped c w here.stamped) same;
 }
 
 -- a write in the plane

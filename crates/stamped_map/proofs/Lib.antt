@@ -5,6 +5,5 @@ pub mod EditWrites
 pub mod PartLaws
 pub mod EntryLaws
 pub mod StateLaws
-pub mod ClockLaws
 pub mod AheadLaws
 pub mod MergeLaws

@@ -8,17 +8,17 @@ use Rattle.std.specs.Ordering.{is_eq, eq_by_cmp}
 use Rattle.std.proofs.lemmas.Int.{ints}
 use Rattle.std.proofs.lemmas.Bool.{cases_Bool}
 use Rattle.edit_stamps.specs.declared.write.Write.{Write}
-use Rattle.edit_stamps.specs.PlaneMap.{PlaneMap, write_at}
+use Rattle.edit_stamps.specs.PlaneMap.{is_plane_write, map_of, PlaneValue, PlaneMap, write_at, only, IsGreatestStamp, HasStatesBelow, IsPartlyJoined, KeepsStates}
 use Rattle.edit_stamps.specs.Write.{at_most, greater, unwritten, Writes, AreSame, joined}
 use Rattle.edit_stamps.proofs.PlaceOrder.{one_place}
-use Rattle.edit_stamps.proofs.WriteLaws.{is_total, is_lattice}
+use Rattle.edit_stamps.proofs.WriteLaws.{is_total, is_lattice, greater-unwritten, unwritten-greater, stamp_of_greater, stamps_rise, left_of, right_of}
 use Rattle.stamped_map.specs.declared.plane.Coordinate.{Coordinate}
-use Rattle.stamped_map.specs.Plane.{map_of_entries, place_at, only, IsGreatestStamp, IsPlane, HasStatesBelow, IsPartlyJoined, KeepsStates}
+use Rattle.stamped_map.specs.Plane.{map_of_entries, plane_of, place_at, IsPlane}
 use Rattle.stamped_map.specs.Merge.{coordinate_cmp, from_place, wins_over}
 use Rattle.stamped_map.proofs.ReadLemmas.{found, write_at-entries}
-use Rattle.stamped_map.proofs.JoinLemmas.{absorbed, swapped, key_is_place, coordinate, greater-unwritten, unwritten-greater}
+use Rattle.stamped_map.proofs.JoinLemmas.{absorbed, swapped, key_is_place, coordinate}
 use Rattle.stamped_map.proofs.EntryLaws.{same_key, entries_written, written_is_read}
-use Rattle.stamped_map.proofs.JoiningLaws.{greatest_joined, inside_joined, stamp_of_greater, stamps_rise, left_of, right_of}
+use Rattle.stamped_map.proofs.JoiningLaws.{greatest_joined, inside_joined, stamped_joined}
 use Rattle.stamped_map.proofs.StateLaws.{joined_below}
 use Rattle.stamped_map.proofs.AheadLaws.{less_before, read_ahead}
 
@@ -292,7 +292,25 @@ pub both_joined : (g h : ℕ) (p q r : PlaneMap) → IsPlane g p → IsPlane h q
 both_joined g h p q r first second same = record {
   greatest = greatest_of_both g h (write_at p) (write_at q) (write_at r) first.greatest second.greatest same;
   inside = inside_joined (write_at p) (write_at r) (write_at q) first.inside second.inside same;
+  stamped = stamped_joined (write_at p) (write_at r) (write_at q) first.stamped second.stamped same;
 }
+
+-- of a plane that was joined in part, and its greatest stamp told anew
+pub partly_joined : (n g h : ℕ) (p q r : PlaneMap) → IsGreatestStamp n (write_at r) → IsPlane g p → IsPlane h q →
+    IsPartlyJoined (write_at p) (write_at q) (write_at r) → IsPlane n r
+partly_joined n g h p q r greatest first second part =
+    record {
+      greatest = greatest;
+      inside = λ c out. elim (part c) [
+        | inl was ↦ was ∙ first.inside c out
+        | inr joins ↦ joins ∙ inside_joined (write_at p) (joined (write_at p) (write_at q)) (write_at q) first.inside second.inside (λ d. refl) c out
+      ];
+      stamped = λ c. elim (part c) [
+        | inl was ↦ subst (λ v. is_plane_write v ≡ true) (sym was) (first.stamped c)
+        | inr joins ↦ subst (λ v. is_plane_write v ≡ true) (sym joins)
+            (stamped_joined (write_at p) (joined (write_at p) (write_at q)) (write_at q) first.stamped second.stamped (λ d. refl) c)
+      ];
+    }
 
 partly_keeps : (old sent new : Writes) → IsPartlyJoined old sent new → KeepsStates (λ states. HasStatesBelow states sent) old new
 partly_keeps old sent new part states own below c = elim (part c) [
@@ -301,12 +319,12 @@ partly_keeps old sent new part states own below c = elim (part c) [
 ]
 
 -- states of a plane that was joined in part
-pub plane_keeps : (own sent : List (Coordinate × Write)) (p q new : PlaneMap) → map_of_entries own ≡ p → map_of_entries sent ≡ q →
+pub plane_keeps : (own sent : List (Coordinate × Write)) (p q : PlaneValue) (new : PlaneMap) → plane_of own ≡ p → plane_of sent ≡ q →
     IsPartlyJoined (write_at (map_of_entries own)) (write_at (map_of_entries sent)) (write_at new) →
-    KeepsStates (λ states. HasStatesBelow states (write_at q)) (write_at p) (write_at new)
+    KeepsStates (λ states. HasStatesBelow states (map_of q)) (map_of p) (write_at new)
 plane_keeps own sent p q new is same part =
-    subst (λ (o : PlaneMap). KeepsStates (λ states. HasStatesBelow states (write_at q)) (write_at o) (write_at new)) is
-    (subst (λ (s : PlaneMap). KeepsStates (λ states. HasStatesBelow states (write_at s)) (write_at (map_of_entries own)) (write_at new)) same
+    subst (λ (o : PlaneValue). KeepsStates (λ states. HasStatesBelow states (map_of q)) (map_of o) (write_at new)) is
+    (subst (λ (s : PlaneValue). KeepsStates (λ states. HasStatesBelow states (map_of s)) (write_at (map_of_entries own)) (write_at new)) same
     (partly_keeps (write_at (map_of_entries own)) (write_at (map_of_entries sent)) (write_at new) part))
 
 pub where_ok : {T E P : Type 0} (r : Result T E) → false ≡ is_err r → OnOk r P → P

@@ -10,16 +10,16 @@ use Rattle.multistate_rle.specs.declared.cell.Cell.{Cell}
 use Rattle.multistate_rle.specs.Cells.{place_of, is_sorted}
 use Rattle.edit_stamps.specs.declared.rect.Rect.{Rect}
 use Rattle.edit_stamps.specs.declared.write.Write.{Write}
-use Rattle.edit_stamps.specs.Edit.{PlaneEdit, IsEdit, greatest, listed, write_by, writes_of}
+use Rattle.edit_stamps.specs.Edit.{PlaneEdit, IsEdit, greatest, listed, write_by, writes_of, written, IsPartlyEdited}
 use Rattle.edit_stamps.specs.Plane.{is_in}
 use Rattle.edit_stamps.specs.Write.{at_most, greater, unwritten, Writes, AreSame, joined}
 use Rattle.edit_stamps.proofs.PlaceOrder.{one_place, same_itself}
 use Rattle.edit_stamps.proofs.SortedCells.{sorted_tail, listed_behind, listed_here, listed_there}
-use Rattle.edit_stamps.proofs.WriteLaws.{is_lattice}
+use Rattle.edit_stamps.proofs.WriteLaws.{is_lattice, greater-unwritten}
 use Rattle.stamped_map.specs.declared.plane.Coordinate.{Coordinate}
-use Rattle.stamped_map.specs.Plane.{blank, only, place_at, strip, written, IsPartlyEdited, IsPartlyJoined}
+use Rattle.stamped_map.specs.Plane.{place_at, strip}
+use Rattle.edit_stamps.specs.PlaneMap.{blank, only, IsPartlyJoined}
 use Rattle.stamped_map.proofs.EditWrites.{written_is_listed}
-use Rattle.stamped_map.proofs.JoinLemmas.{greater-unwritten}
 use Rattle.stamped_map.proofs.JoiningLaws.{cell_of}
 
 -- writes that are part of others: at each place none, or theirs
@@ -110,26 +110,6 @@ row_part stamp area row i within is c =
 -- an edit that stands at a place of a list is in it
 pub in_edits : (edits : List PlaneEdit) (i : ℕ) (e : PlaneEdit) → i < length edits → e ≡ get_or edits i e → Contains edits e
 in_edits edits i e within is = subst (Contains edits) (sym is) (Contains-get_or edits i e within)
-
--- what is read of edits at a place is what one of them writes there, if anything
-pub made_by_one : (edits : List PlaneEdit) (c : Place) → (greatest edits c ≡ unwritten) ⊎ ((e : PlaneEdit) × Contains edits e × (writes_of e c ≡ greatest edits c))
-made_by_one [] c = inl refl
-made_by_one (e ∷ edits) c =
-    let pick : Bool → Write = λ b. if b then greatest edits c else writes_of e c in
-    elim (cases_Bool (at_most (writes_of e c) (greatest edits c))) [
-      | inr first ↦ inr (e, (0, omega arith, refl), sym (ap pick first))
-      | inl rest ↦ elim (made_by_one edits c) [
-        | inl nothing ↦ inl (ap pick rest ∙ nothing)
-        | inr by ↦ inr (by.0, (suc by.1.0, omega (arith, by.1.1), by.1.2), by.2 ∙ sym (ap pick rest))
-      ]
-    ]
-
--- edits that are wholly joined
-pub edited_whole : (old new : Writes) (edits : List PlaneEdit) → AreSame new (joined old (greatest edits)) → IsPartlyEdited old edits new
-edited_whole old new edits whole c = elim (made_by_one edits c) [
-  | inl nothing ↦ inl (whole c ∙ ap (greater (old c)) nothing ∙ greater-unwritten (old c))
-  | inr by ↦ inr (by.0, by.1, whole c ∙ ap (greater (old c)) (sym by.2))
-]
 
 -- the greater of two edits' writes is one of them
 one_of_two : (edits : List PlaneEdit) (e f : PlaneEdit) (c : Place) (v w : Write) → Contains edits e → Contains edits f →

@@ -6,10 +6,9 @@ use Rattle.generations_rule.specs.Place.{Place, is_place}
 use Rattle.multistate_rle.specs.declared.cell.Cell.{Cell}
 use Rattle.multistate_rle.specs.Cells.{are_below}
 use Rattle.edit_stamps.specs.declared.write.Write.{Write}
-use Rattle.edit_stamps.specs.Edit.{PlaneEdit, greatest, writes_of, has_states_below}
-use Rattle.edit_stamps.specs.PlaneMap.{PlaneMap, write_at}
+use Rattle.edit_stamps.specs.Edit.{PlaneEdit, greatest, writes_of, has_states_below, HaveStatesBelow}
+use Rattle.edit_stamps.specs.PlaneMap.{PlaneMap, write_at, only, HasStatesBelow, KeepsStates}
 use Rattle.edit_stamps.specs.Write.{at_most, greater, Writes, AreSame, joined}
-use Rattle.stamped_map.specs.Plane.{only, HasStatesBelow, HaveStatesBelow, KeepsStates}
 use Rattle.stamped_map.proofs.JoiningLaws.{cell_of}
 
 origin : Place
@@ -31,9 +30,6 @@ only_below n c w h d = elim (cases_Bool (is_place c d)) [ inl t ↦ rw t h | inr
 -- one write
 pub write_keeps : (old new : Writes) (c : Place) (w : Write) → AreSame new (joined old (only c w)) → KeepsStates (λ n. w.state < n) old new
 write_keeps old new c w same n below own = joined_below n old (only c w) new below (only_below n c w own) same
-
-pub same_keeps : (old new : PlaneMap) (P : ℕ → Type 0) → new ≡ old → KeepsStates P (write_at old) (write_at new)
-same_keeps old new P same n below own = subst (λ (p : PlaneMap). HasStatesBelow n (write_at p)) (sym same) below
 
 -- what a step keeps
 pub keeps_on : (P Q : ℕ → Type 0) (old now later : Writes) → KeepsStates P old now → KeepsStates Q now later → ((n : ℕ) → HasStatesBelow n now → P n → Q n) → KeepsStates P old later

@@ -1,4 +1,3 @@
 pub mod Plane
 pub mod Merge
-pub mod Laws
 pub mod Rows

@@ -2,11 +2,12 @@
 use Rattle.std.specs.Prelude.{◌≡◌, ℕ, true, false, [], ◌∷◌, pos, negsuc, refl}
 use Rattle.generations_rule.specs.Place.{at_place}
 use Rattle.edit_stamps.specs.declared.write.Write.{Write}
-use Rattle.edit_stamps.specs.PlaneMap.{write_at}
+use Rattle.edit_stamps.specs.PlaneMap.{write_at, blank}
 use Rattle.edit_stamps.specs.Write.{unwritten, joined}
 use Rattle.stamped_map.specs.declared.plane.Coordinate.{Coordinate}
 use Rattle.stamped_map.specs.Merge.{from_place, is_next_before, wins_over}
-use Rattle.stamped_map.specs.Plane.{blank, map_of_entries, written}
+use Rattle.stamped_map.specs.Plane.{map_of_entries}
+use Rattle.edit_stamps.specs.Edit.{written}
 
 abbrev entry : ℕ → ℕ → Coordinate × Write
 entry stamp state = (record { y = pos 0; x = pos 0 }, record { stamp = stamp; state = state })

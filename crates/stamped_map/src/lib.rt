@@ -2,8 +2,6 @@
 //! joined into it.
 #![tactic(auto)]
 
-mod laws;
 mod plane;
 
-pub use laws::clock_laws;
 pub use plane::Plane;

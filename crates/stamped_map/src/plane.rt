@@ -6,11 +6,12 @@ mod merge;
 ghost use Rattle.std.specs.Prelude.{◌≡◌, Contains, false, ◌<◌, ◌+ℤ◌, pos, IfOk, IsTrue, OnOk, OnErr, ⊤};
 ghost use Rattle.edit_stamps.specs.Plane.{is_area_in_plane, is_in_plane};
 ghost use Rattle.generations_rule.specs.Place.{at_place};
-ghost use Rattle.edit_stamps.specs.PlaneMap.{write_at};
+ghost use Rattle.edit_stamps.specs.PlaneMap.{map_of, only, write_at};
+ghost use Rattle.edit_stamps.specs.Stamp.{is_stamp};
 ghost use Rattle.edit_stamps.specs.Write.{unwritten, AreSame, joined};
 ghost use Rattle.edit_stamps.specs.Edit.{PlaneEdit, IsEdit, greatest, has_states_below, writes_of};
 ghost use Rattle.multistate_rle.specs.Cells.{are_below, is_sorted};
-ghost use Rattle.stamped_map.specs.Plane.{only, map_of_entries, place_at, strip};
+ghost use Rattle.stamped_map.specs.Plane.{IsJoinable, map_of_entries, place_at, strip};
 
 use edit_stamps::{Edit, Rect, Write};
 use multistate_rle::Cell;
@@ -75,23 +76,24 @@ pub struct Plane {
 }
 
 impl Model for Plane {
-    ghost use Rattle.edit_stamps.specs.PlaneMap.{PlaneMap};
-    ghost use Rattle.stamped_map.specs.Plane.{map_of_entries, IsPlane};
+    ghost use Rattle.edit_stamps.specs.PlaneMap.{PlaneValue};
+    ghost use Rattle.stamped_map.specs.Plane.{map_of_entries, plane_of, IsPlane};
 
-    ghost Value = { PlaneMap };
+    ghost Value = { PlaneValue };
 
-    ghost view = { λ p. map_of_entries p.writes.entries };
+    ghost view = { λ p. plane_of p.writes.entries };
 
     ghost invariant = { λ p. IsPlane p.greatest_stamp (map_of_entries p.writes.entries) };
 }
 
 impl Plane {
     ghost use Rattle.edit_stamps.specs.Making.{are_in_plane};
-    ghost use Rattle.stamped_map.specs.Plane.{HasStatesBelow, HaveStatesBelow, IsGreatestStamp, IsPartlyEdited, IsPartlyJoined, KeepsStates, LiesInPlane, blank, written};
+    ghost use Rattle.edit_stamps.specs.Edit.{HaveStatesBelow, IsPartlyEdited, written};
+    ghost use Rattle.edit_stamps.specs.PlaneMap.{HasStampedWrites, HasStatesBelow, IsGreatestStamp, IsPartlyJoined, KeepsStates, LiesInPlane, blank};
 
     /// The plane where nothing was written.
     pub fn new(alloc: Global) -> Plane
-        ensures { AreSame (write_at result) (λ _. unwritten) }
+        ensures { AreSame (map_of result) (λ _. unwritten) }
     {
         Plane {
             writes: BTreeMap::new(alloc),
@@ -102,8 +104,9 @@ impl Plane {
 
     /// The write at a coordinate; the least write where nothing was written, and outside the plane.
     pub fn get(&self, x: i32, y: i32) -> Write
-        ensures value { result ≡ write_at self.now (at_place x y) }
+        ensures value { result ≡ map_of self.now (at_place x y) }
         ensures outside { is_in_plane (at_place x y) ≡ false → result ≡ unwritten }
+        ensures stamped { HasStampedWrites (map_of self.now) }
     {
         self.writes
             .get(&at(x, y))
@@ -113,15 +116,16 @@ impl Plane {
 
     /// The greatest stamp of a write, 0 where there is none.
     pub fn greatest_stamp(&self) -> u64
-        ensures greatest { IsGreatestStamp result (write_at self.now) }
-        ensures inside { LiesInPlane (write_at self.now) }
+        ensures greatest { IsGreatestStamp result (map_of self.now) }
+        ensures inside { LiesInPlane (map_of self.now) }
     {
         self.greatest_stamp
     }
 
     /// The same map.
     pub fn copy(&self) -> Result<Plane, AllocError>
-        ensures { IfOk result (λ plane. plane ≡ self.now) }
+        ensures map { IfOk result (λ plane. AreSame (map_of plane) (map_of self.now)) }
+        ensures stamped { HasStampedWrites (map_of self.now) }
     {
         let writes = self.writes.clone()?;
         Ok(Plane {
@@ -133,9 +137,9 @@ impl Plane {
 
     /// Joins what an edit writes. After want of memory it may be joined at some places alone.
     pub fn join_edit(&mut self, edit: &Edit) -> Result<(), AllocError>
-        ensures ok { OnOk result (AreSame (write_at self.new) (joined (write_at self.old) (writes_of edit.now))) }
-        ensures err { OnErr result (IsPartlyJoined (write_at self.old) (writes_of edit.now) (write_at self.new)) }
-        ensures states { KeepsStates (λ states. IsTrue (has_states_below states edit.now)) (write_at self.old) (write_at self.new) }
+        ensures ok { OnOk result (AreSame (map_of self.new) (joined (map_of self.old) (writes_of edit.now))) }
+        ensures err { OnErr result (IsPartlyJoined (map_of self.old) (writes_of edit.now) (map_of self.new)) }
+        ensures states { KeepsStates (λ states. IsTrue (has_states_below states edit.now)) (map_of self.old) (map_of self.new) }
         ensures edit { IsEdit edit.now }
     {
         let stamp = edit.stamp().number();
@@ -150,9 +154,9 @@ impl Plane {
     /// Joins what edits write. After want of memory some of it may be joined: each place has what it
     /// had, or what one of the edits makes of it.
     pub fn join_edits(&mut self, edits: &[Edit]) -> Result<(), AllocError>
-        ensures ok { OnOk result (AreSame (write_at self.new) (joined (write_at self.old) (greatest edits.now))) }
-        ensures err { OnErr result (IsPartlyEdited (write_at self.old) edits.now (write_at self.new)) }
-        ensures states { KeepsStates (λ states. HaveStatesBelow states edits.now) (write_at self.old) (write_at self.new) }
+        ensures ok { OnOk result (AreSame (map_of self.new) (joined (map_of self.old) (greatest edits.now))) }
+        ensures err { OnErr result (IsPartlyEdited (map_of self.old) edits.now (map_of self.new)) }
+        ensures states { KeepsStates (λ states. HaveStatesBelow states edits.now) (map_of self.old) (map_of self.new) }
         ensures edits { OnOk result ((e : PlaneEdit) → Contains edits.now e → IsEdit e) }
     {
         for edit in edits {
@@ -163,9 +167,9 @@ impl Plane {
 
     /// Joins another map. After want of memory it may be joined at some places alone.
     pub fn join(&mut self, other: &Plane) -> Result<(), AllocError>
-        ensures ok { OnOk result (AreSame (write_at self.new) (joined (write_at self.old) (write_at other.now))) }
-        ensures err { OnErr result (IsPartlyJoined (write_at self.old) (write_at other.now) (write_at self.new)) }
-        ensures states { KeepsStates (λ states. HasStatesBelow states (write_at other.now)) (write_at self.old) (write_at self.new) }
+        ensures ok { OnOk result (AreSame (map_of self.new) (joined (map_of self.old) (map_of other.now))) }
+        ensures err { OnErr result (IsPartlyJoined (map_of self.old) (map_of other.now) (map_of self.new)) }
+        ensures states { KeepsStates (λ states. HasStatesBelow states (map_of other.now)) (map_of self.old) (map_of self.new) }
     {
         if merge::join_writes(self.alloc, &mut self.writes, &other.writes).is_err() {
             self.greatest_stamp = merge::greatest_stamp(&self.writes);
@@ -179,9 +183,10 @@ impl Plane {
     fn join_cells(&mut self, stamp: u64, cells: &[Cell]) -> Result<(), AllocError>
         requires plane { IsTrue (are_in_plane cells.now) }
         requires sorted { IsTrue (is_sorted cells.now) }
-        ensures ok { OnOk result (AreSame (write_at self.new) (joined (write_at self.old) (written stamp cells.now))) }
-        ensures err { OnErr result (IsPartlyJoined (write_at self.old) (written stamp cells.now) (write_at self.new)) }
-        ensures states { KeepsStates (λ states. IsTrue (are_below states cells.now)) (write_at self.old) (write_at self.new) }
+        requires stamp { IsTrue (is_stamp stamp) }
+        ensures ok { OnOk result (AreSame (map_of self.new) (joined (map_of self.old) (written stamp cells.now))) }
+        ensures err { OnErr result (IsPartlyJoined (map_of self.old) (written stamp cells.now) (map_of self.new)) }
+        ensures states { KeepsStates (λ states. IsTrue (are_below states cells.now)) (map_of self.old) (map_of self.new) }
     {
         for cell in cells {
             let write = Write {
@@ -195,10 +200,11 @@ impl Plane {
 
     /// Joins state 0 at every coordinate of an area.
     fn join_area(&mut self, stamp: u64, area: Rect) -> Result<(), AllocError>
-        requires { IsTrue (is_area_in_plane area) }
-        ensures ok { OnOk result (AreSame (write_at self.new) (joined (write_at self.old) (blank stamp area))) }
-        ensures err { OnErr result (IsPartlyJoined (write_at self.old) (blank stamp area) (write_at self.new)) }
-        ensures states { KeepsStates (λ _. ⊤) (write_at self.old) (write_at self.new) }
+        requires area { IsTrue (is_area_in_plane area) }
+        requires stamp { IsTrue (is_stamp stamp) }
+        ensures ok { OnOk result (AreSame (map_of self.new) (joined (map_of self.old) (blank stamp area))) }
+        ensures err { OnErr result (IsPartlyJoined (map_of self.old) (blank stamp area) (map_of self.new)) }
+        ensures states { KeepsStates (λ _. ⊤) (map_of self.old) (map_of self.new) }
     {
         for row in 0..area.height {
             self.join_row(stamp, row_of(area, row))?;
@@ -210,9 +216,10 @@ impl Plane {
     fn join_row(&mut self, stamp: u64, row: Rect) -> Result<(), AllocError>
         requires area { IsTrue (is_area_in_plane row) }
         requires height { row.height ≡ 1 }
-        ensures ok { OnOk result (AreSame (write_at self.new) (joined (write_at self.old) (blank stamp row))) }
-        ensures err { OnErr result (IsPartlyJoined (write_at self.old) (blank stamp row) (write_at self.new)) }
-        ensures states { KeepsStates (λ _. ⊤) (write_at self.old) (write_at self.new) }
+        requires stamp { IsTrue (is_stamp stamp) }
+        ensures ok { OnOk result (AreSame (map_of self.new) (joined (map_of self.old) (blank stamp row))) }
+        ensures err { OnErr result (IsPartlyJoined (map_of self.old) (blank stamp row) (map_of self.new)) }
+        ensures states { KeepsStates (λ _. ⊤) (map_of self.old) (map_of self.new) }
     {
         for column in 0..row.width {
             self.join_write(column_of(row, column), Write { stamp, state: 0 })?;
@@ -222,10 +229,10 @@ impl Plane {
 
     /// Joins one write.
     fn join_write(&mut self, at: Coordinate, write: Write) -> Result<(), AllocError>
-        requires { LiesInPlane (only (place_at at) write) }
-        ensures ok { OnOk result (AreSame (write_at self.new) (joined (write_at self.old) (only (place_at at) write))) }
+        requires { IsJoinable (place_at at) write }
+        ensures ok { OnOk result (AreSame (map_of self.new) (joined (map_of self.old) (only (place_at at) write))) }
         ensures err { OnErr result (self.new ≡ self.old) }
-        ensures states { KeepsStates (λ states. write.state < states) (write_at self.old) (write_at self.new) }
+        ensures states { KeepsStates (λ states. write.state < states) (map_of self.old) (map_of self.new) }
     {
         join_into(&mut self.writes, at, write)?;
         self.greatest_stamp = self.greatest_stamp.max(write.stamp);

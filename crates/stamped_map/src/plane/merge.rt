@@ -5,9 +5,9 @@ ghost use Rattle.std.specs.Prelude.{◌≡◌, IfOk, OnOk, filter};
 ghost use Rattle.std.specs.BTreeMap.{IsFromIterResult};
 ghost use Rattle.std.specs.List.Sorted.{IsStrictlySortedBy};
 ghost use Rattle.std.specs.Map.{keys_of};
-ghost use Rattle.edit_stamps.specs.PlaneMap.{write_at};
+ghost use Rattle.edit_stamps.specs.PlaneMap.{write_at, IsGreatestStamp, IsPartlyJoined};
 ghost use Rattle.edit_stamps.specs.Write.{AreSame, joined};
-ghost use Rattle.stamped_map.specs.Plane.{map_of_entries, place_at, IsGreatestStamp, IsPartlyJoined};
+ghost use Rattle.stamped_map.specs.Plane.{map_of_entries, place_at};
 ghost use Rattle.stamped_map.specs.Merge.{coordinate_cmp, wins_over};
 
 use super::Coordinate;

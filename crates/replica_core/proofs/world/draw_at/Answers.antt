@@ -1,7 +1,8 @@
 use Rattle.std.proofs.Common.{◌∙◌, sym, ap, subst}
 use Rattle.std.proofs.lemmas.Result.{IfOk-weaker}
-use Rattle.edit_stamps.specs.Edit.{IsEdit}
-use Rattle.stamped_map.specs.Laws.{greatest_counter}
+use Rattle.std.specs.Prelude.{IsTrue}
+use Rattle.generations_rule.specs.Rule.{GenerationsRule}
+use Rattle.edit_stamps.specs.Edit.{IsEdit, greatest_counter, has_states_below}
 use Rattle.replica_core.specs.Replica.{edit_drawn}
 use Rattle.replica_core.specs.declared.event.Reply.TheVariants as replies
 use Rattle.replica_core.proofs.StandingLaws.{draws_at_clock, draws_edit, given_ok, given_err, refused_as_meant}
@@ -14,7 +15,10 @@ returns-in-Ok-clause-step c = λ rule h valid stands.
     (sym (draws_at_clock rule c.args.replica.now.number told.0 h c.args.replica.now c.args.spec.now valid stands told.1) ∙ told.2.0) (
       ap replies.Drawn c.stamp.ensures,
       draws_edit rule c.args.replica.now.number h c.args.replica.now c.draw_as.new.self c.in-Ok.edit stands told.2.1,
-      subst IsEdit c.edit.view_is c.edit.invariant,
+      record {
+        edit = subst IsEdit c.edit.view_is c.edit.invariant;
+        states = subst (λ (g : GenerationsRule). IsTrue (has_states_below g.states c.in-Ok.edit)) stands.same_rule told.2.1.states;
+      },
     )
 
 pub returns-in-Err-clause-step : goal.returns-in-Err-clause-step

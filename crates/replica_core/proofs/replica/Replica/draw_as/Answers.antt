@@ -1,20 +1,19 @@
 use Rattle.std.proofs.Common.{ℕ, sym, ◌∙◌, subst, ap, refl, Ok, Err}
 use Rattle.std.proofs.lemmas.Result.{err_from_is_err_and}
 use Rattle.edit_stamps.specs.Stamp.{counter_of}
-use Rattle.edit_stamps.specs.Edit.{IsEdit}
-use Rattle.edit_stamps.specs.PlaneMap.{write_at}
+use Rattle.edit_stamps.specs.Edit.{HaveStatesBelow, IsEdit}
+use Rattle.edit_stamps.specs.PlaneMap.{map_of, IsGreatestStamp}
 use Rattle.replica_core.specs.Replica.{ReplicaState, edit_drawn, IsDraw, IsJournalOf}
-use Rattle.stamped_map.specs.Plane.{IsGreatestStamp}
 use Rattle.replica_core.proofs.DrawLaws.{draws, next_above, refuses_made, stops}
-use Rattle.replica_core.proofs.NotedEdits.{draw_stopped, drawn_journal}
+use Rattle.replica_core.proofs.NotedEdits.{below_drawn, draw_stopped, drawn_journal}
 use Rattle.replica_core.proofs.replica.Replica.draw_as.Goals as goal
 
 pub returns-in_err-edit : goal.returns-in_err-edit
 returns-in_err-edit c =
     let told = c.next_stamp.ensures in
     let is = err_from_is_err_and c.from_residual-in_err-edit.result c.from_residual-in_err-edit.ensures.1 in
-    let old : ReplicaState = record { rule = c.self.inside.rule; number = c.self.inside.number; map = c.self.inside.plane; journal = c.self.inside.journal } in
-    subst (λ r. (n : ℕ) × IsGreatestStamp n (write_at r.map) × IsDraw r r (edit_drawn r.rule (counter_of n) r.number c.args.spec.now) c.from_residual-in_err-edit.result)
+    let old : ReplicaState = record { rule = c.self.inside.rule; number = c.self.inside.number; plane = c.self.inside.plane; journal = c.self.inside.journal } in
+    subst (λ r. (n : ℕ) × IsGreatestStamp n (map_of r.plane) × IsDraw r r (edit_drawn r.rule (counter_of n) r.number c.args.spec.now) c.from_residual-in_err-edit.result)
     c.self.view_is (
       told.0,
       told.1,
@@ -25,14 +24,14 @@ returns-in_err-edit c =
 pub returns : goal.returns
 returns c =
     let told = c.next_stamp.ensures in
-    let old : ReplicaState = record { rule = c.self.inside.rule; number = c.self.inside.number; map = c.self.inside.plane; journal = c.self.inside.journal } in
-    let new : ReplicaState = record { rule = c.self.inside.rule; number = c.self.inside.number; map = c.draw_into.new.plane; journal = c.draw_into.new.journal } in
-    subst (λ r. (n : ℕ) × IsGreatestStamp n (write_at r.map) × IsDraw r new (edit_drawn r.rule (counter_of n) r.number c.args.spec.now) (Ok c.in_ok-edit.edit))
+    let old : ReplicaState = record { rule = c.self.inside.rule; number = c.self.inside.number; plane = c.self.inside.plane; journal = c.self.inside.journal } in
+    let new : ReplicaState = record { rule = c.self.inside.rule; number = c.self.inside.number; plane = c.draw_into.new.plane; journal = c.draw_into.new.journal } in
+    subst (λ r. (n : ℕ) × IsGreatestStamp n (map_of r.plane) × IsDraw r new (edit_drawn r.rule (counter_of n) r.number c.args.spec.now) (Ok c.in_ok-edit.edit))
     c.self.view_is (
       told.0,
       told.1,
       draws old new told.0 c.in_ok-stamp.stamp c.args.spec.now c.in_ok-edit.edit told.1 (sym told.2 ∙ c.in_ok-stamp.was) c.in_ok-edit.ensures.edit
-          (record { rule = refl; number = refl }) c.in_ok-draw_into.ensures.map c.in_ok-draw_into.ensures.noted,
+          c.in_ok-edit.ensures.states (record { rule = refl; number = refl }) c.in_ok-draw_into.ensures.map c.in_ok-draw_into.ensures.noted,
     )
 
 pub returns-in_err-draw_into : goal.returns-in_err-draw_into
@@ -40,9 +39,9 @@ returns-in_err-draw_into c =
     let told = c.next_stamp.ensures in
     let err = c.in_err-draw_into.ensures.err in
     let is = err_from_is_err_and c.from_residual-in_err-draw_into.result c.from_residual-in_err-draw_into.ensures.1 in
-    let old : ReplicaState = record { rule = c.self.inside.rule; number = c.self.inside.number; map = c.self.inside.plane; journal = c.self.inside.journal } in
-    let new : ReplicaState = record { rule = c.self.inside.rule; number = c.self.inside.number; map = c.draw_into.new.plane; journal = c.draw_into.new.journal } in
-    subst (λ r. (n : ℕ) × IsGreatestStamp n (write_at r.map) × IsDraw r new (edit_drawn r.rule (counter_of n) r.number c.args.spec.now) c.from_residual-in_err-draw_into.result)
+    let old : ReplicaState = record { rule = c.self.inside.rule; number = c.self.inside.number; plane = c.self.inside.plane; journal = c.self.inside.journal } in
+    let new : ReplicaState = record { rule = c.self.inside.rule; number = c.self.inside.number; plane = c.draw_into.new.plane; journal = c.draw_into.new.journal } in
+    subst (λ r. (n : ℕ) × IsGreatestStamp n (map_of r.plane) × IsDraw r new (edit_drawn r.rule (counter_of n) r.number c.args.spec.now) c.from_residual-in_err-draw_into.result)
     c.self.view_is (
       told.0,
       told.1,
@@ -58,8 +57,9 @@ invariant_of-self c =
       number = c.self.invariant.number;
       few = c.self.invariant.few;
       states = c.draw_into.ensures.states c.self.inside.rule.states c.self.invariant.states c.in_ok-edit.ensures.states;
-      journal = subst (IsJournalOf (write_at c.draw_into.new.plane)) (sym err.1)
-          (draw_stopped (write_at c.self.inside.plane) (write_at c.draw_into.new.plane) c.in_ok-edit.edit c.self.inside.journal err.2 c.self.invariant.journal);
+      journal = subst (IsJournalOf (map_of c.draw_into.new.plane)) (sym err.1)
+          (draw_stopped (map_of c.self.inside.plane) (map_of c.draw_into.new.plane) c.in_ok-edit.edit c.self.inside.journal err.2 c.self.invariant.journal);
+      noted = subst (HaveStatesBelow c.self.inside.rule.states) (sym err.1) c.self.invariant.noted;
     }
 
 pub invariant_of-self-2 : goal.invariant_of-self-2
@@ -70,8 +70,10 @@ invariant_of-self-2 c =
       number = c.self.invariant.number;
       few = c.self.invariant.few;
       states = c.draw_into.ensures.states c.self.inside.rule.states c.self.invariant.states c.in_ok-edit.ensures.states;
-      journal = subst (IsJournalOf (write_at c.draw_into.new.plane)) (sym c.in_ok-draw_into.ensures.noted)
-          (drawn_journal told.0 (write_at c.self.inside.plane) (write_at c.draw_into.new.plane) c.self.inside.journal c.in_ok-edit.edit told.1
+      journal = subst (IsJournalOf (map_of c.draw_into.new.plane)) (sym c.in_ok-draw_into.ensures.noted)
+          (drawn_journal told.0 (map_of c.self.inside.plane) (map_of c.draw_into.new.plane) c.self.inside.journal c.in_ok-edit.edit told.1
           (next_above told.0 c.self.inside.number c.in_ok-stamp.stamp c.self.inside.rule c.args.spec.now c.in_ok-edit.edit next c.in_ok-edit.ensures.edit)
           (subst IsEdit c.edit.view_is c.edit.invariant) c.in_ok-draw_into.ensures.map c.self.invariant.journal);
+      noted = subst (HaveStatesBelow c.self.inside.rule.states) (sym c.in_ok-draw_into.ensures.noted)
+          (below_drawn c.self.inside.rule.states c.self.inside.journal c.in_ok-edit.edit c.self.invariant.noted c.in_ok-edit.ensures.states);
     }

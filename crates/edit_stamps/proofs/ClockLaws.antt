@@ -14,9 +14,9 @@ use Rattle.edit_stamps.specs.Stamp.{counter_of}
 use Rattle.edit_stamps.specs.Write.{greater, Writes, IsBelow}
 use Rattle.edit_stamps.proofs.PlaceOrder.{same_itself}
 use Rattle.edit_stamps.proofs.SortedCells.{listed_here}
-use Rattle.stamped_map.specs.Laws.{TellsCounter}
-use Rattle.stamped_map.specs.Plane.{IsGreatestStamp}
-use Rattle.stamped_map.proofs.JoiningLaws.{left_of, right_of, stamps_rise, stamp_of_greater}
+use Rattle.edit_stamps.specs.Laws.{TellsCounter}
+use Rattle.edit_stamps.specs.PlaneMap.{IsGreatestStamp}
+use Rattle.edit_stamps.proofs.WriteLaws.{left_of, right_of, stamps_rise, stamp_of_greater}
 
 -- ---- each edit writes a cell
 
