@@ -19,10 +19,18 @@ use Rattle.genedit_io.specs.RunFault.{name_of_number}
 use Rattle.genedit_script.specs.declared.command.Command.{Command}
 use Rattle.genedit_script.specs.declared.command.Command.TheVariants.{Does, Names, Copies, Ors}
 use Rattle.genedit_script.specs.Script.{ScriptValue}
-use Rattle.genedit_lib.specs.declared.plan.Line.{Line}
-use Rattle.genedit_lib.specs.declared.plan.Line.TheVariants as lines
-use Rattle.genedit_lib.specs.declared.step.Step.{Step}
-use Rattle.genedit_lib.specs.declared.step.Step.TheVariants.{Happens, Says}
+
+-- ---- steps and lines
+
+-- what a command comes to: an event of the world, whose reply is printed, or a text of its own
+pub data ScriptStep : Type 0 where
+  Happens : (event : Event) → ScriptStep
+  Says : (text : List ℕ) → ScriptStep
+
+-- what is printed at a command: the line of the next reply, or a line of its own
+pub data OutputLine : Type 0 where
+  ReplyLine : OutputLine
+  OwnLine : (text : List ℕ) → OutputLine
 
 -- ---- the line of a reply
 
@@ -38,15 +46,13 @@ write_text write = codes "cell " ++ decimal write.state ++ codes " " ++ stamp_te
 abbrev pub refused_text : ℕ → List ℕ → List ℕ
 refused_text number name = codes "refused " ++ decimal number ++ codes " " ++ name
 
-abbrev pub reply_text : Reply → List ℕ
-reply_text (Drawn stamp) = codes "drawn " ++ stamp_text stamp
-reply_text (Sent message) = codes "sent " ++ decimal message
-reply_text Taken = codes "taken"
-reply_text (Shown write) = write_text write
-reply_text (Refused fault) = refused_text (fault_number fault) (fault_text fault)
-
+-- what is printed of a reply, with the end of its line
 abbrev pub reply_line : Reply → List ℕ
-reply_line reply = reply_text reply ++ codes "\n"
+reply_line (Drawn stamp) = codes "drawn " ++ stamp_text stamp ++ codes "\n"
+reply_line (Sent message) = codes "sent " ++ decimal message ++ codes "\n"
+reply_line Taken = codes "taken\n"
+reply_line (Shown write) = write_text write ++ codes "\n"
+reply_line (Refused fault) = refused_text (fault_number fault) (fault_text fault) ++ codes "\n"
 
 -- ---- the lines of patterns
 
@@ -85,16 +91,16 @@ with_text patterns name (Err fault) = patterns
 -- ---- commands
 
 -- the draw of a paste, or that no pattern has its name
-abbrev pub paste_step : ℕ → Option EditSpec → Step
+abbrev pub paste_step : ℕ → Option EditSpec → ScriptStep
 paste_step replica (Some spec) = Happens (Draw replica spec)
 paste_step replica None = Says no_pattern_text
 
 -- what a command comes to
-abbrev pub step : Patterns → Command → Step
-step patterns (Does event) = Happens event
-step patterns (Names name text) = Says (naming_text name (parsed text))
-step patterns (Copies paste) = paste_step paste.replica (option_map (λ pattern. Copy pattern paste.x paste.y) (patterns paste.name))
-step patterns (Ors paste) = paste_step paste.replica (option_map (λ pattern. Or pattern paste.x paste.y) (patterns paste.name))
+abbrev pub command_step : Patterns → Command → ScriptStep
+command_step patterns (Does event) = Happens event
+command_step patterns (Names name text) = Says (naming_text name (parsed text))
+command_step patterns (Copies paste) = paste_step paste.replica (option_map (λ pattern. Copy pattern paste.x paste.y) (patterns paste.name))
+command_step patterns (Ors paste) = paste_step paste.replica (option_map (λ pattern. Or pattern paste.x paste.y) (patterns paste.name))
 
 -- the names after a command
 abbrev pub after_command : Patterns → Command → Patterns
@@ -104,31 +110,31 @@ after_command patterns (Copies paste) = patterns
 after_command patterns (Ors paste) = patterns
 
 -- the steps of commands; names are looked up as the commands go
-abbrev pub steps : Patterns → List Command → List Step
+abbrev pub steps : Patterns → List Command → List ScriptStep
 steps patterns [] = []
-steps patterns (command ∷ commands) = step patterns command ∷ steps (after_command patterns command) commands
+steps patterns (command ∷ commands) = command_step patterns command ∷ steps (after_command patterns command) commands
 
 -- the events among the steps
-abbrev pub events_among : List Step → List Event
+abbrev pub events_among : List ScriptStep → List Event
 events_among [] = []
 events_among (Happens event ∷ steps) = event ∷ events_among steps
 events_among (Says text ∷ steps) = events_among steps
 
 -- what is printed of a step: of an event the line of its reply
-abbrev pub line_of : Step → Line
-line_of (Happens event) = lines.Reply
-line_of (Says text) = lines.Own text
+abbrev pub step_line : ScriptStep → OutputLine
+step_line (Happens event) = ReplyLine
+step_line (Says text) = OwnLine text
 
 -- lines with the replies in their places, in order
-abbrev pub filled : List Line → List Reply → List ℕ
+abbrev pub filled : List OutputLine → List Reply → List ℕ
 filled [] replies = []
-filled (lines.Reply ∷ rest) [] = []
-filled (lines.Reply ∷ rest) (reply ∷ replies) = reply_line reply ++ filled rest replies
-filled (lines.Own text ∷ rest) replies = (text ++ codes "\n") ++ filled rest replies
+filled (ReplyLine ∷ rest) [] = []
+filled (ReplyLine ∷ rest) (reply ∷ replies) = reply_line reply ++ filled rest replies
+filled (OwnLine text ∷ rest) replies = (text ++ codes "\n") ++ filled rest replies
 
 -- a line for each step
-abbrev pub printed : List Step → List Reply → List ℕ
-printed steps replies = filled (map line_of steps) replies
+abbrev pub printed : List ScriptStep → List Reply → List ℕ
+printed steps replies = filled (map step_line steps) replies
 
 -- the lines of a script's steps, whose events get their replies in the script's world
 pub record IsScriptOutput (script : ScriptValue) (out : List ℕ) : Type 0 where

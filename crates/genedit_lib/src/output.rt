@@ -1,8 +1,9 @@
 //! What is printed.
 
-ghost use Rattle.std.specs.Prelude.{◌≡◌, ◌++◌, OnOk, IfOk, codes, decimal};
+ghost use Rattle.std.specs.Prelude.{◌≡◌, ◌++◌, OnOk, IfOk, codes, decimal, map};
 ghost use Rattle.multistate_rle.specs.RleFault.{fault_number as text_fault_number, fault_text as text_fault_text};
-ghost use Rattle.genedit_lib.specs.Output.{no_pattern_text as no_pattern_means, filled, pattern_text as pattern_means, refused_text, reply_line, reply_text, stamp_text, write_text};
+ghost use Rattle.genedit_lib.specs.Output.{no_pattern_text as no_pattern_means, filled, pattern_text as pattern_means, refused_text, reply_line, stamp_text, write_text};
+ghost use Rattle.genedit_lib.specs.Plan.{line_of};
 
 use crate::plan::Line;
 use crate::text::Text;
@@ -14,7 +15,7 @@ use std::alloc::{AllocError, Global};
 
 /// The lines, with the replies in their places.
 pub fn output(alloc: Global, lines: &[Line], replies: &[Reply]) -> Result<Vec<u8>, AllocError>
-    ensures { IfOk result (λ out. out.items ≡ filled lines.now replies.now) }
+    ensures { IfOk result (λ out. out.items ≡ filled (map line_of lines.now) replies.now) }
 {
     let mut out = Vec::new(alloc);
     let mut left = replies;
@@ -84,31 +85,30 @@ fn push_text(out: &mut Vec<u8>, text: &Text) -> Result<(), AllocError>
     Ok(())
 }
 
+/// The text of a reply, with the end of its line.
 fn push_line(alloc: Global, out: &mut Vec<u8>, reply: Reply) -> Result<(), AllocError>
     ensures { OnOk result (out.new.items ≡ out.old.items ++ reply_line reply) }
-{
-    push_reply(alloc, out, reply)?;
-    out.push(b'\n')?;
-    Ok(())
-}
-
-fn push_reply(alloc: Global, out: &mut Vec<u8>, reply: Reply) -> Result<(), AllocError>
-    ensures { OnOk result (out.new.items ≡ out.old.items ++ reply_text reply) }
 {
     match reply {
         Reply::Drawn(stamp) => {
             out.extend_from_slice(b"drawn ")?;
-            push_stamp(out, stamp.number())
+            push_stamp(out, stamp.number())?;
+            out.extend_from_slice(b"\n")
         }
         Reply::Sent(message) => {
             out.extend_from_slice(b"sent ")?;
-            push_number(out, message)
+            push_number(out, message)?;
+            out.extend_from_slice(b"\n")
         }
-        Reply::Taken => out.extend_from_slice(b"taken"),
-        Reply::Shown(write) => push_write(out, write),
+        Reply::Taken => out.extend_from_slice(b"taken\n"),
+        Reply::Shown(write) => {
+            push_write(out, write)?;
+            out.extend_from_slice(b"\n")
+        }
         Reply::Refused(fault) => {
             let name = fault.to_string(alloc)?;
-            push_refusal(out, fault.number(), name.as_bytes())
+            push_refusal(out, fault.number(), name.as_bytes())?;
+            out.extend_from_slice(b"\n")
         }
     }
 }

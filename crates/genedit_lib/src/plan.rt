@@ -2,9 +2,9 @@
 
 ghost use Rattle.std.specs.Prelude.{◌≡◌, ◌↔◌, List, ℕ, map, IfOk, IsErr, OnOk};
 ghost use Rattle.multistate_rle.specs.Reading.{parsed};
-ghost use Rattle.genedit_lib.specs.declared.step.Step.TheVariants.{Says};
-ghost use Rattle.genedit_lib.specs.Output.{after_command, events_among, line_of, naming_text, no_patterns, paste_step, step as step_of, steps, with_text};
+ghost use Rattle.genedit_lib.specs.Output.{Says, after_command, command_step, events_among, naming_text, no_patterns, paste_step, step_line, steps, with_text};
 ghost use Rattle.genedit_lib.specs.Patterns.{pattern_in};
+ghost use Rattle.genedit_lib.specs.Plan.{line_of, step_of};
 
 use crate::output::{no_pattern_text, pattern_text, text_refusal};
 use crate::patterns::Patterns;
@@ -34,7 +34,7 @@ pub struct Plan {
 /// The plan of a script's commands. A name means the last pattern that was given it before.
 pub fn planned(alloc: Global, commands: Vec<Command>) -> Result<Plan, AllocError>
     ensures events { IfOk result (λ plan. plan.events.items ≡ events_among (steps no_patterns commands.items)) }
-    ensures lines { IfOk result (λ plan. plan.lines.items ≡ map line_of (steps no_patterns commands.items)) }
+    ensures lines { IfOk result (λ plan. map line_of plan.lines.items ≡ map step_line (steps no_patterns commands.items)) }
 {
     let mut patterns = Patterns::new(alloc);
     let mut events = Vec::new(alloc);
@@ -53,7 +53,7 @@ pub fn planned(alloc: Global, commands: Vec<Command>) -> Result<Plan, AllocError
 
 /// What a command comes to, and what names stand for behind it.
 fn next_step(alloc: Global, patterns: &mut Patterns, command: Command) -> Result<Step, AllocError>
-    ensures step { IfOk result (λ step. step ≡ step_of (pattern_in patterns.old) command) }
+    ensures step { IfOk result (λ step. step_of step ≡ command_step (pattern_in patterns.old) command) }
     ensures after { OnOk result ((name : List ℕ) → pattern_in patterns.new name ≡ after_command (pattern_in patterns.old) command name) }
 {
     match command {
@@ -74,7 +74,7 @@ fn next_step(alloc: Global, patterns: &mut Patterns, command: Command) -> Result
 
 /// The draw of a paste, or the line that no pattern has its name.
 fn drawn(alloc: Global, replica: u32, spec: Option<EditSpec>) -> Result<Step, AllocError>
-    ensures { IfOk result (λ step. step ≡ paste_step replica spec) }
+    ensures { IfOk result (λ step. step_of step ≡ paste_step replica spec) }
 {
     match spec {
         Some(spec) => Ok(Step::Happens(Event::Draw(replica, spec))),
@@ -89,7 +89,7 @@ fn give_name(
     name: PatternName,
     text: &PatternText,
 ) -> Result<Step, AllocError>
-    ensures step { IfOk result (λ step. step ≡ Says (naming_text name (parsed text.now))) }
+    ensures step { IfOk result (λ step. step_of step ≡ Says (naming_text name (parsed text.now))) }
     ensures after { OnOk result ((other : List ℕ) → pattern_in patterns.new other ≡ with_text (pattern_in patterns.old) name (parsed text.now) other) }
 {
     match parse(alloc, text.as_bytes()) {

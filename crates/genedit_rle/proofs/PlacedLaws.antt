@@ -6,18 +6,18 @@ use Rattle.multistate_rle.specs.Cells.{are_below}
 use Rattle.multistate_rle.specs.Pattern.{RlePattern}
 use Rattle.edit_stamps.specs.Pasting.{are_placeable, have_states_below}
 use Rattle.edit_stamps.proofs.PastingLaws.{below_placed}
-use Rattle.genedit_rle.specs.Canonical.{cells_in_plane, pattern_fault}
-use Rattle.genedit_rle.specs.declared.fault.CanonicalFault.TheVariants.{OutOfPlane, StateRange}
+use Rattle.genedit_rle.specs.Canonical.{cells_in_plane, pattern_refusal}
+use Rattle.genedit_rle.specs.Refusal.{OutOfPlane, StateRange}
 
 none_of_two : {F : Type 0} (a b : Bool) (f g : F) → first_of (when (not a) f ∷ when (not b) g ∷ []) ≡ None → (a ≡ true) × (b ≡ true)
 none_of_two false b f g e = absurd (cc)
 none_of_two true false f g e = absurd (cc)
 none_of_two true true f g e = (refl, refl)
 
-pub placeable : (states : ℕ) (p : RlePattern) → pattern_fault states p ≡ None → are_placeable p.pos.0 p.pos.1 p.cells ≡ true
+pub placeable : (states : ℕ) (p : RlePattern) → pattern_refusal states p ≡ None → are_placeable p.pos.0 p.pos.1 p.cells ≡ true
 placeable states p none = (none_of_two (are_placeable p.pos.0 p.pos.1 p.cells) (have_states_below states p.cells) OutOfPlane StateRange none).0
 
-pub below : (states : ℕ) (p : RlePattern) → pattern_fault states p ≡ None → are_below states (cells_in_plane p) ≡ true
+pub below : (states : ℕ) (p : RlePattern) → pattern_refusal states p ≡ None → are_below states (cells_in_plane p) ≡ true
 below states p none =
     below_placed states p.pos.0 p.pos.1 p.cells
     ∙ (none_of_two (are_placeable p.pos.0 p.pos.1 p.cells) (have_states_below states p.cells) OutOfPlane StateRange none).1

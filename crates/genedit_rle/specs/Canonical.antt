@@ -9,30 +9,28 @@ use Rattle.multistate_rle.specs.Pattern.{RlePattern}
 use Rattle.multistate_rle.specs.Reading.{parsed}
 use Rattle.multistate_rle.specs.Writing.{rle_text}
 use Rattle.edit_stamps.specs.Pasting.{are_placeable, have_states_below, placed}
-use Rattle.genedit_rle.specs.declared.fault.CanonicalFault.{CanonicalFault}
-use Rattle.genedit_rle.specs.declared.fault.CanonicalFault.TheVariants.{OutOfPlane, StateRange}
-use Rattle.genedit_rle.specs.Fault.{fault_of_text}
+use Rattle.genedit_rle.specs.Refusal.{FormRefusal, Text, OutOfPlane, StateRange}
 
 -- a pattern's cells in the plane: each at the position plus its column and row
 abbrev pub cells_in_plane : RlePattern → List Cell
 cells_in_plane p = placed p.pos.0 p.pos.1 p.cells
 
--- the refusals of a pattern under a rule of so many states, in order
-abbrev pub pattern_fault : ℕ → RlePattern → Option CanonicalFault
-pattern_fault states p = first_of (
+-- the first refusal of a pattern under a rule of so many states, if there is one
+abbrev pub pattern_refusal : ℕ → RlePattern → Option FormRefusal
+pattern_refusal states p = first_of (
     when (not (are_placeable p.pos.0 p.pos.1 p.cells)) OutOfPlane
     ∷ when (not (have_states_below states p.cells)) StateRange
     ∷ [])
 
 -- the text of a pattern's cells in the plane, at its generation
-abbrev pub written : GenerationsRule → RlePattern → Result (List ℕ) CanonicalFault
-written r p = unless (pattern_fault r.states p) (rle_text r p.generation (cells_in_plane p))
+abbrev pub written : GenerationsRule → RlePattern → Result (List ℕ) FormRefusal
+written r p = unless (pattern_refusal r.states p) (rle_text r p.generation (cells_in_plane p))
 
 -- what was read, where the text was refused nothing
-abbrev pub read : Result RlePattern RleFault → Result RlePattern CanonicalFault
+abbrev pub read : Result RlePattern RleFault → Result RlePattern FormRefusal
 read (Ok p) = Ok p
-read (Err fault) = Err (fault_of_text fault)
+read (Err fault) = Err (Text fault)
 
 -- the canonical form of a text, or its first refusal
-abbrev pub canonical : GenerationsRule → List ℕ → Result (List ℕ) CanonicalFault
+abbrev pub canonical : GenerationsRule → List ℕ → Result (List ℕ) FormRefusal
 canonical r text = read (parsed text) >>= written r

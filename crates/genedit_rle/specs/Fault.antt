@@ -1,41 +1,30 @@
--- The refusals of canonical forms, as users meet them.
-use Rattle.std.specs.Prelude.{ℕ, Option, None}
+-- What the faults of the code stand for.
+use Rattle.std.specs.Prelude.{Option, Some, None}
 use Rattle.multistate_rle.specs.declared.fault.RleFault.{RleFault}
 use Rattle.multistate_rle.specs.declared.fault.RleFault.TheVariants as texts
-use Rattle.multistate_rle.specs.RleFault.{fault_number as text_fault_number, fault_place as text_fault_place}
-use Rattle.edit_stamps.specs.declared.fault.EditFault.TheVariants as edits
-use Rattle.edit_stamps.specs.EditFault.{fault_number as edit_fault_number}
 use Rattle.genedit_io.specs.declared.fault.RunFault.{RunFault}
 use Rattle.genedit_io.specs.declared.fault.RunFault.TheVariants as runs
 use Rattle.genedit_rle.specs.declared.fault.CanonicalFault.{CanonicalFault}
-use Rattle.genedit_rle.specs.declared.fault.CanonicalFault.TheVariants.{Text, OutOfPlane, StateRange, Memory}
+use Rattle.genedit_rle.specs.declared.fault.CanonicalFault.TheVariants as faults
+use Rattle.genedit_rle.specs.Refusal.{FormRefusal, Text, OutOfPlane, StateRange, refusal_number, refusal_place}
 
--- its number in the table of faults, that of the same refusal of an edit
-abbrev pub fault_number : CanonicalFault → ℕ
-fault_number (Text fault) = text_fault_number fault
-fault_number OutOfPlane = edit_fault_number edits.OutOfPlane
-fault_number StateRange = edit_fault_number edits.StateRange
-fault_number Memory = 255
+-- the refusal that a fault stands for; want of memory is none
+abbrev pub refusal_of : CanonicalFault → Option FormRefusal
+refusal_of (faults.Text fault) = Some (Text fault)
+refusal_of faults.OutOfPlane = Some OutOfPlane
+refusal_of faults.StateRange = Some StateRange
+refusal_of faults.Memory = None
 
--- the place in the text that it names
-abbrev pub fault_place : CanonicalFault → Option ℕ
-fault_place (Text fault) = text_fault_place fault
-fault_place OutOfPlane = None
-fault_place StateRange = None
-fault_place Memory = None
+-- the refusal of a text that is no pattern; want of memory is none
+abbrev pub text_refusal : RleFault → Option FormRefusal
+text_refusal texts.Header = Some (Text texts.Header)
+text_refusal (texts.Tag place) = Some (Text (texts.Tag place))
+text_refusal (texts.Count place) = Some (Text (texts.Count place))
+text_refusal (texts.State place) = Some (Text (texts.State place))
+text_refusal texts.TooMany = Some (Text texts.TooMany)
+text_refusal texts.Memory = None
 
--- a text's fault
-abbrev pub fault_of_text : RleFault → CanonicalFault
-fault_of_text texts.Header = Text texts.Header
-fault_of_text (texts.Tag place) = Text (texts.Tag place)
-fault_of_text (texts.Count place) = Text (texts.Count place)
-fault_of_text (texts.State place) = Text (texts.State place)
-fault_of_text texts.TooMany = Text texts.TooMany
-fault_of_text texts.Memory = Memory
-
--- the fault with which a run ends
-abbrev pub run_fault_of : CanonicalFault → RunFault
-run_fault_of (Text fault) = runs.Refused (fault_number (Text fault)) (fault_place (Text fault))
-run_fault_of OutOfPlane = runs.Refused (fault_number OutOfPlane) (fault_place OutOfPlane)
-run_fault_of StateRange = runs.Refused (fault_number StateRange) (fault_place StateRange)
-run_fault_of Memory = runs.Memory
+-- the fault with which a run ends, for a refusal or for want of memory
+abbrev pub run_fault_of : Option FormRefusal → RunFault
+run_fault_of (Some refusal) = runs.Refused (refusal_number refusal) (refusal_place refusal)
+run_fault_of None = runs.Memory

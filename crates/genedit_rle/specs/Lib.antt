@@ -1,3 +1,4 @@
+pub mod Refusal
 pub mod Fault
 pub mod Canonical
 pub mod Run

@@ -4,7 +4,7 @@ use Rattle.std.specs.Fmt.{digits}
 use Rattle.generations_rule.specs.Rule.{GenerationsRule}
 use Rattle.generations_rule.specs.RuleText.{rule_of_text, text_of_set}
 use Rattle.multistate_rle.specs.declared.fault.RleFault.TheVariants.{Header, Tag}
-use Rattle.genedit_rle.specs.declared.fault.CanonicalFault.TheVariants.{Text, OutOfPlane, StateRange}
+use Rattle.genedit_rle.specs.Refusal.{Text, OutOfPlane, StateRange}
 use Rattle.genedit_rle.specs.Canonical.{canonical}
 
 abbrev brain : GenerationsRule

@@ -5,18 +5,17 @@ use Rattle.generations_rule.specs.Rule.{GenerationsRule}
 use Rattle.genedit_io.specs.Devices.{PullsAll, PullsOn}
 use Rattle.genedit_io.specs.declared.fault.RunFault.{RunFault}
 use Rattle.genedit_io.specs.declared.fault.RunFault.TheVariants.{Script, Refused, Read, Turns, Write, Memory, StoreFull}
-use Rattle.genedit_rle.specs.declared.fault.CanonicalFault.{CanonicalFault}
 use Rattle.genedit_rle.specs.Canonical.{canonical}
-use Rattle.genedit_rle.specs.Fault.{fault_number, fault_place}
+use Rattle.genedit_rle.specs.Refusal.{FormRefusal, refusal_number, refusal_place}
 
 -- ---- texts
 
 -- the text is refused, and these are the refusal's number and its place in the text
 pub record IsRefused (r : GenerationsRule) (text : List ℕ) (number : ℕ) (place : Option ℕ) : Type 0 where
-  pub fault : CanonicalFault
-  pub refuses : canonical r text ≡ Err fault
-  pub numbered : number ≡ fault_number fault
-  pub placed : place ≡ fault_place fault
+  pub refusal : FormRefusal
+  pub refuses : canonical r text ≡ Err refusal
+  pub numbered : number ≡ refusal_number refusal
+  pub placed : place ≡ refusal_place refusal
 
 -- what a fault says of a text
 abbrev pub IsFaultOfText : GenerationsRule → RunFault → List ℕ → Type 0

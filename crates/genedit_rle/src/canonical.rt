@@ -1,8 +1,9 @@
 //! The canonical form of a text.
 
-ghost use Rattle.std.specs.Prelude.{◌≡◌, ◌⊎◌, IfOk, IfErr, Ok, Err, None};
+ghost use Rattle.std.specs.Prelude.{◌≡◌, IfOk, IfErr, IfSome, Ok, Err, Some, None, option_map};
 ghost use Rattle.multistate_rle.specs.Writing.{rle_text};
-ghost use Rattle.genedit_rle.specs.Canonical.{canonical, cells_in_plane, pattern_fault, written};
+ghost use Rattle.genedit_rle.specs.Canonical.{canonical, cells_in_plane, pattern_refusal, written};
+ghost use Rattle.genedit_rle.specs.Fault.{refusal_of};
 
 use crate::fault::CanonicalFault;
 use edit_stamps::{Corner, are_placeable, have_states_below, placed_cells};
@@ -14,7 +15,7 @@ use std::alloc::{AllocError, Global};
 /// where memory was refused.
 pub fn canonical_form(alloc: Global, rule: &Rule, text: &[u8]) -> Result<Vec<u8>, CanonicalFault>
     ensures form { IfOk result (λ form. canonical rule.now text.now ≡ Ok form.items) }
-    ensures fault { IfErr result (λ fault. (fault ≡ CanonicalFault.Memory) ⊎ (canonical rule.now text.now ≡ Err fault)) }
+    ensures fault { IfErr result (λ fault. IfSome (refusal_of fault) (λ refusal. canonical rule.now text.now ≡ Err refusal)) }
 {
     let pattern = parse(alloc, text)?;
     form_of(alloc, rule, &pattern)
@@ -22,7 +23,7 @@ pub fn canonical_form(alloc: Global, rule: &Rule, text: &[u8]) -> Result<Vec<u8>
 
 fn form_of(alloc: Global, rule: &Rule, pattern: &Pattern) -> Result<Vec<u8>, CanonicalFault>
     ensures form { IfOk result (λ form. written rule.now pattern.now ≡ Ok form.items) }
-    ensures fault { IfErr result (λ fault. (fault ≡ CanonicalFault.Memory) ⊎ (written rule.now pattern.now ≡ Err fault)) }
+    ensures fault { IfErr result (λ fault. IfSome (refusal_of fault) (λ refusal. written rule.now pattern.now ≡ Err refusal)) }
 {
     if let Some(fault) = fault_of(rule, pattern) {
         return Err(fault);
@@ -33,7 +34,7 @@ fn form_of(alloc: Global, rule: &Rule, pattern: &Pattern) -> Result<Vec<u8>, Can
 
 /// The first refusal of a pattern that was read.
 fn fault_of(rule: &Rule, pattern: &Pattern) -> Option<CanonicalFault>
-    ensures { result ≡ pattern_fault rule.now.states pattern.now }
+    ensures { option_map refusal_of result ≡ option_map Some (pattern_refusal rule.now.states pattern.now) }
 {
     let cells = pattern.cells();
     if !are_placeable(cells, position_of(pattern)) {
@@ -47,7 +48,7 @@ fn fault_of(rule: &Rule, pattern: &Pattern) -> Option<CanonicalFault>
 
 /// The text of a pattern that is refused nothing.
 fn text_of(alloc: Global, rule: &Rule, pattern: &Pattern) -> Result<Vec<u8>, AllocError>
-    requires { pattern_fault rule.now.states pattern.now ≡ None }
+    requires { pattern_refusal rule.now.states pattern.now ≡ None }
     ensures { IfOk result (λ text. text.items ≡ rle_text rule.now pattern.now.generation (cells_in_plane pattern.now)) }
 {
     let cells = placed_cells(alloc, pattern.cells(), position_of(pattern))?;

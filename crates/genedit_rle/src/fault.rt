@@ -1,6 +1,6 @@
 //! Why a text has no canonical form under a rule.
 
-ghost use Rattle.std.specs.Prelude.{◌≡◌};
+ghost use Rattle.std.specs.Prelude.{◌≡◌, MatchOption, None};
 
 use edit_stamps::EditFault;
 use genedit_io::RunFault;
@@ -21,12 +21,13 @@ pub enum CanonicalFault {
 }
 
 impl CanonicalFault {
-    ghost use Rattle.std.specs.Prelude.{◌≡◌};
-    ghost use Rattle.genedit_rle.specs.Fault.{fault_number, fault_place};
+    ghost use Rattle.std.specs.Prelude.{◌≡◌, MatchOption, None};
+    ghost use Rattle.genedit_rle.specs.Fault.{refusal_of};
+    ghost use Rattle.genedit_rle.specs.Refusal.{refusal_number, refusal_place};
 
     /// Its number in the table of faults, the same as an edit's; 255 for want of memory.
     pub fn number(self) -> u8
-        ensures { result ≡ fault_number self }
+        ensures { MatchOption (refusal_of self) (result ≡ 255) (λ refusal. result ≡ refusal_number refusal) }
     {
         match self {
             CanonicalFault::Text(fault) => fault.number(),
@@ -38,7 +39,7 @@ impl CanonicalFault {
 
     /// The place in the text that it names.
     pub fn place(self) -> Option<u64>
-        ensures { result ≡ fault_place self }
+        ensures { MatchOption (refusal_of self) (result ≡ None) (λ refusal. result ≡ refusal_place refusal) }
     {
         match self {
             CanonicalFault::Text(fault) => fault.place(),
@@ -50,9 +51,9 @@ impl CanonicalFault {
 
 impl From<RleFault> for CanonicalFault {
     ghost use Rattle.std.specs.Prelude.{◌≡◌};
-    ghost use Rattle.genedit_rle.specs.Fault.{fault_of_text};
+    ghost use Rattle.genedit_rle.specs.Fault.{refusal_of, text_refusal};
 
-    ghost from_gives = { λ from fault. fault ≡ fault_of_text from };
+    ghost from_gives = { λ from fault. refusal_of fault ≡ text_refusal from };
 
     fn from(fault: RleFault) -> CanonicalFault {
         match fault {
@@ -63,10 +64,10 @@ impl From<RleFault> for CanonicalFault {
 }
 
 impl From<AllocError> for CanonicalFault {
-    ghost use Rattle.std.specs.Prelude.{◌≡◌};
-    ghost use Rattle.genedit_rle.specs.declared.fault.CanonicalFault.TheVariants.{Memory};
+    ghost use Rattle.std.specs.Prelude.{◌≡◌, None};
+    ghost use Rattle.genedit_rle.specs.Fault.{refusal_of};
 
-    ghost from_gives = { λ _ fault. fault ≡ Memory };
+    ghost from_gives = { λ _ fault. refusal_of fault ≡ None };
 
     fn from(_want: AllocError) -> CanonicalFault {
         CanonicalFault::Memory
@@ -75,9 +76,9 @@ impl From<AllocError> for CanonicalFault {
 
 impl From<CanonicalFault> for RunFault {
     ghost use Rattle.std.specs.Prelude.{◌≡◌};
-    ghost use Rattle.genedit_rle.specs.Fault.{run_fault_of};
+    ghost use Rattle.genedit_rle.specs.Fault.{refusal_of, run_fault_of};
 
-    ghost from_gives = { λ from fault. fault ≡ run_fault_of from };
+    ghost from_gives = { λ from fault. fault ≡ run_fault_of (refusal_of from) };
 
     fn from(fault: CanonicalFault) -> RunFault {
         match fault {
