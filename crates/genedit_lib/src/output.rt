@@ -26,7 +26,7 @@ pub fn output(alloc: Global, lines: &[Line], replies: &[Reply]) -> Result<Vec<u8
                 let Some((reply, rest)) = left.split_first() else {
                     return Ok(out);
                 };
-                push_line(alloc, &mut out, *reply)?;
+                push_line(alloc, &mut out, reply)?;
                 left = rest;
             }
         }
@@ -86,8 +86,8 @@ fn push_text(out: &mut Vec<u8>, text: &Text) -> Result<(), AllocError>
 }
 
 /// The text of a reply, with the end of its line.
-fn push_line(alloc: Global, out: &mut Vec<u8>, reply: Reply) -> Result<(), AllocError>
-    ensures { OnOk result (out.new.items ≡ out.old.items ++ reply_line reply) }
+fn push_line(alloc: Global, out: &mut Vec<u8>, reply: &Reply) -> Result<(), AllocError>
+    ensures { OnOk result (out.new.items ≡ out.old.items ++ reply_line reply.now) }
 {
     match reply {
         Reply::Drawn(stamp) => {
@@ -97,12 +97,12 @@ fn push_line(alloc: Global, out: &mut Vec<u8>, reply: Reply) -> Result<(), Alloc
         }
         Reply::Sent(message) => {
             out.extend_from_slice(b"sent ")?;
-            push_number(out, message)?;
+            push_number(out, *message)?;
             out.extend_from_slice(b"\n")
         }
         Reply::Taken => out.extend_from_slice(b"taken\n"),
         Reply::Shown(write) => {
-            push_write(out, write)?;
+            push_write(out, *write)?;
             out.extend_from_slice(b"\n")
         }
         Reply::Refused(fault) => {

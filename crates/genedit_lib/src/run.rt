@@ -2,8 +2,8 @@
 
 ghost use Rattle.std.specs.Prelude.{◌≡◌, ◌^◌, ℕ, List, OnOk, IfOk, IfErr};
 ghost use Rattle.std.specs.Io.KnownBytes.{Appends};
-ghost use Rattle.replica_core.specs.declared.event.Stop.TheVariants as stops;
 ghost use Rattle.replica_core.specs.Device.{one_more};
+ghost use Rattle.replica_core.specs.Fault.{IsStopWant};
 ghost use Rattle.genedit_io.specs.Devices.{IsPulled, LeavesSink, MeetsEnd, fewest_pulls, sink_failures, source_failures};
 ghost use Rattle.genedit_lib.specs.Output.{IsScriptOutput};
 ghost use Rattle.genedit_lib.specs.Run.{IsFaultOfRun, IsFaultOfText, Prints, PrintsAs, run_fault_of};
@@ -82,7 +82,7 @@ fn printed(alloc: Global, text: &[u8]) -> Result<Vec<u8>, RunFault>
 /// What a script prints.
 fn script_output(alloc: Global, script: Script) -> Result<Vec<u8>, Stop>
     ensures out { IfOk result (λ out. IsScriptOutput script out.items) }
-    ensures stop { IfErr result (λ stop. stop ≡ stops.Memory) }
+    ensures stop { IfErr result IsStopWant }
 {
     let (rule, replicas) = (script.rule(), script.replicas());
     let plan = planned(alloc, script.into_commands())?;
