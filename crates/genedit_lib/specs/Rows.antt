@@ -22,6 +22,13 @@ pub drawn : reply_line (Drawn 131073) ≡ codes "drawn 2 1\n"
 unfolding digits
 drawn = refl
 
+pub sent : reply_line (Sent 12) ≡ codes "sent 12\n"
+unfolding digits
+sent = refl
+
+pub taken : reply_line Taken ≡ codes "taken\n"
+taken = refl
+
 pub cell : reply_line (Shown (record { stamp = 65538; state = 255 })) ≡ codes "cell 255 1 2\n"
 unfolding digits
 cell = refl
