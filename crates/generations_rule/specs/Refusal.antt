@@ -34,8 +34,3 @@ AnswersAs StandsFor IsWant (Ok x) (Ok y) = StandsFor x y
 AnswersAs StandsFor IsWant (Ok x) (Err f) = ⊥
 AnswersAs StandsFor IsWant (Err e) (Ok y) = IsWant e
 AnswersAs StandsFor IsWant (Err e) (Err f) = IsWant e ⊎ (e ≡ f)
-
--- The same, where what is meant is a relation that some answers meet.
-abbrev pub OrWants : {A F : Type 0} → (F → Type 0) → (Result A F → Type 0) → Result A F → Type 0
-OrWants IsWant IsMeant (Ok x) = IsMeant (Ok x)
-OrWants IsWant IsMeant (Err e) = IsWant e ⊎ IsMeant (Err e)
