@@ -11,10 +11,18 @@ fn cell(x: i32, y: i32, state: u8) -> Cell {
     Cell { x, y, state }
 }
 
-/// A stamp's counter, replica and number, as they are told.
-fn stamp(counter: u64, replica: u16) -> Option<(u64, u16, u64)> {
-    let stamp = Stamp::new(counter, replica)?;
-    Some((stamp.counter(), stamp.replica(), stamp.number()))
+/// Whether a stamp is made, and tells counter, replica and number.
+fn is_made(counter: u64, replica: u16, number: u64) -> bool {
+    match Stamp::new(counter, replica) {
+        Some(stamp) => {
+            stamp.counter() == counter && stamp.replica() == replica && stamp.number() == number
+        }
+        None => false,
+    }
+}
+
+fn is_refused(counter: u64, replica: u16) -> bool {
+    Stamp::new(counter, replica).is_none()
 }
 
 /// Whether the one stamp is before the other.
@@ -27,13 +35,9 @@ fn is_before(one: (u64, u16), other: (u64, u16)) -> bool {
 
 #[test]
 fn makes_stamps_in_range(rt: HostRuntime) {
-    assert_eq!(rt; stamp(1, 1), Some((1, 1, 65537)));
-    assert_eq!(rt;
-        stamp(0xffff_ffff_ffff, 65535),
-        Some((0xffff_ffff_ffff, 65535, 0xffff_ffff_ffff_ffff))
-    );
-    assert!(rt; stamp(0, 1).is_none() && stamp(1, 0).is_none() && stamp(0, 0).is_none());
-    assert!(rt; stamp(Stamp::LAST_COUNTER + 1, 1).is_none());
+    assert!(rt; is_made(1, 1, 65537) && is_made(Stamp::LAST_COUNTER, 65535, u64::MAX));
+    assert!(rt; is_refused(0, 1) && is_refused(1, 0) && is_refused(0, 0));
+    assert!(rt; is_refused(Stamp::LAST_COUNTER + 1, 1));
     assert!(rt; is_before((1, 1), (1, 2)) && is_before((1, 2), (2, 1)));
     assert!(rt; is_before((2, 1), (Stamp::LAST_COUNTER, 1)) && !is_before((1, 1), (1, 1)));
 }
@@ -76,9 +80,9 @@ fn drawn(alloc: Global, cells: &[Cell]) -> Result<String, AllocError> {
     }
 }
 
-#[test]
-fn settles_entries(rt: HostRuntime) -> Result<(), AllocError> {
-    let given = [
+/// Entries in no order, of some places more than one.
+fn entries() -> [Cell; 7] {
+    [
         cell(0, 0, 3),
         cell(5, -1, 1),
         cell(0, 0, 2),
@@ -86,16 +90,21 @@ fn settles_entries(rt: HostRuntime) -> Result<(), AllocError> {
         cell(5, -1, 0),
         cell(EDGE - 1, -EDGE, 3),
         cell(-EDGE, EDGE - 1, 3),
-    ];
+    ]
+}
+
+#[test]
+fn settles_entries(rt: HostRuntime) -> Result<(), AllocError> {
+    let settled = drawn(rt.alloc(), &entries())?;
     assert_eq!(rt;
-        drawn(rt.alloc(), &given)?.as_str(),
+        settled.as_str(),
         "2 1, 1073741823 -1073741824 3, 5 -1 0, -5 0 0, 0 0 2, -1073741824 1073741823 3"
     );
     Ok(())
 }
 
-/// Whether the edit of some cells at counter 1 and that of others at another counter are one, and
-/// the first is one with its copy.
+/// Whether the edit of some cells at counter 1, which its copy has to be too, is that of others at
+/// another counter.
 fn are_same(alloc: Global, one: &[Cell], other: &[Cell], counter: u64) -> Result<bool, EditFault> {
     let (Ok(rule), Some(first), Some(second)) = (
         Rule::parse(b"345/2/4"),
@@ -110,25 +119,26 @@ fn are_same(alloc: Global, one: &[Cell], other: &[Cell], counter: u64) -> Result
     Ok(is_copied && edit.same(&other))
 }
 
+/// Whether others make, at a counter, the edit of states 1 and 2 beside each other at counter 1.
+fn is_that_pair(alloc: Global, others: &[Cell], counter: u64) -> bool {
+    let pair = [cell(0, 0, 1), cell(1, 0, 2)];
+    matches!(are_same(alloc, &pair, others, counter), Ok(true))
+}
+
+/// Whether they make another edit.
+fn is_another(alloc: Global, others: &[Cell], counter: u64) -> bool {
+    let pair = [cell(0, 0, 1), cell(1, 0, 2)];
+    matches!(are_same(alloc, &pair, others, counter), Ok(false))
+}
+
 #[test]
 fn tells_edits_apart(rt: HostRuntime) {
     let alloc = rt.alloc();
-    let cells = [cell(0, 0, 1), cell(1, 0, 2)];
-    // the same cells in another order
-    assert_eq!(rt;
-        are_same(alloc, &cells, &[cell(1, 0, 2), cell(0, 0, 1)], 1),
-        Ok(true)
-    );
-    assert_eq!(rt; are_same(alloc, &cells, &cells, 2), Ok(false));
-    assert_eq!(rt;
-        are_same(alloc, &cells, &[cell(0, 0, 1), cell(1, 0, 3)], 1),
-        Ok(false)
-    );
-    assert_eq!(rt;
-        are_same(alloc, &cells, &[cell(0, 0, 1), cell(2, 0, 2)], 1),
-        Ok(false)
-    );
-    assert_eq!(rt; are_same(alloc, &cells, &[cell(0, 0, 1)], 1), Ok(false));
+    assert!(rt; is_that_pair(alloc, &[cell(1, 0, 2), cell(0, 0, 1)], 1));
+    assert!(rt; is_another(alloc, &[cell(0, 0, 1), cell(1, 0, 2)], 2));
+    assert!(rt; is_another(alloc, &[cell(0, 0, 1), cell(1, 0, 3)], 1));
+    assert!(rt; is_another(alloc, &[cell(0, 0, 1), cell(2, 0, 2)], 1));
+    assert!(rt; is_another(alloc, &[cell(0, 0, 1)], 1));
 }
 
 #[test]
@@ -171,24 +181,21 @@ fn many(alloc: Global, others: &[Cell]) -> Result<Vec<Cell>, AllocError> {
 }
 
 /// How many cells an edit of them has.
-fn count(alloc: Global, cells: &[Cell]) -> Result<usize, EditFault> {
+fn count(alloc: Global, others: &[Cell]) -> Result<usize, EditFault> {
+    let cells = many(alloc, others)?;
     match (Rule::parse(b"/2/3"), Stamp::new(1, 1)) {
-        (Ok(rule), Some(stamp)) => told::count(Edit::cells(alloc, &rule, stamp, cells)),
+        (Ok(rule), Some(stamp)) => told::count(Edit::cells(alloc, &rule, stamp, &cells)),
         _ => Ok(0),
     }
 }
 
 #[test]
-fn takes_2_to_the_20_entries(rt: HostRuntime) -> Result<(), AllocError> {
+fn takes_2_to_the_20_entries(rt: HostRuntime) {
     let alloc = rt.alloc();
-    assert_eq!(rt; count(alloc, &many(alloc, &[])?), Ok(0x8_0000));
+    assert!(rt; matches!(count(alloc, &[]), Ok(0x8_0000)));
     // one more, though it would leave the plane with a state that the rule lacks
-    let others = [cell(EDGE, 0, 9)];
-    assert_eq!(rt;
-        count(alloc, &many(alloc, &others)?),
-        Err(EditFault::TooMany)
-    );
-    Ok(())
+    let beyond = count(alloc, &[cell(EDGE, 0, 9)]);
+    assert!(rt; matches!(beyond, Err(EditFault::TooMany)));
 }
 
 /// An edit for each counter below 4, put into a list and taken out of it.
