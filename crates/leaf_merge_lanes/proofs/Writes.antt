@@ -8,7 +8,7 @@ use lib.Lanes.{zip2}
 use Rattle.edit_stamps.specs.declared.write.Write.{Write}
 use Rattle.edit_stamps.specs.Write.{at_most, greater, unwritten}
 use Rattle.leaf_merge_lanes.specs.Lanes.{HasLanes}
-use Rattle.leaf_merge_lanes.specs.Leaf.{write_of, write_at, AreBlank, AreMerged, AreAtMost, IsLeastStamp, IsGreatestStamp}
+use Rattle.leaf_merge_lanes.specs.Leaf.{write_of, write_on_leaf, AreBlank, AreMerged, AreAtMost, IsLeastOfStamps, IsGreatestOfStamps}
 use Rattle.leaf_merge_lanes.specs.Same.{is_same, same_Decides}
 
 -- a write of lanes
@@ -31,17 +31,17 @@ length-leaf xs ys writes p q e = ap length (sym e) ∙ length-zip2 write_of xs y
 
 -- the write at a place, by its lanes
 pub at-zip : (xs ys : List ℕ) (writes : List Write) → length xs ≡ 64 → length ys ≡ 64 → zip2 write_of xs ys ≡ writes
-    → (i : ℕ) → i < 64 → write_at writes i ≡ write_of (get_or xs i 0) (get_or ys i 0)
+    → (i : ℕ) → i < 64 → write_on_leaf writes i ≡ write_of (get_or xs i 0) (get_or ys i 0)
 at-zip xs ys writes p q e i h = ap (λ l. get_or l i unwritten) (sym e) ∙ get_or-zip2 write_of xs ys i 0 0 unwritten (omega arith) (omega arith)
 
 -- its stamp
 pub stamp-zip : (xs ys : List ℕ) (writes : List Write) → length xs ≡ 64 → length ys ≡ 64 → zip2 write_of xs ys ≡ writes
-    → (i : ℕ) → i < 64 → (write_at writes i).stamp ≡ get_or xs i 0
+    → (i : ℕ) → i < 64 → (write_on_leaf writes i).stamp ≡ get_or xs i 0
 stamp-zip xs ys writes p q e i h = ap (λ (w : Write). w.stamp) (at-zip xs ys writes p q e i h)
 
 -- bounds of the lanes are bounds of the writes
 pub least_stamp : (xs ys : List ℕ) (writes : List Write) (t : ℕ) → length xs ≡ 64 → length ys ≡ 64 → zip2 write_of xs ys ≡ writes
-    → EachIndex xs (λ i. t ≤ get_or xs i 0) → SomeIndex xs (λ i. t ≡ get_or xs i 0) → IsLeastStamp writes t
+    → EachIndex xs (λ i. t ≤ get_or xs i 0) → SomeIndex xs (λ i. t ≡ get_or xs i 0) → IsLeastOfStamps writes t
 least_stamp xs ys writes t p q e below (k, l, r) =
     let lt : k < 64 = omega arith in
     record {
@@ -50,7 +50,7 @@ least_stamp xs ys writes t p q e below (k, l, r) =
     }
 
 pub greatest_stamp : (xs ys : List ℕ) (writes : List Write) (t : ℕ) → length xs ≡ 64 → length ys ≡ 64 → zip2 write_of xs ys ≡ writes
-    → EachIndex xs (λ i. get_or xs i 0 ≤ t) → SomeIndex xs (λ i. t ≡ get_or xs i 0) → IsGreatestStamp writes t
+    → EachIndex xs (λ i. get_or xs i 0 ≤ t) → SomeIndex xs (λ i. t ≡ get_or xs i 0) → IsGreatestOfStamps writes t
 greatest_stamp xs ys writes t p q e above (k, l, r) =
     let lt : k < 64 = omega arith in
     record {
@@ -136,8 +136,8 @@ greater_second v w g = go (at_most v w) refl g
 pub at_most_merged : (a b : List Write) → length a ≡ 64 → length b ≡ 64 → IsTrue (is_same (zip2 greater a b) b) ↔ AreAtMost a b
 at_most_merged a b p q = (
   λ h i l. let e = (same_Decides (zip2 greater a b) b).0 h in
-      greater_second (write_at a i) (write_at b i) (sym (merged_places a b (zip2 greater a b) p q refl i l) ∙ ap (λ w. write_at w i) e),
+      greater_second (write_on_leaf a i) (write_on_leaf b i) (sym (merged_places a b (zip2 greater a b) p q refl i l) ∙ ap (λ w. write_on_leaf w i) e),
   λ h. (same_Decides (zip2 greater a b) b).1 (ext_get_or unwritten (zip2 greater a b) b (length-zip2 greater a b (p ∙ sym q) ∙ p ∙ sym q) (λ i l.
       let lt : i < 64 = let e = length-zip2 greater a b (p ∙ sym q) in omega arith in
-      merged_places a b (zip2 greater a b) p q refl i lt ∙ ap (λ t. cond t (write_at b i) (write_at a i)) (h i lt))),
+      merged_places a b (zip2 greater a b) p q refl i lt ∙ ap (λ t. cond t (write_on_leaf b i) (write_on_leaf a i)) (h i lt))),
 )

@@ -8,8 +8,8 @@ abbrev pub write_of : ℕ → ℕ → Write
 write_of stamp state = record { stamp = stamp; state = state }
 
 -- the write at place i, which is 8 * row + column
-abbrev pub write_at : List Write → ℕ → Write
-write_at writes i = slice_index_or writes i unwritten
+abbrev pub write_on_leaf : List Write → ℕ → Write
+write_on_leaf writes i = slice_index_or writes i unwritten
 
 -- a leaf has 64 writes
 abbrev pub IsLeaf : List Write → Type 0
@@ -25,22 +25,22 @@ states_of writes = map (λ (w : Write). w.state) writes
 
 -- every place holds state 0, written with stamp t
 abbrev pub AreBlank : List Write → ℕ → Type 0
-AreBlank writes t = (i : ℕ) → i < 64 → write_at writes i ≡ write_of t 0
+AreBlank writes t = (i : ℕ) → i < 64 → write_on_leaf writes i ≡ write_of t 0
 
 -- every place of the third holds the greater of the two writes there
 abbrev pub AreMerged : List Write → List Write → List Write → Type 0
-AreMerged a b merged = (i : ℕ) → i < 64 → write_at merged i ≡ greater (write_at a i) (write_at b i)
+AreMerged a b merged = (i : ℕ) → i < 64 → write_on_leaf merged i ≡ greater (write_on_leaf a i) (write_on_leaf b i)
 
 -- at every place the first write is at most the second
 abbrev pub AreAtMost : List Write → List Write → Type 0
-AreAtMost a b = (i : ℕ) → i < 64 → IsTrue (at_most (write_at a i) (write_at b i))
+AreAtMost a b = (i : ℕ) → i < 64 → IsTrue (at_most (write_on_leaf a i) (write_on_leaf b i))
 
 -- t is the least of the writes' stamps
-pub record IsLeastStamp (writes : List Write) (t : ℕ) : Type 0 where
-  pub below : (i : ℕ) → i < 64 → t ≤ (write_at writes i).stamp
-  pub reached : (i : ℕ) × (i < 64) × (t ≡ (write_at writes i).stamp)
+pub record IsLeastOfStamps (writes : List Write) (t : ℕ) : Type 0 where
+  pub below : (i : ℕ) → i < 64 → t ≤ (write_on_leaf writes i).stamp
+  pub reached : (i : ℕ) × (i < 64) × (t ≡ (write_on_leaf writes i).stamp)
 
 -- t is the greatest of the writes' stamps
-pub record IsGreatestStamp (writes : List Write) (t : ℕ) : Type 0 where
-  pub above : (i : ℕ) → i < 64 → (write_at writes i).stamp ≤ t
-  pub reached : (i : ℕ) × (i < 64) × (t ≡ (write_at writes i).stamp)
+pub record IsGreatestOfStamps (writes : List Write) (t : ℕ) : Type 0 where
+  pub above : (i : ℕ) → i < 64 → (write_on_leaf writes i).stamp ≤ t
+  pub reached : (i : ℕ) × (i < 64) × (t ≡ (write_on_leaf writes i).stamp)

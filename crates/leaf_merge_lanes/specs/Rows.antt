@@ -3,7 +3,7 @@ use Rattle.std.specs.Prelude.{◌≡◌, ℕ, List, [], ◌∷◌, refl, replica
 use Rattle.edit_stamps.specs.declared.write.Write.{Write}
 use Rattle.edit_stamps.specs.Write.{greater, unwritten}
 use Rattle.leaf_merge_lanes.specs.Lanes.{zip2}
-use Rattle.leaf_merge_lanes.specs.Leaf.{write_of, write_at, stamps_of, states_of}
+use Rattle.leaf_merge_lanes.specs.Leaf.{write_of, write_on_leaf, stamps_of, states_of}
 use Rattle.leaf_merge_lanes.specs.Same.{is_same}
 
 abbrev one_written : ℕ → List Write
@@ -20,10 +20,10 @@ ties_turned_round = refl
 pub stamps_decide : zip2 greater (write_of 131071 9 ∷ write_of 65537 0 ∷ []) (write_of 131073 0 ∷ write_of 0 9 ∷ []) ≡ write_of 131073 0 ∷ write_of 65537 0 ∷ []
 stamps_decide = refl
 
-pub last_place : write_at (one_written 1) 63 ≡ write_of 65537 1
+pub last_place : write_on_leaf (one_written 1) 63 ≡ write_of 65537 1
 last_place = refl
 
-pub other_places : write_at (one_written 1) 62 ≡ unwritten
+pub other_places : write_on_leaf (one_written 1) 62 ≡ unwritten
 other_places = refl
 
 pub stamps : stamps_of (write_of 65537 1 ∷ unwritten ∷ []) ≡ 65537 ∷ 0 ∷ []

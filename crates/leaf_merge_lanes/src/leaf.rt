@@ -38,7 +38,7 @@ impl Model for Leaf {
 impl Leaf {
     ghost use Rattle.edit_stamps.specs.Write.{greater};
     ghost use Rattle.leaf_merge_lanes.specs.Lanes.{zip2};
-    ghost use Rattle.leaf_merge_lanes.specs.Leaf.{write_of, write_at, states_of, IsLeaf, AreBlank, AreMerged, AreAtMost, IsLeastStamp, IsGreatestStamp};
+    ghost use Rattle.leaf_merge_lanes.specs.Leaf.{write_of, write_on_leaf, states_of, IsLeaf, AreBlank, AreMerged, AreAtMost, IsLeastOfStamps, IsGreatestOfStamps};
 
     /// A leaf whose every place holds state 0, written with one stamp; stamp 0 where nothing was
     /// written.
@@ -56,7 +56,7 @@ impl Leaf {
     pub fn get(&self, i: usize) -> Write
         requires { i < 64 }
         ensures leaf { IsLeaf self.now }
-        ensures there { result ≡ write_at self.now i }
+        ensures there { result ≡ write_on_leaf self.now i }
         ensures listed { slice_get self.now i ≡ Some result }
     {
         Write {
@@ -74,8 +74,8 @@ impl Leaf {
 
     /// The least and the greatest stamp of the 64.
     pub fn stamp_bounds(&self) -> (u64, u64)
-        ensures least { IsLeastStamp self.now result.0 }
-        ensures greatest { IsGreatestStamp self.now result.1 }
+        ensures least { IsLeastOfStamps self.now result.0 }
+        ensures greatest { IsGreatestOfStamps self.now result.1 }
     {
         (bounds::least(&self.stamps), bounds::greatest(&self.stamps))
     }
