@@ -6,9 +6,9 @@ mod words;
 
 use crate::ending::Ending;
 use crate::words::Task;
+use devices::{ReadSource, WriteSink};
 use genedit_lib::run_script;
 use genedit_rle::rle_text;
-use replica_core::{ReadSource, WriteSink};
 use std::alloc::AllocGlobal;
 use std::io;
 use std::process::ExitCode;

@@ -1,4 +1,3 @@
 pub mod RunFault
-pub mod Devices
-pub mod Laws
+pub mod Runs
 pub mod Rows

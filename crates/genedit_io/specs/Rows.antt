@@ -1,7 +1,6 @@
 -- Worked values of the definitions.
-use Rattle.std.specs.Prelude.{◌≡◌, ◌^◌, ◌-◌, codes, refl, Some, None}
+use Rattle.std.specs.Prelude.{◌≡◌, codes, refl, Some, None}
 use Rattle.std.specs.Fmt.{digits}
-use Rattle.replica_core.specs.Device.{one_more, so_many_more}
 use Rattle.genedit_io.specs.declared.fault.RunFault.TheVariants.{Script, Refused, Read, Turns, Write, Memory, StoreFull}
 use Rattle.genedit_io.specs.RunFault.{exit_status, fault_text, name_of_number}
 
@@ -106,17 +105,3 @@ status_of_want_of_memory = refl
 
 pub status_of_full_stores : exit_status StoreFull ≡ 5
 status_of_full_stores = refl
-
--- ---- counts
-
-pub second_of_a_count : one_more 1 ≡ 2
-second_of_a_count = refl
-
-pub full_count : one_more (2 ^ 64 - 1) ≡ 2 ^ 64 - 1
-full_count = refl
-
-pub several_more : so_many_more 3 4 ≡ 7
-several_more = refl
-
-pub up_to_a_full_count : so_many_more 3 (2 ^ 64 - 2) ≡ 2 ^ 64 - 1
-up_to_a_full_count = refl

@@ -1,7 +1,5 @@
 -- Faults of programs, as users meet them.
-use Rattle.std.specs.Prelude.{ℕ, List, [], ◌∷◌, ◌++◌, ◌==◌, if◌then◌else◌, codes, decimal, Option, Some, None}
-use Rattle.replica_core.specs.declared.event.Stop.{Stop}
-use Rattle.replica_core.specs.declared.event.Stop.TheVariants as stops
+use Rattle.std.specs.Prelude.{ℕ, List, [], ◌∷◌, ◌++◌, ◌==◌, if◌then◌else◌, codes, decimal, Option, Some, None, ⊤}
 use Rattle.genedit_io.specs.declared.fault.RunFault.{RunFault}
 use Rattle.genedit_io.specs.declared.fault.RunFault.TheVariants.{Script, Refused, Read, Turns, Write, Memory, StoreFull}
 
@@ -47,6 +45,12 @@ fault_text Write = codes "write fault"
 fault_text Memory = codes "out of memory"
 fault_text StoreFull = codes "store full"
 
-abbrev pub run_fault_of_stop : Stop → RunFault
-run_fault_of_stop stops.Memory = Memory
-run_fault_of_stop stops.StoreFull = StoreFull
+-- a fault that is no part of what a run means; no run has a store yet that could be full
+abbrev pub IsWant : RunFault → Type 0
+IsWant Memory = ⊤
+IsWant StoreFull = ⊥
+IsWant (Script line) = ⊥
+IsWant (Refused number place) = ⊥
+IsWant Read = ⊥
+IsWant Turns = ⊥
+IsWant Write = ⊥

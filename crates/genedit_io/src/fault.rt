@@ -2,7 +2,6 @@
 
 ghost use Rattle.std.specs.Prelude.{◌≡◌};
 
-use replica_core::Stop;
 use std::alloc::AllocError;
 use std::error::Error;
 use std::fmt;
@@ -80,20 +79,6 @@ impl From<AllocError> for RunFault {
 
     fn from(_error: AllocError) -> RunFault {
         RunFault::Memory
-    }
-}
-
-impl From<Stop> for RunFault {
-    ghost use Rattle.std.specs.Prelude.{◌≡◌};
-    ghost use Rattle.genedit_io.specs.RunFault.{run_fault_of_stop};
-
-    ghost from_gives = { λ from fault. fault ≡ run_fault_of_stop from };
-
-    fn from(stop: Stop) -> RunFault {
-        match stop {
-            Stop::Memory => RunFault::Memory,
-            Stop::StoreFull => RunFault::StoreFull,
-        }
     }
 }
 

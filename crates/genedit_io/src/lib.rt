@@ -2,9 +2,9 @@
 #![tactic(auto)]
 
 mod fault;
-mod laws;
 mod pull;
+mod push;
 
 pub use fault::RunFault;
-pub use laws::name_laws;
 pub use pull::pull_all;
+pub use push::push_output;

@@ -1,26 +1,22 @@
 //! All that a source gives.
 
-ghost use Rattle.std.specs.Prelude.{◌≡◌, OnErr, OnOk, IfOk, IfErr};
-ghost use Rattle.replica_core.specs.Device.{one_more};
-ghost use Rattle.genedit_io.specs.Devices.{IsFaultOfPulls, IsPulled, PullsAll, fewest_pulls, source_failures};
+ghost use Rattle.std.specs.Prelude.{IfOk, IfErr};
+ghost use Rattle.genedit_io.specs.Runs.{IsLeft, IsReadWhole};
 
 use crate::fault::RunFault;
-use replica_core::Source;
+use devices::Source;
 use std::alloc::Global;
 
 /// How many bytes are pulled at once, at most.
 const PIECE: usize = 8192;
 
 /// All bytes of a source, in at most so many pulls; the last of them gives none.
+///
+/// `RunFault::Read` comes only where the source failed, `RunFault::Turns` after as many pulls as are
+/// allowed, each of which gave something.
 pub fn pull_all<S: Source>(alloc: Global, source: &mut S, turns: u64) -> Result<Vec<u8>, RunFault>
-    ensures all { IfOk result (λ text. PullsAll (S.left source.old) (S.left source.new) text.items) }
-    ensures works { OnOk result (S.failures source.new ≡ S.failures source.old) }
-    ensures pulls { OnOk result (IsPulled 1 turns (S.pulls source.old) (S.pulls source.new)) }
-    ensures end { OnOk result (S.empty_pulls source.new ≡ one_more (S.empty_pulls source.old)) }
-    ensures fault { IfErr result (λ fault. IsFaultOfPulls turns fault (S.left source.old) (S.left source.new)) }
-    ensures failures { IfErr result (λ fault. S.failures source.new ≡ source_failures fault (S.failures source.old)) }
-    ensures pulls_before { IfErr result (λ fault. IsPulled (fewest_pulls turns fault) turns (S.pulls source.old) (S.pulls source.new)) }
-    ensures no_end { OnErr result (S.empty_pulls source.new ≡ S.empty_pulls source.old) }
+    ensures all { IfOk result (λ text. IsReadWhole turns text.items (S.known source.old) (S.known source.new)) }
+    ensures left { IfErr result (λ fault. IsLeft turns fault (S.known source.old) (S.known source.new)) }
 {
     let mut text = Vec::new(alloc);
     let mut piece = [0; PIECE];

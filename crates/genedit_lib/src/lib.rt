@@ -1,6 +1,7 @@
 //! What `genedit run` does: what happens in a world of replicas, and what is printed of it.
 #![tactic(auto)]
 
+mod laws;
 mod output;
 mod patterns;
 mod plan;
@@ -9,4 +10,5 @@ mod step;
 mod text;
 
 pub use genedit_io::RunFault;
+pub use laws::name_laws;
 pub use run::{run_script, run_script_within};

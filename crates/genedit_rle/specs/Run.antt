@@ -1,54 +1,24 @@
--- What bringing a text into canonical form does to the source that it is pulled from and to the sink that its form is
--- pushed to.
-use Rattle.std.specs.Prelude.{◌≡◌, ℕ, List, Option, Ok, Err, ⊤}
+-- How the run of a text into its canonical form ends.
+use Rattle.std.specs.Prelude.{◌≡◌, ℕ, List, Result, Ok, Err}
+use Rattle.devices.specs.Source.{KnownSource}
+use Rattle.devices.specs.Sink.{KnownSink}
 use Rattle.generations_rule.specs.Rule.{GenerationsRule}
-use Rattle.genedit_io.specs.Devices.{PullsAll, PullsOn}
+use Rattle.genedit_io.specs.Runs.{IsRun}
 use Rattle.genedit_io.specs.declared.fault.RunFault.{RunFault}
-use Rattle.genedit_io.specs.declared.fault.RunFault.TheVariants.{Script, Refused, Read, Turns, Write, Memory, StoreFull}
+use Rattle.genedit_io.specs.declared.fault.RunFault.TheVariants.{Refused}
 use Rattle.genedit_rle.specs.Canonical.{canonical}
 use Rattle.genedit_rle.specs.Refusal.{FormRefusal, refusal_number, refusal_place}
 
--- ---- texts
+-- the canonical form of a text
+abbrev pub IsFormOf : GenerationsRule → List ℕ → List ℕ → Type 0
+IsFormOf r text form = canonical r text ≡ Ok form
 
--- the text is refused, and these are the refusal's number and its place in the text
-pub record IsRefused (r : GenerationsRule) (text : List ℕ) (number : ℕ) (place : Option ℕ) : Type 0 where
+-- the text has no canonical form, and the fault tells the refusal's number and its place in the text
+pub record IsRefusedText (r : GenerationsRule) (text : List ℕ) (fault : RunFault) : Type 0 where
   pub refusal : FormRefusal
-  pub refuses : canonical r text ≡ Err refusal
-  pub numbered : number ≡ refusal_number refusal
-  pub placed : place ≡ refusal_place refusal
+  pub told : fault ≡ Refused (refusal_number refusal) (refusal_place refusal)
+  pub first : canonical r text ≡ Err refusal
 
--- what a fault says of a text
-abbrev pub IsFaultOfText : GenerationsRule → RunFault → List ℕ → Type 0
-IsFaultOfText r (Refused number place) text = IsRefused r text number place
-IsFaultOfText r Memory text = ⊤
-IsFaultOfText r (Script line) text = ⊥
-IsFaultOfText r Read text = ⊥
-IsFaultOfText r Turns text = ⊥
-IsFaultOfText r Write text = ⊥
-IsFaultOfText r StoreFull text = ⊥
-
--- ---- sources
-
--- the whole of a text came, and this is its canonical form
-pub record Prints (r : GenerationsRule) (old new : Option (List ℕ)) (out : List ℕ) : Type 0 where
-  pub text : List ℕ
-  pub pulled : PullsAll old new text
-  pub prints : canonical r text ≡ Ok out
-
--- the whole of a text came that is refused
-pub record Refuses (r : GenerationsRule) (old new : Option (List ℕ)) (number : ℕ) (place : Option ℕ) : Type 0 where
-  pub text : List ℕ
-  pub pulled : PullsAll old new text
-  pub refused : IsRefused r text number place
-
--- ---- faults of a run
-
--- what a fault says of the bytes that came, in at most so many turns
-abbrev pub IsFaultOfRun : GenerationsRule → ℕ → RunFault → Option (List ℕ) → Option (List ℕ) → Type 0
-IsFaultOfRun r turns (Refused number place) old new = Refuses r old new number place
-IsFaultOfRun r turns Read old new = ⊤
-IsFaultOfRun r turns Turns old new = PullsOn turns old new
-IsFaultOfRun r turns Write old new = (out : List ℕ) × Prints r old new out
-IsFaultOfRun r turns Memory old new = ⊤
-IsFaultOfRun r turns (Script line) old new = ⊥
-IsFaultOfRun r turns StoreFull old new = ⊥
+-- the run of a text into its canonical form, in at most so many pulls
+abbrev pub IsFormRun : GenerationsRule → ℕ → {A : Type 0} → Result A RunFault → KnownSource → KnownSource → {K : Type 0} → (K → KnownSink) → K → K → Type 0
+IsFormRun r turns result source source' known sink sink' = IsRun (IsFormOf r) (IsRefusedText r) turns result source source' known sink sink'

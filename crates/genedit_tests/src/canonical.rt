@@ -1,10 +1,10 @@
 //! RLE texts, from end to end.
 
-use crate::devices::{Broken, Pieces};
+use crate::faulty::{Broken, Pieces};
 use crate::told;
+use devices::{ReadSource, WriteSink};
 use genedit_rle::{RunFault, rle_text, rle_text_within};
 use generations_rule::Rule;
-use replica_core::{ReadSource, WriteSink};
 use std::alloc::{AllocError, Global};
 
 /// The canonical form of a text under a rule, or how the run ends.
@@ -134,14 +134,14 @@ fn untaken(alloc: Global, text: &str) -> (Result<(), RunFault>, u64) {
     let Ok(rule) = Rule::parse(b"/2/3") else {
         return (Ok(()), 0);
     };
-    let mut sink = Broken { failures: 0 };
+    let mut sink = Broken { pushes: 0 };
     let end = rle_text(
         alloc,
         &rule,
         &mut ReadSource::new(text.as_bytes()),
         &mut sink,
     );
-    (end, sink.failures)
+    (end, sink.pushes)
 }
 
 #[test]

@@ -1,12 +1,10 @@
-//! Tests of `genedit_io`, `genedit_script`, `genedit_lib` and `genedit_rle`.
+//! Tests of `genedit_script`, `genedit_lib` and `genedit_rle`.
 #![tactic(auto)]
 
 #[cfg(test)]
 mod canonical;
 #[cfg(test)]
-mod devices;
-#[cfg(test)]
-mod faults;
+mod faulty;
 #[cfg(test)]
 mod patterns;
 #[cfg(test)]

@@ -1,9 +1,9 @@
 //! Scripts, from end to end.
 
-use crate::devices::{Broken, Pieces};
+use crate::faulty::{Broken, Pieces};
 use crate::told;
+use devices::{ReadSource, WriteSink};
 use genedit_lib::{RunFault, run_script, run_script_within};
-use replica_core::{ReadSource, WriteSink};
 use std::alloc::{AllocError, Global};
 
 /// What a script prints, or how its run ends.
@@ -159,9 +159,9 @@ fn failed_reads_are_told(rt: HostRuntime) -> Result<(), AllocError> {
 
 /// How a script ends whose output nobody takes, and how often it was pushed.
 fn untaken(alloc: Global, script: &str) -> (Result<(), RunFault>, u64) {
-    let mut sink = Broken { failures: 0 };
+    let mut sink = Broken { pushes: 0 };
     let end = run_script(alloc, &mut ReadSource::new(script.as_bytes()), &mut sink);
-    (end, sink.failures)
+    (end, sink.pushes)
 }
 
 #[test]
@@ -172,5 +172,14 @@ fn failed_writes_are_told(rt: HostRuntime) {
     assert_eq!(rt;
         untaken(alloc, "rule /2/3\n"),
         (Err(RunFault::Script(2)), 0)
+    );
+}
+
+/// An output of no bytes is pushed too.
+#[test]
+fn an_empty_output_is_pushed(rt: HostRuntime) {
+    assert_eq!(rt;
+        untaken(rt.alloc(), "rule /2/3\nreplicas 0\n"),
+        (Err(RunFault::Write), 1)
     );
 }

@@ -1,11 +1,11 @@
 //! Scripts and texts, from a source to a sink.
 
+use devices::{ReadSource, WriteSink};
 use genedit_io::{RunFault, pull_all};
 use genedit_lib::run_script;
 use genedit_rle::rle_text;
 use genedit_script::{Script, ScriptFault, read_script};
 use generations_rule::Rule;
-use replica_core::{ReadSource, WriteSink};
 use std::alloc::{AllocError, Global};
 
 const SCRIPT: &str = "rule /2/3\nreplicas 2\npattern a\nx = 2, y = 1\nAB!\nend\ncopy 1 a 4 4\n\

@@ -1,4 +1,3 @@
-pub mod Device
 pub mod Fault
 pub mod Message
 pub mod Replica

@@ -11,7 +11,7 @@ use std::fmt;
 /// Why a replica, or a world of replicas, refuses.
 #[derive(Clone, Copy, Debug, PartialEq, Eq)]
 pub enum Fault {
-    /// The edit's own refusal.
+    /// The edit's own refusal; never its want of memory, which is `Memory`.
     Edit(EditFault),
     /// The message has another rule than the replica.
     OtherRule,

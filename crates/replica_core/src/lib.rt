@@ -1,7 +1,6 @@
 //! Replicas of a shared plane: drawing, taking and showing.
 #![tactic(auto)]
 
-mod device;
 mod event;
 mod fault;
 mod laws;
@@ -10,7 +9,7 @@ mod replica;
 mod spec;
 mod world;
 
-pub use device::{Failed, ReadSource, Sink, Source, WriteSink};
+pub use devices::{Failed, ReadSource, Sink, Source, WriteSink};
 pub use event::{Event, Reply, Stop};
 pub use fault::Fault;
 pub use laws::world_laws;

@@ -1,0 +1,4 @@
+pub mod Count
+pub mod Source
+pub mod Sink
+pub mod Rows

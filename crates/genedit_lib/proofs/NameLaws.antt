@@ -1,0 +1,66 @@
+-- The crates' names of refusals, case by case, and the table's.
+use Rattle.std.proofs.Common.{refl}
+use Rattle.std.specs.Prelude.{None}
+use Rattle.std.specs.Cmp.Lexicographic.{nat_list_eq_equiv}
+use Rattle.std.specs.Map.{keys_of, values_of}
+use Rattle.std.proofs.lemmas.Cmp.{nat_eq_equiv}
+use Rattle.std.proofs.lemmas.Map.Made.{IsDistinct-from_count}
+use Rattle.generations_rule.specs.declared.fault.RuleFault.{RuleFault}
+use Rattle.generations_rule.specs.declared.fault.RuleFault.TheVariants.{Slashes, Digit, States}
+use Rattle.generations_rule.specs.RuleFault.{fault_number as rule_fault_number, fault_place as rule_fault_place, fault_text as rule_fault_text}
+use Rattle.multistate_rle.specs.declared.fault.RleFault.{RleFault}
+use Rattle.multistate_rle.specs.declared.fault.RleFault.TheVariants as texts
+use Rattle.multistate_rle.specs.RleFault.{fault_number as text_fault_number, fault_place as text_fault_place, fault_text as text_fault_text}
+use Rattle.edit_stamps.specs.declared.fault.EditFault.{EditFault}
+use Rattle.edit_stamps.specs.declared.fault.EditFault.TheVariants as edits
+use Rattle.edit_stamps.specs.EditFault.{fault_number as edit_fault_number, fault_text as edit_fault_text}
+use Rattle.replica_core.specs.declared.fault.Fault.{Fault}
+use Rattle.replica_core.specs.declared.fault.Fault.TheVariants.{Edit, OtherRule, ClockFull, NoReplica, NoMessage, Memory}
+use Rattle.replica_core.specs.declared.event.Stop.{Stop}
+use Rattle.replica_core.specs.declared.event.Stop.TheVariants as stops
+use Rattle.replica_core.specs.Fault.{fault_number, fault_text, stop_number, stop_text}
+use Rattle.genedit_lib.specs.Laws.{IsNamed, NamesAgree, NamesAreDistinct}
+use Rattle.genedit_io.specs.RunFault.{names}
+
+rule_names : (fault : RuleFault) → IsNamed (rule_fault_number fault) (rule_fault_place fault) (rule_fault_text fault)
+rule_names Slashes refused = refl
+rule_names (Digit place) refused = refl
+rule_names States refused = refl
+
+text_names : (fault : RleFault) → IsNamed (text_fault_number fault) (text_fault_place fault) (text_fault_text fault)
+text_names texts.Header refused = refl
+text_names (texts.Tag place) refused = refl
+text_names (texts.Count place) refused = refl
+text_names (texts.State place) refused = refl
+text_names texts.TooMany refused = refl
+text_names texts.Memory refused = absurd (refused refl)
+
+edit_names : (fault : EditFault) → IsNamed (edit_fault_number fault) None (edit_fault_text fault)
+edit_names edits.TooMany refused = refl
+edit_names edits.Nothing refused = refl
+edit_names edits.OutOfPlane refused = refl
+edit_names edits.StateRange refused = refl
+edit_names edits.AreaSide refused = refl
+edit_names edits.Memory refused = absurd (refused refl)
+
+replica_names : (fault : Fault) → IsNamed (fault_number fault) None (fault_text fault)
+replica_names (Edit fault) refused = edit_names fault refused
+replica_names OtherRule refused = refl
+replica_names ClockFull refused = refl
+replica_names NoReplica refused = refl
+replica_names NoMessage refused = refl
+replica_names Memory refused = absurd (refused refl)
+
+stop_names : (stop : Stop) → IsNamed (stop_number stop) None (stop_text stop)
+stop_names stops.StoreFull refused = refl
+stop_names stops.Memory refused = absurd (refused refl)
+
+pub names_agree : NamesAgree
+names_agree = record { rules = rule_names; texts = text_names; edits = edit_names; replicas = replica_names; stops = stop_names }
+
+-- as many numbers, and as many names, differ as stand in the table
+pub names_are_distinct : NamesAreDistinct
+names_are_distinct = record {
+  numbers_differ = IsDistinct-from_count nat_eq_equiv (keys_of names) refl;
+  names_differ = IsDistinct-from_count nat_list_eq_equiv (values_of names) refl;
+}
