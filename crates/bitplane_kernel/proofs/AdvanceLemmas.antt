@@ -3,13 +3,13 @@ use Rattle.std.proofs.Common.{◌≡◌, ℕ, suc, ◌+◌, ◌-◌, ◌<◌, �
 use Rattle.std.specs.Prelude.{◌+ℤ◌, count_by, ◌==◌}
 use Rattle.std.proofs.lemmas.Int.{ints}
 use Rattle.generations_rule.specs.Place.{Place, moved, at_place}
-use Rattle.generations_rule.specs.Rule.{GenerationsRule, IsRule, next}
+use Rattle.generations_rule.specs.Rule.{GenerationsRule, IsRule, next_state}
 use Rattle.generations_rule.specs.Evolution.{at, live_around}
 use Rattle.generations_rule.proofs.EvolutionLaws.{stays_in_range}
 use Rattle.bitplane_kernel.specs.declared.planes.BitPlane.{BitPlane}
 use Rattle.bitplane_kernel.specs.Planes.{state_in, block_states}
 use Rattle.bitplane_kernel.specs.Step.{AreBelow, StepsPlanes, live_in, one_if_live}
-use Rattle.bitplane_kernel.specs.Advance.{Agrees, Advances}
+use Rattle.bitplane_kernel.specs.Advance.{AgreesOnBlock, Advances}
 use Rattle.bitplane_kernel.proofs.SquareLemmas.{block_read}
 
 back : (a : ℤ) (n : ℕ) → ((a +ℤ pos (n + 1)) +ℤ negsuc 0) ≡ a +ℤ pos n
@@ -53,12 +53,12 @@ step_cell r old new f corner x y hx hy steps below agrees =
     let all : AreBelow r.states old x y = record {
       below = λ u v a b c d. subst (λ s. s < r.states) (sym (agrees u v a b c d)) (below (moved corner (pos u) (pos v)));
     } in
-    steps.inner x y hx hy all ∙ ap (λ s. next r s (live_in old x y)) own ∙ ap (next r (f cell)) (sym count)
+    steps.inner x y hx hy all ∙ ap (λ s. next_state r s (live_in old x y)) own ∙ ap (next_state r (f cell)) (sym count)
 
 -- one generation, of a block of which only the cells behind a margin are known: the margin grows by one
 abbrev pub Steps : GenerationsRule → List ℕ → List ℕ → Type 0
 Steps r old new =
-    (margin : ℕ) (f : Place → ℕ) (corner : Place) → ((c : Place) → f c < r.states) → Agrees margin f corner old → Agrees (suc margin) (at r f 1) corner new
+    (margin : ℕ) (f : Place → ℕ) (corner : Place) → ((c : Place) → f c < r.states) → AgreesOnBlock margin f corner old → AgreesOnBlock (suc margin) (at r f 1) corner new
 
 pub steps_in_maps : (r : GenerationsRule) (old new : List BitPlane) → StepsPlanes r old new → Steps r (block_states old) (block_states new)
 steps_in_maps r old new steps margin f corner below agrees = λ x y left right top bottom.
@@ -77,5 +77,5 @@ advances_none r states f corner below agrees = agrees
 -- one generation more
 pub advances_more : (r : GenerationsRule) (g : ℕ) (old mid new : List ℕ) → IsRule r → Advances r g old mid → Steps r mid new → Advances r (g + 1) old new
 advances_more r g old mid new ok so_far step f corner below agrees =
-    subst (λ k. Agrees k (at r f k) corner new) (sym (add-one g))
+    subst (λ k. AgreesOnBlock k (at r f k) corner new) (sym (add-one g))
     (step g (at r f g) corner (λ c. stays_in_range r f g c ok below) (so_far f corner below agrees))

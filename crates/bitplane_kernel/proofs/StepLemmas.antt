@@ -4,7 +4,7 @@ use Rattle.std.specs.Prelude.{min, max, ◌==◌, if◌then◌else◌, slice_set
 use Rattle.std.proofs.Math.Nat.{pow-suc, mod-eq_of_lt, mod_self}
 use Rattle.std.proofs.lemmas.Bool.Decides.{eqb_tells}
 use Rattle.std.proofs.lemmas.Bool.{eq-eqb, ne_eqb}
-use Rattle.generations_rule.specs.Rule.{GenerationsRule, has, next}
+use Rattle.generations_rule.specs.Rule.{GenerationsRule, has, next_state}
 use Rattle.bitplane_kernel.specs.declared.planes.BitPlane.{BitPlane}
 use Rattle.bitplane_kernel.specs.Planes.{bit, number, HasBits, state_in, plane_at, IsSumOfStates, IsCleared}
 use Rattle.bitplane_kernel.specs.declared.adders.Count.{Count}
@@ -196,7 +196,7 @@ live_law false aging rest stay age is none one = one is
 
 -- what the changes make of a state is the rule's next one
 pub next_law : (r : GenerationsRule) (w s n aging births a : ℕ) → r.states ≤ w → s < r.states → ChangesAt r s n aging births → a ≡ (s + aging) % w
-    → (if births == 1 then 1 else (if a == r.states % w then 0 else a)) ≡ next r s n
+    → (if births == 1 then 1 else (if a == r.states % w then 0 else a)) ≡ next_state r s n
 next_law r w s n aging births a enough below ch is =
     let rest : ℕ = if a == r.states % w then 0 else a in
     let stays : aging ≡ 0 → rest ≡ s = λ none.
@@ -232,7 +232,7 @@ pub made : (r : GenerationsRule) (n states : ℕ) (old mid clean : List BitPlane
     → IsSumOfStates n old ages mid → HasBits past (λ x y. mark (state_in n mid x y) (states % 2 ^ n)) → IsCleared n mid past clean
     → HasBits v (λ x y. max (bit (plane_at clean 0) x y) (bit births x y))
     → (x y neighbours : ℕ) → x < 16 → y < 16 → state_in 8 old x y < r.states → ChangesAt r (state_in 8 old x y) neighbours (bit ages x y) (bit births x y)
-    → state_in 8 (slice_set clean 0 (record { rows = v })) x y ≡ next r (state_in 8 old x y) neighbours
+    → state_in 8 (slice_set clean 0 (record { rows = v })) x y ≡ next_state r (state_in 8 old x y) neighbours
 made r n states old mid clean ages past births v some few enough is room added marks cleared born x y neighbours hx hy below ch =
     let new : List BitPlane = slice_set clean 0 (record { rows = v }) in
     let small : state_in 8 old x y < 2 ^ n = omega arith in

@@ -1,6 +1,6 @@
 -- One generation of the planes of a block.
 use Rattle.std.specs.Prelude.{◌≡◌, ℕ, ◌+◌, ◌<◌, ◌≤◌, ◌==◌, List, if◌then◌else◌}
-use Rattle.generations_rule.specs.Rule.{GenerationsRule, has, next}
+use Rattle.generations_rule.specs.Rule.{GenerationsRule, has, next_state}
 use Rattle.bitplane_kernel.specs.declared.planes.BitPlane.{BitPlane}
 use Rattle.bitplane_kernel.specs.Planes.{state_in}
 
@@ -27,4 +27,4 @@ pub record ChangesAt (r : GenerationsRule) (s n aging born : ℕ) : Type 0 where
 
 -- the cells that are not on the edge are one generation later
 pub record StepsPlanes (r : GenerationsRule) (old new : List BitPlane) : Type 0 where
-  pub inner : (x y : ℕ) → x < 14 → y < 14 → AreBelow r.states old x y → state_in 8 new (x + 1) (y + 1) ≡ next r (state_in 8 old (x + 1) (y + 1)) (live_in old x y)
+  pub inner : (x y : ℕ) → x < 14 → y < 14 → AreBelow r.states old x y → state_in 8 new (x + 1) (y + 1) ≡ next_state r (state_in 8 old (x + 1) (y + 1)) (live_in old x y)

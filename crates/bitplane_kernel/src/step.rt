@@ -1,7 +1,7 @@
 //! One generation of the planes of a block.
 
 ghost use Rattle.std.specs.Prelude.{◌≡◌, ℕ, ◌+◌, ◌^◌, ◌<◌, ◌≤◌};
-ghost use Rattle.generations_rule.specs.Rule.{IsRule, next};
+ghost use Rattle.generations_rule.specs.Rule.{IsRule, next_state};
 ghost use Rattle.bitplane_kernel.specs.Planes.{bit, state_in};
 ghost use Rattle.bitplane_kernel.specs.Step.{AreBelow, ChangesAt, live_in, StepsPlanes};
 
@@ -69,7 +69,7 @@ fn make_changes<const N: usize>(planes: &mut [BitPlane; 8], rule: &Rule, changes
     requires enough { rule.now.states ≤ 2 ^ N }
     ensures { (x y n : ℕ) → x < 16 → y < 16 → state_in 8 planes.old x y < rule.now.states →
         ChangesAt rule.now (state_in 8 planes.old x y) n (bit changes.ages x y) (bit changes.births x y) →
-        state_in 8 planes.new x y ≡ next rule.now (state_in 8 planes.old x y) n }
+        state_in 8 planes.new x y ≡ next_state rule.now (state_in 8 planes.old x y) n }
 {
     add_one::<N>(planes, changes.ages);
     let past = where_equal::<N>(planes, rule.states());

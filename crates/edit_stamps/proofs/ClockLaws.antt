@@ -10,7 +10,7 @@ use Rattle.multistate_rle.specs.Cells.{place_of, are_nonzero}
 use Rattle.edit_stamps.specs.declared.rect.Rect.{Rect}
 use Rattle.edit_stamps.specs.Edit.{PlaneEdit, IsEdit, greatest, listed, write_by, writes_of, fits_area, is_covered}
 use Rattle.edit_stamps.specs.Plane.{is_in, is_empty, is_area_in_plane}
-use Rattle.edit_stamps.specs.Stamp.{counter_of}
+use Rattle.edit_stamps.specs.Stamp.{counter_in}
 use Rattle.edit_stamps.specs.Write.{greater, Writes, IsBelow}
 use Rattle.edit_stamps.proofs.PlaceOrder.{same_itself}
 use Rattle.edit_stamps.proofs.SortedCells.{listed_here}
@@ -92,7 +92,7 @@ stamps_reached (e ∷ edits) m all bound =
 
 -- ---- counters
 
-counter_max : (a b : ℕ) → counter_of (max a b) ≡ max (counter_of a) (counter_of b)
+counter_max : (a b : ℕ) → counter_in (max a b) ≡ max (counter_in a) (counter_in b)
 counter_max a b = omega arith
 
 max_assoc : (a b c : ℕ) → max (max a b) c ≡ max a (max b c)
@@ -101,14 +101,14 @@ max_assoc a b c = omega arith
 zero_max : (a : ℕ) → a ≡ max 0 a
 zero_max a = omega arith
 
-counters_folded : (edits : List PlaneEdit) (a : ℕ) → fold (λ n e. max n (counter_of e.stamp)) a edits ≡ max a (counter_of (max_stamp edits))
+counters_folded : (edits : List PlaneEdit) (a : ℕ) → fold (λ n e. max n (counter_in e.stamp)) a edits ≡ max a (counter_in (max_stamp edits))
 unfolding max_stamp
 counters_folded [] a = omega arith
 counters_folded (e ∷ edits) a =
-    counters_folded edits (max a (counter_of e.stamp))
-    ∙ max_assoc a (counter_of e.stamp) (counter_of (max_stamp edits)) ∙ ap (max a) (sym (counter_max e.stamp (max_stamp edits)))
+    counters_folded edits (max a (counter_in e.stamp))
+    ∙ max_assoc a (counter_in e.stamp) (counter_in (max_stamp edits)) ∙ ap (max a) (sym (counter_max e.stamp (max_stamp edits)))
 
 pub tells_counter : TellsCounter
 tells_counter edits n all g =
     let same : n ≡ max_stamp edits = omega (arith, g.least (max_stamp edits) (stamps_below edits), stamps_reached edits n all g.above) in
-    ap counter_of same ∙ zero_max (counter_of (max_stamp edits)) ∙ sym (counters_folded edits 0)
+    ap counter_in same ∙ zero_max (counter_in (max_stamp edits)) ∙ sym (counters_folded edits 0)

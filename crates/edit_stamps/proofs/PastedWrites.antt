@@ -17,7 +17,7 @@ use Rattle.edit_stamps.specs.declared.fault.EditFault.{EditFault}
 use Rattle.edit_stamps.specs.declared.rect.Rect.{Rect}
 use Rattle.edit_stamps.specs.Edit.{PlaneEdit, has_states_below, listed, write_by}
 use Rattle.edit_stamps.specs.Laws.{IsClear, IsCopy, IsOr, MakesPastes}
-use Rattle.edit_stamps.specs.Pasting.{box_of, clear_fault, copy_fault, or_fault, placed, placed_cell}
+use Rattle.edit_stamps.specs.Pasting.{box_of, clear_fault, copy_fault, or_fault, placed, cell_placed}
 use Rattle.edit_stamps.specs.Plane.{is_in}
 use Rattle.edit_stamps.specs.Stamp.{is_stamp}
 use Rattle.edit_stamps.specs.Write.{unwritten}
@@ -50,7 +50,7 @@ listed_placed : (x y : ℤ) (cells : List PatternCell) (c : Place) → IsPast x 
 listed_placed x y [] c past = refl
 listed_placed x y (cell ∷ cells) c past =
     let rest = listed_placed x y cells c past in
-    let stands : is_place (place_of (placed_cell x y cell)) c ≡ (cell.column == int_gap x c.x && cell.row == int_gap y c.y) =
+    let stands : is_place (place_of (cell_placed x y cell)) c ≡ (cell.column == int_gap x c.x && cell.row == int_gap y c.y) =
     λ i. reached x cell.column c.x past.right i && reached y cell.row c.y past.down i in
     elim (cases_Bool (cell.column == int_gap x c.x && cell.row == int_gap y c.y)) [
       | inl here ↦ rw (stands, here) refl

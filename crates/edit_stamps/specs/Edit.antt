@@ -5,12 +5,12 @@ use Rattle.std.specs.List.{AllByRecursion, list_all}
 use Rattle.std.specs.Cmp.Lexicographic.{pointwise}
 use Rattle.generations_rule.specs.Place.{Place, is_place}
 use Rattle.multistate_rle.specs.declared.cell.Cell.{Cell}
-use Rattle.multistate_rle.specs.Cells.{place_of, is_sorted, are_nonzero, are_below}
+use Rattle.multistate_rle.specs.Cells.{place_of, is_sorted, are_nonzero, are_states_below}
 use Rattle.edit_stamps.specs.declared.write.Write.{Write}
 use Rattle.edit_stamps.specs.declared.rect.Rect.{Rect}
 use Rattle.edit_stamps.specs.Plane.{is_in_plane, is_in, is_empty, is_area_in_plane}
 use Rattle.edit_stamps.specs.PlaneMap.{only}
-use Rattle.edit_stamps.specs.Stamp.{counter_of, is_stamp}
+use Rattle.edit_stamps.specs.Stamp.{counter_in, is_stamp}
 use Rattle.edit_stamps.specs.Write.{unwritten, greater, Writes, joined}
 
 -- a stamp, an area if there is one, and the listed cells
@@ -68,7 +68,7 @@ written stamp (cell ∷ cells) c = greater (only (place_of cell) (record { stamp
 
 -- the greatest counter of some edits
 abbrev pub greatest_counter : List PlaneEdit → ℕ
-greatest_counter edits = fold (λ n e. max n (counter_of e.stamp)) 0 edits
+greatest_counter edits = fold (λ n e. max n (counter_in e.stamp)) 0 edits
 
 -- at each place a map has what it had, or what joining one of the edits makes of it
 abbrev pub IsPartlyEdited : Writes → List PlaneEdit → Writes → Type 0
@@ -100,7 +100,7 @@ pub record IsEdit (e : PlaneEdit) : Type 0 where
 
 -- each listed state is below a rule's number of states
 abbrev pub has_states_below : ℕ → PlaneEdit → Bool
-has_states_below states e = are_below states e.cells
+has_states_below states e = are_states_below states e.cells
 
 -- each edit's listed states are
 abbrev pub HaveStatesBelow : ℕ → List PlaneEdit → Type 0

@@ -5,21 +5,21 @@ use Rattle.edit_stamps.specs.declared.fault.EditFault.{EditFault}
 use Rattle.edit_stamps.specs.declared.fault.EditFault.TheVariants.{Nothing, TooMany, OutOfPlane, StateRange, AreaSide, Memory}
 
 -- its number in the table of faults
-abbrev pub fault_number : EditFault → ℕ
-fault_number TooMany = 8
-fault_number Nothing = 9
-fault_number OutOfPlane = 10
-fault_number StateRange = 11
-fault_number AreaSide = 12
-fault_number Memory = 255
+abbrev pub edit_fault_number : EditFault → ℕ
+edit_fault_number TooMany = 8
+edit_fault_number Nothing = 9
+edit_fault_number OutOfPlane = 10
+edit_fault_number StateRange = 11
+edit_fault_number AreaSide = 12
+edit_fault_number Memory = 255
 
-abbrev pub fault_text : EditFault → List ℕ
-fault_text TooMany = codes "TooMany"
-fault_text Nothing = codes "Nothing"
-fault_text OutOfPlane = codes "OutOfPlane"
-fault_text StateRange = codes "StateRange"
-fault_text AreaSide = codes "AreaSide"
-fault_text Memory = codes "Memory"
+abbrev pub edit_fault_text : EditFault → List ℕ
+edit_fault_text TooMany = codes "TooMany"
+edit_fault_text Nothing = codes "Nothing"
+edit_fault_text OutOfPlane = codes "OutOfPlane"
+edit_fault_text StateRange = codes "StateRange"
+edit_fault_text AreaSide = codes "AreaSide"
+edit_fault_text Memory = codes "Memory"
 
 -- a fault that is no part of what a call means
 abbrev pub IsWant : EditFault → Type 0

@@ -14,16 +14,16 @@ use Rattle.edit_stamps.specs.Making.{edit_of_cells, settled}
 use Rattle.edit_stamps.specs.Pasting.{box_of, edit_of_clear, edit_of_copy, edit_of_or, state_there}
 use Rattle.edit_stamps.specs.Plane.{is_in}
 use Rattle.edit_stamps.specs.PlaneMap.{IsGreatestStamp}
-use Rattle.edit_stamps.specs.Stamp.{counter_of, is_stamp, replica_of, stamp_cmp, stamp_made, stamp_of}
+use Rattle.edit_stamps.specs.Stamp.{counter_in, is_stamp, replica_in, stamp_cmp, stamp_made, stamp_of}
 use Rattle.edit_stamps.specs.Write.{at_most, greater, unwritten, Writes, AreSame, IsBelow, joined}
 
 -- stamps are ordered by counter, then by replica; a stamp tells both, and is what is made of them
 pub record TellsStamps : Type 0 where
   pub order : (a b : ℕ) → nat_cmp a b ≡ stamp_cmp a b
-  pub counter : (counter replica : ℕ) → replica < 2 ^ 16 → counter_of (stamp_of counter replica) ≡ counter
-  pub replica : (counter replica : ℕ) → replica < 2 ^ 16 → replica_of (stamp_of counter replica) ≡ replica
-  pub whole : (stamp : ℕ) → stamp_of (counter_of stamp) (replica_of stamp) ≡ stamp
-  pub made : (stamp : ℕ) → IsTrue (is_stamp stamp) ↔ (stamp_made (counter_of stamp) (replica_of stamp) ≡ Some stamp)
+  pub counter : (counter replica : ℕ) → replica < 2 ^ 16 → counter_in (stamp_of counter replica) ≡ counter
+  pub replica : (counter replica : ℕ) → replica < 2 ^ 16 → replica_in (stamp_of counter replica) ≡ replica
+  pub whole : (stamp : ℕ) → stamp_of (counter_in stamp) (replica_in stamp) ≡ stamp
+  pub made : (stamp : ℕ) → IsTrue (is_stamp stamp) ↔ (stamp_made (counter_in stamp) (replica_in stamp) ≡ Some stamp)
 
 -- the order of writes is total, and the least write is at its bottom
 pub record IsTotal : Type 0 where
@@ -110,4 +110,4 @@ TellsEdits = (a b : PlaneEdit) → IsTrue (is_edit a b) ↔ (a ≡ b)
 
 -- the greatest counter of edits is that of the greatest stamp in the map of their greatest writes, since each edit writes a cell
 abbrev pub TellsCounter : Type 0
-TellsCounter = (edits : List PlaneEdit) (n : ℕ) → AllByRecursion (λ e. IsEdit e) edits → IsGreatestStamp n (greatest edits) → counter_of n ≡ greatest_counter edits
+TellsCounter = (edits : List PlaneEdit) (n : ℕ) → AllByRecursion (λ e. IsEdit e) edits → IsGreatestStamp n (greatest edits) → counter_in n ≡ greatest_counter edits

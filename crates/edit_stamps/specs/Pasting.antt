@@ -7,7 +7,7 @@ use Rattle.generations_rule.specs.Refusal.{when, first_of, unless}
 use Rattle.generations_rule.specs.Rule.{GenerationsRule}
 use Rattle.multistate_rle.specs.declared.cell.Cell.{Cell}
 use Rattle.multistate_rle.specs.declared.pattern.PatternCell.{PatternCell}
-use Rattle.multistate_rle.specs.Cells.{are_below}
+use Rattle.multistate_rle.specs.Cells.{are_states_below}
 use Rattle.multistate_rle.specs.Pattern.{RlePattern}
 use Rattle.edit_stamps.specs.declared.fault.EditFault.{EditFault}
 use Rattle.edit_stamps.specs.declared.fault.EditFault.TheVariants.{Nothing, OutOfPlane, StateRange, AreaSide}
@@ -26,11 +26,11 @@ abbrev pub state_there : RlePattern → ℤ → ℤ → Place → ℕ
 state_there p x y c = state_at p.cells (int_gap x c.x) (int_gap y c.y)
 
 -- a pattern's cell, where the upper left corner of its box is put at x and y
-abbrev pub placed_cell : ℤ → ℤ → PatternCell → Cell
-placed_cell x y cell = record { x = x +ℤ pos cell.column; y = y +ℤ pos cell.row; state = cell.state }
+abbrev pub cell_placed : ℤ → ℤ → PatternCell → Cell
+cell_placed x y cell = record { x = x +ℤ pos cell.column; y = y +ℤ pos cell.row; state = cell.state }
 
 abbrev pub placed : ℤ → ℤ → List PatternCell → List Cell
-placed x y cells = map (placed_cell x y) cells
+placed x y cells = map (cell_placed x y) cells
 
 -- put there, each of a pattern's cells has coordinates of 32 bits with their signs
 abbrev pub are_placeable : ℤ → ℤ → List PatternCell → Bool
@@ -53,7 +53,7 @@ abbrev pub copy_fault : ℕ → Rect → List Cell → Option EditFault
 copy_fault states area cells = first_of (
     when (is_empty area) Nothing
     ∷ when (not (is_area_in_plane area)) OutOfPlane
-    ∷ when (not (are_below states cells)) StateRange
+    ∷ when (not (are_states_below states cells)) StateRange
     ∷ when (is_too_wide area) AreaSide
     ∷ [])
 
@@ -61,7 +61,7 @@ abbrev pub or_fault : ℕ → List Cell → Option EditFault
 or_fault states cells = first_of (
     when (length cells == 0) Nothing
     ∷ when (not (are_in_plane cells)) OutOfPlane
-    ∷ when (not (are_below states cells)) StateRange
+    ∷ when (not (are_states_below states cells)) StateRange
     ∷ [])
 
 abbrev pub clear_fault : Rect → Option EditFault

@@ -11,7 +11,7 @@ use Rattle.multistate_rle.specs.Pattern.{RlePattern}
 use Rattle.edit_stamps.specs.declared.fault.EditFault.TheVariants.{Nothing, OutOfPlane, StateRange, AreaSide}
 use Rattle.edit_stamps.specs.declared.rect.Rect.{Rect}
 use Rattle.edit_stamps.specs.declared.write.Write.{Write}
-use Rattle.edit_stamps.specs.Stamp.{stamp_cmp, stamp_of, stamp_made, counter_of, replica_of}
+use Rattle.edit_stamps.specs.Stamp.{stamp_cmp, stamp_of, stamp_made, counter_in, replica_in}
 use Rattle.edit_stamps.specs.Pasting.{are_placeable, box_of, clear_fault, copy_fault, edit_of_clear, edit_of_copy, edit_of_or, or_fault, placed, state_there}
 use Rattle.edit_stamps.specs.Plane.{is_in_plane}
 use Rattle.edit_stamps.specs.Write.{at_most, greater}
@@ -53,7 +53,7 @@ first_of_the_last_counter = refl
 pub last_of_the_first_counter : stamp_made 1 65535 ≡ Some 131071
 last_of_the_first_counter = refl
 
-pub parts_of_the_last_stamp : map (λ part. part 18446744073709551615) (counter_of ∷ replica_of ∷ []) ≡ 281474976710655 ∷ 65535 ∷ []
+pub parts_of_the_last_stamp : map (λ part. part 18446744073709551615) (counter_in ∷ replica_in ∷ []) ≡ 281474976710655 ∷ 65535 ∷ []
 parts_of_the_last_stamp = refl
 
 -- of two counters the greater decides, whatever the replicas
@@ -63,10 +63,10 @@ counter_decides = refl
 pub replica_decides : stamp_cmp (stamp_of 2 7) (stamp_of 2 1) ≡ Greater
 replica_decides = refl
 
-pub counter_of_two : counter_of (stamp_of 2 7) ≡ 2
+pub counter_of_two : counter_in (stamp_of 2 7) ≡ 2
 counter_of_two = refl
 
-pub replica_of_seven : replica_of (stamp_of 2 7) ≡ 7
+pub replica_of_seven : replica_in (stamp_of 2 7) ≡ 7
 replica_of_seven = refl
 
 -- ---- the plane

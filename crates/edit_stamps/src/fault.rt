@@ -24,11 +24,11 @@ pub enum EditFault {
 }
 
 impl EditFault {
-    ghost use Rattle.edit_stamps.specs.EditFault.{fault_number};
+    ghost use Rattle.edit_stamps.specs.EditFault.{edit_fault_number};
 
     /// Its number in the table of faults; 255 for want of memory.
     pub fn number(self) -> u8
-        ensures { result ≡ fault_number self }
+        ensures { result ≡ edit_fault_number self }
     {
         match self {
             EditFault::TooMany => 8,
@@ -44,9 +44,9 @@ impl EditFault {
 /// Its name.
 impl fmt::Display for EditFault {
     ghost use Rattle.std.specs.Prelude.{Some};
-    ghost use Rattle.edit_stamps.specs.EditFault.{fault_text};
+    ghost use Rattle.edit_stamps.specs.EditFault.{edit_fault_text};
 
-    ghost output = { λ fault. Some (fault_text fault) };
+    ghost output = { λ fault. Some (edit_fault_text fault) };
 
     fn fmt<W: fmt::Write>(&self, f: &mut fmt::Formatter<W>) -> fmt::Result {
         match self {

@@ -5,7 +5,7 @@ ghost use Rattle.std.specs.List.{list_all};
 ghost use Rattle.multistate_rle.specs.Pattern.{IsPattern};
 ghost use Rattle.edit_stamps.specs.Edit.{most_side};
 ghost use Rattle.edit_stamps.specs.Pasting.{box_of, clear_fault, copy_fault, or_fault, placed};
-ghost use Rattle.edit_stamps.specs.Plane.{is_plane_coordinate as has_coordinate, is_area_in_plane};
+ghost use Rattle.edit_stamps.specs.Plane.{is_coordinate_in_plane, is_area_in_plane};
 
 use crate::fault::EditFault;
 use crate::placing::{Corner, have_states_below};
@@ -92,14 +92,14 @@ pub fn box_at(pattern: &Pattern, at: Corner) -> Rect
 }
 
 fn are_in_plane(cells: &[PatternCell], at: Corner) -> bool
-    ensures { result ≡ list_all (λ cell. has_coordinate (at.x +ℤ pos cell.column) && has_coordinate (at.y +ℤ pos cell.row)) cells.now }
+    ensures { result ≡ list_all (λ cell. is_coordinate_in_plane (at.x +ℤ pos cell.column) && is_coordinate_in_plane (at.y +ℤ pos cell.row)) cells.now }
 {
     cells.iter().all(|cell| lands_in_plane(at.x, cell.column) && lands_in_plane(at.y, cell.row))
 }
 
 /// Whether a coordinate, moved so far, is one of the plane.
 fn lands_in_plane(n: i32, by: u32) -> bool
-    ensures { result ≡ has_coordinate (n +ℤ pos by) }
+    ensures { result ≡ is_coordinate_in_plane (n +ℤ pos by) }
 {
     is_plane_coordinate(i64::from(n) + i64::from(by))
 }
@@ -113,7 +113,7 @@ fn is_area_in_plane(at: Corner, width: u64, height: u64) -> bool
 }
 
 fn begins_in_plane(at: Corner) -> bool
-    ensures { result ≡ (has_coordinate at.x && has_coordinate at.y) }
+    ensures { result ≡ (is_coordinate_in_plane at.x && is_coordinate_in_plane at.y) }
 {
     is_plane_coordinate(i64::from(at.x)) && is_plane_coordinate(i64::from(at.y))
 }

@@ -3,7 +3,7 @@
 ghost use Rattle.std.specs.Prelude.{◌≡◌, ◌==◌, IsTrue, Some, refl};
 ghost use Rattle.std.specs.Cmp.{nat_cmp_total, nat_eq_equiv, partial_equiv_from_equiv, unsigned_po, unsigned_ties};
 ghost use Rattle.std.specs.Ordering.{nat_cmp};
-ghost use Rattle.edit_stamps.specs.Stamp.{counter_of as counter_in, is_stamp, replica_of as replica_in, stamp_made};
+ghost use Rattle.edit_stamps.specs.Stamp.{counter_in, is_stamp, replica_in, stamp_made};
 
 use std::cmp::Ordering;
 use std::marker::Model;

@@ -2,7 +2,7 @@
 use Rattle.std.specs.Prelude.{◌≡◌, codes, refl, Some, None}
 use Rattle.std.specs.Fmt.{digits}
 use Rattle.genedit_io.specs.declared.fault.RunFault.TheVariants.{Script, Refused, Read, Turns, Write, Memory, StoreFull}
-use Rattle.genedit_io.specs.RunFault.{exit_status, fault_text, name_of_number}
+use Rattle.genedit_io.specs.RunFault.{exit_status, run_fault_text, name_of_number}
 
 -- ---- names
 
@@ -65,22 +65,22 @@ no_name = refl
 
 -- ---- texts
 
-pub script_line : fault_text (Script 3) ≡ codes "script fault at line 3"
+pub script_line : run_fault_text (Script 3) ≡ codes "script fault at line 3"
 unfolding digits
 script_line = refl
 
-pub without_place : fault_text (Refused 38 None) ≡ codes "refused 38 NoPattern"
+pub without_place : run_fault_text (Refused 38 None) ≡ codes "refused 38 NoPattern"
 unfolding digits
 without_place = refl
 
-pub with_place : fault_text (Refused 2 (Some 17)) ≡ codes "refused 2 Digit 17"
+pub with_place : run_fault_text (Refused 2 (Some 17)) ≡ codes "refused 2 Digit 17"
 unfolding digits
 with_place = refl
 
-pub failed_reads : fault_text Read ≡ codes "read fault"
+pub failed_reads : run_fault_text Read ≡ codes "read fault"
 failed_reads = refl
 
-pub endless_sources : fault_text Turns ≡ codes "read fault"
+pub endless_sources : run_fault_text Turns ≡ codes "read fault"
 endless_sources = refl
 
 -- ---- exit statuses

@@ -36,14 +36,14 @@ refusal_text number None = name_of_number number
 refusal_text number (Some place) = name_of_number number ++ (codes " " ++ decimal place)
 
 -- what the program says
-abbrev pub fault_text : RunFault → List ℕ
-fault_text (Script line) = codes "script fault at line " ++ decimal line
-fault_text (Refused number place) = codes "refused " ++ (decimal number ++ (codes " " ++ refusal_text number place))
-fault_text Read = codes "read fault"
-fault_text Turns = codes "read fault"
-fault_text Write = codes "write fault"
-fault_text Memory = codes "out of memory"
-fault_text StoreFull = codes "store full"
+abbrev pub run_fault_text : RunFault → List ℕ
+run_fault_text (Script line) = codes "script fault at line " ++ decimal line
+run_fault_text (Refused number place) = codes "refused " ++ (decimal number ++ (codes " " ++ refusal_text number place))
+run_fault_text Read = codes "read fault"
+run_fault_text Turns = codes "read fault"
+run_fault_text Write = codes "write fault"
+run_fault_text Memory = codes "out of memory"
+run_fault_text StoreFull = codes "store full"
 
 -- a fault that is no part of what a run means; no run has a store yet that could be full
 abbrev pub IsWant : RunFault → Type 0

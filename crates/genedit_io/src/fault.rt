@@ -46,9 +46,9 @@ impl RunFault {
 /// What the program says of it.
 impl fmt::Display for RunFault {
     ghost use Rattle.std.specs.Prelude.{Some};
-    ghost use Rattle.genedit_io.specs.RunFault.{fault_text};
+    ghost use Rattle.genedit_io.specs.RunFault.{run_fault_text};
 
-    ghost output = { λ fault. Some (fault_text fault) };
+    ghost output = { λ fault. Some (run_fault_text fault) };
 
     fn fmt<W: fmt::Write>(&self, f: &mut fmt::Formatter<W>) -> fmt::Result {
         match self {

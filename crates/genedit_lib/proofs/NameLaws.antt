@@ -7,18 +7,18 @@ use Rattle.std.proofs.lemmas.Cmp.{nat_eq_equiv}
 use Rattle.std.proofs.lemmas.Map.Made.{IsDistinct-from_count}
 use Rattle.generations_rule.specs.declared.fault.RuleFault.{RuleFault}
 use Rattle.generations_rule.specs.declared.fault.RuleFault.TheVariants.{Slashes, Digit, States}
-use Rattle.generations_rule.specs.RuleFault.{fault_number as rule_fault_number, fault_place as rule_fault_place, fault_text as rule_fault_text}
+use Rattle.generations_rule.specs.RuleFault.{rule_fault_number, rule_fault_place, rule_fault_text}
 use Rattle.multistate_rle.specs.declared.fault.RleFault.{RleFault}
 use Rattle.multistate_rle.specs.declared.fault.RleFault.TheVariants as texts
-use Rattle.multistate_rle.specs.RleFault.{fault_number as text_fault_number, fault_place as text_fault_place, fault_text as text_fault_text}
+use Rattle.multistate_rle.specs.RleFault.{text_fault_number, text_fault_place, text_fault_text}
 use Rattle.edit_stamps.specs.declared.fault.EditFault.{EditFault}
 use Rattle.edit_stamps.specs.declared.fault.EditFault.TheVariants as edits
-use Rattle.edit_stamps.specs.EditFault.{fault_number as edit_fault_number, fault_text as edit_fault_text}
+use Rattle.edit_stamps.specs.EditFault.{edit_fault_number, edit_fault_text}
 use Rattle.replica_core.specs.declared.fault.Fault.{Fault}
 use Rattle.replica_core.specs.declared.fault.Fault.TheVariants.{Edit, OtherRule, ClockFull, NoReplica, NoMessage, Memory}
 use Rattle.replica_core.specs.declared.event.Stop.{Stop}
 use Rattle.replica_core.specs.declared.event.Stop.TheVariants as stops
-use Rattle.replica_core.specs.Fault.{fault_number, fault_text, stop_number, stop_text}
+use Rattle.replica_core.specs.Fault.{replica_fault_number, replica_fault_text, stop_number, stop_text}
 use Rattle.genedit_lib.specs.Laws.{IsNamed, NamesAgree, NamesAreDistinct}
 use Rattle.genedit_io.specs.RunFault.{names}
 
@@ -43,7 +43,7 @@ edit_names edits.StateRange refused = refl
 edit_names edits.AreaSide refused = refl
 edit_names edits.Memory refused = absurd (refused refl)
 
-replica_names : (fault : Fault) → IsNamed (fault_number fault) None (fault_text fault)
+replica_names : (fault : Fault) → IsNamed (replica_fault_number fault) None (replica_fault_text fault)
 replica_names (Edit fault) refused = edit_names fault refused
 replica_names OtherRule refused = refl
 replica_names ClockFull refused = refl

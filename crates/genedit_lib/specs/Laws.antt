@@ -3,14 +3,14 @@ use Rattle.std.specs.Prelude.{◌≡◌, ℕ, List, Option, None, nat_eq, bytes_
 use Rattle.std.specs.List.{IsDistinct}
 use Rattle.std.specs.Map.{keys_of, values_of}
 use Rattle.generations_rule.specs.declared.fault.RuleFault.{RuleFault}
-use Rattle.generations_rule.specs.RuleFault.{fault_number as rule_fault_number, fault_place as rule_fault_place, fault_text as rule_fault_text}
+use Rattle.generations_rule.specs.RuleFault.{rule_fault_number, rule_fault_place, rule_fault_text}
 use Rattle.multistate_rle.specs.declared.fault.RleFault.{RleFault}
-use Rattle.multistate_rle.specs.RleFault.{fault_number as text_fault_number, fault_place as text_fault_place, fault_text as text_fault_text}
+use Rattle.multistate_rle.specs.RleFault.{text_fault_number, text_fault_place, text_fault_text}
 use Rattle.edit_stamps.specs.declared.fault.EditFault.{EditFault}
-use Rattle.edit_stamps.specs.EditFault.{fault_number as edit_fault_number, fault_text as edit_fault_text}
+use Rattle.edit_stamps.specs.EditFault.{edit_fault_number, edit_fault_text}
 use Rattle.replica_core.specs.declared.fault.Fault.{Fault}
 use Rattle.replica_core.specs.declared.event.Stop.{Stop}
-use Rattle.replica_core.specs.Fault.{fault_number, fault_text, stop_number, stop_text}
+use Rattle.replica_core.specs.Fault.{replica_fault_number, replica_fault_text, stop_number, stop_text}
 use Rattle.genedit_io.specs.RunFault.{names, refusal_text}
 
 -- a refusal's own text is what the program says behind its number; 255 is want of memory, and no refusal
@@ -22,7 +22,7 @@ pub record NamesAgree : Type 0 where
   pub rules : (fault : RuleFault) → IsNamed (rule_fault_number fault) (rule_fault_place fault) (rule_fault_text fault)
   pub texts : (fault : RleFault) → IsNamed (text_fault_number fault) (text_fault_place fault) (text_fault_text fault)
   pub edits : (fault : EditFault) → IsNamed (edit_fault_number fault) None (edit_fault_text fault)
-  pub replicas : (fault : Fault) → IsNamed (fault_number fault) None (fault_text fault)
+  pub replicas : (fault : Fault) → IsNamed (replica_fault_number fault) None (replica_fault_text fault)
   pub stops : (stop : Stop) → IsNamed (stop_number stop) None (stop_text stop)
 
 -- no number has two names, and no name two numbers

@@ -4,16 +4,16 @@ use Rattle.std.specs.Fmt.{signed_decimal}
 use Rattle.multistate_rle.specs.declared.fault.RleFault.{RleFault}
 use Rattle.multistate_rle.specs.Pattern.{RlePattern}
 use Rattle.multistate_rle.specs.Reading.{parsed}
-use Rattle.multistate_rle.specs.RleFault.{fault_number as text_fault_number, fault_text as text_fault_text}
+use Rattle.multistate_rle.specs.RleFault.{text_fault_number, text_fault_text}
 use Rattle.edit_stamps.specs.declared.write.Write.{Write}
-use Rattle.edit_stamps.specs.Stamp.{counter_of, replica_of}
+use Rattle.edit_stamps.specs.Stamp.{counter_in, replica_in}
 use Rattle.replica_core.specs.declared.event.Event.{Event}
 use Rattle.replica_core.specs.declared.event.Event.TheVariants.{Draw}
 use Rattle.replica_core.specs.declared.event.Reply.{Reply}
 use Rattle.replica_core.specs.declared.event.Reply.TheVariants.{Drawn, Sent, Taken, Shown, Refused}
-use Rattle.replica_core.specs.declared.spec.EditSpec.{EditSpec}
-use Rattle.replica_core.specs.declared.spec.EditSpec.TheVariants.{Copy, Or}
-use Rattle.replica_core.specs.Fault.{fault_number, fault_text}
+use Rattle.replica_core.specs.declared.edit_spec.EditSpec.{EditSpec}
+use Rattle.replica_core.specs.declared.edit_spec.EditSpec.TheVariants.{Copy, Or}
+use Rattle.replica_core.specs.Fault.{replica_fault_number, replica_fault_text}
 use Rattle.replica_core.specs.World.{opening, AreReplies}
 use Rattle.genedit_io.specs.RunFault.{name_of_number}
 use Rattle.genedit_script.specs.declared.command.Command.{Command}
@@ -36,7 +36,7 @@ pub data OutputLine : Type 0 where
 
 -- counter and replica of a stamp; 0 and 0 of no stamp
 abbrev pub stamp_text : ℕ → List ℕ
-stamp_text stamp = decimal (counter_of stamp) ++ codes " " ++ decimal (replica_of stamp)
+stamp_text stamp = decimal (counter_in stamp) ++ codes " " ++ decimal (replica_in stamp)
 
 -- state, counter and replica
 abbrev pub write_text : Write → List ℕ
@@ -52,24 +52,24 @@ reply_line (Drawn stamp) = codes "drawn " ++ stamp_text stamp ++ codes "\n"
 reply_line (Sent message) = codes "sent " ++ decimal message ++ codes "\n"
 reply_line Taken = codes "taken\n"
 reply_line (Shown write) = write_text write ++ codes "\n"
-reply_line (Refused fault) = refused_text (fault_number fault) (fault_text fault) ++ codes "\n"
+reply_line (Refused fault) = refused_text (replica_fault_number fault) (replica_fault_text fault) ++ codes "\n"
 
 -- ---- the lines of patterns
 
 -- width, height, number of nonzero cells, position and generation of a named pattern
-abbrev pub pattern_text : List ℕ → RlePattern → List ℕ
-pattern_text name p =
+abbrev pub pattern_line : List ℕ → RlePattern → List ℕ
+pattern_line name p =
     codes "pattern " ++ name ++ codes " " ++ decimal p.width ++ codes " " ++ decimal p.height ++ codes " " ++ decimal (length p.cells)
     ++ codes " " ++ signed_decimal p.pos.0 ++ codes " " ++ signed_decimal p.pos.1 ++ codes " " ++ decimal p.generation
 
 -- what is said of a text that was given a name
 abbrev pub naming_text : List ℕ → Result RlePattern RleFault → List ℕ
-naming_text name (Ok pattern) = pattern_text name pattern
+naming_text name (Ok pattern) = pattern_line name pattern
 naming_text name (Err fault) = refused_text (text_fault_number fault) (text_fault_text fault)
 
 -- no pattern has the name
-abbrev pub no_pattern_text : List ℕ
-no_pattern_text = refused_text 38 (name_of_number 38)
+abbrev pub no_pattern_line : List ℕ
+no_pattern_line = refused_text 38 (name_of_number 38)
 
 -- ---- names
 
@@ -93,7 +93,7 @@ with_text patterns name (Err fault) = patterns
 -- the draw of a paste, or that no pattern has its name
 abbrev pub paste_step : ℕ → Option EditSpec → ScriptStep
 paste_step replica (Some spec) = Happens (Draw replica spec)
-paste_step replica None = Says no_pattern_text
+paste_step replica None = Says no_pattern_line
 
 -- what a command comes to
 abbrev pub command_step : Patterns → Command → ScriptStep

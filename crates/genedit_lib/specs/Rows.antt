@@ -3,18 +3,18 @@ use Rattle.std.specs.Prelude.{◌≡◌, ℕ, List, [], ◌∷◌, codes, refl, 
 use Rattle.std.specs.Fmt.{digits}
 use Rattle.generations_rule.specs.RuleText.{rule_of_text}
 use Rattle.replica_core.specs.declared.event.Event.TheVariants.{Draw, SendState, Deliver, Show}
-use Rattle.replica_core.specs.declared.spec.EditSpec.TheVariants.{Cells, Clear}
+use Rattle.replica_core.specs.declared.edit_spec.EditSpec.TheVariants.{Cells, Clear}
 use Rattle.edit_stamps.specs.declared.fault.EditFault.TheVariants.{OutOfPlane}
 use Rattle.edit_stamps.specs.Write.{unwritten}
 use Rattle.edit_stamps.specs.Stamp.{stamp_of}
-use Rattle.replica_core.specs.declared.spec.EditSpec.{EditSpec}
+use Rattle.replica_core.specs.declared.edit_spec.EditSpec.{EditSpec}
 use Rattle.replica_core.specs.declared.event.Reply.{Reply}
 use Rattle.replica_core.specs.declared.event.Reply.TheVariants.{Drawn, Sent, Taken, Shown, Refused}
 use Rattle.genedit_script.specs.declared.command.Command.TheVariants.{Does, Names, Copies, Ors}
 use Rattle.genedit_script.specs.declared.command.Paste.{Paste}
 use Rattle.genedit_lib.specs.Run.{PrintsAs}
 use Rattle.replica_core.specs.declared.fault.Fault.TheVariants.{Edit}
-use Rattle.genedit_lib.specs.Output.{no_pattern_text, pattern_text, reply_line}
+use Rattle.genedit_lib.specs.Output.{no_pattern_line, pattern_line, reply_line}
 
 -- ---- replies
 
@@ -44,12 +44,12 @@ refused = refl
 -- ---- the lines of patterns
 
 pub far_pattern :
-    pattern_text (codes "p") (record { width = 4294967296; height = 1; pos = (negsuc 2147483647, negsuc 0); generation = 7; cells = [] })
+    pattern_line (codes "p") (record { width = 4294967296; height = 1; pos = (negsuc 2147483647, negsuc 0); generation = 7; cells = [] })
     ≡ codes "pattern p 4294967296 1 0 -2147483648 -1 7"
 unfolding digits
 far_pattern = refl
 
-pub no_such_pattern : no_pattern_text ≡ codes "refused 38 NoPattern"
+pub no_such_pattern : no_pattern_line ≡ codes "refused 38 NoPattern"
 unfolding digits
 no_such_pattern = refl
 

@@ -1,8 +1,8 @@
 //! What is printed.
 
 ghost use Rattle.std.specs.Prelude.{◌≡◌, ◌++◌, OnOk, IfOk, codes, decimal, map};
-ghost use Rattle.multistate_rle.specs.RleFault.{fault_number as text_fault_number, fault_text as text_fault_text};
-ghost use Rattle.genedit_lib.specs.Output.{no_pattern_text as no_pattern_means, filled, pattern_text as pattern_means, refused_text, reply_line, stamp_text, write_text};
+ghost use Rattle.multistate_rle.specs.RleFault.{text_fault_number, text_fault_text};
+ghost use Rattle.genedit_lib.specs.Output.{no_pattern_line, filled, pattern_line, refused_text, reply_line, stamp_text, write_text};
 ghost use Rattle.genedit_lib.specs.Plan.{line_of};
 
 use crate::plan::Line;
@@ -36,7 +36,7 @@ pub fn output(alloc: Global, lines: &[Line], replies: &[Reply]) -> Result<Vec<u8
 
 /// Width, height, number of nonzero cells, position and generation of a named pattern.
 pub fn pattern_text(alloc: Global, name: &[u8], pattern: &Pattern) -> Result<Text, AllocError>
-    ensures { IfOk result (λ text. text ≡ pattern_means name.now pattern.now) }
+    ensures { IfOk result (λ text. text ≡ pattern_line name.now pattern.now) }
 {
     let mut text = Vec::new(alloc);
     let mut buffer = Buffer::new();
@@ -70,7 +70,7 @@ pub fn text_refusal(alloc: Global, fault: RleFault) -> Result<Text, AllocError>
 
 /// That no pattern has the name.
 pub fn no_pattern_text(alloc: Global) -> Result<Text, AllocError>
-    ensures { IfOk result (λ text. text ≡ no_pattern_means) }
+    ensures { IfOk result (λ text. text ≡ no_pattern_line) }
 {
     let mut text = Vec::new(alloc);
     push_refusal(&mut text, 38, b"NoPattern")?;

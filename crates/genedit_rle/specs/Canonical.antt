@@ -7,7 +7,7 @@ use Rattle.multistate_rle.specs.declared.cell.Cell.{Cell}
 use Rattle.multistate_rle.specs.declared.fault.RleFault.{RleFault}
 use Rattle.multistate_rle.specs.Pattern.{RlePattern}
 use Rattle.multistate_rle.specs.Reading.{parsed}
-use Rattle.multistate_rle.specs.Writing.{rle_text}
+use Rattle.multistate_rle.specs.Writing.{text_of_cells}
 use Rattle.edit_stamps.specs.Pasting.{are_placeable, have_states_below, placed}
 use Rattle.genedit_rle.specs.Refusal.{FormRefusal, Text, OutOfPlane, StateRange}
 
@@ -24,7 +24,7 @@ pattern_refusal states p = first_of (
 
 -- the text of a pattern's cells in the plane, at its generation
 abbrev pub written : GenerationsRule → RlePattern → Result (List ℕ) FormRefusal
-written r p = unless (pattern_refusal r.states p) (rle_text r p.generation (cells_in_plane p))
+written r p = unless (pattern_refusal r.states p) (text_of_cells r p.generation (cells_in_plane p))
 
 -- what was read, where the text was refused nothing
 abbrev pub read : Result RlePattern RleFault → Result RlePattern FormRefusal

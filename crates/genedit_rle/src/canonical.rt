@@ -1,7 +1,7 @@
 //! The canonical form of a text.
 
 ghost use Rattle.std.specs.Prelude.{◌≡◌, IfOk, IfErr, IfSome, IfNone, Ok, Err, Some, None, option_map};
-ghost use Rattle.multistate_rle.specs.Writing.{rle_text};
+ghost use Rattle.multistate_rle.specs.Writing.{text_of_cells};
 ghost use Rattle.genedit_rle.specs.Canonical.{canonical, cells_in_plane, pattern_refusal, written};
 ghost use Rattle.genedit_rle.specs.Fault.{refusal_of};
 
@@ -51,7 +51,7 @@ fn fault_of(rule: &Rule, pattern: &Pattern) -> Option<CanonicalFault>
 /// The text of a pattern that is refused nothing.
 fn text_of(alloc: Global, rule: &Rule, pattern: &Pattern) -> Result<Vec<u8>, AllocError>
     requires { pattern_refusal rule.now.states pattern.now ≡ None }
-    ensures { IfOk result (λ text. text.items ≡ rle_text rule.now pattern.now.generation (cells_in_plane pattern.now)) }
+    ensures { IfOk result (λ text. text.items ≡ text_of_cells rule.now pattern.now.generation (cells_in_plane pattern.now)) }
 {
     let cells = placed_cells(alloc, pattern.cells(), position_of(pattern))?;
     write(alloc, rule, pattern.generation(), &cells)

@@ -9,7 +9,7 @@ use Rattle.genedit_script.specs.declared.command.Command.{Command}
 use Rattle.genedit_script.specs.declared.fault.ScriptFault.{ScriptFault}
 use Rattle.genedit_script.specs.declared.fault.ScriptFault.TheVariants.{Line, Memory}
 use Rattle.genedit_script.specs.ScriptFault.{IsFaultOf}
-use Rattle.genedit_script.specs.Script.{NumberedLine, onto, says_something, past_skipped, opened_in, command_in, commands_in}
+use Rattle.genedit_script.specs.Script.{NumberedLine, onto, is_spoken, past_skipped, opening_spelled, command_spelled, commands_spelled}
 
 -- the commands, with others in front
 abbrev pub with_front : List Command → Result (List Command) ℕ → Result (List Command) ℕ
@@ -25,66 +25,66 @@ pub front_of_nothing : (commands : Result (List Command) ℕ) → with_front [] 
 front_of_nothing (Ok commands) = refl
 front_of_nothing (Err n) = refl
 
-kept : (line : NumberedLine) (lines : List NumberedLine) → says_something (words line.text) ≡ true → past_skipped (line ∷ lines) ≡ line ∷ lines
+kept : (line : NumberedLine) (lines : List NumberedLine) → is_spoken (words line.text) ≡ true → past_skipped (line ∷ lines) ≡ line ∷ lines
 kept line lines is = rw is refl
 
-skipped : (line : NumberedLine) (lines : List NumberedLine) → says_something (words line.text) ≡ false → past_skipped (line ∷ lines) ≡ past_skipped lines
+skipped : (line : NumberedLine) (lines : List NumberedLine) → is_spoken (words line.text) ≡ false → past_skipped (line ∷ lines) ≡ past_skipped lines
 skipped line lines is = rw is refl
 
-skips : (line : NumberedLine) (lines : List NumberedLine) → commands_in None lines ≡ commands_in None (past_skipped lines) →
-    (b : Bool) → says_something (words line.text) ≡ b → commands_in None (line ∷ lines) ≡ commands_in None (past_skipped (line ∷ lines))
-skips line lines more true is = ap (commands_in None) (sym (kept line lines is))
+skips : (line : NumberedLine) (lines : List NumberedLine) → commands_spelled None lines ≡ commands_spelled None (past_skipped lines) →
+    (b : Bool) → is_spoken (words line.text) ≡ b → commands_spelled None (line ∷ lines) ≡ commands_spelled None (past_skipped (line ∷ lines))
+skips line lines more true is = ap (commands_spelled None) (sym (kept line lines is))
 skips line lines more false is =
-    let here : commands_in None (line ∷ lines) ≡ commands_in None lines = rw is refl in
-    here ∙ more ∙ ap (commands_in None) (sym (skipped line lines is))
+    let here : commands_spelled None (line ∷ lines) ≡ commands_spelled None lines = rw is refl in
+    here ∙ more ∙ ap (commands_spelled None) (sym (skipped line lines is))
 
 -- skipped lines are no commands
-pub skipped_ask_nothing : (lines : List NumberedLine) → commands_in None lines ≡ commands_in None (past_skipped lines)
+pub skipped_ask_nothing : (lines : List NumberedLine) → commands_spelled None lines ≡ commands_spelled None (past_skipped lines)
 skipped_ask_nothing [] = refl
-skipped_ask_nothing (line ∷ lines) = skips line lines (skipped_ask_nothing lines) (says_something (words line.text)) refl
+skipped_ask_nothing (line ∷ lines) = skips line lines (skipped_ask_nothing lines) (is_spoken (words line.text)) refl
 
 first_says : (first : NumberedLine) (lines : List NumberedLine) (line : NumberedLine) (more : List NumberedLine) →
-    (past_skipped lines ≡ line ∷ more → says_something (words line.text) ≡ true) →
-    (b : Bool) → says_something (words first.text) ≡ b → past_skipped (first ∷ lines) ≡ line ∷ more → says_something (words line.text) ≡ true
+    (past_skipped lines ≡ line ∷ more → is_spoken (words line.text) ≡ true) →
+    (b : Bool) → is_spoken (words first.text) ≡ b → past_skipped (first ∷ lines) ≡ line ∷ more → is_spoken (words line.text) ≡ true
 first_says first lines line more later true b is =
     let same : first ∷ lines ≡ line ∷ more = sym (kept first lines b) ∙ is in
     let same_line : first ≡ line = cc in
-    ap (λ (l : NumberedLine). says_something (words l.text)) (sym same_line) ∙ b
+    ap (λ (l : NumberedLine). is_spoken (words l.text)) (sym same_line) ∙ b
 first_says first lines line more later false b is = later (sym (skipped first lines b) ∙ is)
 
 -- a line behind the skipped ones says something
 pub says : (lines : List NumberedLine) (line : NumberedLine) (more : List NumberedLine) → past_skipped lines ≡ line ∷ more →
-    says_something (words line.text) ≡ true
+    is_spoken (words line.text) ≡ true
 says [] line more is = absurd (cc)
-says (first ∷ lines) line more is = first_says first lines line more (says lines line more) (says_something (words first.text)) refl is
+says (first ∷ lines) line more is = first_says first lines line more (says lines line more) (is_spoken (words first.text)) refl is
 
 -- a line that opens a block
 pub opens : (lines : List NumberedLine) (line : NumberedLine) (more : List NumberedLine) (name : List ℕ) → past_skipped lines ≡ line ∷ more →
-    opened_in (words line.text) ≡ Some name →
-    commands_in None lines ≡ commands_in (Some (record { line = line.number; name = name; text = [] })) more
-opens lines line more name is opened = skipped_ask_nothing lines ∙ ap (commands_in None) is ∙ rw (says lines line more is, opened) refl
+    opening_spelled (words line.text) ≡ Some name →
+    commands_spelled None lines ≡ commands_spelled (Some (record { line = line.number; name = name; text = [] })) more
+opens lines line more name is opened = skipped_ask_nothing lines ∙ ap (commands_spelled None) is ∙ rw (says lines line more is, opened) refl
 
 -- a line that opens none
 pub asks : (lines : List NumberedLine) (line : NumberedLine) (more : List NumberedLine) → past_skipped lines ≡ line ∷ more →
-    opened_in (words line.text) ≡ None →
-    commands_in None lines ≡ (ok_or (command_in (words line.text)) line.number >>= λ command. onto command (commands_in None more))
-asks lines line more is opened = skipped_ask_nothing lines ∙ ap (commands_in None) is ∙ rw (says lines line more is, opened) refl
+    opening_spelled (words line.text) ≡ None →
+    commands_spelled None lines ≡ (ok_or (command_spelled (words line.text)) line.number >>= λ command. onto command (commands_spelled None more))
+asks lines line more is opened = skipped_ask_nothing lines ∙ ap (commands_spelled None) is ∙ rw (says lines line more is, opened) refl
 
 -- where nothing is said, nothing is asked
-pub nothing_left : (lines : List NumberedLine) → past_skipped lines ≡ [] → commands_in None lines ≡ Ok []
-nothing_left lines is = skipped_ask_nothing lines ∙ ap (commands_in None) is
+pub nothing_left : (lines : List NumberedLine) → past_skipped lines ≡ [] → commands_spelled None lines ≡ Ok []
+nothing_left lines is = skipped_ask_nothing lines ∙ ap (commands_spelled None) is
 
 -- a command in front of those behind it, with others in front of both
 pub goes_on : (front front_after : List Command) (command : Command) (lines more : List NumberedLine) (all : Result (List Command) ℕ) →
-    front_after ≡ front ++ command ∷ [] → commands_in None lines ≡ onto command (commands_in None more) →
-    with_front front (commands_in None lines) ≡ all → with_front front_after (commands_in None more) ≡ all
+    front_after ≡ front ++ command ∷ [] → commands_spelled None lines ≡ onto command (commands_spelled None more) →
+    with_front front (commands_spelled None lines) ≡ all → with_front front_after (commands_spelled None more) ≡ all
 goes_on front front_after command lines more all after is so_far =
-    ap (λ f. with_front f (commands_in None more)) after ∙ command_between front command (commands_in None more)
+    ap (λ f. with_front f (commands_spelled None more)) after ∙ command_between front command (commands_spelled None more)
     ∙ ap (with_front front) (sym is) ∙ so_far
 
 -- the commands so far are all where none is left
 pub ends_here : (front : List Command) (lines : List NumberedLine) (all : Result (List Command) ℕ) → past_skipped lines ≡ [] →
-    with_front front (commands_in None lines) ≡ all → all ≡ Ok front
+    with_front front (commands_spelled None lines) ≡ all → all ≡ Ok front
 ends_here front lines all none so_far =
     sym so_far ∙ ap (with_front front) (nothing_left lines none) ∙ ap Ok (append-nil front)
 

@@ -7,7 +7,7 @@ use Rattle.generations_rule.specs.Rule.{GenerationsRule}
 use Rattle.multistate_rle.specs.Position.{words}
 use Rattle.genedit_script.specs.declared.command.Command.{Command}
 use Rattle.genedit_script.specs.declared.command.Command.TheVariants.{Names}
-use Rattle.genedit_script.specs.Script.{ScriptValue, rule_in, replicas_in, opened_in, command_in}
+use Rattle.genedit_script.specs.Script.{ScriptValue, rule_spelled, replicas_spelled, opening_spelled, command_spelled}
 use Rattle.genedit_script.specs.Laws.{is_skipped, AreSkipped, HaveNoEnd, block_text, AskFor, nothing, skipped, spelt, block, NameRule, rule_line, AreScript, whole, HaveHeadFaultAt, no_rule_line, faulty_rule_line, no_replicas_line, faulty_replicas_line, HaveFaultAt, head_fault, no_command, open_block}
 
 -- ---- pieces
@@ -16,9 +16,9 @@ use Rattle.genedit_script.specs.Laws.{is_skipped, AreSkipped, HaveNoEnd, block_t
 pub data Sorted : List (List ℕ) → Type 0 where
   all_asked : {lines : List (List ℕ)} (commands : List Command) → AskFor lines commands → Sorted lines
   stuck_at : (front : List (List ℕ)) (line : List ℕ) (more : List (List ℕ)) (commands : List Command) → AskFor front commands →
-      is_skipped line ≡ false → opened_in (words line) ≡ None → command_in (words line) ≡ None → Sorted (front ++ line ∷ more)
+      is_skipped line ≡ false → opening_spelled (words line) ≡ None → command_spelled (words line) ≡ None → Sorted (front ++ line ∷ more)
   left_open : (front : List (List ℕ)) (opening name : List ℕ) (inside : List (List ℕ)) (commands : List Command) → AskFor front commands →
-      opened_in (words opening) ≡ Some name → HaveNoEnd inside → Sorted (front ++ opening ∷ inside)
+      opening_spelled (words opening) ≡ Some name → HaveNoEnd inside → Sorted (front ++ opening ∷ inside)
 
 -- lines in front of all others that ask for commands
 abbrev AsksInFront : List (List ℕ) → Type 0
@@ -37,35 +37,35 @@ behind_piece piece asks (left_open front opening name inside commands asked open
 abbrev Inside : List (List ℕ) → Type 0
 Inside lines = HaveNoEnd lines ⊎ ((inside : List (List ℕ)) × (rest : List (List ℕ)) × (HaveNoEnd inside × ((lines ≡ inside ++ codes "end" ∷ rest) × Sorted rest)))
 
-block_asks : (opening name : List ℕ) (inside : List (List ℕ)) → opened_in (words opening) ≡ Some name → HaveNoEnd inside →
+block_asks : (opening name : List ℕ) (inside : List (List ℕ)) → opening_spelled (words opening) ≡ Some name → HaveNoEnd inside →
     AsksInFront (opening ∷ (inside ++ codes "end" ∷ []))
 block_asks opening name inside is none lines commands asked =
     let end : List ℕ = codes "end" in
     let more : List Command = Names name (block_text inside) ∷ commands in
     (more, subst (λ (ls : List (List ℕ)). AskFor (opening ∷ ls) more) (sym (append_assoc inside (end ∷ []) lines)) (block inside is none asked))
 
-opened : (opening name : List ℕ) (lines : List (List ℕ)) → opened_in (words opening) ≡ Some name → Inside lines → Sorted (opening ∷ lines)
+opened : (opening name : List ℕ) (lines : List (List ℕ)) → opening_spelled (words opening) ≡ Some name → Inside lines → Sorted (opening ∷ lines)
 opened opening name lines is (inl none) = left_open [] opening name lines [] nothing is none
 opened opening name lines is (inr (inside, rest, (none, (same, sorted)))) =
     let end : List ℕ = codes "end" in
     subst (λ (ls : List (List ℕ)). Sorted (opening ∷ ls)) (append_assoc inside (end ∷ []) rest ∙ sym same)
     (behind_piece (opening ∷ (inside ++ end ∷ [])) (block_asks opening name inside is none) sorted)
 
-spoken : (line : List ℕ) (lines : List (List ℕ)) → is_skipped line ≡ false → opened_in (words line) ≡ None →
-    (command : Option Command) → command_in (words line) ≡ command → Sorted lines → Sorted (line ∷ lines)
+spoken : (line : List ℕ) (lines : List (List ℕ)) → is_skipped line ≡ false → opening_spelled (words line) ≡ None →
+    (command : Option Command) → command_spelled (words line) ≡ command → Sorted lines → Sorted (line ∷ lines)
 spoken line lines says opens (Some command) is sorted =
     behind_piece (line ∷ []) (λ (ls : List (List ℕ)) (commands : List Command) (asked : AskFor ls commands). (command ∷ commands, spelt is asked)) sorted
 spoken line lines says opens None is sorted = stuck_at [] line lines [] nothing says opens is
 
-first_opens : (line : List ℕ) (lines : List (List ℕ)) → is_skipped line ≡ false → (name : Option (List ℕ)) → opened_in (words line) ≡ name →
+first_opens : (line : List ℕ) (lines : List (List ℕ)) → is_skipped line ≡ false → (name : Option (List ℕ)) → opening_spelled (words line) ≡ name →
     Sorted lines → Inside lines → Sorted (line ∷ lines)
 first_opens line lines says (Some name) is sorted inside = opened line name lines is inside
-first_opens line lines says None is sorted inside = spoken line lines says is (command_in (words line)) refl sorted
+first_opens line lines says None is sorted inside = spoken line lines says is (command_spelled (words line)) refl sorted
 
 first_says : (line : List ℕ) (lines : List (List ℕ)) (b : Bool) → is_skipped line ≡ b → Sorted lines → Inside lines → Sorted (line ∷ lines)
 first_says line lines true is sorted inside =
     behind_piece (line ∷ []) (λ (ls : List (List ℕ)) (commands : List Command) (asked : AskFor ls commands). (commands, skipped is asked)) sorted
-first_says line lines false is sorted inside = first_opens line lines is (opened_in (words line)) refl sorted inside
+first_says line lines false is sorted inside = first_opens line lines is (opening_spelled (words line)) refl sorted inside
 
 one_more_inside : (line : List ℕ) (lines : List (List ℕ)) → bytes_eq line (codes "end") ≡ false → Inside lines → Inside (line ∷ lines)
 one_more_inside line lines is (inl none) = inl (rw is none)
@@ -109,11 +109,11 @@ skipping (line ∷ lines) = skip_first line lines (is_skipped line) refl (skippi
 -- lines that begin like a script, or have a fault there
 pub data HeadSorted : List (List ℕ) → Type 0 where
   right : (front between : List (List ℕ)) (line : List ℕ) (behind : List (List ℕ)) (rule : GenerationsRule) (replicas : ℕ) →
-      NameRule front rule → AreSkipped between → replicas_in (words line) ≡ Some replicas → HeadSorted (front ++ (between ++ line ∷ behind))
+      NameRule front rule → AreSkipped between → replicas_spelled (words line) ≡ Some replicas → HeadSorted (front ++ (between ++ line ∷ behind))
   wrong : {lines : List (List ℕ)} (number : ℕ) → HaveHeadFaultAt lines number → HeadSorted lines
 
 second_line : (front between : List (List ℕ)) (line : List ℕ) (more : List (List ℕ)) (rule : GenerationsRule) (replicas : Option ℕ) →
-    NameRule front rule → AreSkipped between → is_skipped line ≡ false → replicas_in (words line) ≡ replicas → HeadSorted (front ++ (between ++ line ∷ more))
+    NameRule front rule → AreSkipped between → is_skipped line ≡ false → replicas_spelled (words line) ≡ replicas → HeadSorted (front ++ (between ++ line ∷ more))
 second_line front between line more rule (Some replicas) named all says is = right front between line more rule replicas named all is
 second_line front between line more rule None named all says is =
     wrong (length (front ++ between) + 1) (faulty_replicas_line front between line more rule named all says is)
@@ -121,17 +121,17 @@ second_line front between line more rule None named all says is =
 second_sorted : (front : List (List ℕ)) (rule : GenerationsRule) {lines : List (List ℕ)} → NameRule front rule → Skipping lines → HeadSorted (front ++ lines)
 second_sorted front rule named (all_skipped {lines = lines} all) = wrong (length (front ++ lines) + 1) (no_replicas_line front lines rule named all)
 second_sorted front rule named (up_to between line more all says) =
-    second_line front between line more rule (replicas_in (words line)) named all says refl
+    second_line front between line more rule (replicas_spelled (words line)) named all says refl
 
 first_line : (before : List (List ℕ)) (line : List ℕ) (more : List (List ℕ)) (rule : Option GenerationsRule) →
-    AreSkipped before → is_skipped line ≡ false → rule_in (words line) ≡ rule → HeadSorted (before ++ line ∷ more)
+    AreSkipped before → is_skipped line ≡ false → rule_spelled (words line) ≡ rule → HeadSorted (before ++ line ∷ more)
 first_line before line more (Some rule) all says is =
     subst HeadSorted (append_assoc before (line ∷ []) more) (second_sorted (before ++ line ∷ []) rule (rule_line before line all is) (skipping more))
 first_line before line more None all says is = wrong (length before + 1) (faulty_rule_line before line more all says is)
 
 first_sorted : {lines : List (List ℕ)} → Skipping lines → HeadSorted lines
 first_sorted (all_skipped {lines = lines} all) = wrong (length lines + 1) (no_rule_line lines all)
-first_sorted (up_to before line more all says) = first_line before line more (rule_in (words line)) all says refl
+first_sorted (up_to before line more all says) = first_line before line more (rule_spelled (words line)) all says refl
 
 pub head_sorted : (lines : List (List ℕ)) → HeadSorted lines
 head_sorted lines = first_sorted (skipping lines)
@@ -148,7 +148,7 @@ regroup : (front between : List (List ℕ)) (line : List ℕ) (behind more : Lis
 regroup front between line behind more = simp append_assoc
 
 behind_head : (front between : List (List ℕ)) (line : List ℕ) {behind : List (List ℕ)} (rule : GenerationsRule) (replicas : ℕ) →
-    NameRule front rule → AreSkipped between → replicas_in (words line) ≡ Some replicas → Sorted behind → ScriptSorted (front ++ (between ++ line ∷ behind))
+    NameRule front rule → AreSkipped between → replicas_spelled (words line) ≡ Some replicas → Sorted behind → ScriptSorted (front ++ (between ++ line ∷ behind))
 behind_head front between line rule replicas named all is (all_asked {lines = behind} commands asked) =
     let s : ScriptValue = record { rule = rule; replicas = replicas; commands = commands } in
     accepted s (whole front between line behind {script = s} named all is asked)

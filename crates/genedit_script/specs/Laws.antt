@@ -7,13 +7,13 @@ use Rattle.generations_rule.specs.Rule.{GenerationsRule}
 use Rattle.multistate_rle.specs.Position.{words}
 use Rattle.genedit_script.specs.declared.command.Command.{Command}
 use Rattle.genedit_script.specs.declared.command.Command.TheVariants.{Names}
-use Rattle.genedit_script.specs.Script.{ScriptValue, says_something, rule_in, replicas_in, opened_in, command_in, head_of, script_of}
+use Rattle.genedit_script.specs.Script.{ScriptValue, is_spoken, rule_spelled, replicas_spelled, opening_spelled, command_spelled, head_of, script_of}
 
 -- ---- lines
 
 -- no word stands there, or the first one begins with `#`
 abbrev pub is_skipped : List ℕ → Bool
-is_skipped line = not (says_something (words line))
+is_skipped line = not (is_spoken (words line))
 
 -- all of some lines are skipped
 abbrev pub AreSkipped : List (List ℕ) → Type 0
@@ -37,21 +37,21 @@ pub data AskFor : List (List ℕ) → List Command → Type 0 where
   skipped : {line : List ℕ} {lines : List (List ℕ)} {commands : List Command} →
       is_skipped line ≡ true → AskFor lines commands → AskFor (line ∷ lines) commands
   spelt : {line : List ℕ} {command : Command} {lines : List (List ℕ)} {commands : List Command} →
-      command_in (words line) ≡ Some command → AskFor lines commands → AskFor (line ∷ lines) (command ∷ commands)
+      command_spelled (words line) ≡ Some command → AskFor lines commands → AskFor (line ∷ lines) (command ∷ commands)
   block : {opening name : List ℕ} (inside : List (List ℕ)) {lines : List (List ℕ)} {commands : List Command} →
-      opened_in (words opening) ≡ Some name → HaveNoEnd inside → AskFor lines commands →
+      opening_spelled (words opening) ≡ Some name → HaveNoEnd inside → AskFor lines commands →
       AskFor (opening ∷ (inside ++ codes "end" ∷ lines)) (Names name (block_text inside) ∷ commands)
 
 -- skipped lines, and a line `rule TEXT` that names a rule
 pub data NameRule : List (List ℕ) → GenerationsRule → Type 0 where
   rule_line : (before : List (List ℕ)) (line : List ℕ) {rule : GenerationsRule} →
-      AreSkipped before → rule_in (words line) ≡ Some rule → NameRule (before ++ line ∷ []) rule
+      AreSkipped before → rule_spelled (words line) ≡ Some rule → NameRule (before ++ line ∷ []) rule
 
 -- Lines that are a script, whole: lines that name its rule, skipped lines, a line `replicas N`, and lines that ask for
 -- its commands.
 pub data AreScript : List (List ℕ) → ScriptValue → Type 0 where
   whole : (front between : List (List ℕ)) (line : List ℕ) (behind : List (List ℕ)) {script : ScriptValue} →
-      NameRule front (script.rule) → AreSkipped between → replicas_in (words line) ≡ Some (script.replicas) → AskFor behind (script.commands) →
+      NameRule front (script.rule) → AreSkipped between → replicas_spelled (words line) ≡ Some (script.replicas) → AskFor behind (script.commands) →
       AreScript (front ++ (between ++ line ∷ behind)) script
 
 -- ---- where the first fault is
@@ -61,12 +61,12 @@ pub data AreScript : List (List ℕ) → ScriptValue → Type 0 where
 pub data HaveHeadFaultAt : List (List ℕ) → ℕ → Type 0 where
   no_rule_line : (before : List (List ℕ)) → AreSkipped before → HaveHeadFaultAt before (length before + 1)
   faulty_rule_line : (before : List (List ℕ)) (line : List ℕ) (more : List (List ℕ)) →
-      AreSkipped before → is_skipped line ≡ false → rule_in (words line) ≡ None →
+      AreSkipped before → is_skipped line ≡ false → rule_spelled (words line) ≡ None →
       HaveHeadFaultAt (before ++ line ∷ more) (length before + 1)
   no_replicas_line : (front between : List (List ℕ)) (rule : GenerationsRule) → NameRule front rule → AreSkipped between →
       HaveHeadFaultAt (front ++ between) (length (front ++ between) + 1)
   faulty_replicas_line : (front between : List (List ℕ)) (line : List ℕ) (more : List (List ℕ)) (rule : GenerationsRule) →
-      NameRule front rule → AreSkipped between → is_skipped line ≡ false → replicas_in (words line) ≡ None →
+      NameRule front rule → AreSkipped between → is_skipped line ≡ false → replicas_spelled (words line) ≡ None →
       HaveHeadFaultAt (front ++ (between ++ line ∷ more)) (length (front ++ between) + 1)
 
 -- The line of the first fault of all: in those two lines; or behind lines that are a script a line that is not skipped, no
@@ -74,10 +74,10 @@ pub data HaveHeadFaultAt : List (List ℕ) → ℕ → Type 0 where
 pub data HaveFaultAt : List (List ℕ) → ℕ → Type 0 where
   head_fault : {lines : List (List ℕ)} {number : ℕ} → HaveHeadFaultAt lines number → HaveFaultAt lines number
   no_command : (front : List (List ℕ)) (line : List ℕ) (more : List (List ℕ)) (script : ScriptValue) → AreScript front script →
-      is_skipped line ≡ false → opened_in (words line) ≡ None → command_in (words line) ≡ None →
+      is_skipped line ≡ false → opening_spelled (words line) ≡ None → command_spelled (words line) ≡ None →
       HaveFaultAt (front ++ line ∷ more) (length front + 1)
   open_block : (front : List (List ℕ)) (opening name : List ℕ) (inside : List (List ℕ)) (script : ScriptValue) → AreScript front script →
-      opened_in (words opening) ≡ Some name → HaveNoEnd inside →
+      opening_spelled (words opening) ≡ Some name → HaveNoEnd inside →
       HaveFaultAt (front ++ opening ∷ inside) (length front + 1)
 
 -- ---- the laws

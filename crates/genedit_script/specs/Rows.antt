@@ -2,11 +2,11 @@
 use Rattle.std.specs.Prelude.{◌≡◌, [], ◌∷◌, Some, None, Ok, Err, codes, refl, pos, negsuc}
 use Rattle.std.specs.Str.Lines.{lines}
 use Rattle.generations_rule.specs.RuleText.{rule_of_text}
-use Rattle.multistate_rle.specs.Position.{words, signed}
+use Rattle.multistate_rle.specs.Position.{words, signed_number}
 use Rattle.replica_core.specs.declared.event.Event.TheVariants.{Draw, SendState, Deliver, Show}
-use Rattle.replica_core.specs.declared.spec.EditSpec.TheVariants.{Cells, Clear}
+use Rattle.replica_core.specs.declared.edit_spec.EditSpec.TheVariants.{Cells, Clear}
 use Rattle.genedit_script.specs.declared.command.Command.TheVariants.{Does, Names, Copies, Ors}
-use Rattle.genedit_script.specs.Script.{script_of, number_in, event_in, name_in, command_in, replicas_in}
+use Rattle.genedit_script.specs.Script.{script_of, number_spelled, event_spelled, name_spelled, command_spelled, replicas_spelled}
 
 -- ---- lines and words
 
@@ -25,158 +25,158 @@ three_words = refl
 
 -- ---- numbers
 
-pub leading_zeros : number_in (codes "004294967295") ≡ Some 4294967295
+pub leading_zeros : number_spelled (codes "004294967295") ≡ Some 4294967295
 leading_zeros = refl
 
-pub past_32_bits : number_in (codes "4294967296") ≡ None
+pub past_32_bits : number_spelled (codes "4294967296") ≡ None
 past_32_bits = refl
 
-pub no_sign : number_in (codes "-1") ≡ None
+pub no_sign : number_spelled (codes "-1") ≡ None
 no_sign = refl
 
-pub least_coordinate : signed (codes "-2147483648") ≡ Some (negsuc 2147483647)
+pub least_coordinate : signed_number (codes "-2147483648") ≡ Some (negsuc 2147483647)
 least_coordinate = refl
 
-pub past_the_least_coordinate : signed (codes "-2147483649") ≡ None
+pub past_the_least_coordinate : signed_number (codes "-2147483649") ≡ None
 past_the_least_coordinate = refl
 
-pub greatest_coordinate : signed (codes "2147483647") ≡ Some (pos 2147483647)
+pub greatest_coordinate : signed_number (codes "2147483647") ≡ Some (pos 2147483647)
 greatest_coordinate = refl
 
-pub past_the_greatest_coordinate : signed (codes "2147483648") ≡ None
+pub past_the_greatest_coordinate : signed_number (codes "2147483648") ≡ None
 past_the_greatest_coordinate = refl
 
-pub no_digit : signed (codes "-") ≡ None
+pub no_digit : signed_number (codes "-") ≡ None
 no_digit = refl
 
 -- ---- commands
 
-pub two_cells : event_in (words (codes "cells 1 0 -1 255 7 8 0"))
+pub two_cells : event_spelled (words (codes "cells 1 0 -1 255 7 8 0"))
     ≡ Some (Draw 1 (Cells (record { x = pos 0; y = negsuc 0; state = 255 } ∷ record { x = pos 7; y = pos 8; state = 0 } ∷ [])))
 two_cells = refl
 
-pub part_of_a_cell : event_in (words (codes "cells 1 0 0 1 0 0")) ≡ None
+pub part_of_a_cell : event_spelled (words (codes "cells 1 0 0 1 0 0")) ≡ None
 part_of_a_cell = refl
 
-pub no_cell : event_in (words (codes "cells 1")) ≡ None
+pub no_cell : event_spelled (words (codes "cells 1")) ≡ None
 no_cell = refl
 
-pub past_the_states : event_in (words (codes "cells 1 0 0 256")) ≡ None
+pub past_the_states : event_spelled (words (codes "cells 1 0 0 256")) ≡ None
 past_the_states = refl
 
-pub delivery : event_in (words (codes "deliver 3 2")) ≡ Some (Deliver 3 2)
+pub delivery : event_spelled (words (codes "deliver 3 2")) ≡ Some (Deliver 3 2)
 delivery = refl
 
-pub one_word_too_many : event_in (words (codes "state 1 2")) ≡ None
+pub one_word_too_many : event_spelled (words (codes "state 1 2")) ≡ None
 one_word_too_many = refl
 
-pub no_command : event_in (words (codes "State 1")) ≡ None
+pub no_command : event_spelled (words (codes "State 1")) ≡ None
 no_command = refl
 
-pub cleared : event_in (words (codes "clear 2 -3 4 5 6")) ≡ Some (Draw 2 (Clear (record { x = negsuc 2; y = pos 4; width = 5; height = 6 })))
+pub cleared : event_spelled (words (codes "clear 2 -3 4 5 6")) ≡ Some (Draw 2 (Clear (record { x = negsuc 2; y = pos 4; width = 5; height = 6 })))
 cleared = refl
 
-pub cleared_at_the_edge : event_in (words (codes "clear 2 -2147483648 2147483647 4294967295 0"))
+pub cleared_at_the_edge : event_spelled (words (codes "clear 2 -2147483648 2147483647 4294967295 0"))
     ≡ Some (Draw 2 (Clear (record { x = negsuc 2147483647; y = pos 2147483647; width = 4294967295; height = 0 })))
 cleared_at_the_edge = refl
 
-pub clear_without_height : event_in (words (codes "clear 2 -3 4 5")) ≡ None
+pub clear_without_height : event_spelled (words (codes "clear 2 -3 4 5")) ≡ None
 clear_without_height = refl
 
-pub clear_of_a_negative_side : event_in (words (codes "clear 2 -3 4 5 -6")) ≡ None
+pub clear_of_a_negative_side : event_spelled (words (codes "clear 2 -3 4 5 -6")) ≡ None
 clear_of_a_negative_side = refl
 
-pub copied : command_in (words (codes "copy 2 Glider7 -3 4")) ≡ Some (Copies (record { replica = 2; name = codes "Glider7"; x = negsuc 2; y = pos 4 }))
+pub copied : command_spelled (words (codes "copy 2 Glider7 -3 4")) ≡ Some (Copies (record { replica = 2; name = codes "Glider7"; x = negsuc 2; y = pos 4 }))
 copied = refl
 
-pub drawn_over : command_in (words (codes "or 2 Glider7 -3 4")) ≡ Some (Ors (record { replica = 2; name = codes "Glider7"; x = negsuc 2; y = pos 4 }))
+pub drawn_over : command_spelled (words (codes "or 2 Glider7 -3 4")) ≡ Some (Ors (record { replica = 2; name = codes "Glider7"; x = negsuc 2; y = pos 4 }))
 drawn_over = refl
 
-pub copied_with_a_word_too_many : command_in (words (codes "copy 2 Glider7 -3 4 5")) ≡ None
+pub copied_with_a_word_too_many : command_spelled (words (codes "copy 2 Glider7 -3 4 5")) ≡ None
 copied_with_a_word_too_many = refl
 
-pub copied_without_a_name : command_in (words (codes "copy 2 -3 4")) ≡ None
+pub copied_without_a_name : command_spelled (words (codes "copy 2 -3 4")) ≡ None
 copied_without_a_name = refl
 
 -- ---- `-0` is 0 where a `-` may stand, in coordinates, and no number anywhere else
 
-pub minus_nothing : signed (codes "-0") ≡ Some (pos 0)
+pub minus_nothing : signed_number (codes "-0") ≡ Some (pos 0)
 minus_nothing = refl
 
-pub minus_nothing_with_zeros : signed (codes "-000") ≡ Some (pos 0)
+pub minus_nothing_with_zeros : signed_number (codes "-000") ≡ Some (pos 0)
 minus_nothing_with_zeros = refl
 
 pub minus_nothing_in_a_cell :
-    event_in (words (codes "cells 1 -0 -0 2")) ≡ Some (Draw 1 (Cells (record { x = pos 0; y = pos 0; state = 2 } ∷ [])))
+    event_spelled (words (codes "cells 1 -0 -0 2")) ≡ Some (Draw 1 (Cells (record { x = pos 0; y = pos 0; state = 2 } ∷ [])))
 minus_nothing_in_a_cell = refl
 
 pub minus_nothing_in_an_area :
-    event_in (words (codes "clear 1 -0 -0 2 3")) ≡ Some (Draw 1 (Clear (record { x = pos 0; y = pos 0; width = 2; height = 3 })))
+    event_spelled (words (codes "clear 1 -0 -0 2 3")) ≡ Some (Draw 1 (Clear (record { x = pos 0; y = pos 0; width = 2; height = 3 })))
 minus_nothing_in_an_area = refl
 
-pub minus_nothing_shown : event_in (words (codes "show 1 -0 -0")) ≡ Some (Show 1 (pos 0) (pos 0))
+pub minus_nothing_shown : event_spelled (words (codes "show 1 -0 -0")) ≡ Some (Show 1 (pos 0) (pos 0))
 minus_nothing_shown = refl
 
-pub minus_nothing_copied : command_in (words (codes "copy 1 a -0 -0")) ≡ Some (Copies (record { replica = 1; name = codes "a"; x = pos 0; y = pos 0 }))
+pub minus_nothing_copied : command_spelled (words (codes "copy 1 a -0 -0")) ≡ Some (Copies (record { replica = 1; name = codes "a"; x = pos 0; y = pos 0 }))
 minus_nothing_copied = refl
 
-pub minus_nothing_drawn_over : command_in (words (codes "or 1 a -0 -0")) ≡ Some (Ors (record { replica = 1; name = codes "a"; x = pos 0; y = pos 0 }))
+pub minus_nothing_drawn_over : command_spelled (words (codes "or 1 a -0 -0")) ≡ Some (Ors (record { replica = 1; name = codes "a"; x = pos 0; y = pos 0 }))
 minus_nothing_drawn_over = refl
 
-pub no_number : number_in (codes "-0") ≡ None
+pub no_number : number_spelled (codes "-0") ≡ None
 no_number = refl
 
-pub no_drawing_replica : event_in (words (codes "cells -0 0 0 2")) ≡ None
+pub no_drawing_replica : event_spelled (words (codes "cells -0 0 0 2")) ≡ None
 no_drawing_replica = refl
 
-pub no_state : event_in (words (codes "cells 1 0 0 -0")) ≡ None
+pub no_state : event_spelled (words (codes "cells 1 0 0 -0")) ≡ None
 no_state = refl
 
-pub no_clearing_replica : event_in (words (codes "clear -0 0 0 2 3")) ≡ None
+pub no_clearing_replica : event_spelled (words (codes "clear -0 0 0 2 3")) ≡ None
 no_clearing_replica = refl
 
-pub no_width : event_in (words (codes "clear 1 0 0 -0 3")) ≡ None
+pub no_width : event_spelled (words (codes "clear 1 0 0 -0 3")) ≡ None
 no_width = refl
 
-pub no_height : event_in (words (codes "clear 1 0 0 2 -0")) ≡ None
+pub no_height : event_spelled (words (codes "clear 1 0 0 2 -0")) ≡ None
 no_height = refl
 
-pub no_sender : event_in (words (codes "state -0")) ≡ None
+pub no_sender : event_spelled (words (codes "state -0")) ≡ None
 no_sender = refl
 
-pub no_message : event_in (words (codes "deliver -0 1")) ≡ None
+pub no_message : event_spelled (words (codes "deliver -0 1")) ≡ None
 no_message = refl
 
-pub no_receiver : event_in (words (codes "deliver 1 -0")) ≡ None
+pub no_receiver : event_spelled (words (codes "deliver 1 -0")) ≡ None
 no_receiver = refl
 
-pub no_shown_replica : event_in (words (codes "show -0 0 0")) ≡ None
+pub no_shown_replica : event_spelled (words (codes "show -0 0 0")) ≡ None
 no_shown_replica = refl
 
-pub no_copying_replica : command_in (words (codes "copy -0 a 0 0")) ≡ None
+pub no_copying_replica : command_spelled (words (codes "copy -0 a 0 0")) ≡ None
 no_copying_replica = refl
 
-pub no_replica_drawn_over : command_in (words (codes "or -0 a 0 0")) ≡ None
+pub no_replica_drawn_over : command_spelled (words (codes "or -0 a 0 0")) ≡ None
 no_replica_drawn_over = refl
 
-pub no_count_of_replicas : replicas_in (words (codes "replicas -0")) ≡ None
+pub no_count_of_replicas : replicas_spelled (words (codes "replicas -0")) ≡ None
 no_count_of_replicas = refl
 
 -- ---- names
 
-pub shortest_name : name_in (codes "z") ≡ Some (codes "z")
+pub shortest_name : name_spelled (codes "z") ≡ Some (codes "z")
 shortest_name = refl
 
-pub longest_name : name_in (codes "abcdefghijklmn09") ≡ Some (codes "abcdefghijklmn09")
+pub longest_name : name_spelled (codes "abcdefghijklmn09") ≡ Some (codes "abcdefghijklmn09")
 longest_name = refl
 
-pub name_of_17_letters : name_in (codes "abcdefghijklmno09") ≡ None
+pub name_of_17_letters : name_spelled (codes "abcdefghijklmno09") ≡ None
 name_of_17_letters = refl
 
-pub no_letter : name_in (codes "a_b") ≡ None
+pub no_letter : name_spelled (codes "a_b") ≡ None
 no_letter = refl
 
-pub no_letters : name_in [] ≡ None
+pub no_letters : name_spelled [] ≡ None
 no_letters = refl
 
 -- ---- scripts

@@ -3,7 +3,7 @@
 ghost use Rattle.std.specs.Prelude.{◌≡◌, ◌+◌, ◌<◌, ◌^◌, ◌==◌, [], ◌∷◌, length, position, MatchOption, IfSome};
 ghost use Rattle.std.specs.Str.Lines.{lines, strip_carriage_return};
 ghost use Rattle.multistate_rle.specs.Position.{words};
-ghost use Rattle.genedit_script.specs.Script.{says_something as says_some_thing, lines_from, past_skipped, begins_comment as is_comment_mark};
+ghost use Rattle.genedit_script.specs.Script.{is_spoken, lines_from, past_skipped, opens_comment};
 
 use multistate_rle::split_word;
 
@@ -79,7 +79,7 @@ impl<'a> Lines<'a> {
 
 /// Whether some word stands there, and the first begins no comment.
 fn says_something(line: &[u8]) -> bool
-    ensures { result ≡ says_some_thing (words line.now) }
+    ensures { result ≡ is_spoken (words line.now) }
 {
     match split_word(line) {
         Some((word, _)) => !begins_comment(word),
@@ -88,7 +88,7 @@ fn says_something(line: &[u8]) -> bool
 }
 
 fn begins_comment(word: &[u8]) -> bool
-    ensures { result ≡ is_comment_mark word.now }
+    ensures { result ≡ opens_comment word.now }
 {
     word.first() == Some(&b'#')
 }

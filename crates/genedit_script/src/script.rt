@@ -2,7 +2,7 @@
 
 ghost use Rattle.std.specs.Prelude.{◌≡◌, ◌+◌, ◌≤◌, ◌∷◌, [], ℕ, List, Some, None, length, IfOk, IfErr, Ok, Err};
 ghost use Rattle.std.specs.Str.Lines.{lines as lines_of};
-ghost use Rattle.genedit_script.specs.Script.{commands_in as commands_of, head_in as head_of_lines, head_of, script_of, lines_from, past_skipped, onto, NumberedLine};
+ghost use Rattle.genedit_script.specs.Script.{commands_spelled, head_spelled, head_of, script_of, lines_from, past_skipped, onto, NumberedLine};
 ghost use Rattle.genedit_script.specs.ScriptFault.{IsFaultOf};
 
 use crate::command::{Command, PatternName, PatternText};
@@ -94,9 +94,9 @@ pub fn read_script(alloc: Global, text: &[u8]) -> Result<Script, ScriptFault>
 /// The rule and the number of replicas, by the next two lines that are not skipped, or the line of
 /// the first fault.
 fn head_in(lines: &mut Lines<'_>) -> Result<(Rule, u16), u64>
-    ensures head { IfOk result (λ head. head_of_lines (lines.old.number + length (lines_of lines.old.rest.now)) (lines_from lines.old.number lines.old.rest.now)
+    ensures head { IfOk result (λ head. head_spelled (lines.old.number + length (lines_of lines.old.rest.now)) (lines_from lines.old.number lines.old.rest.now)
         ≡ Ok (record { rule = head.0; replicas = head.1; behind = lines_from lines.new.number lines.new.rest.now })) }
-    ensures fault { IfErr result (λ n. head_of_lines (lines.old.number + length (lines_of lines.old.rest.now)) (lines_from lines.old.number lines.old.rest.now) ≡ Err n) }
+    ensures fault { IfErr result (λ n. head_spelled (lines.old.number + length (lines_of lines.old.rest.now)) (lines_from lines.old.number lines.old.rest.now) ≡ Err n) }
 {
     let line = required_line(lines)?;
     let rule = rule_in(line.text).ok_or(line.number)?;
@@ -121,8 +121,8 @@ fn required_line<'a>(lines: &mut Lines<'a>) -> Result<Line<'a>, u64>
 
 /// The commands of all lines that are left.
 fn commands_in(alloc: Global, mut lines: Lines<'_>) -> Result<Vec<Command>, ScriptFault>
-    ensures commands { IfOk result (λ commands. commands_of None (lines_from lines.entry.number lines.entry.rest.now) ≡ Ok commands.items) }
-    ensures fault { IfErr result (λ fault. IsFaultOf fault (commands_of None (lines_from lines.entry.number lines.entry.rest.now))) }
+    ensures commands { IfOk result (λ commands. commands_spelled None (lines_from lines.entry.number lines.entry.rest.now) ≡ Ok commands.items) }
+    ensures fault { IfErr result (λ fault. IsFaultOf fault (commands_spelled None (lines_from lines.entry.number lines.entry.rest.now))) }
 {
     let mut commands = Vec::new(alloc);
     while let Some(line) = lines.next_spoken() {
@@ -137,10 +137,10 @@ fn commands_in(alloc: Global, mut lines: Lines<'_>) -> Result<Vec<Command>, Scri
 fn command_at(alloc: Global, line: Line<'_>, lines: &mut Lines<'_>) -> Result<Command, ScriptFault>
     ensures command { IfOk result (λ command. (all : List NumberedLine)
         → past_skipped all ≡ record { number = line.entry.number; text = line.entry.text.now } ∷ lines_from lines.old.number lines.old.rest.now
-        → commands_of None all ≡ onto command (commands_of None (lines_from lines.new.number lines.new.rest.now))) }
+        → commands_spelled None all ≡ onto command (commands_spelled None (lines_from lines.new.number lines.new.rest.now))) }
     ensures fault { IfErr result (λ fault. (all : List NumberedLine)
         → past_skipped all ≡ record { number = line.entry.number; text = line.entry.text.now } ∷ lines_from lines.old.number lines.old.rest.now
-        → IsFaultOf fault (commands_of None all)) }
+        → IsFaultOf fault (commands_spelled None all)) }
     ensures shorter { length lines.new.rest.now ≤ length lines.old.rest.now }
 {
     match opened_in(line.text) {
@@ -160,10 +160,10 @@ fn block_in(
     lines: &mut Lines<'_>,
 ) -> Result<Command, ScriptFault>
     ensures command { IfOk result (λ command.
-        commands_of (Some (record { line = number; name = name.now; text = [] })) (lines_from lines.old.number lines.old.rest.now)
-        ≡ onto command (commands_of None (lines_from lines.new.number lines.new.rest.now))) }
+        commands_spelled (Some (record { line = number; name = name.now; text = [] })) (lines_from lines.old.number lines.old.rest.now)
+        ≡ onto command (commands_spelled None (lines_from lines.new.number lines.new.rest.now))) }
     ensures fault { IfErr result (λ fault. IsFaultOf fault
-        (commands_of (Some (record { line = number; name = name.now; text = [] })) (lines_from lines.old.number lines.old.rest.now))) }
+        (commands_spelled (Some (record { line = number; name = name.now; text = [] })) (lines_from lines.old.number lines.old.rest.now))) }
     ensures shorter { length lines.new.rest.now ≤ length lines.old.rest.now }
 {
     let mut text = Vec::new(alloc);

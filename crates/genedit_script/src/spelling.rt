@@ -4,7 +4,7 @@ ghost use Rattle.std.specs.Prelude.{◌≡◌, ◌∷◌, [], IfOk, IfSome, Matc
 ghost use Rattle.std.specs.Char.{is_ascii_alphanumeric};
 ghost use Rattle.std.specs.List.{list_all};
 ghost use Rattle.multistate_rle.specs.Position.{words};
-ghost use Rattle.genedit_script.specs.Script.{argument_of as argument_behind, rule_in as rule_of, replicas_in as replicas_of, cell_in as cell_of, cells_in as cells_of, number_in as number_of, draw_in as draw_of, send_in as sending_of, delivery_in as delivery_of, show_in as show_of, area_in as area_of, clear_in as clear_of, event_in as event_of, is_name as is_pattern_name, name_in as name_of, paste_in as paste_of, command_in as command_of, opened_in as opened_of};
+ghost use Rattle.genedit_script.specs.Script.{argument_behind, rule_spelled, replicas_spelled, cell_spelled, cells_spelled, number_spelled, draw_spelled, sending_spelled, delivery_spelled, show_spelled, area_spelled, clear_spelled, event_spelled, is_pattern_name, name_spelled, paste_spelled, command_spelled, opening_spelled};
 
 use crate::command::{Command, Paste, PatternName};
 use edit_stamps::Rect;
@@ -15,7 +15,7 @@ use std::alloc::{AllocError, Global};
 
 /// `rule TEXT`
 pub fn rule_in(line: &[u8]) -> Option<Rule>
-    ensures { result ≡ rule_of (words line.now) }
+    ensures { result ≡ rule_spelled (words line.now) }
 {
     let text = argument_of(b"rule", line)?;
     Rule::parse(text).ok()
@@ -23,7 +23,7 @@ pub fn rule_in(line: &[u8]) -> Option<Rule>
 
 /// `replicas N`
 pub fn replicas_in(line: &[u8]) -> Option<u16>
-    ensures { result ≡ replicas_of (words line.now) }
+    ensures { result ≡ replicas_spelled (words line.now) }
 {
     let n = number(64, argument_of(b"replicas", line)?)?;
     Some(n as u16)
@@ -31,14 +31,14 @@ pub fn replicas_in(line: &[u8]) -> Option<u16>
 
 /// `pattern NAME`: the name.
 pub fn opened_in(line: &[u8]) -> Option<&[u8]>
-    ensures { option_map (λ name. name.now) result ≡ opened_of (words line.now) }
+    ensures { option_map (λ name. name.now) result ≡ opening_spelled (words line.now) }
 {
     name_in(argument_of(b"pattern", line)?)
 }
 
 /// The command of a line, unless it is none.
 pub fn command_in(alloc: Global, line: &[u8]) -> Result<Option<Command>, AllocError>
-    ensures { IfOk result (λ command. command ≡ command_of (words line.now)) }
+    ensures { IfOk result (λ command. command ≡ command_spelled (words line.now)) }
 {
     let Some((name, arguments)) = split_word(line) else {
         return Ok(None);
@@ -57,7 +57,7 @@ pub fn command_in(alloc: Global, line: &[u8]) -> Result<Option<Command>, AllocEr
 
 /// `R NAME x y`
 fn paste_in(alloc: Global, arguments: &[u8]) -> Result<Option<Paste>, AllocError>
-    ensures { IfOk result (λ paste. paste ≡ paste_of (words arguments.now)) }
+    ensures { IfOk result (λ paste. paste ≡ paste_spelled (words arguments.now)) }
 {
     let Some(spelled) = spelled_paste(arguments) else {
         return Ok(None);
@@ -81,7 +81,7 @@ struct SpelledPaste<'a> {
 
 /// `R NAME x y`
 fn spelled_paste(arguments: &[u8]) -> Option<SpelledPaste<'_>>
-    ensures { option_map (λ paste. record { replica = paste.replica; name = paste.name.now; x = paste.x; y = paste.y }) result ≡ paste_of (words arguments.now) }
+    ensures { option_map (λ paste. record { replica = paste.replica; name = paste.name.now; x = paste.x; y = paste.y }) result ≡ paste_spelled (words arguments.now) }
 {
     let (replica, rest) = split_word(arguments)?;
     let (name, rest) = split_word(rest)?;
@@ -104,7 +104,7 @@ fn spelled_paste(arguments: &[u8]) -> Option<SpelledPaste<'_>>
 
 /// The word, if it is a name.
 fn name_in(word: &[u8]) -> Option<&[u8]>
-    ensures { option_map (λ name. name.now) result ≡ name_of word.now }
+    ensures { option_map (λ name. name.now) result ≡ name_spelled word.now }
 {
     if is_name(word) { Some(word) } else { None }
 }
@@ -124,7 +124,7 @@ fn are_letters_or_digits(word: &[u8]) -> bool
 
 /// What happens at a command of a name, unless it is none of these.
 fn event_in(alloc: Global, name: &[u8], arguments: &[u8]) -> Result<Option<Event>, AllocError>
-    ensures { IfOk result (λ event. event ≡ event_of (name.now ∷ words arguments.now)) }
+    ensures { IfOk result (λ event. event ≡ event_spelled (name.now ∷ words arguments.now)) }
 {
     if name == b"cells".as_slice() {
         draw_in(alloc, arguments)
@@ -143,7 +143,7 @@ fn event_in(alloc: Global, name: &[u8], arguments: &[u8]) -> Result<Option<Event
 
 /// `R x y s ..`
 fn draw_in(alloc: Global, arguments: &[u8]) -> Result<Option<Event>, AllocError>
-    ensures { IfOk result (λ event. event ≡ draw_of (words arguments.now)) }
+    ensures { IfOk result (λ event. event ≡ draw_spelled (words arguments.now)) }
 {
     let Some((replica, rest)) = split_word(arguments) else {
         return Ok(None);
@@ -162,7 +162,7 @@ fn draw_in(alloc: Global, arguments: &[u8]) -> Result<Option<Event>, AllocError>
 
 /// `R`
 fn send_in(arguments: &[u8]) -> Option<Event>
-    ensures { result ≡ sending_of (words arguments.now) }
+    ensures { result ≡ sending_spelled (words arguments.now) }
 {
     let (replica, rest) = split_word(arguments)?;
     if !ends(rest) {
@@ -173,7 +173,7 @@ fn send_in(arguments: &[u8]) -> Option<Event>
 
 /// `M R`
 fn delivery_in(arguments: &[u8]) -> Option<Event>
-    ensures { result ≡ delivery_of (words arguments.now) }
+    ensures { result ≡ delivery_spelled (words arguments.now) }
 {
     let (message, rest) = split_word(arguments)?;
     let (replica, rest) = split_word(rest)?;
@@ -186,7 +186,7 @@ fn delivery_in(arguments: &[u8]) -> Option<Event>
 
 /// `R x y`
 fn show_in(arguments: &[u8]) -> Option<Event>
-    ensures { result ≡ show_of (words arguments.now) }
+    ensures { result ≡ show_spelled (words arguments.now) }
 {
     let (replica, rest) = split_word(arguments)?;
     let (x, rest) = split_word(rest)?;
@@ -199,7 +199,7 @@ fn show_in(arguments: &[u8]) -> Option<Event>
 
 /// `R x y w h`
 fn clear_in(arguments: &[u8]) -> Option<Event>
-    ensures { result ≡ clear_of (words arguments.now) }
+    ensures { result ≡ clear_spelled (words arguments.now) }
 {
     let (replica, rest) = split_word(arguments)?;
     let (x, rest) = split_word(rest)?;
@@ -215,7 +215,7 @@ fn clear_in(arguments: &[u8]) -> Option<Event>
 }
 
 fn area_in(x: &[u8], y: &[u8], width: &[u8], height: &[u8]) -> Option<Rect>
-    ensures { result ≡ area_of x.now y.now width.now height.now }
+    ensures { result ≡ area_spelled x.now y.now width.now height.now }
 {
     let x = signed(x)?;
     let y = signed(y)?;
@@ -231,7 +231,7 @@ fn area_in(x: &[u8], y: &[u8], width: &[u8], height: &[u8]) -> Option<Rect>
 
 /// The cells of a line's words, unless they are not three for each cell.
 fn cells_in(alloc: Global, line: &[u8]) -> Result<Option<Vec<Cell>>, AllocError>
-    ensures { IfOk result (λ cells. option_map (λ v. v.items) cells ≡ cells_of (words line.now)) }
+    ensures { IfOk result (λ cells. option_map (λ v. v.items) cells ≡ cells_spelled (words line.now)) }
 {
     let mut cells = Vec::new(alloc);
     let mut rest = line;
@@ -247,8 +247,8 @@ fn cells_in(alloc: Global, line: &[u8]) -> Result<Option<Vec<Cell>>, AllocError>
 
 /// The cell of a word and the next two, and what stands behind them.
 fn split_cell<'a>(x: &[u8], rest: &'a [u8]) -> Option<(Cell, &'a [u8])>
-    ensures cell { MatchOption result (cells_of (x.now ∷ words rest.now) ≡ None)
-        (λ p. cells_of (x.now ∷ words rest.now) ≡ option_map (λ cells. p.0 ∷ cells) (cells_of (words p.1.now))) }
+    ensures cell { MatchOption result (cells_spelled (x.now ∷ words rest.now) ≡ None)
+        (λ p. cells_spelled (x.now ∷ words rest.now) ≡ option_map (λ cells. p.0 ∷ cells) (cells_spelled (words p.1.now))) }
     ensures within { IfSome result (λ p. length p.1.now ≤ length rest.now) }
 {
     let (y, rest) = split_word(rest)?;
@@ -257,7 +257,7 @@ fn split_cell<'a>(x: &[u8], rest: &'a [u8]) -> Option<(Cell, &'a [u8])>
 }
 
 fn cell_in(x: &[u8], y: &[u8], state: &[u8]) -> Option<Cell>
-    ensures { result ≡ cell_of x.now y.now state.now }
+    ensures { result ≡ cell_spelled x.now y.now state.now }
 {
     let x = signed(x)?;
     let y = signed(y)?;
@@ -271,7 +271,7 @@ fn cell_in(x: &[u8], y: &[u8], state: &[u8]) -> Option<Cell>
 
 /// A number of 32 bits.
 fn unsigned(word: &[u8]) -> Option<u32>
-    ensures { result ≡ number_of word.now }
+    ensures { result ≡ number_spelled word.now }
 {
     let size = number(u64::from(u32::MAX), word)?;
     Some(size as u32)

@@ -3,13 +3,13 @@ use Rattle.std.proofs.Common.{◌≡◌, ℕ, zero, suc, ◌+◌, List, [], ◌�
 use Rattle.std.specs.Prelude.{count_by, ◌==◌}
 use Rattle.std.proofs.lemmas.Int.{ints}
 use Rattle.generations_rule.specs.Place.{Place, moved, IsWithin}
-use Rattle.generations_rule.specs.Rule.{GenerationsRule, IsRule, has, next}
+use Rattle.generations_rule.specs.Rule.{GenerationsRule, IsRule, has, next_state}
 use Rattle.generations_rule.specs.Evolution.{at, live_around, RunsCompose, IsLocal, StaysEmpty, StaysInRange}
 
 pub runs_compose : RunsCompose
 runs_compose r f a zero c = ap (λ n. at r f n c) (sym (add-zero a))
 runs_compose r f a (suc b) c =
-    (λ i. next r (runs_compose r f a b c i) (live_around (λ d. runs_compose r f a b d i) c))
+    (λ i. next_state r (runs_compose r f a b c i) (live_around (λ d. runs_compose r f a b d i) c))
     ∙ ap (λ n. at r f n c) (sym (add-suc a b))
 
 -- a step to a neighbour
@@ -48,7 +48,7 @@ is_local r f h (suc g) c same =
     let one : (dx dy : ℤ) → IsStep dx → IsStep dy → at r f g (moved c dx dy) ≡ at r h g (moved c dx dy) =
     λ dx dy x y. is_local r f h g (moved c dx dy) (λ d near. same d (nearer g c d dx dy x y near)) in
     let own : at r f g c ≡ at r h g c = is_local r f h g c (λ d near. same d (wider g c d near)) in
-    λ i. next r (own i) (tally (
+    λ i. next_state r (own i) (tally (
     one (negsuc 0) (negsuc 0) back back i ∷ one (pos 0) (negsuc 0) still back i ∷ one (pos 1) (negsuc 0) ahead back i
     ∷ one (negsuc 0) (pos 0) back still i ∷ one (pos 1) (pos 0) ahead still i
     ∷ one (negsuc 0) (pos 1) back ahead i ∷ one (pos 0) (pos 1) still ahead i ∷ one (pos 1) (pos 1) ahead ahead i ∷ []))
@@ -56,7 +56,7 @@ is_local r f h (suc g) c same =
 empty_stays : (r : GenerationsRule) (g : ℕ) (c : Place) → IsRule r → at r (λ _. 0) g c ≡ 0
 empty_stays r zero c ok = refl
 empty_stays r (suc g) c ok =
-    (λ i. next r (empty_stays r g c ok i) (live_around (λ d. empty_stays r g d ok i) c)) ∙ ap (λ b. if b then 1 else 0) ok.no_birth_on_none
+    (λ i. next_state r (empty_stays r g c ok i) (live_around (λ d. empty_stays r g d ok i) c)) ∙ ap (λ b. if b then 1 else 0) ok.no_birth_on_none
 
 pub stays_empty : StaysEmpty
 stays_empty r f g c ok none = is_local r f (λ _. 0) g c none ∙ empty_stays r g c ok
@@ -66,7 +66,7 @@ chosen_lt : (b : Bool) (x y n : ℕ) → x < n → y < n → (if b then x else y
 chosen_lt true x y n left right = left
 chosen_lt false x y n left right = right
 
-next_in_range : (r : GenerationsRule) (s n : ℕ) → IsRule r → next r s n < r.states
+next_in_range : (r : GenerationsRule) (s n : ℕ) → IsRule r → next_state r s n < r.states
 next_in_range r s n ok =
     let one : 1 < r.states = omega (arith, ok.least) in
     let none : 0 < r.states = omega (arith, ok.least) in

@@ -1,7 +1,7 @@
 -- A map of states, and what the rule makes of it, cell by cell.
 use Rattle.std.specs.Prelude.{◌≡◌, ℕ, zero, suc, ◌+◌, ◌<◌, map, ◌==◌, count_by}
 use Rattle.generations_rule.specs.Place.{Place, around, IsWithin}
-use Rattle.generations_rule.specs.Rule.{GenerationsRule, IsRule, next}
+use Rattle.generations_rule.specs.Rule.{GenerationsRule, IsRule, next_state}
 
 -- how many of the eight neighbours are in state 1
 abbrev pub live_around : (Place → ℕ) → Place → ℕ
@@ -10,7 +10,7 @@ live_around f c = count_by (λ state. state == 1) (map f (around c))
 -- the map f after g generations
 abbrev pub at : GenerationsRule → (Place → ℕ) → ℕ → Place → ℕ
 at r f zero c = f c
-at r f (suc g) c = next r (at r f g c) (live_around (at r f g) c)
+at r f (suc g) c = next_state r (at r f g c) (live_around (at r f g) c)
 
 -- ---- laws
 

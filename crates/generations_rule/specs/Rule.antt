@@ -21,7 +21,7 @@ pub record IsRule (r : GenerationsRule) : Type 0 where
   pub most : r.states ≤ 256
 
 -- the state of a cell in state s, n of whose neighbours are live, one generation later
-abbrev pub next : GenerationsRule → ℕ → ℕ → ℕ
-next r s n =
+abbrev pub next_state : GenerationsRule → ℕ → ℕ → ℕ
+next_state r s n =
     if s == 0 then (if has r.birth n then 1 else 0)
     else (if s == 1 then (if has r.survival n then 1 else 2 % r.states) else (s + 1) % r.states)

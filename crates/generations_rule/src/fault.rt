@@ -19,11 +19,11 @@ pub enum RuleFault {
 }
 
 impl RuleFault {
-    ghost use Rattle.generations_rule.specs.RuleFault.{fault_number, fault_place};
+    ghost use Rattle.generations_rule.specs.RuleFault.{rule_fault_number, rule_fault_place};
 
     /// Its number in the table of faults.
     pub fn number(self) -> u8
-        ensures { result ≡ fault_number self }
+        ensures { result ≡ rule_fault_number self }
     {
         match self {
             RuleFault::Slashes => 1,
@@ -34,7 +34,7 @@ impl RuleFault {
 
     /// The place in the text that it names.
     pub fn place(self) -> Option<u64>
-        ensures { result ≡ fault_place self }
+        ensures { result ≡ rule_fault_place self }
     {
         match self {
             RuleFault::Digit(place) => Some(place),
@@ -46,9 +46,9 @@ impl RuleFault {
 /// Its name, with the place behind a blank where it has one.
 impl fmt::Display for RuleFault {
     ghost use Rattle.std.specs.Prelude.{Some};
-    ghost use Rattle.generations_rule.specs.RuleFault.{fault_text};
+    ghost use Rattle.generations_rule.specs.RuleFault.{rule_fault_text};
 
-    ghost output = { λ fault. Some (fault_text fault) };
+    ghost output = { λ fault. Some (rule_fault_text fault) };
 
     fn fmt<W: fmt::Write>(&self, f: &mut fmt::Formatter<W>) -> fmt::Result {
         match self {

@@ -1,7 +1,7 @@
 //! A rule, and what it makes of one cell.
 
 ghost use Rattle.std.specs.Prelude.{◌≡◌, ◌+◌, ◌%◌, ◌<◌, ◌≤◌, ◌↔◌, IsTrue, IfOk, length};
-ghost use Rattle.generations_rule.specs.Rule.{IsRule, has, next as next_state};
+ghost use Rattle.generations_rule.specs.Rule.{IsRule, has, next_state};
 ghost use Rattle.generations_rule.specs.RuleText.{parsed, text_of};
 
 use crate::fault::RuleFault;

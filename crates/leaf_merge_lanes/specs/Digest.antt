@@ -6,7 +6,7 @@ use Rattle.leaf_merge_lanes.specs.declared.digest.TheConstants.{MULTIPLIER, ROW_
 
 -- a digest with one number more
 abbrev pub mixed : ℕ → ℕ → ℕ → ℕ
-mixed multiplier digest number = (digest * multiplier % 2 ^ 64 + number) % 2 ^ 64
+mixed multiplier digest_of number = (digest_of * multiplier % 2 ^ 64 + number) % 2 ^ 64
 
 -- the digests of the first rows, mixed
 unfoldable pub rows_mixed : List ℕ → ℕ → ℕ
@@ -18,5 +18,5 @@ abbrev pub words_of : List ℕ → List ℕ
 words_of states = digits_l (2 ^ 64) 8 (number_l (2 ^ 8) states)
 
 -- one number of all lanes
-unfoldable pub digest : List ℕ → List ℕ → ℕ
-digest stamps states = mixed ROW_MULTIPLIER (rows_mixed stamps 8) (fold (mixed MULTIPLIER) 0 (words_of states))
+unfoldable pub digest_of : List ℕ → List ℕ → ℕ
+digest_of stamps states = mixed ROW_MULTIPLIER (rows_mixed stamps 8) (fold (mixed MULTIPLIER) 0 (words_of states))

@@ -10,7 +10,7 @@ use lib.Pointwise.{pointwise, bytes_decides}
 use lib.Dec.{eqb}
 use Rattle.edit_stamps.specs.declared.write.Write.{Write}
 use Rattle.leaf_merge_lanes.specs.declared.leaf.Leaf.TheInside.{Inside}
-use Rattle.leaf_merge_lanes.specs.Digest.{digest}
+use Rattle.leaf_merge_lanes.specs.Digest.{digest_of}
 use Rattle.leaf_merge_lanes.specs.Leaf.{write_of, stamps_of, states_of}
 
 -- the same writes, place by place
@@ -19,7 +19,7 @@ is_same a b = pointwise eqb (stamps_of a) (stamps_of b) && pointwise eqb (states
 
 -- what a leaf feeds a hasher
 abbrev pub hash_writes : List Write → HashWrites
-hash_writes writes = fed.u64 (digest (stamps_of writes) (states_of writes))
+hash_writes writes = fed.u64 (digest_of (stamps_of writes) (states_of writes))
 
 -- lanes of stamps and of states
 abbrev pub inside : List ℕ → List ℕ → Inside

@@ -4,7 +4,7 @@
 
 ghost use Rattle.std.specs.Prelude.{◌≡◌};
 ghost use Rattle.std.specs.List.{fold};
-ghost use Rattle.leaf_merge_lanes.specs.Digest.{digest as digest_of, mixed, rows_mixed, words_of};
+ghost use Rattle.leaf_merge_lanes.specs.Digest.{digest_of, mixed, rows_mixed, words_of};
 
 use std::simd::prelude::*;
 

@@ -9,8 +9,8 @@ use Rattle.std.proofs.lemmas.Bool.{ne_eqb, eqb-true, eqb-false}
 use Rattle.std.proofs.lemmas.Bool.Decides.{nat_tests}
 use Rattle.multistate_rle.specs.declared.pattern.PatternCell.{PatternCell}
 use Rattle.multistate_rle.specs.declared.line.Line.TheVariants.{Start, Inside}
-use Rattle.multistate_rle.specs.Bytes.{is_digit, is_blank, is_line_end}
-use Rattle.multistate_rle.specs.Letters.{letters, letters_text, plain}
+use Rattle.multistate_rle.specs.Bytes.{is_decimal_digit, is_space_or_tab, ends_line}
+use Rattle.multistate_rle.specs.Letters.{letters_of, letters_text, plain}
 use Rattle.multistate_rle.specs.Tokens.{Token, Cells, Rows, run, cells_in_row, drawn, IsCanonical, count_of, skip, with_run, tokens_from, IsTokensOf}
 use Rattle.multistate_rle.specs.Reading.{Pen, bytes_of, start, fault_of, moved, cells_of, AreFine, bare, lines_of, pattern_of}
 use Rattle.multistate_rle.specs.Writing.{count_text, spelling, token_text, filled, body}
@@ -147,11 +147,11 @@ pub joined : List (List ℕ) → List ℕ
 joined [] = []
 joined (piece ∷ pieces) = piece ++ joined pieces
 
-pub digits_are : (ds : List ℕ) → AllDigits 10 ds → list_all is_digit ds ≡ true
+pub digits_are : (ds : List ℕ) → AllDigits 10 ds → list_all is_decimal_digit ds ≡ true
 digits_are [] all = refl
-digits_are (d ∷ ds) all = let digit : is_digit d ≡ true = grind (arith, nat_tests, all.0) in rw (digit, digits_are ds all.1) refl
+digits_are (d ∷ ds) all = let digit : is_decimal_digit d ≡ true = grind (arith, nat_tests, all.0) in rw (digit, digits_are ds all.1) refl
 
-is_count : (n : ℕ) (ds : List ℕ) → 0 < length ds → list_all is_digit ds ≡ true → digits_value 10 ds ≡ n → IsCount n ds
+is_count : (n : ℕ) (ds : List ℕ) → 0 < length ds → list_all is_decimal_digit ds ≡ true → digits_value 10 ds ≡ n → IsCount n ds
 is_count n [] some digits value = absurd (omega arith)
 is_count n (c ∷ ds) some digits value = (digits, value)
 
@@ -168,7 +168,7 @@ count_spelt n small = count_spelt_at (n == 1) n refl small
 pub most_state : Bool → ℕ
 most_state two = if two then 1 else 255
 
-tag_spelt : (two : Bool) (n s : ℕ) → s ≤ most_state two → IsTag (Cells n s) (letters_text (letters two s))
+tag_spelt : (two : Bool) (n s : ℕ) → s ≤ most_state two → IsTag (Cells n s) (letters_text (letters_of two s))
 unfolding most_state
 tag_spelt two n s le = written_letters two s le
 
@@ -181,7 +181,7 @@ unfolding joined AllStates
 tokens_spelt two [] pen fine states = refl
 tokens_spelt two (Cells n s ∷ tokens) pen fine states = (
   count_text n,
-  letters_text (letters two s),
+  letters_text (letters_of two s),
   joined (map (token_text two) tokens),
   (
     count_spelt n (small_count pen (Cells n s) fine.0),
@@ -189,7 +189,7 @@ tokens_spelt two (Cells n s ∷ tokens) pen fine states = (
       tag_spelt two n s states.0,
       (
         tokens_spelt two tokens (moved (Cells n s) pen) fine.1 states.1,
-        append_assoc (count_text n) (letters_text (letters two s)) (joined (map (token_text two) tokens)),
+        append_assoc (count_text n) (letters_text (letters_of two s)) (joined (map (token_text two) tokens)),
       ),
     ),
   ),
@@ -214,14 +214,14 @@ tokens_spelt two (Rows n ∷ tokens) pen fine states = (
 
 -- neither a blank, nor a line's end, nor the beginning of a comment
 is_solid : ℕ → Bool
-is_solid c = not (is_blank c || is_line_end c || c == 35)
+is_solid c = not (is_space_or_tab c || ends_line c || c == 35)
 
 record IsSolid (c : ℕ) : Type 0 where
-  no_blank : is_blank c ≡ false
-  no_end : is_line_end c ≡ false
+  no_blank : is_space_or_tab c ≡ false
+  no_end : ends_line c ≡ false
   no_hash : (c == 35) ≡ false
 
-solid_is : (blank ends hash : Bool) (c : ℕ) → is_blank c ≡ blank → is_line_end c ≡ ends → (c == 35) ≡ hash → not (blank || ends || hash) ≡ true → IsSolid c
+solid_is : (blank ends hash : Bool) (c : ℕ) → is_space_or_tab c ≡ blank → ends_line c ≡ ends → (c == 35) ≡ hash → not (blank || ends || hash) ≡ true → IsSolid c
 solid_is true ends hash c a b d h = absurd (cc)
 solid_is false true hash c a b d h = absurd (cc)
 solid_is false false true c a b d h = absurd (cc)
@@ -229,7 +229,7 @@ solid_is false false false c a b d h = record { no_blank = a; no_end = b; no_has
 
 solid : (c : ℕ) → is_solid c ≡ true → IsSolid c
 unfolding is_solid
-solid c h = solid_is (is_blank c) (is_line_end c) (c == 35) c refl refl refl h
+solid c h = solid_is (is_space_or_tab c) (ends_line c) (c == 35) c refl refl refl h
 
 -- what is left, marked or not, of bytes that follow a place of a line that counts
 record Leaves (text bytes : List ℕ) : Type 0 where
@@ -285,10 +285,10 @@ solid_above c h =
     let f : (c == 35) ≡ false = ne_eqb c 35 (omega arith) in
     rw (a, b, d, e, f) refl
 
-solid_digits : (ds : List ℕ) → list_all is_digit ds ≡ true → list_all is_solid ds ≡ true
+solid_digits : (ds : List ℕ) → list_all is_decimal_digit ds ≡ true → list_all is_solid ds ≡ true
 solid_digits [] all = refl
 solid_digits (d ∷ ds) all =
-    let parts = and_parts (is_digit d) (list_all is_digit ds) all in
+    let parts = and_parts (is_decimal_digit d) (list_all is_decimal_digit ds) all in
     let low = and_parts (nat_le 48 d) (nat_le d 57) parts.0 in
     let least : 48 ≤ d = grind (arith, nat_tests, low.0) in
     rw (solid_above d (omega arith), solid_digits ds parts.1) refl
@@ -312,7 +312,7 @@ solid_many true small s = solid_46 where
 solid_many false true s = rw (solid_above (64 + s) (omega arith)) refl
 solid_many false false s = rw (solid_above (111 + (s - 1) / 24) (omega arith), solid_above (65 + (s - 1) % 24) (omega arith)) refl
 
-solid_letters : (two : Bool) (s : ℕ) → list_all is_solid (letters_text (letters two s)) ≡ true
+solid_letters : (two : Bool) (s : ℕ) → list_all is_solid (letters_text (letters_of two s)) ≡ true
 solid_letters true s = solid_two (s == 0)
 solid_letters false s = solid_many (s == 0) (nat_le s 24) s
 
@@ -320,7 +320,7 @@ joined_solid : (xs ys : List ℕ) → list_all is_solid xs ≡ true → list_all
 joined_solid xs ys left right = list_all-append is_solid xs ys ∙ rw (left, right) refl
 
 solid_token : (two : Bool) (pen : Pen) (token : Token) → fault_of 0 pen token ≡ None → list_all is_solid (token_text two token) ≡ true
-solid_token two pen (Cells n s) fine = joined_solid (count_text n) (letters_text (letters two s)) (solid_count_if (n == 1) n (small_count pen (Cells n s) fine)) (solid_letters two s)
+solid_token two pen (Cells n s) fine = joined_solid (count_text n) (letters_text (letters_of two s)) (solid_count_if (n == 1) n (small_count pen (Cells n s) fine)) (solid_letters two s)
 solid_token two pen (Rows n) fine = joined_solid (count_text n) (36 ∷ []) (solid_count_if (n == 1) n (small_count pen (Rows n) fine)) (rw (solid_above 36 (omega arith)) refl)
 
 solid_mark : list_all is_solid (33 ∷ []) ≡ true

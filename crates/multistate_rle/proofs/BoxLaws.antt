@@ -12,14 +12,14 @@ use Rattle.std.specs.Int.Signed.{lt_z_yes, pos-nat_abs, yes_non_neg}
 use Rattle.std.proofs.Math.Dec.{T}
 use Rattle.generations_rule.specs.Rule.{GenerationsRule, IsRule, has}
 use Rattle.generations_rule.specs.RuleText.{text_of, text_of_set, slash, glyph, counts}
-use Rattle.multistate_rle.specs.Bytes.{is_line_end}
+use Rattle.multistate_rle.specs.Bytes.{ends_line}
 use Rattle.multistate_rle.specs.Laws.{ReadsBack}
 use Rattle.multistate_rle.proofs.HeadLaws.{both_pass, digits_pass, digit_no_end, printed}
 use Rattle.multistate_rle.proofs.TextBackLaws.{text_back}
 use Rattle.multistate_rle.specs.declared.cell.Cell.{Cell}
-use Rattle.multistate_rle.specs.Cells.{is_sorted, are_nonzero, are_below}
+use Rattle.multistate_rle.specs.Cells.{is_sorted, are_nonzero, are_states_below}
 use Rattle.multistate_rle.specs.Pattern.{precedes, are_sorted, are_alive, are_within}
-use Rattle.multistate_rle.specs.Bounds.{least, greatest, span, box_of, seen_from, in_box}
+use Rattle.multistate_rle.specs.Bounds.{least, greatest, span_of, box_of, seen_from, in_box}
 use Rattle.multistate_rle.proofs.PatternLaws.{and_parts}
 
 -- each cell's coordinate lies between the two
@@ -85,7 +85,7 @@ less_is : (a b : ℤ) → int_lt a b ≡ true → a <ℤ b
 less_is a b h = lt_z_yes (subst T (sym h) tt)
 
 seen_within : (x y far low : ℤ) (cells : List Cell) → AllBetween (λ c. c.x) x far cells → AllBetween (λ c. c.y) y low cells →
-    are_within (span x far) (span y low) (map (seen_from x y) cells) ≡ true
+    are_within (span_of x far) (span_of y low) (map (seen_from x y) cells) ≡ true
 unfolding AllBetween
 seen_within x y far low [] columns rows = refl
 seen_within x y far low (c ∷ cells) columns rows =
@@ -137,11 +137,11 @@ state_below : (two : Bool) (states s : ℕ) → (states == 2) ≡ two → states
 state_below true states s e most lt = let is : states ≡ 2 = eqb-true states 2 e in grind (arith, nat_tests, is)
 state_below false states s e most lt = grind (arith, nat_tests)
 
-seen_states : (two : Bool) (states : ℕ) (x y : ℤ) (cells : List Cell) → (states == 2) ≡ two → states ≤ 256 → are_below states cells ≡ true →
+seen_states : (two : Bool) (states : ℕ) (x y : ℤ) (cells : List Cell) → (states == 2) ≡ two → states ≤ 256 → are_states_below states cells ≡ true →
     list_all (λ cell. nat_le cell.state (if two then 1 else 255)) (map (seen_from x y) cells) ≡ true
 seen_states two states x y [] e most below = refl
 seen_states two states x y (c ∷ cells) e most below =
-    let parts = and_parts (nat_lt c.state states) (are_below states cells) below in
+    let parts = and_parts (nat_lt c.state states) (are_states_below states cells) below in
     rw (state_below two states c.state e most parts.0, seen_states two states x y cells e most parts.1) refl
 
 -- ---- the rule's text
@@ -157,17 +157,17 @@ kept_pass p q (n ∷ ns) all =
     let parts = and_parts (p (glyph n)) (list_all (λ n. p (glyph n)) ns) all in
     kept_pass_if (q n) p q n ns parts.0 (kept_pass p q ns parts.1)
 
-set_ends : (set : List Bool) → list_all (λ c. not (is_line_end c)) (text_of_set set) ≡ true
+set_ends : (set : List Bool) → list_all (λ c. not (ends_line c)) (text_of_set set) ≡ true
 unfolding text_of_set
-set_ends set = kept_pass (λ c. not (is_line_end c)) (has set) counts refl
+set_ends set = kept_pass (λ c. not (ends_line c)) (has set) counts refl
 
-rule_ends : (r : GenerationsRule) → IsRule r → list_all (λ c. not (is_line_end c)) (text_of r) ≡ true
+rule_ends : (r : GenerationsRule) → IsRule r → list_all (λ c. not (ends_line c)) (text_of r) ≡ true
 rule_ends r is =
-    both_pass (λ c. not (is_line_end c)) (text_of_set r.survival ++ slash ∷ [] ++ text_of_set r.birth ++ slash ∷ []) (decimal r.states)
-    (both_pass (λ c. not (is_line_end c)) (text_of_set r.survival ++ slash ∷ [] ++ text_of_set r.birth) (slash ∷ [])
-    (both_pass (λ c. not (is_line_end c)) (text_of_set r.survival ++ slash ∷ []) (text_of_set r.birth)
-    (both_pass (λ c. not (is_line_end c)) (text_of_set r.survival) (slash ∷ []) (set_ends r.survival) refl) (set_ends r.birth)) refl)
-    (digits_pass (λ c. not (is_line_end c)) digit_no_end (decimal r.states) (printed r.states (omega (arith, is.most))).digits)
+    both_pass (λ c. not (ends_line c)) (text_of_set r.survival ++ slash ∷ [] ++ text_of_set r.birth ++ slash ∷ []) (decimal r.states)
+    (both_pass (λ c. not (ends_line c)) (text_of_set r.survival ++ slash ∷ [] ++ text_of_set r.birth) (slash ∷ [])
+    (both_pass (λ c. not (ends_line c)) (text_of_set r.survival ++ slash ∷ []) (text_of_set r.birth)
+    (both_pass (λ c. not (ends_line c)) (text_of_set r.survival) (slash ∷ []) (set_ends r.survival) refl) (set_ends r.birth)) refl)
+    (digits_pass (λ c. not (ends_line c)) digit_no_end (decimal r.states) (printed r.states (omega (arith, is.most))).digits)
 
 -- ---- what is written is read back
 

@@ -6,9 +6,9 @@ use Rattle.std.proofs.lemmas.Bool.Decides.{nat_tests}
 use Rattle.multistate_rle.specs.declared.fault.RleFault.{RleFault}
 use Rattle.multistate_rle.specs.declared.fault.RleFault.TheVariants.{Tag}
 use Rattle.multistate_rle.specs.Role as role
-use Rattle.multistate_rle.specs.Bytes.{is_digit}
+use Rattle.multistate_rle.specs.Bytes.{is_decimal_digit}
 use Rattle.multistate_rle.specs.Tokens.{Token, Cells, Rows, count_of}
-use Rattle.multistate_rle.specs.Reading.{Mark, Begun, Pen, fresh, with_digit, with_prefix, moved, fault_of, followed, is_prefix, is_letter, role_of, tokens_of, bytes_of, AreFine}
+use Rattle.multistate_rle.specs.Reading.{Mark, BegunValue, Pen, fresh, with_digit, with_prefix, moved, fault_of, followed, is_prefix_byte, is_letter, role_of, tokens_of, bytes_of, AreFine}
 use Rattle.multistate_rle.specs.Spelling.{IsCount, IsTag, IsSpelling}
 use Rattle.multistate_rle.specs.Faulty.{pen_behind, first_place, may_stand, MeetsStray, lacks_letter, LacksLetter, DrawsIll, BeginsFaulty}
 use Rattle.multistate_rle.proofs.PatternLaws.{and_parts}
@@ -18,21 +18,21 @@ use Rattle.multistate_rle.proofs.SpellingLaws.{letter_role, prefix_role, digit_r
 -- ---- the digits of a token
 
 -- what is read of a token, with digits behind it
-unfoldable pub begun_by : Begun → List Mark → Begun
+unfoldable pub begun_by : BegunValue → List Mark → BegunValue
 begun_by b [] = b
 begun_by b (m ∷ marks) = begun_by (with_digit m.0 (m.1 - 48) b) marks
 
-pub no_prefix_by : (b : Begun) (digits : List Mark) → (begun_by b digits).prefix ≡ b.prefix
+pub no_prefix_by : (b : BegunValue) (digits : List Mark) → (begun_by b digits).prefix ≡ b.prefix
 unfolding begun_by
 no_prefix_by b [] = refl
 no_prefix_by b (m ∷ digits) = no_prefix_by (with_digit m.0 (m.1 - 48) b) digits
 
-pub count_by : (b : Begun) (digits : List Mark) → (begun_by b digits).count ≡ counted b.count (bytes_of digits)
+pub count_by : (b : BegunValue) (digits : List Mark) → (begun_by b digits).count ≡ counted b.count (bytes_of digits)
 unfolding begun_by counted
 count_by b [] = refl
 count_by b (m ∷ digits) = count_by (with_digit m.0 (m.1 - 48) b) digits
 
-place_kept : (b : Begun) (digits : List Mark) (place k : ℕ) → b.place ≡ Some place → unwrap_or (begun_by b digits).place k ≡ place
+place_kept : (b : BegunValue) (digits : List Mark) (place k : ℕ) → b.place ≡ Some place → unwrap_or (begun_by b digits).place k ≡ place
 unfolding begun_by
 place_kept b [] place k is = ap (λ p. unwrap_or p k) is
 place_kept b (m ∷ digits) place k is = place_kept (with_digit m.0 (m.1 - 48) b) digits place k (ap (λ p. Some (unwrap_or p m.0)) is)
@@ -43,31 +43,31 @@ unfolding begun_by
 place_by [] k = refl
 place_by (m ∷ digits) k = place_kept (with_digit m.0 (m.1 - 48) fresh) digits m.0 k refl
 
-pub digits_by : (end : ℕ) (digits rest : List Mark) (b : Begun) (pen : Pen) → list_all is_digit (bytes_of digits) ≡ true → b.prefix ≡ None →
+pub digits_by : (end : ℕ) (digits rest : List Mark) (b : BegunValue) (pen : Pen) → list_all is_decimal_digit (bytes_of digits) ≡ true → b.prefix ≡ None →
     tokens_of end (digits ++ rest) b pen ≡ tokens_of end rest (begun_by b digits) pen
 unfolding begun_by
 digits_by end [] rest b pen all none = refl
 digits_by end (m ∷ digits) rest b pen all none =
-    let parts = and_parts (is_digit m.1) (list_all is_digit (bytes_of digits)) all in
+    let parts = and_parts (is_decimal_digit m.1) (list_all is_decimal_digit (bytes_of digits)) all in
     step_is end m (digits ++ rest) b pen (role.Digit (m.1 - 48)) (ap (λ p. role_of p m.1) none ∙ digit_role m.1 parts.0)
     ∙ digits_by end digits rest (with_digit m.0 (m.1 - 48) b) pen parts.1 none
 
 -- ---- one token that is spelt well
 
 -- the byte that ends a token, by what it is
-state_ends : (end : ℕ) (m : Mark) (rest : List Mark) (b : Begun) (pen : Pen) (n s : ℕ) → role_of b.prefix m.1 ≡ role.State s → unwrap_or b.count 1 ≡ n →
+state_ends : (end : ℕ) (m : Mark) (rest : List Mark) (b : BegunValue) (pen : Pen) (n s : ℕ) → role_of b.prefix m.1 ≡ role.State s → unwrap_or b.count 1 ≡ n →
     tokens_of end (m ∷ rest) b pen ≡ followed (fault_of (unwrap_or b.place m.0) pen (Cells n s)) (Cells n s) (tokens_of end rest fresh (moved (Cells n s) pen))
 state_ends end m rest b pen n s is count =
     step_is end m rest b pen (role.State s) is
     ∙ ap (λ k. followed (fault_of (unwrap_or b.place m.0) pen (Cells k s)) (Cells k s) (tokens_of end rest fresh (moved (Cells k s) pen))) count
 
-row_ends : (end : ℕ) (m : Mark) (rest : List Mark) (b : Begun) (pen : Pen) (n : ℕ) → role_of b.prefix m.1 ≡ role.RowEnd → unwrap_or b.count 1 ≡ n →
+row_ends : (end : ℕ) (m : Mark) (rest : List Mark) (b : BegunValue) (pen : Pen) (n : ℕ) → role_of b.prefix m.1 ≡ role.RowEnd → unwrap_or b.count 1 ≡ n →
     tokens_of end (m ∷ rest) b pen ≡ followed (fault_of (unwrap_or b.place m.0) pen (Rows n)) (Rows n) (tokens_of end rest fresh (moved (Rows n) pen))
 row_ends end m rest b pen n is count =
     step_is end m rest b pen role.RowEnd is
     ∙ ap (λ k. followed (fault_of (unwrap_or b.place m.0) pen (Rows k)) (Rows k) (tokens_of end rest fresh (moved (Rows k) pen))) count
 
-tag_by : (end : ℕ) (token : Token) (tag rest : List Mark) (b : Begun) (pen : Pen) → IsTag token (bytes_of tag) → b.prefix ≡ None → unwrap_or b.count 1 ≡ count_of token →
+tag_by : (end : ℕ) (token : Token) (tag rest : List Mark) (b : BegunValue) (pen : Pen) → IsTag token (bytes_of tag) → b.prefix ≡ None → unwrap_or b.count 1 ≡ count_of token →
     tokens_of end (tag ++ rest) b pen ≡ followed (fault_of (unwrap_or b.place (first_place 0 tag)) pen token) token (tokens_of end rest fresh (moved token pen))
 tag_by end (Cells n s) [] rest b pen is none count = absurd is
 tag_by end (Cells n s) (m ∷ []) rest b pen is none count = state_ends end m rest b pen n s (ap (λ p. role_of p m.1) none ∙ byte_role m.1 s is) count
@@ -107,9 +107,9 @@ token_read end token digits tag rest pen is_count is_tag =
 -- ---- faulty tokens
 
 stray_role : (c : ℕ) → may_stand c ≡ false → role_of None c ≡ role.Stray
-stray_role c is = by_tests (is_digit c) (is_letter c) (is_prefix c) (c == 46) (c == 98) (c == 111) (c == 36) (c == 33) refl refl refl refl refl refl refl refl is
+stray_role c is = by_tests (is_decimal_digit c) (is_letter c) (is_prefix_byte c) (c == 46) (c == 98) (c == 111) (c == 36) (c == 33) refl refl refl refl refl refl refl refl is
   where
-    by_tests : (digit letter prefix dot b o dollar mark : Bool) → is_digit c ≡ digit → is_letter c ≡ letter → is_prefix c ≡ prefix → (c == 46) ≡ dot → (c == 98) ≡ b → (c == 111) ≡ o → (c == 36) ≡ dollar → (c == 33) ≡ mark →
+    by_tests : (digit letter prefix dot b o dollar mark : Bool) → is_decimal_digit c ≡ digit → is_letter c ≡ letter → is_prefix_byte c ≡ prefix → (c == 46) ≡ dot → (c == 98) ≡ b → (c == 111) ≡ o → (c == 36) ≡ dollar → (c == 33) ≡ mark →
         (digit || letter || prefix || dot || b || o || dollar || mark) ≡ false → role_of None c ≡ role.Stray
     by_tests false false false false false false false false e1 e2 e3 e4 e5 e6 e7 e8 none = rw (e8, e2, e1, e3, e4, e5, e6, e7) refl
     by_tests true l p d b o r m e1 e2 e3 e4 e5 e6 e7 e8 none = absurd (cc)
@@ -130,7 +130,7 @@ stray_told end marks pen fault is =
     ∙ ap (λ f. Err f) (sym is.fault_is)
 
 -- behind a prefix
-lacking : (end : ℕ) (rest : List Mark) (b : Begun) (pen : Pen) (k : ℕ) → b.prefix ≡ Some k → lacks_letter rest ≡ true → tokens_of end rest b pen ≡ Err (Tag (first_place end rest))
+lacking : (end : ℕ) (rest : List Mark) (b : BegunValue) (pen : Pen) (k : ℕ) → b.prefix ≡ Some k → lacks_letter rest ≡ true → tokens_of end rest b pen ≡ Err (Tag (first_place end rest))
 lacking end [] b pen k is none = rw is refl
 lacking end (m ∷ rest) b pen k is none = by_mark (m.1 == 33) (is_letter m.1) refl refl none
   where

@@ -5,7 +5,7 @@ use Rattle.std.proofs.lemmas.List.{map-append, drop_all}
 use Rattle.std.proofs.lemmas.Bool.{ne_eqb}
 use Rattle.std.proofs.lemmas.Fmt.{decimal_digit}
 use borrow.Author.Tests.{eqb-true}
-use Rattle.multistate_rle.specs.Letters.{Letters}
+use Rattle.multistate_rle.specs.Letters.{LettersValue}
 use Rattle.multistate_rle.specs.Letters.{letters_text}
 use Rattle.std.proofs.lemmas.Bool.Decides.{nat_tests}
 use Rattle.multistate_rle.specs.declared.lines.Lines.{Lines}
@@ -15,7 +15,7 @@ use Rattle.multistate_rle.specs.declared.pattern.PatternCell.{PatternCell}
 use Rattle.multistate_rle.specs.Tokens.{Token, Cells, Rows, with_run, tokens_from, gap, skip}
 use Rattle.std.proofs.lemmas.List.Folds.{list_all_at}
 use Rattle.multistate_rle.specs.declared.cell.Cell.{Cell}
-use Rattle.multistate_rle.specs.Bounds.{Bounds}
+use Rattle.multistate_rle.specs.Bounds.{BoundsValue}
 use Rattle.multistate_rle.specs.Bounds.{seen_from}
 use Rattle.multistate_rle.specs.Cells.{are_nonzero}
 use Rattle.multistate_rle.specs.Writing.{token_text, filled, count_text, spelling}
@@ -139,7 +139,7 @@ alive_run (Some r) held = held.0
 -- ---- all cells
 
 -- what is written, with the cells still to come behind it
-pub record Written (old : Lines) (bounds : Bounds) (cells : List Cell) (passed : ℕ) (pen : Pen) (new : Lines) : Type 0 where
+pub record Written (old : Lines) (bounds : BoundsValue) (cells : List Cell) (passed : ℕ) (pen : Pen) (new : Lines) : Type 0 where
   pub text : (rest : List (List ℕ)) →
       text_with new (map (token_text old.two_states) (tokens_with pen (map (seen_from bounds.x bounds.y) (drop passed cells))) ++ rest)
       ≡ text_with old (map (token_text old.two_states) (tokens_with no_pen (map (seen_from bounds.x bounds.y) cells)) ++ rest)
@@ -154,7 +154,7 @@ run_more : (run : Option Run) (m n : ℕ) → m ≤ n → IfSome run (λ r. (r.s
 run_more None m n le held = held
 run_more (Some r) m n le held = (held.0, omega (arith, held.1))
 
-pub cell_written : (old mid new : Lines) (bounds : Bounds) (cells : List Cell) (i : ℕ) (d : Cell) (pen next : Pen) (cell : PatternCell) →
+pub cell_written : (old mid new : Lines) (bounds : BoundsValue) (cells : List Cell) (i : ℕ) (d : Cell) (pen next : Pen) (cell : PatternCell) →
     i < length cells → cell ≡ seen_from bounds.x bounds.y (get_or cells i d) →
     Written old bounds cells i pen mid → WritesCell mid pen cell next new → Written old bounds cells (i + 1) next new
 cell_written old mid new bounds cells i d pen next cell within is so_far step =
@@ -175,7 +175,7 @@ on_ok : {A E : Type 0} (r : Result A E) (P Q : Type 0) → (P → Q) → OnOk r 
 on_ok (Ok x) P Q f held = f held
 on_ok (Err e) P Q f held = held
 
-pub all_written : {A E : Type 0} (r : Result A E) (old mid new : Lines) (bounds : Bounds) (cells : List Cell) (i : ℕ) (pen : Pen) →
+pub all_written : {A E : Type 0} (r : Result A E) (old mid new : Lines) (bounds : BoundsValue) (cells : List Cell) (i : ℕ) (pen : Pen) →
     length cells ≤ i → Written old bounds cells i pen mid → OnOk r (Writes mid (map (token_text mid.two_states) (run_tokens pen.run [])) new) →
     OnOk r (Writes old (map (token_text old.two_states) (tokens_with no_pen (map (seen_from bounds.x bounds.y) cells))) new)
 all_written r old mid new bounds cells i pen past so_far =
@@ -217,7 +217,7 @@ on_its_line false items piece used len rest =
     ∙ ap (λ k. items ++ (codes "\n" ++ (piece ++ filled k rest))) none
 
 -- one digit and the letters
-pub short_longer : (count : ℕ) (letters : Letters) → count ≤ 9 → (count == 1) ≡ false → length (spelling count letters) ≡ 1 + length (letters_text letters)
+pub short_longer : (count : ℕ) (letters : LettersValue) → count ≤ 9 → (count == 1) ≡ false → length (spelling count letters) ≡ 1 + length (letters_text letters)
 short_longer count letters short more =
     length-append (count_text count) (letters_text letters) ∙ ap (λ (digits : List ℕ). length digits + length (letters_text letters)) (short_count count short more)
 

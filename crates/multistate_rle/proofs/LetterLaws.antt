@@ -3,12 +3,12 @@ use Rattle.std.proofs.Common.{◌≡◌, ◌≢◌, ℕ, zero, suc, ◌+◌, ◌
 use Rattle.std.specs.Prelude.{◌⊎◌, ◌==◌, nat_le, if◌then◌else◌}
 use Rattle.std.proofs.lemmas.Bool.{ne_eqb, eqb-true, eqb-false}
 use Rattle.std.proofs.lemmas.Bool.Decides.{nat_tests}
-use Rattle.multistate_rle.specs.Letters.{letters, letters_text, IsStateTag, IsPlain, IsLetter, IsPrefixed}
+use Rattle.multistate_rle.specs.Letters.{letters_of, letters_text, IsStateTag, IsPlain, IsLetter, IsPrefixed}
 use Rattle.multistate_rle.specs.Laws.{HasLetters}
 
 -- ---- what is written
 
-many_letters : (dead small : Bool) (s : ℕ) → (s == 0) ≡ dead → nat_le s 24 ≡ small → s ≤ 255 → IsStateTag s (letters_text (letters false s))
+many_letters : (dead small : Bool) (s : ℕ) → (s == 0) ≡ dead → nat_le s 24 ≡ small → s ≤ 255 → IsStateTag s (letters_text (letters_of false s))
 many_letters true small s d l le = let is : s ≡ 0 = eqb-true s 0 d in rw d (inl (inl (is, refl)))
 many_letters false true s d l le =
     let some : s ≢ 0 = eqb-false s 0 d in
@@ -18,19 +18,19 @@ many_letters false false s d l le =
     let high : 24 < s = grind (arith, nat_tests) in
     rw (d, l) (record { least_prefix = omega arith; most_prefix = omega arith; least = omega arith; most = omega arith; state = omega arith })
 
-two_letters : (s : ℕ) → s ≤ 1 → IsStateTag s (letters_text (letters true s))
+two_letters : (s : ℕ) → s ≤ 1 → IsStateTag s (letters_text (letters_of true s))
 two_letters zero le = inl (inr (inl (refl, refl)))
 two_letters (suc zero) le = inl (inr (inr (refl, refl)))
 two_letters (suc (suc s)) le = absurd (omega arith)
 
-pub written_letters : (two : Bool) (s : ℕ) → s ≤ (if two then 1 else 255) → IsStateTag s (letters_text (letters two s))
+pub written_letters : (two : Bool) (s : ℕ) → s ≤ (if two then 1 else 255) → IsStateTag s (letters_text (letters_of two s))
 written_letters true s le = two_letters s le
 written_letters false s le = many_letters (s == 0) (nat_le s 24) s refl refl le
 
 -- ---- and only that
 
 abbrev Written : ℕ → List ℕ → Type 0
-Written s tag = (tag ≡ letters_text (letters false s)) ⊎ ((s ≤ 1) × (tag ≡ letters_text (letters true s)))
+Written s tag = (tag ≡ letters_text (letters_of false s)) ⊎ ((s ≤ 1) × (tag ≡ letters_text (letters_of true s)))
 
 only_plain : (s c : ℕ) → IsPlain s c → Written s (c ∷ [])
 only_plain s c (inl is) = let none : s ≡ 0 = is.0 in let dot : c ≡ 46 = is.1 in rw (none, dot) (inl refl)

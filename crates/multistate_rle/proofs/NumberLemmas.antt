@@ -8,7 +8,7 @@ use Rattle.std.proofs.lemmas.Int.Digits.{digits_value_more}
 use Rattle.std.proofs.lemmas.Str.Parse.{digits_value-take-le}
 use Rattle.std.proofs.lemmas.List.Folds.{list_all_at, list_all_more}
 use Rattle.std.proofs.lemmas.Bool.Decides.{nat_tests}
-use Rattle.multistate_rle.specs.Bytes.{is_digit, number, at_most}
+use Rattle.multistate_rle.specs.Bytes.{is_decimal_digit, decimal_number, at_most}
 
 pub past_most : (most n : ℕ) → at_most most n ≡ None → most < n
 past_most most n none = grind (arith, nat_tests)
@@ -21,32 +21,32 @@ choice true o e = e
 choice false o e = refl
 
 -- a number that is too great in its first digits is too great
-pub too_great : (most : ℕ) (ds : List ℕ) (i : ℕ) → most < digits_value 10 (take i ds) → number most ds ≡ None
+pub too_great : (most : ℕ) (ds : List ℕ) (i : ℕ) → most < digits_value 10 (take i ds) → decimal_number most ds ≡ None
 too_great most [] i h = refl
 too_great most (c ∷ ds) i h =
     let more : nat_le (digits_value 10 (c ∷ ds)) most ≡ false = grind (arith, nat_tests, digits_value-take-le 10 (c ∷ ds) i (omega arith)) in
-    choice (list_all is_digit (c ∷ ds)) (at_most most (digits_value 10 (c ∷ ds))) (rw more refl)
+    choice (list_all is_decimal_digit (c ∷ ds)) (at_most most (digits_value 10 (c ∷ ds))) (rw more refl)
 
 -- a text with another byte is no number
-pub no_digit : (most : ℕ) (ds : List ℕ) (i : ℕ) → i < length ds → is_digit (get_or ds i 0) ≡ false → number most ds ≡ None
+pub no_digit : (most : ℕ) (ds : List ℕ) (i : ℕ) → i < length ds → is_decimal_digit (get_or ds i 0) ≡ false → decimal_number most ds ≡ None
 no_digit most [] i h stray = refl
-no_digit most (c ∷ ds) i h stray = rw (list_all_at is_digit (c ∷ ds) i 0 h stray) refl
+no_digit most (c ∷ ds) i h stray = rw (list_all_at is_decimal_digit (c ∷ ds) i 0 h stray) refl
 
-pub is_number : (most : ℕ) (ds : List ℕ) → 0 < length ds → list_all is_digit ds ≡ true → digits_value 10 ds ≤ most → number most ds ≡ Some (digits_value 10 ds)
+pub is_number : (most : ℕ) (ds : List ℕ) → 0 < length ds → list_all is_decimal_digit ds ≡ true → digits_value 10 ds ≤ most → decimal_number most ds ≡ Some (digits_value 10 ds)
 is_number most [] some digits small = absurd (omega arith)
 is_number most (c ∷ ds) some digits small =
     let le : nat_le (digits_value 10 (c ∷ ds)) most ≡ true = grind (arith, nat_tests, small) in
     rw (digits, le) refl
 
 -- the value of a decimal digit
-pub digit_is : (c : ℕ) → is_digit c ≡ true → digit_value c ≡ c - 48
+pub digit_is : (c : ℕ) → is_decimal_digit c ≡ true → digit_value c ≡ c - 48
 digit_is c digit = grind (arith, nat_tests)
 
 -- one digit more
-pub next_digit : (ds : List ℕ) (i n : ℕ) → i < length ds → is_digit (get_or ds i 0) ≡ true → n ≡ digits_value 10 (take i ds) →
+pub next_digit : (ds : List ℕ) (i n : ℕ) → i < length ds → is_decimal_digit (get_or ds i 0) ≡ true → n ≡ digits_value 10 (take i ds) →
     digits_value 10 (take (i + 1) ds) ≡ n * 10 + (get_or ds i 0 - 48)
 next_digit ds i n h digit so_far =
     rw (digits_value_more 10 ds i h, so_far) (ap (λ d. digits_value 10 (take i ds) * 10 + d) (digit_is (get_or ds i 0) digit))
 
-pub all_digits_more : (ds : List ℕ) (i : ℕ) → i < length ds → list_all is_digit (take i ds) ≡ true → is_digit (get_or ds i 0) ≡ true → list_all is_digit (take (i + 1) ds) ≡ true
-all_digits_more ds i h so_far digit = rw (list_all_more is_digit ds i 0 h, so_far, digit) refl
+pub all_digits_more : (ds : List ℕ) (i : ℕ) → i < length ds → list_all is_decimal_digit (take i ds) ≡ true → is_decimal_digit (get_or ds i 0) ≡ true → list_all is_decimal_digit (take (i + 1) ds) ≡ true
+all_digits_more ds i h so_far digit = rw (list_all_more is_decimal_digit ds i 0 h, so_far, digit) refl

@@ -4,12 +4,12 @@ use Rattle.std.specs.Prelude.{Option, Some, None, Result, unwrap_or, not, if◌t
 use Rattle.std.specs.List.{list_all, enumerate_from, position_or_len}
 use Rattle.std.proofs.lemmas.List.Folds.{length-prefix_len}
 use Rattle.multistate_rle.specs.declared.fault.RleFault.{RleFault}
-use Rattle.multistate_rle.specs.Bytes.{is_blank, is_line_end}
+use Rattle.multistate_rle.specs.Bytes.{is_space_or_tab, ends_line}
 use Rattle.multistate_rle.specs.Header.{header_of}
 use Rattle.multistate_rle.specs.HeaderLine.{text_lines, may_precede, first_header, HasNoHeader}
-use Rattle.multistate_rle.specs.Position.{Origin, origin_of, origin_from, no_items}
+use Rattle.multistate_rle.specs.Position.{OriginValue, origin_in, origin_from, no_items}
 use Rattle.multistate_rle.specs.Pattern.{RlePattern}
-use Rattle.multistate_rle.specs.Reading.{parsed, body_read, lines_of, lines_read, is_comment, or_else}
+use Rattle.multistate_rle.specs.Reading.{parsed, body_read, lines_of, lines_read, begins_comment, or_else}
 use Rattle.multistate_rle.specs.Spelling.{IsLine, IsFront, with_lines, first_origin}
 use Rattle.multistate_rle.specs.Parts.{EndsLine, HasParts}
 use Rattle.multistate_rle.proofs.SplitLemmas.{split_at, later_parts}
@@ -19,9 +19,9 @@ use Rattle.multistate_rle.proofs.WholeTextLaws.{line_first, front_line, no_comme
 
 -- ---- places
 
-pub line_len : (line : List ℕ) (end : ℕ) (rest : List ℕ) → IsLine line → is_line_end end ≡ true → position_or_len is_line_end (line ++ end ∷ rest) ≡ length line
+pub line_len : (line : List ℕ) (end : ℕ) (rest : List ℕ) → IsLine line → ends_line end ≡ true → position_or_len ends_line (line ++ end ∷ rest) ≡ length line
 line_len line end rest is ends =
-    sym (length-prefix_len (λ c. not (is_line_end c)) (line ++ end ∷ rest)) ∙ ap length (front_is (λ c. not (is_line_end c)) line end rest is (rw ends refl))
+    sym (length-prefix_len (λ c. not (ends_line c)) (line ++ end ∷ rest)) ∙ ap length (front_is (λ c. not (ends_line c)) line end rest is (rw ends refl))
 
 front_len : (front : List (List ℕ × ℕ)) (rest : List ℕ) → length (with_lines front rest) ≡ length (with_lines front []) + length rest
 front_len [] rest = omega arith
@@ -30,35 +30,35 @@ front_len (line ∷ front) rest = omega (arith, front_len front rest, length-app
 -- ---- a text in its parts
 
 -- the lines in front, with the place of what stands behind them
-front_placed : (len : ℕ) (origin : Option Origin) (n : ℕ) (front : List (List ℕ × ℕ)) (rest : List ℕ) (meant : Option Origin → Result RlePattern RleFault) → IsFront front →
-    ((found : Option Origin) → lines_read len found (lines_of (enumerate_from (n + length (with_lines front [])) rest)) ≡ meant found) →
+front_placed : (len : ℕ) (origin : Option OriginValue) (n : ℕ) (front : List (List ℕ × ℕ)) (rest : List ℕ) (meant : Option OriginValue → Result RlePattern RleFault) → IsFront front →
+    ((found : Option OriginValue) → lines_read len found (lines_of (enumerate_from (n + length (with_lines front [])) rest)) ≡ meant found) →
     lines_read len origin (lines_of (enumerate_from n (with_lines front rest))) ≡ meant (first_origin origin front)
 front_placed len origin n [] rest meant is behind = ap (λ k. lines_read len origin (lines_of (enumerate_from k rest))) (omega arith) ∙ behind origin
 front_placed len origin n (line ∷ front) rest meant is behind =
-    let next = n + position_or_len is_line_end (line.0 ++ line.1 ∷ with_lines front rest) + 1 in
+    let next = n + position_or_len ends_line (line.0 ++ line.1 ∷ with_lines front rest) + 1 in
     let same : next + length (with_lines front []) ≡ n + length (line.0 ++ line.1 ∷ with_lines front []) =
     omega (arith, line_len line.0 line.1 (with_lines front rest) is.0 is.1.0, length-append line.0 (line.1 ∷ with_lines front [])) in
     line_first len origin n line.0 line.1 (with_lines front rest) is.0 is.1.0
-    ∙ front_line len origin line.0 next (with_lines front rest) (is_comment line.0) (list_all is_blank line.0) refl refl is.1.1.0
-    ∙ front_placed len (if is_comment line.0 then or_else origin (origin_of line.0) else origin) next front rest meant is.1.1.1
+    ∙ front_line len origin line.0 next (with_lines front rest) (begins_comment line.0) (list_all is_space_or_tab line.0) refl refl is.1.1.0
+    ∙ front_placed len (if begins_comment line.0 then or_else origin (origin_in line.0) else origin) next front rest meant is.1.1.1
     (λ found. ap (λ k. lines_read len found (lines_of (enumerate_from k rest))) same ∙ behind found)
 
 -- a last line without an end
-last_line : (len : ℕ) (origin : Option Origin) (n : ℕ) (line : List ℕ) → IsLine line →
-    lines_read len origin (lines_of (enumerate_from n line)) ≡ line_read len origin line (n + position_or_len is_line_end line + 1) []
+last_line : (len : ℕ) (origin : Option OriginValue) (n : ℕ) (line : List ℕ) → IsLine line →
+    lines_read len origin (lines_of (enumerate_from n line)) ≡ line_read len origin line (n + position_or_len ends_line line + 1) []
 last_line len origin n line is =
     line_step len origin n line
-    ∙ (λ i. line_read len origin (front_all (λ c. not (is_line_end c)) line is i) (n + position_or_len is_line_end line + 1) (drop 1 (past_all (λ c. not (is_line_end c)) line is i)))
+    ∙ (λ i. line_read len origin (front_all (λ c. not (ends_line c)) line is i) (n + position_or_len ends_line line + 1) (drop 1 (past_all (λ c. not (ends_line c)) line is i)))
 
-header_first : (len : ℕ) (found : Option Origin) (k : ℕ) (header behind : List ℕ) (sides : ℕ × ℕ) → IsLine header → header_of header ≡ Some sides → EndsLine behind →
+header_first : (len : ℕ) (found : Option OriginValue) (k : ℕ) (header behind : List ℕ) (sides : ℕ × ℕ) → IsLine header → header_of header ≡ Some sides → EndsLine behind →
     lines_read len found (lines_of (enumerate_from k (header ++ behind))) ≡ body_read len (unwrap_or found (origin_from no_items)) sides (lines_of (enumerate_from (k + length header + 1) (drop 1 behind)))
 header_first len found k header [] sides is_header is ends =
     ap (λ text. lines_read len found (lines_of (enumerate_from k text))) (append-nil header)
     ∙ last_line len found k header is_header
-    ∙ header_is_read len found header (k + position_or_len is_line_end header + 1) [] sides (no_comment header sides (is_comment header) refl is) (no_blank header sides (list_all is_blank header) refl is) is
+    ∙ header_is_read len found header (k + position_or_len ends_line header + 1) [] sides (no_comment header sides (begins_comment header) refl is) (no_blank header sides (list_all is_space_or_tab header) refl is) is
 header_first len found k header (end ∷ rest) sides is_header is ends =
     line_first len found k header end rest is_header ends
-    ∙ header_is_read len found header (k + position_or_len is_line_end (header ++ end ∷ rest) + 1) rest sides (no_comment header sides (is_comment header) refl is) (no_blank header sides (list_all is_blank header) refl is) is
+    ∙ header_is_read len found header (k + position_or_len ends_line (header ++ end ∷ rest) + 1) rest sides (no_comment header sides (begins_comment header) refl is) (no_blank header sides (list_all is_space_or_tab header) refl is) is
     ∙ ap (λ n. body_read len (unwrap_or found (origin_from no_items)) sides (lines_of (enumerate_from (k + n + 1) rest))) (line_len header end rest is_header ends)
 
 pub parts_read : (text : List ℕ) (front : List (List ℕ × ℕ)) (sides : ℕ × ℕ) (place : ℕ) (body : List ℕ) → HasParts text front sides place body →
@@ -82,7 +82,7 @@ record FirstLine (text : List ℕ) : Type 0 where
   line_is : IsLine line
   behind_is : EndsLine behind
 
-first_by : (c : ℕ) (text : List ℕ) (ends : Bool) → is_line_end c ≡ ends → FirstLine text → FirstLine (c ∷ text)
+first_by : (c : ℕ) (text : List ℕ) (ends : Bool) → ends_line c ≡ ends → FirstLine text → FirstLine (c ∷ text)
 first_by c text true e rest = record { line = []; behind = c ∷ text; text_is = refl; line_is = refl; behind_is = e }
 first_by c text false e rest = record {
   line = c ∷ rest.line;
@@ -94,19 +94,19 @@ first_by c text false e rest = record {
 
 first_line_of : (text : List ℕ) → FirstLine text
 first_line_of [] = record { line = []; behind = []; text_is = refl; line_is = refl; behind_is = tt }
-first_line_of (c ∷ text) = first_by c text (is_line_end c) refl (first_line_of text)
+first_line_of (c ∷ text) = first_by c text (ends_line c) refl (first_line_of text)
 
 one_line : (line : List ℕ) → IsLine line → text_lines line ≡ line ∷ []
 unfolding later_parts
 one_line line is =
-    split_at is_line_end line ∙ (λ i. front_all (λ c. not (is_line_end c)) line is i ∷ later_parts is_line_end (past_all (λ c. not (is_line_end c)) line is i))
+    split_at ends_line line ∙ (λ i. front_all (λ c. not (ends_line c)) line is i ∷ later_parts ends_line (past_all (λ c. not (ends_line c)) line is i))
 
-more_lines : (line : List ℕ) (end : ℕ) (rest : List ℕ) → IsLine line → is_line_end end ≡ true → text_lines (line ++ end ∷ rest) ≡ line ∷ text_lines rest
+more_lines : (line : List ℕ) (end : ℕ) (rest : List ℕ) → IsLine line → ends_line end ≡ true → text_lines (line ++ end ∷ rest) ≡ line ∷ text_lines rest
 unfolding later_parts
 more_lines line end rest is ends =
-    let stops : not (is_line_end end) ≡ false = rw ends refl in
-    split_at is_line_end (line ++ end ∷ rest)
-    ∙ (λ i. front_is (λ c. not (is_line_end c)) line end rest is stops i ∷ later_parts is_line_end (past_is (λ c. not (is_line_end c)) line end rest is stops i))
+    let stops : not (ends_line end) ≡ false = rw ends refl in
+    split_at ends_line (line ++ end ∷ rest)
+    ∙ (λ i. front_is (λ c. not (ends_line c)) line end rest is stops i ∷ later_parts ends_line (past_is (λ c. not (ends_line c)) line end rest is stops i))
 
 abbrev header_in : List (List ℕ) → Option (ℕ × ℕ)
 header_in lines = first_header (filter (λ line. not (may_precede line)) lines)
@@ -146,7 +146,7 @@ header_found text line behind (Some sides) lines text_is line_is behind_is is co
   };
 })
 
-line_passed : (text line : List ℕ) (end : ℕ) (rest : List ℕ) → text ≡ line ++ end ∷ rest → IsLine line → is_line_end end ≡ true → text_lines text ≡ line ∷ text_lines rest → may_precede line ≡ true →
+line_passed : (text line : List ℕ) (end : ℕ) (rest : List ℕ) → text ≡ line ++ end ∷ rest → IsLine line → ends_line end ≡ true → text_lines text ≡ line ∷ text_lines rest → may_precede line ≡ true →
     HasNoHeader rest ⊎ InParts rest → HasNoHeader text ⊎ InParts text
 line_passed text line end rest text_is line_is ends is precedes (inl none) = inl (ap header_in is ∙ passed_over line (text_lines rest) precedes ∙ none)
 line_passed text line end rest text_is line_is ends is precedes (inr found) = inr (record {

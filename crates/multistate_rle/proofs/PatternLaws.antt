@@ -13,8 +13,8 @@ use Rattle.multistate_rle.specs.declared.fault.RleFault.TheVariants.{State, Coun
 use Rattle.multistate_rle.specs.declared.fault.RleFault.TheVariants.{Tag}
 use Rattle.multistate_rle.specs.Role.{Role}
 use Rattle.multistate_rle.specs.Role as role
-use Rattle.multistate_rle.specs.Reading.{Begun}
-use Rattle.multistate_rle.specs.Position.{Origin}
+use Rattle.multistate_rle.specs.Reading.{BegunValue}
+use Rattle.multistate_rle.specs.Position.{OriginValue}
 use Rattle.multistate_rle.specs.Reading.{Mark, Pen, start, fresh, moved, fault_of, cells_of, AreFine, followed, ended, tokens_of, role_of, with_digit, with_prefix, cells_read, pattern_of, width_of, height_of}
 use Rattle.multistate_rle.proofs.ReadLemmas.{by_role, step_is}
 use Rattle.multistate_rle.proofs.StepLemmas.{length_run}
@@ -178,13 +178,13 @@ followed_fine None place pen token (Ok more) (first ∷ tokens) is fine read =
     let good : AreFine pen (token ∷ more) = (fine_anywhere place pen token is, fine more refl) in
     subst (λ ts. AreFine pen ts) (λ i. same_first i ∷ same_more i) good
 
-ended_fine : (prefix : Option ℕ) (place : ℕ) (b : Begun) (pen : Pen) (tokens : List Token) → b.prefix ≡ prefix → ended place b ≡ Ok tokens → AreFine pen tokens
+ended_fine : (prefix : Option ℕ) (place : ℕ) (b : BegunValue) (pen : Pen) (tokens : List Token) → b.prefix ≡ prefix → ended place b ≡ Ok tokens → AreFine pen tokens
 ended_fine None place b pen [] is read = tt
 ended_fine None place b pen (token ∷ tokens) is read = let e : ended place b ≡ Ok [] = rw is refl in absurd (cc)
 ended_fine (Some k) place b pen tokens is read = let e : ended place b ≡ Err (Tag place) = rw is refl in absurd (cc)
 
-role_fine : (end : ℕ) (m : Mark) (marks : List Mark) (b : Begun) (pen : Pen) (r : Role) (tokens : List Token) →
-    ((b : Begun) (pen : Pen) (tokens : List Token) → tokens_of end marks b pen ≡ Ok tokens → AreFine pen tokens) →
+role_fine : (end : ℕ) (m : Mark) (marks : List Mark) (b : BegunValue) (pen : Pen) (r : Role) (tokens : List Token) →
+    ((b : BegunValue) (pen : Pen) (tokens : List Token) → tokens_of end marks b pen ≡ Ok tokens → AreFine pen tokens) →
     by_role end m marks b pen r ≡ Ok tokens → AreFine pen tokens
 role_fine end m marks b pen role.EndMark tokens fine read = ended_fine b.prefix m.0 b pen tokens refl read
 role_fine end m marks b pen (role.Digit d) tokens fine read = fine (with_digit m.0 d b) pen tokens read
@@ -195,7 +195,7 @@ role_fine end m marks b pen role.RowEnd tokens fine read =
     followed_fine _ (unwrap_or b.place m.0) pen (Rows (unwrap_or b.count 1)) _ tokens refl (λ more rest. fine fresh (moved (Rows (unwrap_or b.count 1)) pen) more rest) read
 role_fine end m marks b pen role.Stray tokens fine read = absurd (cc)
 
-pub read_fine : (end : ℕ) (marks : List Mark) (b : Begun) (pen : Pen) (tokens : List Token) → tokens_of end marks b pen ≡ Ok tokens → AreFine pen tokens
+pub read_fine : (end : ℕ) (marks : List Mark) (b : BegunValue) (pen : Pen) (tokens : List Token) → tokens_of end marks b pen ≡ Ok tokens → AreFine pen tokens
 read_fine end [] b pen tokens read = ended_fine b.prefix end b pen tokens refl read
 read_fine end (m ∷ marks) b pen tokens read =
     role_fine end m marks b pen (role_of b.prefix m.1) tokens (λ b pen tokens rest. read_fine end marks b pen tokens rest) (sym (step_is end m marks b pen (role_of b.prefix m.1) refl) ∙ read)
@@ -244,7 +244,7 @@ each_all p q (cell ∷ cells) all =
     (rw (here.0, later.0) refl, rw (here.1, later.1) refl)
 
 -- what tokens without faults draw, in the box of a header, is a pattern
-drawn_pattern : (origin : Origin) (sides : ℕ × ℕ) (tokens : List Token) → sides.0 ≤ 4294967295 → sides.1 ≤ 4294967295 → AreFine start tokens →
+drawn_pattern : (origin : OriginValue) (sides : ℕ × ℕ) (tokens : List Token) → sides.0 ≤ 4294967295 → sides.1 ≤ 4294967295 → AreFine start tokens →
     IsPattern (pattern_of origin sides (drawn tokens 0 0))
 unfolding reach
 drawn_pattern origin sides tokens w h fine =
@@ -261,7 +261,7 @@ drawn_pattern origin sides tokens w h fine =
       low = reach_most (λ cell. cell.row) sides.1 4294967296 cells (omega (arith, h)) bounds.1;
     }
 
-read_pattern_at : (origin : Origin) (sides : ℕ × ℕ) (cells : List PatternCell) (read : Result (List Token) RleFault) → sides.0 ≤ 4294967295 → sides.1 ≤ 4294967295 →
+read_pattern_at : (origin : OriginValue) (sides : ℕ × ℕ) (cells : List PatternCell) (read : Result (List Token) RleFault) → sides.0 ≤ 4294967295 → sides.1 ≤ 4294967295 →
     ((tokens : List Token) → read ≡ Ok tokens → AreFine start tokens) → (read >>= λ tokens. Ok (drawn tokens 0 0)) ≡ Ok cells → IsPattern (pattern_of origin sides cells)
 read_pattern_at origin sides cells (Ok tokens) w h fine is =
     let same : drawn tokens 0 0 ≡ cells = cc in
@@ -269,7 +269,7 @@ read_pattern_at origin sides cells (Ok tokens) w h fine is =
 read_pattern_at origin sides cells (Err fault) w h fine is = absurd (cc)
 
 -- the cells that are read are those of a pattern
-pub read_pattern : (end : ℕ) (origin : Origin) (sides : ℕ × ℕ) (marks : List Mark) (cells : List PatternCell) → sides.0 ≤ 4294967295 → sides.1 ≤ 4294967295 →
+pub read_pattern : (end : ℕ) (origin : OriginValue) (sides : ℕ × ℕ) (marks : List Mark) (cells : List PatternCell) → sides.0 ≤ 4294967295 → sides.1 ≤ 4294967295 →
     cells_read end marks ≡ Ok cells → IsPattern (pattern_of origin sides cells)
 read_pattern end origin sides marks cells w h is =
     read_pattern_at origin sides cells (tokens_of end marks fresh start) w h (λ tokens read. read_fine end marks fresh start tokens read) is

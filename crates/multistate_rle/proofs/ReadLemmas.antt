@@ -7,7 +7,7 @@ use Rattle.multistate_rle.specs.declared.fault.RleFault.{RleFault}
 use Rattle.multistate_rle.specs.declared.fault.RleFault.TheVariants.{State, Count, Tag}
 use Rattle.multistate_rle.specs.Role.{Role}
 use Rattle.multistate_rle.specs.Role as role
-use Rattle.multistate_rle.specs.Reading.{Begun}
+use Rattle.multistate_rle.specs.Reading.{BegunValue}
 use Rattle.multistate_rle.specs.Tokens.{Token, Cells, Rows}
 use Rattle.multistate_rle.specs.Reading.{Mark, Pen, role_of, fresh, with_digit, with_prefix, ended, fault_of, followed, moved, tokens_of}
 use Rattle.multistate_rle.specs.Begun.{capped}
@@ -67,11 +67,11 @@ min_digit : (count : Option ℕ) (d : ℕ) → min (10 * unwrap_or (option_map (
 min_digit None d = refl
 min_digit (Some n) d = omega arith
 
-digit_capped : (place d : ℕ) (b : Begun) → capped (with_digit place d (capped b)) ≡ capped (with_digit place d b)
+digit_capped : (place d : ℕ) (b : BegunValue) → capped (with_digit place d (capped b)) ≡ capped (with_digit place d b)
 digit_capped place d b = λ i. record b { place = Some (unwrap_or b.place place); count = Some (min_digit b.count d i) }
 
 -- what is read from a byte on, by what the byte is
-abbrev pub by_role : ℕ → Mark → List Mark → Begun → Pen → Role → Result (List Token) RleFault
+abbrev pub by_role : ℕ → Mark → List Mark → BegunValue → Pen → Role → Result (List Token) RleFault
 by_role end m marks b pen role.EndMark = ended m.0 b
 by_role end m marks b pen (role.Digit d) = tokens_of end marks (with_digit m.0 d b) pen
 by_role end m marks b pen (role.Prefix k) = tokens_of end marks (with_prefix m.0 k b) pen
@@ -81,12 +81,12 @@ by_role end m marks b pen role.RowEnd =
     followed (fault_of (unwrap_or b.place m.0) pen (Rows (unwrap_or b.count 1))) (Rows (unwrap_or b.count 1)) (tokens_of end marks fresh (moved (Rows (unwrap_or b.count 1)) pen))
 by_role end m marks b pen role.Stray = Err (Tag m.0)
 
-pub step_is : (end : ℕ) (m : Mark) (marks : List Mark) (b : Begun) (pen : Pen) (r : Role) → role_of b.prefix m.1 ≡ r →
+pub step_is : (end : ℕ) (m : Mark) (marks : List Mark) (b : BegunValue) (pen : Pen) (r : Role) → role_of b.prefix m.1 ≡ r →
     tokens_of end (m ∷ marks) b pen ≡ by_role end m marks b pen r
 step_is end m marks b pen r e = ap (by_role end m marks b pen) e
 
-same_by : (end : ℕ) (m : Mark) (marks : List Mark) (b : Begun) (pen : Pen) (r : Role) →
-    ((b : Begun) → tokens_of end marks (capped b) pen ≡ tokens_of end marks b pen) →
+same_by : (end : ℕ) (m : Mark) (marks : List Mark) (b : BegunValue) (pen : Pen) (r : Role) →
+    ((b : BegunValue) → tokens_of end marks (capped b) pen ≡ tokens_of end marks b pen) →
     by_role end m marks (capped b) pen r ≡ by_role end m marks b pen r
 same_by end m marks b pen role.EndMark rest = refl
 same_by end m marks b pen (role.Digit d) rest =
@@ -97,19 +97,19 @@ same_by end m marks b pen role.RowEnd rest = same_rows end (unwrap_or b.place m.
 same_by end m marks b pen role.Stray rest = refl
 
 -- one byte, where the bytes that follow are read the same
-same_step : (end : ℕ) (m : Mark) (marks : List Mark) (b : Begun) (pen : Pen) (r : Role) → role_of b.prefix m.1 ≡ r →
-    ((b : Begun) → tokens_of end marks (capped b) pen ≡ tokens_of end marks b pen) →
+same_step : (end : ℕ) (m : Mark) (marks : List Mark) (b : BegunValue) (pen : Pen) (r : Role) → role_of b.prefix m.1 ≡ r →
+    ((b : BegunValue) → tokens_of end marks (capped b) pen ≡ tokens_of end marks b pen) →
     tokens_of end (m ∷ marks) (capped b) pen ≡ tokens_of end (m ∷ marks) b pen
 same_step end m marks b pen r e rest =
     step_is end m marks (capped b) pen r e ∙ same_by end m marks b pen r rest ∙ sym (step_is end m marks b pen r e)
 
 -- However far the kept count is from the count, the same tokens are read.
-pub same_tokens : (end : ℕ) (marks : List Mark) (b : Begun) (pen : Pen) → tokens_of end marks (capped b) pen ≡ tokens_of end marks b pen
+pub same_tokens : (end : ℕ) (marks : List Mark) (b : BegunValue) (pen : Pen) → tokens_of end marks (capped b) pen ≡ tokens_of end marks b pen
 same_tokens end [] b pen = refl
 same_tokens end (m ∷ marks) b pen = same_step end m marks b pen (role_of b.prefix m.1) refl (λ c. same_tokens end marks c pen)
 
 -- a digit more, kept
-pub digit_read : (end place byte d : ℕ) (marks : List Mark) (b new : Begun) (pen : Pen) → role_of b.prefix byte ≡ role.Digit d → new ≡ capped (with_digit place d b) →
+pub digit_read : (end place byte d : ℕ) (marks : List Mark) (b new : BegunValue) (pen : Pen) → role_of b.prefix byte ≡ role.Digit d → new ≡ capped (with_digit place d b) →
     tokens_of end marks new pen ≡ tokens_of end ((place, byte) ∷ marks) b pen
 digit_read end place byte d marks b new pen is kept =
     ap (λ x. tokens_of end marks x pen) kept ∙ same_tokens end marks (with_digit place d b) pen ∙ sym (step_is end (place, byte) marks b pen (role.Digit d) is)

@@ -9,10 +9,10 @@ use Rattle.std.proofs.lemmas.Bool.{eqb-true}
 use Rattle.std.proofs.lemmas.Bool.Decides.{nat_tests}
 use Rattle.multistate_rle.specs.declared.fault.RleFault.{RleFault}
 use Rattle.multistate_rle.specs.declared.fault.RleFault.TheVariants.{Tag}
-use Rattle.multistate_rle.specs.Bytes.{is_digit}
+use Rattle.multistate_rle.specs.Bytes.{is_decimal_digit}
 use Rattle.multistate_rle.specs.Letters.{IsLetter, IsPrefixed}
 use Rattle.multistate_rle.specs.Tokens.{Token, Cells, Rows, count_of}
-use Rattle.multistate_rle.specs.Reading.{Mark, Pen, fresh, moved, fault_of, followed, is_prefix, is_letter, tokens_of, bytes_of, AreFine}
+use Rattle.multistate_rle.specs.Reading.{Mark, Pen, fresh, moved, fault_of, followed, is_prefix_byte, is_letter, tokens_of, bytes_of, AreFine}
 use Rattle.multistate_rle.specs.Spelling.{IsCount, IsTag, IsSpelling, EndsTokens}
 use Rattle.multistate_rle.specs.Faulty.{pen_behind, first_place, lacks_letter, BeginsFaulty}
 use Rattle.multistate_rle.proofs.PatternLaws.{and_parts, fine_anywhere}
@@ -72,10 +72,10 @@ fails_here end marks pen fault ill = inr (record {
   fault_is = ill;
 })
 
-digits_end : (digits rest : List ℕ) → list_all is_digit digits ≡ true → EndsTokens rest → EndsTokens (digits ++ rest)
+digits_end : (digits rest : List ℕ) → list_all is_decimal_digit digits ≡ true → EndsTokens rest → EndsTokens (digits ++ rest)
 digits_end [] rest all ends = ends
 digits_end (c ∷ digits) rest all ends =
-    let parts = and_parts (is_digit c) (list_all is_digit digits) all in
+    let parts = and_parts (is_decimal_digit c) (list_all is_decimal_digit digits) all in
     inr (parts.0, digits_end digits rest parts.1 ends)
 
 -- ---- a token and what follows it
@@ -118,19 +118,19 @@ counted : List ℕ → ℕ
 counted [] = 1
 counted (c ∷ digits) = digits_value 10 (c ∷ digits)
 
-counts : (digits : List ℕ) → list_all is_digit digits ≡ true → IsCount (counted digits) digits
+counts : (digits : List ℕ) → list_all is_decimal_digit digits ≡ true → IsCount (counted digits) digits
 unfolding counted
 counts [] all = refl
 counts (c ∷ digits) all = (all, refl)
 
 -- a token, by its digits
-run_then : (end s : ℕ) (digits tag rest : List Mark) (pen : Pen) → list_all is_digit (bytes_of digits) ≡ true → IsTag (Cells 1 s) (bytes_of tag) →
+run_then : (end s : ℕ) (digits tag rest : List Mark) (pen : Pen) → list_all is_decimal_digit (bytes_of digits) ≡ true → IsTag (Cells 1 s) (bytes_of tag) →
     ((pen : Pen) → Decided end rest pen) → Decided end (digits ++ (tag ++ rest)) pen
 run_then end s digits tag rest pen all tag_is later =
     let token = Cells (counted (bytes_of digits)) s in
     token_then end token digits tag rest pen (fault_of (first_place 0 (digits ++ (tag ++ rest))) pen token) (counts (bytes_of digits) all) tag_is refl (later (moved token pen))
 
-rows_then : (end : ℕ) (digits : List Mark) (m : Mark) (rest : List Mark) (pen : Pen) → list_all is_digit (bytes_of digits) ≡ true → m.1 ≡ 36 →
+rows_then : (end : ℕ) (digits : List Mark) (m : Mark) (rest : List Mark) (pen : Pen) → list_all is_decimal_digit (bytes_of digits) ≡ true → m.1 ≡ 36 →
     ((pen : Pen) → Decided end rest pen) → Decided end (digits ++ m ∷ rest) pen
 rows_then end digits m rest pen all is later =
     let token = Rows (counted (bytes_of digits)) in
@@ -143,7 +143,7 @@ letter_is c is =
     let parts = and_parts (nat_le 65 c) (nat_le c 88) is in
     record { least = grind (arith, nat_tests, parts.0); most = grind (arith, nat_tests, parts.1); state = refl }
 
-prefixed_is : (p c : ℕ) → is_prefix p ≡ true → is_letter c ≡ true → IsPrefixed (24 * (p - 111) + (c - 64)) p c
+prefixed_is : (p c : ℕ) → is_prefix_byte p ≡ true → is_letter c ≡ true → IsPrefixed (24 * (p - 111) + (c - 64)) p c
 prefixed_is p c prefixes letters =
     let first = and_parts (nat_le 112 p) (nat_le p 121) prefixes in
     let second = and_parts (nat_le 65 c) (nat_le c 88) letters in
@@ -156,7 +156,7 @@ prefixed_is p c prefixes letters =
     }
 
 -- behind digits and a prefix
-behind_prefix : (end : ℕ) (digits : List Mark) (p : Mark) (marks : List Mark) (pen : Pen) → list_all is_digit (bytes_of digits) ≡ true → is_prefix p.1 ≡ true → lacks_letter marks ≡ true → Decided end (digits ++ p ∷ marks) pen
+behind_prefix : (end : ℕ) (digits : List Mark) (p : Mark) (marks : List Mark) (pen : Pen) → list_all is_decimal_digit (bytes_of digits) ≡ true → is_prefix_byte p.1 ≡ true → lacks_letter marks ≡ true → Decided end (digits ++ p ∷ marks) pen
 behind_prefix end digits p marks pen all prefixes none =
     fails_here end (digits ++ p ∷ marks) pen (Tag (first_place end marks))
     (inr (inl (record { digits = digits; prefix = p; rest = marks; marks_are = refl; all_digits = all; prefixes = prefixes; no_letter = none; fault_is = refl })))
@@ -167,13 +167,13 @@ seen digits None marks = digits ++ marks
 seen digits (Some p) marks = digits ++ p ∷ marks
 
 abbrev IsSeen : List Mark → Option Mark → Type 0
-IsSeen digits None = list_all is_digit (bytes_of digits) ≡ true
-IsSeen digits (Some p) = (list_all is_digit (bytes_of digits) ≡ true) × (is_prefix p.1 ≡ true)
+IsSeen digits None = list_all is_decimal_digit (bytes_of digits) ≡ true
+IsSeen digits (Some p) = (list_all is_decimal_digit (bytes_of digits) ≡ true) × (is_prefix_byte p.1 ≡ true)
 
-more_digits : (digits : List Mark) (m : Mark) → list_all is_digit (bytes_of digits) ≡ true → is_digit m.1 ≡ true → list_all is_digit (bytes_of (digits ++ m ∷ [])) ≡ true
+more_digits : (digits : List Mark) (m : Mark) → list_all is_decimal_digit (bytes_of digits) ≡ true → is_decimal_digit m.1 ≡ true → list_all is_decimal_digit (bytes_of (digits ++ m ∷ [])) ≡ true
 more_digits digits m all digit =
-    ap (list_all is_digit) (map-append (λ (m : Mark). m.1) digits (m ∷ []))
-    ∙ list_all-append is_digit (bytes_of digits) (m.1 ∷ []) ∙ rw (all, digit) refl
+    ap (list_all is_decimal_digit) (map-append (λ (m : Mark). m.1) digits (m ∷ []))
+    ∙ list_all-append is_decimal_digit (bytes_of digits) (m.1 ∷ []) ∙ rw (all, digit) refl
 
 abbrev Later : ℕ → List Mark → Type 0
 Later end marks = (digits : List Mark) (prefix : Option Mark) (pen : Pen) → IsSeen digits prefix → Decided end (seen digits prefix marks) pen
@@ -182,8 +182,8 @@ next : (end : ℕ) (marks : List Mark) → Later end marks → (pen : Pen) → D
 next end marks later pen = later [] None pen refl
 
 by_kind : (end : ℕ) (digits : List Mark) (m : Mark) (marks : List Mark) (pen : Pen) (digit letter prefix dot b o dollar mark : Bool) →
-    is_digit m.1 ≡ digit → is_letter m.1 ≡ letter → is_prefix m.1 ≡ prefix → (m.1 == 46) ≡ dot → (m.1 == 98) ≡ b → (m.1 == 111) ≡ o → (m.1 == 36) ≡ dollar → (m.1 == 33) ≡ mark →
-    list_all is_digit (bytes_of digits) ≡ true → Later end marks → Decided end (digits ++ m ∷ marks) pen
+    is_decimal_digit m.1 ≡ digit → is_letter m.1 ≡ letter → is_prefix_byte m.1 ≡ prefix → (m.1 == 46) ≡ dot → (m.1 == 98) ≡ b → (m.1 == 111) ≡ o → (m.1 == 36) ≡ dollar → (m.1 == 33) ≡ mark →
+    list_all is_decimal_digit (bytes_of digits) ≡ true → Later end marks → Decided end (digits ++ m ∷ marks) pen
 by_kind end digits m marks pen true l p d b o r x e1 e2 e3 e4 e5 e6 e7 e8 all later =
     subst (λ ms. Decided end ms pen) (append_assoc digits (m ∷ []) marks) (later (digits ++ m ∷ []) None pen (more_digits digits m all e1))
 by_kind end digits m marks pen false true p d b o r x e1 e2 e3 e4 e5 e6 e7 e8 all later =
@@ -204,7 +204,7 @@ by_kind end digits m marks pen false false false false false false false false e
     fails_here end (digits ++ m ∷ marks) pen (Tag m.0)
     (inl (record { digits = digits; stray = m; rest = marks; marks_are = refl; all_digits = all; stands_nowhere = rw (e1, e2, e3, e4, e5, e6, e7, e8) refl; fault_is = refl }))
 
-by_letter : (end : ℕ) (digits : List Mark) (p m : Mark) (marks : List Mark) (pen : Pen) (letter : Bool) → is_letter m.1 ≡ letter → list_all is_digit (bytes_of digits) ≡ true → is_prefix p.1 ≡ true → Later end marks →
+by_letter : (end : ℕ) (digits : List Mark) (p m : Mark) (marks : List Mark) (pen : Pen) (letter : Bool) → is_letter m.1 ≡ letter → list_all is_decimal_digit (bytes_of digits) ≡ true → is_prefix_byte p.1 ≡ true → Later end marks →
     Decided end (digits ++ p ∷ m ∷ marks) pen
 by_letter end digits p m marks pen true e all prefixes later =
     run_then end (24 * (p.1 - 111) + (m.1 - 64)) digits (p ∷ m ∷ []) marks pen all (prefixed_is p.1 m.1 prefixes e) (next end marks later)
@@ -215,7 +215,7 @@ decided_behind end [] digits None pen all =
     ends_here end (digits ++ []) pen (subst (λ bytes. EndsTokens bytes) (sym (map-append (λ (m : Mark). m.1) digits [])) (digits_end (bytes_of digits) [] all tt))
 decided_behind end [] digits (Some p) pen is = behind_prefix end digits p [] pen is.0 is.1 refl
 decided_behind end (m ∷ marks) digits None pen all =
-    by_kind end digits m marks pen (is_digit m.1) (is_letter m.1) (is_prefix m.1) (m.1 == 46) (m.1 == 98) (m.1 == 111) (m.1 == 36) (m.1 == 33) refl refl refl refl refl refl refl refl all
+    by_kind end digits m marks pen (is_decimal_digit m.1) (is_letter m.1) (is_prefix_byte m.1) (m.1 == 46) (m.1 == 98) (m.1 == 111) (m.1 == 36) (m.1 == 33) refl refl refl refl refl refl refl refl all
     (λ digits prefix pen is. decided_behind end marks digits prefix pen is)
 decided_behind end (m ∷ marks) digits (Some p) pen is =
     by_letter end digits p m marks pen (is_letter m.1) refl is.0 is.1 (λ digits prefix pen is. decided_behind end marks digits prefix pen is)

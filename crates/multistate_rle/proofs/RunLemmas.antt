@@ -8,12 +8,12 @@ use Rattle.generations_rule.specs.Refusal.{◌>>=◌}
 use Rattle.multistate_rle.specs.declared.fault.RleFault.{RleFault}
 use Rattle.multistate_rle.specs.declared.line.Line.TheVariants.{Inside}
 use Rattle.multistate_rle.specs.Role as role
-use Rattle.multistate_rle.specs.Reading.{Begun}
+use Rattle.multistate_rle.specs.Reading.{BegunValue}
 use Rattle.multistate_rle.specs.declared.tokens.Reader.{Reader}
-use Rattle.multistate_rle.specs.Bytes.{is_digit}
+use Rattle.multistate_rle.specs.Bytes.{is_decimal_digit}
 use Rattle.multistate_rle.specs.Lines.{left, left_from}
 use Rattle.multistate_rle.specs.Tokens.{Token, Cells, drawn, run}
-use Rattle.multistate_rle.specs.Reading.{Pen, role_of, is_prefix, fresh, with_digit, with_prefix, fault_of, followed, moved, tokens_of}
+use Rattle.multistate_rle.specs.Reading.{Pen, role_of, is_prefix_byte, fresh, with_digit, with_prefix, fault_of, followed, moved, tokens_of}
 use Rattle.multistate_rle.specs.Begun.{capped}
 use Rattle.multistate_rle.specs.Steps.{pen_of, cells_with, Begins, IsFront, Draws}
 use Rattle.multistate_rle.proofs.LineLemmas.{left_keeps}
@@ -32,10 +32,10 @@ byte_stays text place byte within is above =
     ap (left Inside) (byte_at text place within ∙ ap (λ c. (place, c) ∷ enumerate_from (place + 1) (drop (place + 1) text)) is)
     ∙ left_keeps Inside Inside (place, byte) (enumerate_from (place + 1) (drop (place + 1) text)) (rw (lf, cr) refl) (rw (space, tab, lf, cr) refl)
 
-nothing_begun : (text : List ℕ) (start : ℕ) (b : Begun) → start ≤ length text → b ≡ fresh → Begins text start fresh start b
+nothing_begun : (text : List ℕ) (start : ℕ) (b : BegunValue) → start ≤ length text → b ≡ fresh → Begins text start fresh start b
 nothing_begun text start b within is = record { behind = omega arith; within = within; same = λ end pen. ap (λ b. tokens_of end (left_from text start) b pen) is }
 
-digit_begun : (text : List ℕ) (start place byte : ℕ) (b new : Begun) → Begins text start fresh place b → b.prefix ≡ None → place < length text → get_or text place 0 ≡ byte → is_digit byte ≡ true →
+digit_begun : (text : List ℕ) (start place byte : ℕ) (b new : BegunValue) → Begins text start fresh place b → b.prefix ≡ None → place < length text → get_or text place 0 ≡ byte → is_decimal_digit byte ≡ true →
     new ≡ capped (with_digit place (byte - 48) b) → Begins text start fresh (place + 1) new
 digit_begun text start place byte b new so_far none within is digit kept =
     let parts = and_parts (nat_le 48 byte) (nat_le byte 57) digit in
@@ -51,7 +51,7 @@ digit_begun text start place byte b new so_far none within is digit kept =
     }
 
 -- the count of a token that begins with a digit, one digit long
-pub count_begins : (text : List ℕ) (start byte count : ℕ) → start < length text → get_or text start 0 ≡ byte → is_digit byte ≡ true → count ≡ byte - 48 →
+pub count_begins : (text : List ℕ) (start byte count : ℕ) → start < length text → get_or text start 0 ≡ byte → is_decimal_digit byte ≡ true → count ≡ byte - 48 →
     Begins text start fresh (start + 1) (record { place = Some start; count = Some count; prefix = None })
 count_begins text start byte count within is digit value =
     let parts = and_parts (nat_le 48 byte) (nat_le byte 57) digit in
@@ -61,7 +61,7 @@ count_begins text start byte count within is digit value =
 
 -- the same count, one digit longer
 pub count_goes_on : (text : List ℕ) (start place byte count longer : ℕ) → Begins text start fresh place (record { place = Some start; count = Some count; prefix = None }) →
-    place < length text → get_or text place 0 ≡ byte → is_digit byte ≡ true → longer ≡ min (10 * count + (byte - 48)) 4294967297 →
+    place < length text → get_or text place 0 ≡ byte → is_decimal_digit byte ≡ true → longer ≡ min (10 * count + (byte - 48)) 4294967297 →
     Begins text start fresh (place + 1) (record { place = Some start; count = Some longer; prefix = None })
 count_goes_on text start place byte count longer so_far within is digit value =
     digit_begun text start place byte _ _ so_far refl within is digit (λ i. record { place = Some start; count = Some (value i); prefix = None })
@@ -87,7 +87,7 @@ uncounted text start within = record {
   place_is = refl;
 }
 
-prefix_begun : (text : List ℕ) (start place byte : ℕ) (b new : Begun) → Begins text start fresh place b → b.prefix ≡ None → place < length text → get_or text place 0 ≡ byte → is_prefix byte ≡ true →
+prefix_begun : (text : List ℕ) (start place byte : ℕ) (b new : BegunValue) → Begins text start fresh place b → b.prefix ≡ None → place < length text → get_or text place 0 ≡ byte → is_prefix_byte byte ≡ true →
     new ≡ with_prefix place (byte - 111) b → Begins text start fresh (place + 1) new
 prefix_begun text start place byte b new so_far none within is prefix kept =
     let parts = and_parts (nat_le 112 byte) (nat_le byte 121) prefix in
@@ -105,7 +105,7 @@ prefix_begun text start place byte b new so_far none within is prefix kept =
     }
 
 -- a prefix behind a count
-pub prefixed : (text : List ℕ) (start place byte count : ℕ) → IsFront text start place count None → place < length text → get_or text place 0 ≡ byte → is_prefix byte ≡ true →
+pub prefixed : (text : List ℕ) (start place byte count : ℕ) → IsFront text start place count None → place < length text → get_or text place 0 ≡ byte → is_prefix_byte byte ≡ true →
     IsFront text start (place + 1) count (Some (byte - 111))
 prefixed text start place byte count front within is prefix = record {
   begun = with_prefix place (byte - 111) front.begun;

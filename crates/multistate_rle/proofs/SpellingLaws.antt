@@ -9,8 +9,8 @@ use Rattle.std.proofs.lemmas.Bool.Decides.{nat_tests}
 use Rattle.generations_rule.specs.Refusal.{◌>>=◌}
 use Rattle.multistate_rle.specs.declared.fault.RleFault.TheVariants.{State, Count, TooMany}
 use Rattle.multistate_rle.specs.Role as role
-use Rattle.multistate_rle.specs.Reading.{Begun}
-use Rattle.multistate_rle.specs.Bytes.{is_digit}
+use Rattle.multistate_rle.specs.Reading.{BegunValue}
+use Rattle.multistate_rle.specs.Bytes.{is_decimal_digit}
 use Rattle.multistate_rle.specs.Letters.{IsPlain, IsLetter}
 use Rattle.multistate_rle.specs.Tokens.{Token, Cells, Rows, drawn, count_of}
 use Rattle.multistate_rle.specs.Reading.{Mark, Pen, bytes_of, bare_role, role_of, start, fresh, with_digit, with_prefix, fault_of, followed, moved, cells_of, ended, tokens_of, AreFine, bare, pattern_of}
@@ -44,7 +44,7 @@ prefix_role c low high =
     let last : nat_le c 121 ≡ true = grind (arith, nat_tests) in
     no_letter c (omega arith) ∙ rw (digit, past, first, last) refl
 
-pub digit_role : (c : ℕ) → is_digit c ≡ true → role_of None c ≡ role.Digit (c - 48)
+pub digit_role : (c : ℕ) → is_decimal_digit c ≡ true → role_of None c ≡ role.Digit (c - 48)
 digit_role c digit =
     let parts = and_parts (nat_le 48 c) (nat_le c 57) digit in
     let low : 48 ≤ c = grind (arith, nat_tests, parts.0) in
@@ -60,11 +60,11 @@ unfoldable pub counted : Option ℕ → List ℕ → Option ℕ
 counted count [] = count
 counted count (c ∷ ds) = counted (Some (10 * unwrap_or count 0 + (c - 48))) ds
 
-pub counted_is : (n : ℕ) (ds : List ℕ) → list_all is_digit ds ≡ true → counted (Some n) ds ≡ Some (digits_value_after 10 n ds)
+pub counted_is : (n : ℕ) (ds : List ℕ) → list_all is_decimal_digit ds ≡ true → counted (Some n) ds ≡ Some (digits_value_after 10 n ds)
 unfolding counted
 counted_is n [] digits = refl
 counted_is n (c ∷ ds) digits =
-    let parts = and_parts (is_digit c) (list_all is_digit ds) digits in
+    let parts = and_parts (is_decimal_digit c) (list_all is_decimal_digit ds) digits in
     let next : 10 * n + (c - 48) ≡ n * 10 + digit_value c = omega (arith, digit_is c parts.0) in
     counted_is (10 * n + (c - 48)) ds parts.1 ∙ ap (λ m. Some (digits_value_after 10 m ds)) next
 
@@ -72,30 +72,30 @@ pub count_is : (n : ℕ) (ds : List ℕ) → IsCount n ds → unwrap_or (counted
 unfolding counted
 count_is n [] is = sym is
 count_is n (c ∷ ds) is =
-    let parts = and_parts (is_digit c) (list_all is_digit ds) is.0 in
+    let parts = and_parts (is_decimal_digit c) (list_all is_decimal_digit ds) is.0 in
     let first : 10 * 0 + (c - 48) ≡ 0 * 10 + digit_value c = omega (arith, digit_is c parts.0) in
     ap (λ o. unwrap_or o 1) (counted_is (10 * 0 + (c - 48)) ds parts.1 ∙ ap (λ m. Some (digits_value_after 10 m ds)) first) ∙ is.1
 
-pub count_digits : (n : ℕ) (ds : List ℕ) → IsCount n ds → list_all is_digit ds ≡ true
+pub count_digits : (n : ℕ) (ds : List ℕ) → IsCount n ds → list_all is_decimal_digit ds ≡ true
 count_digits n [] is = refl
 count_digits n (c ∷ ds) is = is.0
 
 -- what is read once the digits of a count are read
-record Counted (end : ℕ) (marks : List Mark) (rest : List ℕ) (count : Option ℕ) (b : Begun) (pen : Pen) : Type 0 where
+record Counted (end : ℕ) (marks : List Mark) (rest : List ℕ) (count : Option ℕ) (b : BegunValue) (pen : Pen) : Type 0 where
   later : List Mark
-  begun : Begun
+  begun : BegunValue
   bytes : bytes_of later ≡ rest
   same : tokens_of end marks b pen ≡ tokens_of end later begun pen
   count_read : begun.count ≡ count
   no_prefix : begun.prefix ≡ None
 
-digits_read : (end : ℕ) (ds rest : List ℕ) (marks : List Mark) (b : Begun) (pen : Pen) → bytes_of marks ≡ ds ++ rest → b.prefix ≡ None → list_all is_digit ds ≡ true →
+digits_read : (end : ℕ) (ds rest : List ℕ) (marks : List Mark) (b : BegunValue) (pen : Pen) → bytes_of marks ≡ ds ++ rest → b.prefix ≡ None → list_all is_decimal_digit ds ≡ true →
     Counted end marks rest (counted b.count ds) b pen
 unfolding counted
 digits_read end [] rest marks b pen bytes none digits = record { later = marks; begun = b; bytes = bytes; same = refl; count_read = refl; no_prefix = none }
 digits_read end (c ∷ ds) rest [] b pen bytes none digits = absurd (cc)
 digits_read end (c ∷ ds) rest (m ∷ marks) b pen bytes none digits =
-    let parts = and_parts (is_digit c) (list_all is_digit ds) digits in
+    let parts = and_parts (is_decimal_digit c) (list_all is_decimal_digit ds) digits in
     let byte : m.1 ≡ c = cc in
     let more : bytes_of marks ≡ ds ++ rest = cc in
     let is : role_of b.prefix m.1 ≡ role.Digit (c - 48) = (λ i. role_of (none i) (byte i)) ∙ digit_role c parts.0 in
@@ -118,21 +118,21 @@ fine_at place pen (Cells n s) none =
 fine_at place pen (Rows n) none = rw (none_of_one (n == 0 || nat_lt (2 ^ 32 - 1) (pen.row + n)) (Count 0) none) refl
 
 -- the byte that ends a run of a state
-run_ends : (end : ℕ) (m : Mark) (marks : List Mark) (b : Begun) (pen : Pen) (n s : ℕ) (tokens : List Token) → role_of b.prefix m.1 ≡ role.State s → unwrap_or b.count 1 ≡ n →
+run_ends : (end : ℕ) (m : Mark) (marks : List Mark) (b : BegunValue) (pen : Pen) (n s : ℕ) (tokens : List Token) → role_of b.prefix m.1 ≡ role.State s → unwrap_or b.count 1 ≡ n →
     fault_of 0 pen (Cells n s) ≡ None → tokens_of end marks fresh (moved (Cells n s) pen) ≡ Ok tokens → tokens_of end (m ∷ marks) b pen ≡ Ok (Cells n s ∷ tokens)
 run_ends end m marks b pen n s tokens is count fine rest =
     step_is end m marks b pen (role.State s) is
     ∙ ap (λ k. followed (fault_of (unwrap_or b.place m.0) pen (Cells k s)) (Cells k s) (tokens_of end marks fresh (moved (Cells k s) pen))) count
     ∙ (λ i. followed (fine_at (unwrap_or b.place m.0) pen (Cells n s) fine i) (Cells n s) (rest i))
 
-rows_end : (end : ℕ) (m : Mark) (marks : List Mark) (b : Begun) (pen : Pen) (n : ℕ) (tokens : List Token) → role_of b.prefix m.1 ≡ role.RowEnd → unwrap_or b.count 1 ≡ n →
+rows_end : (end : ℕ) (m : Mark) (marks : List Mark) (b : BegunValue) (pen : Pen) (n : ℕ) (tokens : List Token) → role_of b.prefix m.1 ≡ role.RowEnd → unwrap_or b.count 1 ≡ n →
     fault_of 0 pen (Rows n) ≡ None → tokens_of end marks fresh (moved (Rows n) pen) ≡ Ok tokens → tokens_of end (m ∷ marks) b pen ≡ Ok (Rows n ∷ tokens)
 rows_end end m marks b pen n tokens is count fine rest =
     step_is end m marks b pen role.RowEnd is
     ∙ ap (λ k. followed (fault_of (unwrap_or b.place m.0) pen (Rows k)) (Rows k) (tokens_of end marks fresh (moved (Rows k) pen))) count
     ∙ (λ i. followed (fine_at (unwrap_or b.place m.0) pen (Rows n) fine i) (Rows n) (rest i))
 
-one_byte : (end c n s : ℕ) (more : List ℕ) (marks : List Mark) (b : Begun) (pen : Pen) (tokens : List Token) → bytes_of marks ≡ c ∷ more → b.prefix ≡ None → role_of None c ≡ role.State s → unwrap_or b.count 1 ≡ n →
+one_byte : (end c n s : ℕ) (more : List ℕ) (marks : List Mark) (b : BegunValue) (pen : Pen) (tokens : List Token) → bytes_of marks ≡ c ∷ more → b.prefix ≡ None → role_of None c ≡ role.State s → unwrap_or b.count 1 ≡ n →
     fault_of 0 pen (Cells n s) ≡ None → ((later : List Mark) → bytes_of later ≡ more → tokens_of end later fresh (moved (Cells n s) pen) ≡ Ok tokens) → tokens_of end marks b pen ≡ Ok (Cells n s ∷ tokens)
 one_byte end c n s more [] b pen tokens bytes none is count fine rest = absurd (cc)
 one_byte end c n s more (m ∷ marks) b pen tokens bytes none is count fine rest =
@@ -140,7 +140,7 @@ one_byte end c n s more (m ∷ marks) b pen tokens bytes none is count fine rest
     let behind : bytes_of marks ≡ more = cc in
     run_ends end m marks b pen n s tokens ((λ i. role_of (none i) (byte i)) ∙ is) count fine (rest marks behind)
 
-two_bytes : (end c d k n s : ℕ) (more : List ℕ) (marks : List Mark) (b : Begun) (pen : Pen) (tokens : List Token) → bytes_of marks ≡ c ∷ d ∷ more → b.prefix ≡ None →
+two_bytes : (end c d k n s : ℕ) (more : List ℕ) (marks : List Mark) (b : BegunValue) (pen : Pen) (tokens : List Token) → bytes_of marks ≡ c ∷ d ∷ more → b.prefix ≡ None →
     role_of None c ≡ role.Prefix k → role_of (Some k) d ≡ role.State s → unwrap_or b.count 1 ≡ n →
     fault_of 0 pen (Cells n s) ≡ None → ((later : List Mark) → bytes_of later ≡ more → tokens_of end later fresh (moved (Cells n s) pen) ≡ Ok tokens) → tokens_of end marks b pen ≡ Ok (Cells n s ∷ tokens)
 two_bytes end c d k n s more [] b pen tokens bytes none prefix is count fine rest = absurd (cc)
@@ -152,7 +152,7 @@ two_bytes end c d k n s more (m ∷ l ∷ marks) b pen tokens bytes none prefix 
     step_is end m (l ∷ marks) b pen (role.Prefix k) ((λ i. role_of (none i) (first i)) ∙ prefix)
     ∙ run_ends end l marks (with_prefix m.0 k b) pen n s tokens (ap (role_of (Some k)) last ∙ is) count fine (rest marks behind)
 
-row_byte : (end n : ℕ) (more : List ℕ) (marks : List Mark) (b : Begun) (pen : Pen) (tokens : List Token) → bytes_of marks ≡ 36 ∷ more → b.prefix ≡ None → unwrap_or b.count 1 ≡ n →
+row_byte : (end n : ℕ) (more : List ℕ) (marks : List Mark) (b : BegunValue) (pen : Pen) (tokens : List Token) → bytes_of marks ≡ 36 ∷ more → b.prefix ≡ None → unwrap_or b.count 1 ≡ n →
     fault_of 0 pen (Rows n) ≡ None → ((later : List Mark) → bytes_of later ≡ more → tokens_of end later fresh (moved (Rows n) pen) ≡ Ok tokens) → tokens_of end marks b pen ≡ Ok (Rows n ∷ tokens)
 row_byte end n more [] b pen tokens bytes none count fine rest = absurd (cc)
 row_byte end n more (m ∷ marks) b pen tokens bytes none count fine rest =
@@ -169,7 +169,7 @@ byte_role c s (inr is) =
     let worth : 24 * 0 + (c - 64) ≡ s = omega arith in
     letter_role None c is.least is.most ∙ ap (λ t. role.State t) worth
 
-tag_read : (end : ℕ) (token : Token) (tag more : List ℕ) (marks : List Mark) (b : Begun) (pen : Pen) (tokens : List Token) → IsTag token tag →
+tag_read : (end : ℕ) (token : Token) (tag more : List ℕ) (marks : List Mark) (b : BegunValue) (pen : Pen) (tokens : List Token) → IsTag token tag →
     bytes_of marks ≡ tag ++ more → b.prefix ≡ None → unwrap_or b.count 1 ≡ count_of token →
     fault_of 0 pen token ≡ None → ((later : List Mark) → bytes_of later ≡ more → tokens_of end later fresh (moved token pen) ≡ Ok tokens) → tokens_of end marks b pen ≡ Ok (token ∷ tokens)
 tag_read end (Cells n s) [] more marks b pen tokens is bytes none count fine rest = absurd is
@@ -185,10 +185,10 @@ tag_read end (Rows n) tag more marks b pen tokens is bytes none count fine rest 
 -- ---- whole spellings
 
 -- the end of a text behind digits without a tag
-pub well_ended : (place : ℕ) (b : Begun) → b.prefix ≡ None → ended place b ≡ Ok []
+pub well_ended : (place : ℕ) (b : BegunValue) → b.prefix ≡ None → ended place b ≡ Ok []
 well_ended place b none = rw none refl
 
-ends_read : (end : ℕ) (tail : List ℕ) (marks : List Mark) (b : Begun) (pen : Pen) → bytes_of marks ≡ tail → b.prefix ≡ None → EndsTokens tail → tokens_of end marks b pen ≡ Ok []
+ends_read : (end : ℕ) (tail : List ℕ) (marks : List Mark) (b : BegunValue) (pen : Pen) → bytes_of marks ≡ tail → b.prefix ≡ None → EndsTokens tail → tokens_of end marks b pen ≡ Ok []
 ends_read end tail [] b pen bytes none ends = well_ended end b none
 ends_read end [] (m ∷ marks) b pen bytes none ends = absurd (cc)
 ends_read end (c ∷ tail) (m ∷ marks) b pen bytes none (inl mark) =

@@ -4,9 +4,9 @@ use Rattle.std.specs.Prelude.{not, ◌==◌, filter, option_map, None, if◌then
 use Rattle.std.specs.List.{slice_split, onto_first, position_or_len, prefix_len}
 use Rattle.std.specs.Str.{bytes_eq}
 use Rattle.std.proofs.lemmas.Bool.{ne_eqb}
-use Rattle.multistate_rle.specs.Position.{Items}
-use Rattle.multistate_rle.specs.Bytes.{is_blank, past, ◌>=>◌}
-use Rattle.multistate_rle.specs.Position.{words, origin_in_words, origin_from, items_in, no_items, with_item}
+use Rattle.multistate_rle.specs.Position.{ItemsValue}
+use Rattle.multistate_rle.specs.Bytes.{is_space_or_tab, past, ◌>=>◌}
+use Rattle.multistate_rle.specs.Position.{words, origin_in_words, origin_from, items_in, no_items, one_item_more}
 
 -- the parts behind the first one, from where that ends
 unfoldable pub later_parts : {X : Type 0} → (X → Bool) → List X → List (List X)
@@ -35,86 +35,86 @@ has_bytes word = not (length word == 0)
 pub has_some : (x : ℕ) (xs : List ℕ) → has_bytes (x ∷ xs) ≡ true
 has_some x xs = let some : length (x ∷ xs) ≢ 0 = omega arith in rw (ne_eqb (length (x ∷ xs)) 0 some) refl
 
-later_words_step : (x : ℕ) (xs : List ℕ) (b : Bool) → is_blank x ≡ b →
-    filter has_bytes (later_parts is_blank (drop (position_or_len is_blank xs) xs)) ≡ filter has_bytes (slice_split is_blank (drop (position_or_len is_blank xs) xs)) →
-    filter has_bytes (later_parts is_blank (drop (position_or_len is_blank (x ∷ xs)) (x ∷ xs)))
-    ≡ filter has_bytes (slice_split is_blank (drop (position_or_len is_blank (x ∷ xs)) (x ∷ xs)))
+later_words_step : (x : ℕ) (xs : List ℕ) (b : Bool) → is_space_or_tab x ≡ b →
+    filter has_bytes (later_parts is_space_or_tab (drop (position_or_len is_space_or_tab xs) xs)) ≡ filter has_bytes (slice_split is_space_or_tab (drop (position_or_len is_space_or_tab xs) xs)) →
+    filter has_bytes (later_parts is_space_or_tab (drop (position_or_len is_space_or_tab (x ∷ xs)) (x ∷ xs)))
+    ≡ filter has_bytes (slice_split is_space_or_tab (drop (position_or_len is_space_or_tab (x ∷ xs)) (x ∷ xs)))
 unfolding later_parts
 later_words_step x xs true e rest = rw (e, e) refl
 later_words_step x xs false e rest = rw (e, one-add) rest
 
 -- behind the first word the next ones follow
 later_words : (xs : List ℕ) →
-    filter has_bytes (later_parts is_blank (drop (position_or_len is_blank xs) xs)) ≡ filter has_bytes (slice_split is_blank (drop (position_or_len is_blank xs) xs))
+    filter has_bytes (later_parts is_space_or_tab (drop (position_or_len is_space_or_tab xs) xs)) ≡ filter has_bytes (slice_split is_space_or_tab (drop (position_or_len is_space_or_tab xs) xs))
 unfolding later_parts
 later_words [] = refl
-later_words (x ∷ xs) = later_words_step x xs (is_blank x) refl (later_words xs)
+later_words (x ∷ xs) = later_words_step x xs (is_space_or_tab x) refl (later_words xs)
 
-trimmed_step : (x : ℕ) (xs : List ℕ) (b : Bool) → is_blank x ≡ b → words (past is_blank xs) ≡ words xs → words (past is_blank (x ∷ xs)) ≡ words (x ∷ xs)
+trimmed_step : (x : ℕ) (xs : List ℕ) (b : Bool) → is_space_or_tab x ≡ b → words (past is_space_or_tab xs) ≡ words xs → words (past is_space_or_tab (x ∷ xs)) ≡ words (x ∷ xs)
 trimmed_step x xs true e rest = rw (e, one-add) rest
 trimmed_step x xs false e rest = rw (e, e) refl
 
 -- blanks in front make no difference
-pub words_trimmed : (xs : List ℕ) → words (past is_blank xs) ≡ words xs
+pub words_trimmed : (xs : List ℕ) → words (past is_space_or_tab xs) ≡ words xs
 words_trimmed [] = refl
-words_trimmed (x ∷ xs) = trimmed_step x xs (is_blank x) refl (words_trimmed xs)
+words_trimmed (x ∷ xs) = trimmed_step x xs (is_space_or_tab x) refl (words_trimmed xs)
 
-trimmed_again : (x : ℕ) (xs : List ℕ) (b : Bool) → is_blank x ≡ b → past is_blank (past is_blank xs) ≡ past is_blank xs → past is_blank (past is_blank (x ∷ xs)) ≡ past is_blank (x ∷ xs)
+trimmed_again : (x : ℕ) (xs : List ℕ) (b : Bool) → is_space_or_tab x ≡ b → past is_space_or_tab (past is_space_or_tab xs) ≡ past is_space_or_tab xs → past is_space_or_tab (past is_space_or_tab (x ∷ xs)) ≡ past is_space_or_tab (x ∷ xs)
 trimmed_again x xs true e rest = rw (e, one-add) rest
 trimmed_again x xs false e rest = rw (e, e) refl
 
-pub trimmed_twice : (xs : List ℕ) → past is_blank (past is_blank xs) ≡ past is_blank xs
+pub trimmed_twice : (xs : List ℕ) → past is_space_or_tab (past is_space_or_tab xs) ≡ past is_space_or_tab xs
 trimmed_twice [] = refl
-trimmed_twice (x ∷ xs) = trimmed_again x xs (is_blank x) refl (trimmed_twice xs)
+trimmed_twice (x ∷ xs) = trimmed_again x xs (is_space_or_tab x) refl (trimmed_twice xs)
 
 -- the next word of a text that has no blank in front
 pub record NextWord (rest : List ℕ) : Type 0 where
-  pub some : 1 ≤ position_or_len is_blank rest
-  pub words_are : words rest ≡ take (position_or_len is_blank rest) rest ∷ words (drop (position_or_len is_blank rest) rest)
+  pub some : 1 ≤ position_or_len is_space_or_tab rest
+  pub words_are : words rest ≡ take (position_or_len is_space_or_tab rest) rest ∷ words (drop (position_or_len is_space_or_tab rest) rest)
 
-next_at : (x : ℕ) (xs : List ℕ) (b : Bool) → is_blank x ≡ b → past is_blank (x ∷ xs) ≡ x ∷ xs → NextWord (x ∷ xs)
+next_at : (x : ℕ) (xs : List ℕ) (b : Bool) → is_space_or_tab x ≡ b → past is_space_or_tab (x ∷ xs) ≡ x ∷ xs → NextWord (x ∷ xs)
 next_at x xs true e trimmed =
-    let shorter : drop (prefix_len is_blank xs) xs ≡ x ∷ xs = rw (e, one-add) at trimmed in
-    absurd (omega (arith, ap length shorter, length-drop (prefix_len is_blank xs) xs))
+    let shorter : drop (prefix_len is_space_or_tab xs) xs ≡ x ∷ xs = rw (e, one-add) at trimmed in
+    absurd (omega (arith, ap length shorter, length-drop (prefix_len is_space_or_tab xs) xs))
 next_at x xs false e trimmed =
-    let some : 1 ≤ position_or_len is_blank (x ∷ xs) = rw e (omega arith) in
-    let first : take (position_or_len is_blank (x ∷ xs)) (x ∷ xs) ≡ x ∷ take (position_or_len is_blank xs) xs = rw (e, one-add) refl in
-    let kept : filter has_bytes (take (position_or_len is_blank (x ∷ xs)) (x ∷ xs) ∷ later_parts is_blank (drop (position_or_len is_blank (x ∷ xs)) (x ∷ xs)))
-    ≡ take (position_or_len is_blank (x ∷ xs)) (x ∷ xs) ∷ filter has_bytes (later_parts is_blank (drop (position_or_len is_blank (x ∷ xs)) (x ∷ xs))) = rw (first, has_some x (take (position_or_len is_blank xs) xs)) refl in
+    let some : 1 ≤ position_or_len is_space_or_tab (x ∷ xs) = rw e (omega arith) in
+    let first : take (position_or_len is_space_or_tab (x ∷ xs)) (x ∷ xs) ≡ x ∷ take (position_or_len is_space_or_tab xs) xs = rw (e, one-add) refl in
+    let kept : filter has_bytes (take (position_or_len is_space_or_tab (x ∷ xs)) (x ∷ xs) ∷ later_parts is_space_or_tab (drop (position_or_len is_space_or_tab (x ∷ xs)) (x ∷ xs)))
+    ≡ take (position_or_len is_space_or_tab (x ∷ xs)) (x ∷ xs) ∷ filter has_bytes (later_parts is_space_or_tab (drop (position_or_len is_space_or_tab (x ∷ xs)) (x ∷ xs))) = rw (first, has_some x (take (position_or_len is_space_or_tab xs) xs)) refl in
     record {
       some = some;
-      words_are = ap (filter has_bytes) (split_at is_blank (x ∷ xs)) ∙ kept
-          ∙ ap (λ later. take (position_or_len is_blank (x ∷ xs)) (x ∷ xs) ∷ later) (later_words (x ∷ xs));
+      words_are = ap (filter has_bytes) (split_at is_space_or_tab (x ∷ xs)) ∙ kept
+          ∙ ap (λ later. take (position_or_len is_space_or_tab (x ∷ xs)) (x ∷ xs) ∷ later) (later_words (x ∷ xs));
     }
 
-pub next_word : (rest : List ℕ) → 0 < length rest → past is_blank rest ≡ rest → NextWord rest
+pub next_word : (rest : List ℕ) → 0 < length rest → past is_space_or_tab rest ≡ rest → NextWord rest
 next_word [] some trimmed = absurd (omega arith)
-next_word (x ∷ xs) some trimmed = next_at x xs (is_blank x) refl trimmed
+next_word (x ∷ xs) some trimmed = next_at x xs (is_space_or_tab x) refl trimmed
 
 -- ---- the line of an origin
 
-origin_words_at : (rest : List ℕ) → past is_blank rest ≡ rest → origin_in_words (words rest)
-    ≡ (if bytes_eq (take (position_or_len is_blank rest) rest) (codes "#CXRLE")
-    then option_map origin_from (items_in no_items (words (drop (position_or_len is_blank rest) rest))) else None)
+origin_words_at : (rest : List ℕ) → past is_space_or_tab rest ≡ rest → origin_in_words (words rest)
+    ≡ (if bytes_eq (take (position_or_len is_space_or_tab rest) rest) (codes "#CXRLE")
+    then option_map origin_from (items_in no_items (words (drop (position_or_len is_space_or_tab rest) rest))) else None)
 origin_words_at [] trimmed = refl
 origin_words_at (x ∷ xs) trimmed =
     let next : NextWord (x ∷ xs) = next_word (x ∷ xs) (omega arith) trimmed in
     ap origin_in_words next.words_are
 
 pub origin_words : (line : List ℕ) → origin_in_words (words line)
-    ≡ (if bytes_eq (take (position_or_len is_blank (past is_blank line)) (past is_blank line)) (codes "#CXRLE")
-    then option_map origin_from (items_in no_items (words (drop (position_or_len is_blank (past is_blank line)) (past is_blank line)))) else None)
-origin_words line = ap origin_in_words (sym (words_trimmed line)) ∙ origin_words_at (past is_blank line) (trimmed_twice line)
+    ≡ (if bytes_eq (take (position_or_len is_space_or_tab (past is_space_or_tab line)) (past is_space_or_tab line)) (codes "#CXRLE")
+    then option_map origin_from (items_in no_items (words (drop (position_or_len is_space_or_tab (past is_space_or_tab line)) (past is_space_or_tab line)))) else None)
+origin_words line = ap origin_in_words (sym (words_trimmed line)) ∙ origin_words_at (past is_space_or_tab line) (trimmed_twice line)
 
 -- one item more
-pub items_step : (rest : List ℕ) (items : Items) → NextWord rest →
-    items_in items (words rest) ≡ with_item (take (position_or_len is_blank rest) rest) items >=> λ more. items_in more (words (past is_blank (drop (position_or_len is_blank rest) rest)))
+pub items_step : (rest : List ℕ) (items : ItemsValue) → NextWord rest →
+    items_in items (words rest) ≡ one_item_more (take (position_or_len is_space_or_tab rest) rest) items >=> λ more. items_in more (words (past is_space_or_tab (drop (position_or_len is_space_or_tab rest) rest)))
 items_step rest items next =
     ap (items_in items) next.words_are
-    ∙ ap (λ later. with_item (take (position_or_len is_blank rest) rest) items >=> λ more. items_in more later) (sym (words_trimmed (drop (position_or_len is_blank rest) rest)))
+    ∙ ap (λ later. one_item_more (take (position_or_len is_space_or_tab rest) rest) items >=> λ more. items_in more later) (sym (words_trimmed (drop (position_or_len is_space_or_tab rest) rest)))
 
 -- the same, with names for the parts
-pub origin_is : (line rest word behind mark : List ℕ) (n : ℕ) (same : Bool) → rest ≡ past is_blank line → n ≡ position_or_len is_blank rest → word ≡ take n rest → behind ≡ drop n rest →
+pub origin_is : (line rest word behind mark : List ℕ) (n : ℕ) (same : Bool) → rest ≡ past is_space_or_tab line → n ≡ position_or_len is_space_or_tab rest → word ≡ take n rest → behind ≡ drop n rest →
     mark ≡ codes "#CXRLE" → same ≡ bytes_eq word mark →
     origin_in_words (words line) ≡ (if same then option_map origin_from (items_in no_items (words behind)) else None)
 origin_is line rest word behind mark n same rest_is n_is word_is behind_is mark_is same_is =

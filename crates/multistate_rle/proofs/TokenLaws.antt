@@ -8,7 +8,7 @@ use Rattle.multistate_rle.specs.Pattern.{precedes, are_sorted, are_alive}
 use Rattle.multistate_rle.specs.Tokens.{Token, Cells, Rows, cells_in_row, drawn, IsCanonical, skip, gap, with_run, tokens_from}
 use Rattle.generations_rule.specs.RuleText.{text_of}
 use Rattle.multistate_rle.specs.Bounds.{box_of, in_box}
-use Rattle.multistate_rle.specs.Writing.{head, body}
+use Rattle.multistate_rle.specs.Writing.{head_lines, body}
 use Rattle.multistate_rle.specs.Laws.{HasTokens, HasOneTokenList, HasOneText}
 use Rattle.multistate_rle.proofs.PatternLaws.{IsFrom, AreFrom, and_parts}
 
@@ -302,4 +302,4 @@ has_one_token_list cells tokens is = sym (same_tokens tokens 0 0 is.canonical) �
 
 pub has_one_text : HasOneText
 has_one_text r g cells text is =
-    is.spelt ∙ ap (λ tokens. head (text_of r) g (box_of cells) ++ body (r.states == 2) tokens) (has_one_token_list (in_box (box_of cells) cells) is.tokens is.of_cells)
+    is.spelt ∙ ap (λ tokens. head_lines (text_of r) g (box_of cells) ++ body (r.states == 2) tokens) (has_one_token_list (in_box (box_of cells) cells) is.tokens is.of_cells)

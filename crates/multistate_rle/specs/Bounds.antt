@@ -5,15 +5,15 @@ use Rattle.multistate_rle.specs.declared.cell.Cell.{Cell}
 use Rattle.multistate_rle.specs.declared.pattern.PatternCell.{PatternCell}
 
 -- a box: its upper left corner, and its sides
-pub record Bounds : Type 0 where
+pub record BoundsValue : Type 0 where
   pub x : ℤ
   pub y : ℤ
   pub width : ℕ
   pub height : ℕ
 
 -- how many from the one to the other, both counted
-abbrev pub span : ℤ → ℤ → ℕ
-span from to = nat_abs (to -ℤ from) + 1
+abbrev pub span_of : ℤ → ℤ → ℕ
+span_of from to = nat_abs (to -ℤ from) + 1
 
 abbrev pub least : (Cell → ℤ) → ℤ → List Cell → ℤ
 least f first cells = fold (λ n d. int_min n (f d)) first cells
@@ -22,13 +22,13 @@ abbrev pub greatest : (Cell → ℤ) → ℤ → List Cell → ℤ
 greatest f first cells = fold (λ n d. int_max n (f d)) first cells
 
 -- the least box that holds all cells; all is 0 where there is none
-abbrev pub box_of : List Cell → Bounds
+abbrev pub box_of : List Cell → BoundsValue
 box_of [] = record { x = pos 0; y = pos 0; width = 0; height = 0 }
 box_of (c ∷ cells) = record {
   x = least (λ d. d.x) c.x cells;
   y = least (λ d. d.y) c.y cells;
-  width = span (least (λ d. d.x) c.x cells) (greatest (λ d. d.x) c.x cells);
-  height = span (least (λ d. d.y) c.y cells) (greatest (λ d. d.y) c.y cells);
+  width = span_of (least (λ d. d.x) c.x cells) (greatest (λ d. d.x) c.x cells);
+  height = span_of (least (λ d. d.y) c.y cells) (greatest (λ d. d.y) c.y cells);
 }
 
 -- a cell as seen from a corner
@@ -36,5 +36,5 @@ abbrev pub seen_from : ℤ → ℤ → Cell → PatternCell
 seen_from x y c = record { column = nat_abs (c.x -ℤ x); row = nat_abs (c.y -ℤ y); state = c.state }
 
 -- the cells as seen from their box's corner
-abbrev pub in_box : Bounds → List Cell → List PatternCell
+abbrev pub in_box : BoundsValue → List Cell → List PatternCell
 in_box b cells = map (seen_from b.x b.y) cells

@@ -4,16 +4,16 @@ use Rattle.std.specs.List.{prefix_len, list_all}
 use Rattle.std.specs.Str.{bytes_eq}
 use Rattle.std.specs.Str.Parse.{digits_value}
 
-abbrev pub is_digit : ℕ → Bool
-is_digit c = nat_le 48 c && nat_le c 57
+abbrev pub is_decimal_digit : ℕ → Bool
+is_decimal_digit c = nat_le 48 c && nat_le c 57
 
 -- a space or a tab
-abbrev pub is_blank : ℕ → Bool
-is_blank c = c == 32 || c == 9
+abbrev pub is_space_or_tab : ℕ → Bool
+is_space_or_tab c = c == 32 || c == 9
 
 -- LF or CR
-abbrev pub is_line_end : ℕ → Bool
-is_line_end c = c == 10 || c == 13
+abbrev pub ends_line : ℕ → Bool
+ends_line c = c == 10 || c == 13
 
 -- the part in front that passes a test
 abbrev pub front : (ℕ → Bool) → List ℕ → List ℕ
@@ -30,9 +30,9 @@ abbrev pub ◌>=>◌ : {A B : Type 0} → Option A → (A → Option B) → Opti
 None >=> f = None
 
 -- what stands behind a byte, if the text begins with it
-abbrev pub behind : ℕ → List ℕ → Option (List ℕ)
-behind c [] = None
-behind c (d ∷ rest) = if c == d then Some rest else None
+abbrev pub text_behind : ℕ → List ℕ → Option (List ℕ)
+text_behind c [] = None
+text_behind c (d ∷ rest) = if c == d then Some rest else None
 
 -- what stands behind some bytes, if the text begins with them
 abbrev pub behind_all : List ℕ → List ℕ → Option (List ℕ)
@@ -43,6 +43,6 @@ abbrev pub at_most : ℕ → ℕ → Option ℕ
 at_most most n = if nat_le n most then Some n else None
 
 -- a decimal number of at most so much, with any zeros in front, and nothing else
-abbrev pub number : ℕ → List ℕ → Option ℕ
-number most [] = None
-number most (c ∷ digits) = if list_all is_digit (c ∷ digits) then at_most most (digits_value 10 (c ∷ digits)) else None
+abbrev pub decimal_number : ℕ → List ℕ → Option ℕ
+decimal_number most [] = None
+decimal_number most (c ∷ digits) = if list_all is_decimal_digit (c ∷ digits) then at_most most (digits_value 10 (c ∷ digits)) else None

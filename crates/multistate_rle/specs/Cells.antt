@@ -19,9 +19,9 @@ abbrev pub are_nonzero : List Cell → Bool
 are_nonzero cells = list_all (λ cell. not (cell.state == 0)) cells
 
 -- each state is below a number of states
-abbrev pub are_below : ℕ → List Cell → Bool
-are_below states cells = list_all (λ cell. nat_lt cell.state states) cells
+abbrev pub are_states_below : ℕ → List Cell → Bool
+are_states_below states cells = list_all (λ cell. nat_lt cell.state states) cells
 
 -- what can be written under a rule of so many states
-abbrev pub are_writable : ℕ → List Cell → Bool
-are_writable states cells = is_sorted cells && (are_nonzero cells && are_below states cells)
+abbrev pub may_be_written : ℕ → List Cell → Bool
+may_be_written states cells = is_sorted cells && (are_nonzero cells && are_states_below states cells)

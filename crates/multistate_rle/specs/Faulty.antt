@@ -3,9 +3,9 @@ use Rattle.std.specs.Prelude.{◌≡◌, ◌⊎◌, ℕ, Bool, true, false, not,
 use Rattle.std.specs.List.{list_all}
 use Rattle.multistate_rle.specs.declared.fault.RleFault.{RleFault}
 use Rattle.multistate_rle.specs.declared.fault.RleFault.TheVariants.{Tag}
-use Rattle.multistate_rle.specs.Bytes.{is_digit}
+use Rattle.multistate_rle.specs.Bytes.{is_decimal_digit}
 use Rattle.multistate_rle.specs.Tokens.{Token, count_of}
-use Rattle.multistate_rle.specs.Reading.{Mark, Pen, bytes_of, is_prefix, is_letter, moved, fault_of}
+use Rattle.multistate_rle.specs.Reading.{Mark, Pen, bytes_of, is_prefix_byte, is_letter, moved, fault_of}
 use Rattle.multistate_rle.specs.Spelling.{IsCount, IsTag}
 
 -- where a pen stands behind tokens
@@ -20,7 +20,7 @@ first_place end (m ∷ marks) = m.0
 
 -- a byte of tokens: a digit, a letter, a prefix, or one of `.`, `b`, `o`, `$` and `!`
 abbrev pub may_stand : ℕ → Bool
-may_stand c = is_digit c || is_letter c || is_prefix c || c == 46 || c == 98 || c == 111 || c == 36 || c == 33
+may_stand c = is_decimal_digit c || is_letter c || is_prefix_byte c || c == 46 || c == 98 || c == 111 || c == 36 || c == 33
 
 -- digits, or none, and then a byte that can stand nowhere: the fault names it
 pub record MeetsStray (marks : List Mark) (fault : RleFault) : Type 0 where
@@ -28,7 +28,7 @@ pub record MeetsStray (marks : List Mark) (fault : RleFault) : Type 0 where
   pub stray : Mark
   pub rest : List Mark
   pub marks_are : marks ≡ digits ++ stray ∷ rest
-  pub all_digits : list_all is_digit (bytes_of digits) ≡ true
+  pub all_digits : list_all is_decimal_digit (bytes_of digits) ≡ true
   pub stands_nowhere : may_stand stray.1 ≡ false
   pub fault_is : fault ≡ Tag stray.0
 
@@ -43,8 +43,8 @@ pub record LacksLetter (end : ℕ) (marks : List Mark) (fault : RleFault) : Type
   pub prefix : Mark
   pub rest : List Mark
   pub marks_are : marks ≡ digits ++ prefix ∷ rest
-  pub all_digits : list_all is_digit (bytes_of digits) ≡ true
-  pub prefixes : is_prefix prefix.1 ≡ true
+  pub all_digits : list_all is_decimal_digit (bytes_of digits) ≡ true
+  pub prefixes : is_prefix_byte prefix.1 ≡ true
   pub no_letter : lacks_letter rest ≡ true
   pub fault_is : fault ≡ Tag (first_place end rest)
 

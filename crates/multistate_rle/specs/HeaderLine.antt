@@ -1,17 +1,17 @@
 -- Which line of a text is its header.
 use Rattle.std.specs.Prelude.{◌≡◌, ℕ, Bool, not, ◌||◌, List, [], ◌∷◌, Option, None, filter}
 use Rattle.std.specs.List.{list_all, slice_split}
-use Rattle.multistate_rle.specs.Bytes.{is_blank, is_line_end}
+use Rattle.multistate_rle.specs.Bytes.{is_space_or_tab, ends_line}
 use Rattle.multistate_rle.specs.Header.{header_of}
-use Rattle.multistate_rle.specs.Reading.{is_comment}
+use Rattle.multistate_rle.specs.Reading.{begins_comment}
 
 -- the lines of a text, without their ends
 abbrev pub text_lines : List ℕ → List (List ℕ)
-text_lines text = slice_split is_line_end text
+text_lines text = slice_split ends_line text
 
 -- a line may stand in front of the header: it is a comment or blank
 abbrev pub may_precede : List ℕ → Bool
-may_precede line = is_comment line || list_all is_blank line
+may_precede line = begins_comment line || list_all is_space_or_tab line
 
 -- the sides that the first of some lines names, if it is a header
 abbrev pub first_header : List (List ℕ) → Option (ℕ × ℕ)

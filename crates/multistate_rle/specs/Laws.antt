@@ -3,23 +3,23 @@ use Rattle.std.specs.Prelude.{◌↔◌, Some, None, unwrap_or, ◌≡◌, ◌�
 use Rattle.generations_rule.specs.Rule.{GenerationsRule, IsRule}
 use Rattle.multistate_rle.specs.declared.pattern.PatternCell.{PatternCell}
 use Rattle.multistate_rle.specs.declared.cell.Cell.{Cell}
-use Rattle.multistate_rle.specs.Cells.{is_sorted, are_nonzero, are_below}
-use Rattle.multistate_rle.specs.Bounds.{Bounds, box_of, in_box}
+use Rattle.multistate_rle.specs.Cells.{is_sorted, are_nonzero, are_states_below}
+use Rattle.multistate_rle.specs.Bounds.{BoundsValue, box_of, in_box}
 use Rattle.multistate_rle.specs.Pattern.{RlePattern, are_sorted, are_alive, are_within}
 use Rattle.std.specs.List.{list_all, enumerate_from}
-use Rattle.multistate_rle.specs.Bytes.{is_line_end}
+use Rattle.multistate_rle.specs.Bytes.{ends_line}
 use Rattle.multistate_rle.specs.Header.{header_of}
-use Rattle.multistate_rle.specs.Position.{Origin, origin_from, no_items}
+use Rattle.multistate_rle.specs.Position.{OriginValue, origin_from, no_items}
 use Rattle.multistate_rle.specs.HeaderLine.{HasNoHeader}
 use Rattle.multistate_rle.specs.declared.fault.RleFault.{RleFault}
 use Rattle.multistate_rle.specs.declared.fault.RleFault.TheVariants.{Header}
-use Rattle.multistate_rle.specs.Letters.{letters, letters_text, IsStateTag}
+use Rattle.multistate_rle.specs.Letters.{letters_of, letters_text, IsStateTag}
 use Rattle.multistate_rle.specs.Tokens.{Token, IsTokensOf, drawn, tokens_from}
 use Rattle.multistate_rle.specs.Reading.{parsed, Mark, bytes_of, bare, start, AreFine, body_read, pattern_of, lines_of}
 use Rattle.multistate_rle.specs.Spelling.{IsSpelling, EndsTokens, IsLine, IsFront, with_lines, first_origin, bare_from, bare_text}
 use Rattle.multistate_rle.specs.Faulty.{pen_behind, BeginsFaulty}
 use Rattle.multistate_rle.specs.Parts.{SpellsPattern, IsWrong}
-use Rattle.multistate_rle.specs.Writing.{rle_text, IsRleText, head, body}
+use Rattle.multistate_rle.specs.Writing.{text_of_cells, IsRleText, head_lines, body}
 
 -- a finite set of nonzero cells, as its sorted list, has a canonical token list
 abbrev pub HasTokens : Type 0
@@ -31,19 +31,19 @@ HasOneTokenList = (cells : List PatternCell) (tokens : List Token) → IsTokensO
 
 -- so the text of cells is the only one that their canonical tokens spell
 abbrev pub HasOneText : Type 0
-HasOneText = (r : GenerationsRule) (g : ℕ) (cells : List Cell) (text : List ℕ) → IsRleText r g cells text → text ≡ rle_text r g cells
+HasOneText = (r : GenerationsRule) (g : ℕ) (cells : List Cell) (text : List ℕ) → IsRleText r g cells text → text ≡ text_of_cells r g cells
 
 -- the letters that are written of a state are letters of that state, and there are no others
 abbrev pub HasLetters : Type 0
 HasLetters = (s : ℕ) (tag : List ℕ) → s ≤ 255 →
-    (IsStateTag s tag ↔ ((tag ≡ letters_text (letters false s)) ⊎ ((s ≤ 1) × (tag ≡ letters_text (letters true s)))))
+    (IsStateTag s tag ↔ ((tag ≡ letters_text (letters_of false s)) ⊎ ((s ≤ 1) × (tag ≡ letters_text (letters_of true s)))))
 
 -- ---- texts by hand
 
 -- Where what is left of the lines behind a header, without comment lines and blanks, spells tokens that are not faulty,
 -- what is read is what the tokens draw.
 abbrev pub ReadsSpellings : Type 0
-ReadsSpellings = (end : ℕ) (origin : Origin) (sides : ℕ × ℕ) (lines : List (List Mark)) (tokens : List Token) (spelt tail : List ℕ) →
+ReadsSpellings = (end : ℕ) (origin : OriginValue) (sides : ℕ × ℕ) (lines : List (List Mark)) (tokens : List Token) (spelt tail : List ℕ) →
     bytes_of (bare lines) ≡ spelt ++ tail → IsSpelling tokens spelt → EndsTokens tail → AreFine start tokens →
     body_read end origin sides lines ≡ Ok (pattern_of origin sides (drawn tokens 0 0))
 
@@ -51,7 +51,7 @@ ReadsSpellings = (end : ℕ) (origin : Origin) (sides : ℕ × ℕ) (lines : Lis
 -- tokens that are not faulty. It is read as what the tokens draw, with the first origin that a comment names.
 abbrev pub ReadsTexts : Type 0
 ReadsTexts = (front : List (List ℕ × ℕ)) (header : List ℕ) (end : ℕ) (sides : ℕ × ℕ) (text : List ℕ) (tokens : List Token) (spelt tail : List ℕ) →
-    IsFront front → IsLine header → header_of header ≡ Some sides → is_line_end end ≡ true →
+    IsFront front → IsLine header → header_of header ≡ Some sides → ends_line end ≡ true →
     bare_text text ≡ spelt ++ tail → IsSpelling tokens spelt → EndsTokens tail → AreFine start tokens →
     parsed (with_lines front (header ++ end ∷ text))
     ≡ Ok (pattern_of (unwrap_or (first_origin None front) (origin_from no_items)) sides (drawn tokens 0 0))
@@ -60,7 +60,7 @@ ReadsTexts = (front : List (List ℕ × ℕ)) (header : List ℕ) (end : ℕ) (s
 -- tokens that are not faulty, behind which a faulty one stands, and anything. It is refused for that token.
 abbrev pub RefusesFaults : Type 0
 RefusesFaults = (front : List (List ℕ × ℕ)) (header : List ℕ) (end : ℕ) (sides : ℕ × ℕ) (text : List ℕ) (tokens : List Token) (spelt faulty : List Mark) (fault : RleFault) →
-    IsFront front → IsLine header → header_of header ≡ Some sides → is_line_end end ≡ true →
+    IsFront front → IsLine header → header_of header ≡ Some sides → ends_line end ≡ true →
     bare_from (length (with_lines front header) + 1) text ≡ spelt ++ faulty → IsSpelling tokens (bytes_of spelt) → AreFine start tokens →
     BeginsFaulty (length (with_lines front (header ++ end ∷ text))) (pen_behind start tokens) faulty fault →
     parsed (with_lines front (header ++ end ∷ text)) ≡ Err fault
@@ -79,7 +79,7 @@ RefusesExactly = (text : List ℕ) (fault : RleFault) → IsWrong text fault ↔
 
 -- The body that is written of cells is read as the cells, behind any header and from any place of a text on.
 abbrev pub ReadsBodiesBack : Type 0
-ReadsBodiesBack = (end : ℕ) (origin : Origin) (sides : ℕ × ℕ) (n : ℕ) (two : Bool) (cells : List PatternCell) →
+ReadsBodiesBack = (end : ℕ) (origin : OriginValue) (sides : ℕ × ℕ) (n : ℕ) (two : Bool) (cells : List PatternCell) →
     are_sorted cells ≡ true → are_alive cells ≡ true → are_within (2 ^ 32) (2 ^ 32) cells ≡ true → length cells ≤ 2 ^ 20 →
     list_all (λ cell. nat_le cell.state (if two then 1 else 255)) cells ≡ true →
     body_read end origin sides (lines_of (enumerate_from n (body two (tokens_from 0 0 cells)))) ≡ Ok (pattern_of origin sides cells)
@@ -92,12 +92,12 @@ IsSignedWord (negsuc n) = n ≤ 2147483647
 -- A whole text that is written of cells in a box, with sides below 2^32, is read as the cells in that box, with its
 -- position and generation. The rule stands in the header as any text without a line's end.
 abbrev pub ReadsBoxesBack : Type 0
-ReadsBoxesBack = (rule : List ℕ) (g : ℕ) (b : Bounds) (two : Bool) (cells : List PatternCell) →
+ReadsBoxesBack = (rule : List ℕ) (g : ℕ) (b : BoundsValue) (two : Bool) (cells : List PatternCell) →
     IsSignedWord b.x → IsSignedWord b.y → g < 2 ^ 64 → b.width ≤ 4294967295 → b.height ≤ 4294967295 →
-    list_all (λ c. not (is_line_end c)) rule ≡ true → are_sorted cells ≡ true → are_alive cells ≡ true →
+    list_all (λ c. not (ends_line c)) rule ≡ true → are_sorted cells ≡ true → are_alive cells ≡ true →
     are_within b.width b.height cells ≡ true → length cells ≤ 2 ^ 20 →
     list_all (λ cell. nat_le cell.state (if two then 1 else 255)) cells ≡ true →
-    parsed (head rule g b ++ body two (tokens_from 0 0 cells))
+    parsed (head_lines rule g b ++ body two (tokens_from 0 0 cells))
     ≡ Ok (record { width = b.width; height = b.height; pos = (b.x, b.y); generation = g; cells = cells })
 
 -- What is written of cells, sorted, nonzero and below the rule's number of states, at most 2^20 and with sides below
@@ -105,9 +105,9 @@ ReadsBoxesBack = (rule : List ℕ) (g : ℕ) (b : Bounds) (two : Bool) (cells : 
 abbrev pub ReadsBack : Type 0
 ReadsBack = (r : GenerationsRule) (g : ℕ) (cells : List Cell) → IsRule r → g < 2 ^ 64 →
     IsSignedWord (box_of cells).x → IsSignedWord (box_of cells).y →
-    is_sorted cells ≡ true → are_nonzero cells ≡ true → are_below r.states cells ≡ true → length cells ≤ 2 ^ 20 →
+    is_sorted cells ≡ true → are_nonzero cells ≡ true → are_states_below r.states cells ≡ true → length cells ≤ 2 ^ 20 →
     (box_of cells).width < 2 ^ 32 → (box_of cells).height < 2 ^ 32 →
-    parsed (rle_text r g cells)
+    parsed (text_of_cells r g cells)
     ≡ Ok (record {
       width = (box_of cells).width;
       height = (box_of cells).height;

@@ -2,23 +2,23 @@
 use Rattle.std.specs.Prelude.{◌≡◌, ◌⊎◌, ◌*◌, ◌≤◌, ℕ, ◌+◌, ◌-◌, ◌/◌, ◌%◌, Bool, nat_le, ◌==◌, if◌then◌else◌, Option, Some, None, List, [], ◌∷◌, ◌++◌, option_to_list}
 
 -- the letters of a tag: a prefix or none, and the byte that ends it
-pub record Letters : Type 0 where
+pub record LettersValue : Type 0 where
   pub prefix : Option ℕ
   pub last : ℕ
 
 -- a tag of one byte
-abbrev pub plain : ℕ → Letters
+abbrev pub plain : ℕ → LettersValue
 plain c = record { prefix = None; last = c }
 
 -- with two states `b` and `o`, otherwise `.`, `A` to `X`, and `p` to `y` before a letter
-abbrev pub letters : Bool → ℕ → Letters
-letters two s =
+abbrev pub letters_of : Bool → ℕ → LettersValue
+letters_of two s =
     if two then record { prefix = None; last = if s == 0 then 98 else 111 }
     else (if s == 0 then record { prefix = None; last = 46 }
     else (if nat_le s 24 then record { prefix = None; last = 64 + s }
     else record { prefix = Some (111 + (s - 1) / 24); last = 65 + (s - 1) % 24 }))
 
-abbrev pub letters_text : Letters → List ℕ
+abbrev pub letters_text : LettersValue → List ℕ
 letters_text l = option_to_list l.prefix ++ l.last ∷ []
 
 -- ---- the letters of a state, as Golly's help has them

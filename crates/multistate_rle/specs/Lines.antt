@@ -4,15 +4,15 @@ use Rattle.std.specs.List.{enumerate_from}
 use Rattle.multistate_rle.specs.Reading.{Mark}
 use Rattle.multistate_rle.specs.declared.line.Line.{Line}
 use Rattle.multistate_rle.specs.declared.line.Line.TheVariants.{Start, Inside, Comment}
-use Rattle.multistate_rle.specs.Bytes.{is_blank, is_line_end}
+use Rattle.multistate_rle.specs.Bytes.{is_space_or_tab, ends_line}
 
 -- how far a line is read after a byte
 abbrev pub line_after : Line → ℕ → Line
-line_after line c = if is_line_end c then Start else elim line [ Start ↦ if c == 35 then Comment else Inside | Inside ↦ Inside | Comment ↦ Comment ]
+line_after line c = if ends_line c then Start else elim line [ Start ↦ if c == 35 then Comment else Inside | Inside ↦ Inside | Comment ↦ Comment ]
 
 -- the byte is a blank, a line's end, or in a comment
 abbrev pub is_dropped : Line → ℕ → Bool
-is_dropped line c = elim line [ Start ↦ is_blank c || is_line_end c | Inside ↦ is_blank c || is_line_end c | Comment ↦ true ]
+is_dropped line c = elim line [ Start ↦ is_space_or_tab c || ends_line c | Inside ↦ is_space_or_tab c || ends_line c | Comment ↦ true ]
 
 -- what is left of a text, from where its line is so far read
 unfoldable pub left : Line → List Mark → List Mark

@@ -2,7 +2,7 @@
 use Rattle.std.specs.Prelude.{◌≡◌, ◌⊎◌, ℕ, ◌+◌, true, List, [], ◌∷◌, ◌++◌, Some, None, unwrap_or, length, drop, ⊤}
 use Rattle.multistate_rle.specs.declared.fault.RleFault.{RleFault}
 use Rattle.multistate_rle.specs.declared.fault.RleFault.TheVariants.{Header}
-use Rattle.multistate_rle.specs.Bytes.{is_line_end}
+use Rattle.multistate_rle.specs.Bytes.{ends_line}
 use Rattle.multistate_rle.specs.Header.{header_of}
 use Rattle.multistate_rle.specs.HeaderLine.{HasNoHeader}
 use Rattle.multistate_rle.specs.Pattern.{RlePattern}
@@ -15,7 +15,7 @@ use Rattle.multistate_rle.specs.Faulty.{pen_behind, BeginsFaulty}
 -- nothing, or a line's end and anything
 abbrev pub EndsLine : List ℕ → Type 0
 EndsLine [] = ⊤
-EndsLine (c ∷ rest) = is_line_end c ≡ true
+EndsLine (c ∷ rest) = ends_line c ≡ true
 
 -- A text in its parts: comments and blank lines, a header that names the sides, and behind the header's line end, from a
 -- place on, a body. Where the text ends with its header, the body is empty.

@@ -2,27 +2,27 @@
 use Rattle.std.specs.Prelude.{ℕ, Bool, not, List, [], ◌∷◌, ◌==◌, if◌then◌else◌, Option, Some, None, ℤ, pos, neg_ℤ, codes, length, option_map, unwrap_or, filter, drop}
 use Rattle.std.specs.Str.{bytes_eq}
 use Rattle.std.specs.List.{slice_split, before_first, position_or_len}
-use Rattle.multistate_rle.specs.Bytes.{is_blank, ◌>=>◌, behind, behind_all, number}
+use Rattle.multistate_rle.specs.Bytes.{is_space_or_tab, ◌>=>◌, text_behind, behind_all, decimal_number}
 
 -- where a pattern was in its plane, and at which generation
-pub record Origin : Type 0 where
+pub record OriginValue : Type 0 where
   pub pos : ℤ × ℤ
   pub generation : ℕ
 
 -- the position and the generation that items name, where they do
-pub record Items : Type 0 where
+pub record ItemsValue : Type 0 where
   pub pos : Option (ℤ × ℤ)
   pub generation : Option ℕ
 
 -- the words of a line, separated by blanks
 abbrev pub words : List ℕ → List (List ℕ)
-words line = filter (λ word. not (length word == 0)) (slice_split is_blank line)
+words line = filter (λ word. not (length word == 0)) (slice_split is_space_or_tab line)
 
 -- a number of 32 bits with its sign
-abbrev pub signed : List ℕ → Option ℤ
-signed [] = None
-signed (c ∷ digits) =
-    if c == 45 then option_map (λ n. neg_ℤ (pos n)) (number 2147483648 digits) else option_map pos (number 2147483647 (c ∷ digits))
+abbrev pub signed_number : List ℕ → Option ℤ
+signed_number [] = None
+signed_number (c ∷ digits) =
+    if c == 45 then option_map (λ n. neg_ℤ (pos n)) (decimal_number 2147483648 digits) else option_map pos (decimal_number 2147483647 (c ∷ digits))
 
 abbrev pub is_comma : ℕ → Bool
 is_comma c = c == 44
@@ -31,47 +31,47 @@ is_comma c = c == 44
 abbrev pub position_in : List ℕ → Option (ℤ × ℤ)
 position_in word =
     behind_all (codes "Pos=") word >=> λ sides.
-    signed (before_first is_comma sides) >=> λ x.
-    behind 44 (drop (position_or_len is_comma sides) sides) >=> λ rest.
-    signed rest >=> λ y. Some (x, y)
+    signed_number (before_first is_comma sides) >=> λ x.
+    text_behind 44 (drop (position_or_len is_comma sides) sides) >=> λ rest.
+    signed_number rest >=> λ y. Some (x, y)
 
 -- `Gen=n`
 abbrev pub generation_in : List ℕ → Option ℕ
-generation_in word = behind_all (codes "Gen=") word >=> λ digits. number 18446744073709551615 digits
+generation_in word = behind_all (codes "Gen=") word >=> λ digits. decimal_number 18446744073709551615 digits
 
 -- a position, if there was none before
-abbrev pub with_position : ℤ × ℤ → Items → Option Items
+abbrev pub with_position : ℤ × ℤ → ItemsValue → Option ItemsValue
 with_position p items = elim items.pos [ None ↦ Some (record items { pos = Some p }) | Some q ↦ None ]
 
 -- a generation, if there was none before
-abbrev pub with_generation : ℕ → Items → Option Items
+abbrev pub with_generation : ℕ → ItemsValue → Option ItemsValue
 with_generation n items = elim items.generation [ None ↦ Some (record items { generation = Some n }) | Some m ↦ None ]
 
 -- an item that was read as a position or a generation
-abbrev pub item_by : Option (ℤ × ℤ) → Option ℕ → Items → Option Items
+abbrev pub item_by : Option (ℤ × ℤ) → Option ℕ → ItemsValue → Option ItemsValue
 item_by (Some p) generation items = with_position p items
 item_by None generation items = generation >=> λ n. with_generation n items
 
 -- one item more, of a kind that was not read before
-abbrev pub with_item : List ℕ → Items → Option Items
-with_item word items = item_by (position_in word) (generation_in word) items
+abbrev pub one_item_more : List ℕ → ItemsValue → Option ItemsValue
+one_item_more word items = item_by (position_in word) (generation_in word) items
 
-abbrev pub items_in : Items → List (List ℕ) → Option Items
+abbrev pub items_in : ItemsValue → List (List ℕ) → Option ItemsValue
 items_in items [] = Some items
-items_in items (word ∷ words) = with_item word items >=> λ more. items_in more words
+items_in items (word ∷ words) = one_item_more word items >=> λ more. items_in more words
 
 -- what is missing is 0
-abbrev pub origin_from : Items → Origin
+abbrev pub origin_from : ItemsValue → OriginValue
 origin_from items = record { pos = unwrap_or items.pos (pos 0, pos 0); generation = unwrap_or items.generation 0 }
 
-abbrev pub no_items : Items
+abbrev pub no_items : ItemsValue
 no_items = record { pos = None; generation = None }
 
-abbrev pub origin_in_words : List (List ℕ) → Option Origin
+abbrev pub origin_in_words : List (List ℕ) → Option OriginValue
 origin_in_words [] = None
 origin_in_words (first ∷ items) =
     if bytes_eq first (codes "#CXRLE") then option_map origin_from (items_in no_items items) else None
 
 -- the origin that a line names, if it is well formed
-abbrev pub origin_of : List ℕ → Option Origin
-origin_of line = origin_in_words (words line)
+abbrev pub origin_in : List ℕ → Option OriginValue
+origin_in line = origin_in_words (words line)

@@ -8,11 +8,11 @@ use Rattle.multistate_rle.specs.declared.fault.RleFault.{RleFault}
 use Rattle.multistate_rle.specs.declared.fault.RleFault.TheVariants.{Header, Tag, Count, State, TooMany}
 use Rattle.multistate_rle.specs.Role.{Role}
 use Rattle.multistate_rle.specs.Role as role
-use Rattle.multistate_rle.specs.Bytes.{is_digit, is_blank, is_line_end}
+use Rattle.multistate_rle.specs.Bytes.{is_decimal_digit, is_space_or_tab, ends_line}
 use Rattle.multistate_rle.specs.Tokens.{Token, Cells, Rows, drawn}
 use Rattle.multistate_rle.specs.Pattern.{RlePattern}
 use Rattle.multistate_rle.specs.Header.{header_of}
-use Rattle.multistate_rle.specs.Position.{Origin, origin_from, no_items, origin_of}
+use Rattle.multistate_rle.specs.Position.{OriginValue, origin_from, no_items, origin_in}
 
 -- a place and the byte there
 abbrev pub Mark : Type 0
@@ -21,8 +21,8 @@ Mark = ℕ × ℕ
 -- ---- one byte of the tokens
 
 -- `p` to `y`
-abbrev pub is_prefix : ℕ → Bool
-is_prefix c = nat_le 112 c && nat_le c 121
+abbrev pub is_prefix_byte : ℕ → Bool
+is_prefix_byte c = nat_le 112 c && nat_le c 121
 
 -- `A` to `X`
 abbrev pub is_letter : ℕ → Bool
@@ -31,8 +31,8 @@ is_letter c = nat_le 65 c && nat_le c 88
 -- what a byte is where no prefix stands before it; the letters and the end mark aside
 abbrev pub bare_role : ℕ → Role
 bare_role c =
-    if is_digit c then role.Digit (c - 48)
-    else (if is_prefix c then role.Prefix (c - 111)
+    if is_decimal_digit c then role.Digit (c - 48)
+    else (if is_prefix_byte c then role.Prefix (c - 111)
     else (if c == 46 || c == 98 then role.State 0
     else (if c == 111 then role.State 1
     else (if c == 36 then role.RowEnd else role.Stray))))
@@ -47,23 +47,23 @@ role_of prefix c =
 -- ---- tokens
 
 -- what is read of a token that is not at its end: the place of its first byte, its count and its prefix, where it has them
-pub record Begun : Type 0 where
+pub record BegunValue : Type 0 where
   pub place : Option ℕ
   pub count : Option ℕ
   pub prefix : Option ℕ
 
-abbrev pub fresh : Begun
+abbrev pub fresh : BegunValue
 fresh = record { place = None; count = None; prefix = None }
 
 -- one digit more, of a count or of a new token
-abbrev pub with_digit : ℕ → ℕ → Begun → Begun
+abbrev pub with_digit : ℕ → ℕ → BegunValue → BegunValue
 with_digit place digit b = record b { place = Some (unwrap_or b.place place); count = Some (10 * unwrap_or b.count 0 + digit) }
 
-abbrev pub with_prefix : ℕ → ℕ → Begun → Begun
+abbrev pub with_prefix : ℕ → ℕ → BegunValue → BegunValue
 with_prefix place k b = record b { place = Some (unwrap_or b.place place); prefix = Some k }
 
 -- the end of the tokens, at a place: no prefix may stand alone
-abbrev pub ended : ℕ → Begun → Result (List Token) RleFault
+abbrev pub ended : ℕ → BegunValue → Result (List Token) RleFault
 ended place b = elim b.prefix [ None ↦ Ok [] | Some k ↦ Err (Tag place) ]
 
 -- where the next token draws, and how many nonzero cells were drawn before it
@@ -104,7 +104,7 @@ followed (Some fault) token rest = Err fault
 followed None token rest = rest >>= λ tokens. Ok (token ∷ tokens)
 
 -- The tokens in order, up to the end mark or the end of the text. The first fault is answered.
-abbrev pub tokens_of : ℕ → List Mark → Begun → Pen → Result (List Token) RleFault
+abbrev pub tokens_of : ℕ → List Mark → BegunValue → Pen → Result (List Token) RleFault
 tokens_of end [] b pen = ended end b
 tokens_of end (m ∷ marks) b pen =
     let place = unwrap_or b.place m.0 in
@@ -121,18 +121,18 @@ tokens_of end (m ∷ marks) b pen =
 -- ---- lines
 
 abbrev pub lines_of : List Mark → List (List Mark)
-lines_of marks = slice_split (λ m. is_line_end m.1) marks
+lines_of marks = slice_split (λ m. ends_line m.1) marks
 
 abbrev pub bytes_of : List Mark → List ℕ
 bytes_of marks = map (λ m. m.1) marks
 
-abbrev pub is_comment : List ℕ → Bool
-is_comment [] = false
-is_comment (c ∷ line) = c == 35
+abbrev pub begins_comment : List ℕ → Bool
+begins_comment [] = false
+begins_comment (c ∷ line) = c == 35
 
 -- the bytes of lines that are not comments, without blanks
 abbrev pub bare : List (List Mark) → List Mark
-bare lines = filter (λ m. not (is_blank m.1)) (flat_map (λ line. if is_comment (bytes_of line) then [] else line) lines)
+bare lines = filter (λ m. not (is_space_or_tab m.1)) (flat_map (λ line. if begins_comment (bytes_of line) then [] else line) lines)
 
 -- ---- the whole text
 
@@ -143,7 +143,7 @@ abbrev pub height_of : ℕ → List PatternCell → ℕ
 height_of h cells = fold (λ n cell. max n (cell.row + 1)) h cells
 
 -- the pattern of nonzero cells: a side is the header's, or what the cells need if that is more
-abbrev pub pattern_of : Origin → ℕ × ℕ → List PatternCell → RlePattern
+abbrev pub pattern_of : OriginValue → ℕ × ℕ → List PatternCell → RlePattern
 pattern_of origin sides cells = record {
   width = width_of sides.0 cells;
   height = height_of sides.1 cells;
@@ -162,21 +162,21 @@ abbrev pub cells_read : ℕ → List Mark → Result (List PatternCell) RleFault
 cells_read end marks = tokens_of end marks fresh start >>= λ tokens. Ok (drawn tokens 0 0)
 
 -- the lines behind a header
-abbrev pub body_read : ℕ → Origin → ℕ × ℕ → List (List Mark) → Result RlePattern RleFault
+abbrev pub body_read : ℕ → OriginValue → ℕ × ℕ → List (List Mark) → Result RlePattern RleFault
 body_read end origin sides lines = cells_read end (bare lines) >>= λ cells. Ok (pattern_of origin sides cells)
 
 -- the lines from a header on, if it is one
-abbrev pub header_read : ℕ → Origin → Option (ℕ × ℕ) → List (List Mark) → Result RlePattern RleFault
+abbrev pub header_read : ℕ → OriginValue → Option (ℕ × ℕ) → List (List Mark) → Result RlePattern RleFault
 header_read end origin None lines = Err Header
 header_read end origin (Some sides) lines = body_read end origin sides lines
 
 -- The lines of a text: the first well formed `#CXRLE` line before the header gives the origin; the first line that is
 -- neither a comment nor blank is the header.
-abbrev pub lines_read : ℕ → Option Origin → List (List Mark) → Result RlePattern RleFault
+abbrev pub lines_read : ℕ → Option OriginValue → List (List Mark) → Result RlePattern RleFault
 lines_read end origin [] = Err Header
 lines_read end origin (line ∷ lines) =
-    if is_comment (bytes_of line) then lines_read end (or_else origin (origin_of (bytes_of line))) lines
-    else (if list_all is_blank (bytes_of line) then lines_read end origin lines
+    if begins_comment (bytes_of line) then lines_read end (or_else origin (origin_in (bytes_of line))) lines
+    else (if list_all is_space_or_tab (bytes_of line) then lines_read end origin lines
     else header_read end (unwrap_or origin (origin_from no_items)) (header_of (bytes_of line)) lines)
 
 -- the pattern of a text, or its first fault

@@ -6,11 +6,11 @@ use Rattle.generations_rule.specs.RuleText.{rule_of_text, text_of_set}
 use Rattle.multistate_rle.specs.declared.pattern.PatternCell.{PatternCell}
 use Rattle.multistate_rle.specs.declared.fault.RleFault.TheVariants.{Header, Tag, Count, State, TooMany}
 use Rattle.multistate_rle.specs.declared.cell.Cell.{Cell}
-use Rattle.multistate_rle.specs.Bytes.{number}
-use Rattle.multistate_rle.specs.Position.{signed}
+use Rattle.multistate_rle.specs.Bytes.{decimal_number}
+use Rattle.multistate_rle.specs.Position.{signed_number}
 use Rattle.multistate_rle.specs.Pattern.{RlePattern}
 use Rattle.multistate_rle.specs.Reading.{parsed}
-use Rattle.multistate_rle.specs.Writing.{rle_text}
+use Rattle.multistate_rle.specs.Writing.{text_of_cells}
 
 abbrev cell : ℕ → ℕ → ℕ → PatternCell
 cell column row state = record { column = column; row = row; state = state }
@@ -71,7 +71,7 @@ too_many = refl
 
 -- ---- a zero with a sign: only a coordinate may have one
 
-pub minus_zero_is_zero : signed (codes "-0") ≡ Some (pos 0)
+pub minus_zero_is_zero : signed_number (codes "-0") ≡ Some (pos 0)
 minus_zero_is_zero = refl
 
 pub minus_zero_column :
@@ -88,7 +88,7 @@ minus_zero_row = refl
 pub minus_zero_generation : parsed (codes "#CXRLE Pos=1,2 Gen=-0\nx = 1, y = 1\no!") ≡ Ok (boxed 1 1 (cell 0 0 1 ∷ []))
 minus_zero_generation = refl
 
-pub minus_zero_is_no_number : number 18446744073709551615 (codes "-0") ≡ None
+pub minus_zero_is_no_number : decimal_number 18446744073709551615 (codes "-0") ≡ None
 minus_zero_is_no_number = refl
 
 pub minus_zero_width : parsed (codes "x = -0, y = 0\n!") ≡ Err Header
@@ -116,16 +116,16 @@ six =
     at (pos 0) (negsuc 0) 1 ∷ at (pos 1) (negsuc 0) 1 ∷ at (pos 0) (pos 0) 2 ∷ at (pos 1) (pos 0) 2
     ∷ at (pos 0) (pos 1) 1 ∷ at (pos 1) (pos 1) 1 ∷ []
 
-pub first_generation : rle_text brain 1 six ≡ codes "#CXRLE Pos=0,-1 Gen=1\nx = 2, y = 3, rule = /2/3\n2A$2B$2A!\n"
+pub first_generation : text_of_cells brain 1 six ≡ codes "#CXRLE Pos=0,-1 Gen=1\nx = 2, y = 3, rule = /2/3\n2A$2B$2A!\n"
 unfolding digits text_of_set
 first_generation = refl
 
-pub nothing : rle_text brain 536870912 [] ≡ codes "#CXRLE Pos=0,0 Gen=536870912\nx = 0, y = 0, rule = /2/3\n!\n"
+pub nothing : text_of_cells brain 536870912 [] ≡ codes "#CXRLE Pos=0,0 Gen=536870912\nx = 0, y = 0, rule = /2/3\n!\n"
 unfolding digits text_of_set
 nothing = refl
 
 pub with_gaps :
-    rle_text life 0 (at (pos 0) (pos 0) 1 ∷ at (pos 2) (pos 0) 1 ∷ at (pos 3) (pos 0) 1 ∷ at (pos 0) (pos 3) 1 ∷ [])
+    text_of_cells life 0 (at (pos 0) (pos 0) 1 ∷ at (pos 2) (pos 0) 1 ∷ at (pos 3) (pos 0) 1 ∷ at (pos 0) (pos 3) 1 ∷ [])
     ≡ codes "#CXRLE Pos=0,0 Gen=0\nx = 4, y = 4, rule = 23/3/2\nob2o3$o!\n"
 unfolding digits text_of_set
 with_gaps = refl
@@ -135,7 +135,7 @@ every_second zero x = []
 every_second (suc n) x = at (pos x) (pos 0) 1 ∷ every_second n (x + 2)
 
 pub two_lines :
-    rle_text life 0 (every_second 41 0)
+    text_of_cells life 0 (every_second 41 0)
     ≡ codes "#CXRLE Pos=0,0 Gen=0\nx = 81, y = 1, rule = 23/3/2\nobobobobobobobobobobobobobobobobobobobobobobobobobobobobobobobobobobob\nobobobobobo!\n"
 unfolding digits text_of_set
 two_lines = refl

@@ -2,16 +2,16 @@
 use Rattle.std.specs.Prelude.{◌≡◌, ◌⊎◌, ℕ, true, not, ◌||◌, List, [], ◌∷◌, ◌++◌, Option, if◌then◌else◌, ⊤, codes}
 use Rattle.std.specs.List.{list_all, enumerate_from}
 use Rattle.std.specs.Str.Parse.{digits_value}
-use Rattle.multistate_rle.specs.Bytes.{is_digit, is_blank, is_line_end}
+use Rattle.multistate_rle.specs.Bytes.{is_decimal_digit, is_space_or_tab, ends_line}
 use Rattle.multistate_rle.specs.Letters.{IsStateTag}
-use Rattle.multistate_rle.specs.Position.{Origin, origin_of}
+use Rattle.multistate_rle.specs.Position.{OriginValue, origin_in}
 use Rattle.multistate_rle.specs.Tokens.{Token, Cells, Rows, count_of}
-use Rattle.multistate_rle.specs.Reading.{Mark, bytes_of, bare, lines_of, is_comment, or_else}
+use Rattle.multistate_rle.specs.Reading.{Mark, bytes_of, bare, lines_of, begins_comment, or_else}
 
 -- the digits of a count: none for 1, or any that write it
 abbrev pub IsCount : ℕ → List ℕ → Type 0
 IsCount n [] = n ≡ 1
-IsCount n (c ∷ digits) = (list_all is_digit (c ∷ digits) ≡ true) × (digits_value 10 (c ∷ digits) ≡ n)
+IsCount n (c ∷ digits) = (list_all is_decimal_digit (c ∷ digits) ≡ true) × (digits_value 10 (c ∷ digits) ≡ n)
 
 -- the letters of a state, or `$`
 abbrev pub IsTag : Token → List ℕ → Type 0
@@ -27,17 +27,17 @@ IsSpelling (token ∷ tokens) bytes =
 -- digits, or none, and then nothing, or the end mark and anything
 abbrev pub EndsTokens : List ℕ → Type 0
 EndsTokens [] = ⊤
-EndsTokens (c ∷ rest) = (c ≡ 33) ⊎ ((is_digit c ≡ true) × EndsTokens rest)
+EndsTokens (c ∷ rest) = (c ≡ 33) ⊎ ((is_decimal_digit c ≡ true) × EndsTokens rest)
 
 -- a line without its end
 abbrev pub IsLine : List ℕ → Type 0
-IsLine line = list_all (λ c. not (is_line_end c)) line ≡ true
+IsLine line = list_all (λ c. not (ends_line c)) line ≡ true
 
 -- lines in front of a header, each with the byte that ends it: comments and blank lines
 abbrev pub IsFront : List (List ℕ × ℕ) → Type 0
 IsFront [] = ⊤
 IsFront (line ∷ lines) =
-    IsLine line.0 × ((is_line_end line.1 ≡ true) × (((is_comment line.0 || list_all is_blank line.0) ≡ true) × IsFront lines))
+    IsLine line.0 × ((ends_line line.1 ≡ true) × (((begins_comment line.0 || list_all is_space_or_tab line.0) ≡ true) × IsFront lines))
 
 -- lines and their ends, and the text behind them
 abbrev pub with_lines : List (List ℕ × ℕ) → List ℕ → List ℕ
@@ -45,9 +45,9 @@ with_lines [] rest = rest
 with_lines (line ∷ lines) rest = line.0 ++ line.1 ∷ with_lines lines rest
 
 -- the first origin that lines name, or an earlier one
-abbrev pub first_origin : Option Origin → List (List ℕ × ℕ) → Option Origin
+abbrev pub first_origin : Option OriginValue → List (List ℕ × ℕ) → Option OriginValue
 first_origin found [] = found
-first_origin found (line ∷ lines) = first_origin (if is_comment line.0 then or_else found (origin_of line.0) else found) lines
+first_origin found (line ∷ lines) = first_origin (if begins_comment line.0 then or_else found (origin_in line.0) else found) lines
 
 -- the bytes that are left, without comment lines, line ends and blanks, of a text that begins at a place, each with its
 -- place

@@ -15,7 +15,7 @@ use Rattle.multistate_rle.specs.Lines.{left, left_from}
 use Rattle.std.specs.List.{enumerate_from}
 use Rattle.multistate_rle.specs.declared.line.Line.{Line}
 use Rattle.multistate_rle.specs.Tokens.{Token, drawn}
-use Rattle.multistate_rle.specs.Reading.{Mark, Pen, Begun, fresh, moved, fault_of, tokens_of, ended}
+use Rattle.multistate_rle.specs.Reading.{Mark, Pen, BegunValue, fresh, moved, fault_of, tokens_of, ended}
 
 -- what a role that the code tells stands for
 abbrev pub role_meant : declared.Role → Role
@@ -40,7 +40,7 @@ Reads old mark (Ok Ends) new = (end : ℕ) (marks : List Mark) → Ok new.cells.
 Reads old mark (Err fault) new = (fault ≡ Memory) ⊎ ((end : ℕ) (marks : List Mark) → Err fault ≡ cells_with end (mark ∷ marks) old)
 
 -- whether the tokens may end at a place
-abbrev pub EndsAt : ℕ → Begun → Result (Unit {0}) RleFault → Type 0
+abbrev pub EndsAt : ℕ → BegunValue → Result (Unit {0}) RleFault → Type 0
 EndsAt place b (Ok x) = ended place b ≡ Ok []
 EndsAt place b (Err fault) = ended place b ≡ Err fault
 
@@ -55,14 +55,14 @@ Puts place token old (Ok x) new = (fault_of place (pen_of old) token ≡ None) �
 Puts place token old (Err fault) new = (fault ≡ Memory) ⊎ (fault_of place (pen_of old) token ≡ Some fault)
 
 -- bytes of a token, read from a place on: the tokens are what they would be with the bytes in front
-pub record Begins (text : List ℕ) (start : ℕ) (old : Begun) (place : ℕ) (new : Begun) : Type 0 where
+pub record Begins (text : List ℕ) (start : ℕ) (old : BegunValue) (place : ℕ) (new : BegunValue) : Type 0 where
   pub behind : start ≤ place
   pub within : place ≤ length text
   pub same : (end : ℕ) (pen : Pen) → tokens_of end (left_from text place) new pen ≡ tokens_of end (left_from text start) old pen
 
 -- The bytes up to a place are a token's count, which is 1 where no digit stands there, and its prefix.
 pub record IsFront (text : List ℕ) (start place count : ℕ) (prefix : Option ℕ) : Type 0 where
-  pub begun : Begun
+  pub begun : BegunValue
   pub begins : Begins text start fresh place begun
   pub count_is : unwrap_or begun.count 1 ≡ count
   pub prefix_is : begun.prefix ≡ prefix

@@ -2,9 +2,9 @@
 //! read at once.
 
 ghost use Rattle.std.specs.Prelude.{◌≡◌, ◌≤◌, ◌<◌, None, length, true, get_or, IfSome};
-ghost use Rattle.multistate_rle.specs.Reading.{is_prefix as is_prefix_byte};
+ghost use Rattle.multistate_rle.specs.Reading.{is_prefix_byte};
 ghost use Rattle.multistate_rle.specs.Steps.{IsFront};
-ghost use Rattle.multistate_rle.specs.Bytes.{is_digit as is_decimal_digit};
+ghost use Rattle.multistate_rle.specs.Bytes.{is_decimal_digit};
 
 use crate::tokens::COUNT_LIMIT;
 

@@ -2,7 +2,7 @@
 
 ghost use Rattle.std.specs.Prelude.{◌≡◌, ◌∷◌, []};
 ghost use Rattle.std.specs.Int.{int_min, int_max};
-ghost use Rattle.multistate_rle.specs.Bounds.{box_of, span as span_of};
+ghost use Rattle.multistate_rle.specs.Bounds.{box_of, span_of};
 
 use crate::cell::Cell;
 use std::marker::Model;
@@ -18,7 +18,7 @@ pub struct Bounds {
 }
 
 impl Model for Bounds {
-    ghost use Rattle.multistate_rle.specs.Bounds.{Bounds as BoundsValue};
+    ghost use Rattle.multistate_rle.specs.Bounds.{BoundsValue};
 
     ghost Value = { BoundsValue };
 

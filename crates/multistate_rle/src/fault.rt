@@ -27,11 +27,11 @@ pub enum RleFault {
 }
 
 impl RleFault {
-    ghost use Rattle.multistate_rle.specs.RleFault.{fault_number, fault_place};
+    ghost use Rattle.multistate_rle.specs.RleFault.{text_fault_number, text_fault_place};
 
     /// Its number in the table of faults.
     pub fn number(self) -> u8
-        ensures { result ≡ fault_number self }
+        ensures { result ≡ text_fault_number self }
     {
         match self {
             RleFault::Header => 4,
@@ -45,7 +45,7 @@ impl RleFault {
 
     /// The place in the text that it names.
     pub fn place(self) -> Option<u64>
-        ensures { result ≡ fault_place self }
+        ensures { result ≡ text_fault_place self }
     {
         match self {
             RleFault::Tag(place) | RleFault::Count(place) | RleFault::State(place) => Some(place),
@@ -57,9 +57,9 @@ impl RleFault {
 /// Its name, with the place behind a blank where it has one.
 impl fmt::Display for RleFault {
     ghost use Rattle.std.specs.Prelude.{Some};
-    ghost use Rattle.multistate_rle.specs.RleFault.{fault_text};
+    ghost use Rattle.multistate_rle.specs.RleFault.{text_fault_text};
 
-    ghost output = { λ fault. Some (fault_text fault) };
+    ghost output = { λ fault. Some (text_fault_text fault) };
 
     fn fmt<W: fmt::Write>(&self, f: &mut fmt::Formatter<W>) -> fmt::Result {
         match self {

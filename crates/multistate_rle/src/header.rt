@@ -1,7 +1,7 @@
 //! The header line.
 
 ghost use Rattle.std.specs.Prelude.{◌≡◌, option_map};
-ghost use Rattle.multistate_rle.specs.Header.{header_of, side as side_in, symbol as text_behind, number_in_front, may_end as may_end_with};
+ghost use Rattle.multistate_rle.specs.Header.{header_of, side_spelled, behind_symbol, number_in_front, may_end_with};
 
 use crate::numbers::number;
 use crate::scan;
@@ -22,7 +22,7 @@ pub fn header(line: &[u8]) -> Option<(u64, u64)>
 }
 
 fn side(letter: u8, line: &[u8]) -> Option<(u64, &[u8])>
-    ensures { option_map (λ found. (found.0, found.1.now)) result ≡ side_in letter line.now }
+    ensures { option_map (λ found. (found.0, found.1.now)) result ≡ side_spelled letter line.now }
 {
     let rest = symbol(letter, line)?;
     let rest = symbol(b'=', rest)?;
@@ -30,7 +30,7 @@ fn side(letter: u8, line: &[u8]) -> Option<(u64, &[u8])>
 }
 
 fn symbol(byte: u8, line: &[u8]) -> Option<&[u8]>
-    ensures { option_map (λ rest. rest.now) result ≡ text_behind byte line.now }
+    ensures { option_map (λ rest. rest.now) result ≡ behind_symbol byte line.now }
 {
     scan::behind(byte, scan::without_blanks(line))
 }

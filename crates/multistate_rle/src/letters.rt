@@ -1,7 +1,7 @@
 //! How a token's tag is spelt.
 
 ghost use Rattle.std.specs.Prelude.{◌≡◌, length};
-ghost use Rattle.multistate_rle.specs.Letters.{letters as letters_of, letters_text, plain};
+ghost use Rattle.multistate_rle.specs.Letters.{letters_of, letters_text, plain};
 
 use std::marker::Model;
 
@@ -13,7 +13,7 @@ pub struct Letters {
 }
 
 impl Model for Letters {
-    ghost use Rattle.multistate_rle.specs.Letters.{Letters as LettersValue};
+    ghost use Rattle.multistate_rle.specs.Letters.{LettersValue};
 
     ghost Value = { LettersValue };
 

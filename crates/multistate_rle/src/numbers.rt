@@ -1,12 +1,12 @@
 //! Decimal numbers.
 
 ghost use Rattle.std.specs.Prelude.{◌≡◌, ◌+◌, ◌*◌};
-ghost use Rattle.multistate_rle.specs.Bytes.{number as number_of, at_most};
-ghost use Rattle.multistate_rle.specs.Position.{signed as signed_of};
+ghost use Rattle.multistate_rle.specs.Bytes.{decimal_number, at_most};
+ghost use Rattle.multistate_rle.specs.Position.{signed_number};
 
 /// A decimal number of at most so much, with any zeros in front, and nothing else.
 pub fn number(most: u64, digits: &[u8]) -> Option<u64>
-    ensures { result ≡ number_of most digits.now }
+    ensures { result ≡ decimal_number most digits.now }
 {
     if digits.is_empty() {
         return None;
@@ -23,7 +23,7 @@ pub fn number(most: u64, digits: &[u8]) -> Option<u64>
 
 /// A number of 32 bits, with `-` in front where it is negative.
 pub fn signed(word: &[u8]) -> Option<i32>
-    ensures { result ≡ signed_of word.now }
+    ensures { result ≡ signed_number word.now }
 {
     match word.split_first() {
         Some((b'-', digits)) => {

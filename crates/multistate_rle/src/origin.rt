@@ -2,7 +2,7 @@
 
 ghost use Rattle.std.specs.Prelude.{◌≡◌, ◌≤◌, length};
 ghost use Rattle.std.specs.List.{position_or_len};
-ghost use Rattle.multistate_rle.specs.Position.{is_comma, no_items, words, items_in, with_item as one_more, with_position, with_generation, origin_of as origin_in, origin_from, position_in, generation_in};
+ghost use Rattle.multistate_rle.specs.Position.{is_comma, no_items, words, items_in, one_item_more, with_position, with_generation, origin_in, origin_from, position_in, generation_in};
 
 use crate::numbers::{number, signed};
 use crate::scan;
@@ -16,7 +16,7 @@ pub struct Origin {
 }
 
 impl Model for Origin {
-    ghost use Rattle.multistate_rle.specs.Position.{Origin as OriginValue};
+    ghost use Rattle.multistate_rle.specs.Position.{OriginValue};
 
     ghost Value = { OriginValue };
 
@@ -33,7 +33,7 @@ pub struct Items {
 }
 
 impl Model for Items {
-    ghost use Rattle.multistate_rle.specs.Position.{Items as ItemsValue};
+    ghost use Rattle.multistate_rle.specs.Position.{ItemsValue};
 
     ghost Value = { ItemsValue };
 
@@ -64,7 +64,7 @@ impl Items {
 
     /// One item more, of a kind that was not read before.
     fn with_item(self, word: &[u8]) -> Option<Items>
-        ensures { result ≡ one_more word.now self }
+        ensures { result ≡ one_item_more word.now self }
     {
         match position(word) {
             Some(pos) => self.with_position(pos),

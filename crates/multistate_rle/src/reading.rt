@@ -2,9 +2,9 @@
 
 ghost use Rattle.std.specs.Prelude.{◌≡◌, ◌↔◌, ◌+◌, ◌≤◌, ◌<◌, ◌^◌, ◌++◌, Ok, Err, length, drop, take, OnOk, IfErr, MatchOption, unwrap_or, None};
 ghost use Rattle.std.specs.List.{enumerate_from, position_or_len};
-ghost use Rattle.multistate_rle.specs.Bytes.{is_line_end};
+ghost use Rattle.multistate_rle.specs.Bytes.{ends_line};
 ghost use Rattle.generations_rule.specs.Refusal.{Answers, AnswersAs};
-ghost use Rattle.multistate_rle.specs.Reading.{parsed, lines_of, body_read, is_comment as begins_comment, cells_read, bare, or_else};
+ghost use Rattle.multistate_rle.specs.Reading.{parsed, lines_of, body_read, begins_comment, cells_read, bare, or_else};
 ghost use Rattle.multistate_rle.specs.HeaderLine.{HasNoHeader};
 ghost use Rattle.multistate_rle.specs.Steps.{ReadsOn};
 
@@ -77,7 +77,7 @@ fn front_of(text: &[u8]) -> Option<Front>
 /// The line that begins at a place, without its end.
 fn line_at(text: &[u8], start: usize) -> &[u8]
     requires { start ≤ length text.now }
-    ensures line { result.now ≡ take (position_or_len is_line_end (drop start text.now)) (drop start text.now) }
+    ensures line { result.now ≡ take (position_or_len ends_line (drop start text.now)) (drop start text.now) }
     ensures within { start + length result.now ≤ length text.now }
 {
     let rest = &text[start..];

@@ -2,7 +2,7 @@
 
 ghost use Rattle.std.specs.Prelude.{◌≡◌, ◌≤◌, length, option_map};
 ghost use Rattle.std.specs.List.{prefix_len, list_all, position_or_len};
-ghost use Rattle.multistate_rle.specs.Bytes.{is_digit as is_decimal_digit, is_blank as is_space_or_tab, is_line_end as ends_line, behind as text_behind, past};
+ghost use Rattle.multistate_rle.specs.Bytes.{is_decimal_digit, is_space_or_tab, ends_line, text_behind, past};
 
 /// A space or a tab.
 pub fn is_blank(byte: u8) -> bool

@@ -28,7 +28,7 @@ pub struct Begun {
 }
 
 impl Model for Begun {
-    ghost use Rattle.multistate_rle.specs.Reading.{Begun as BegunValue};
+    ghost use Rattle.multistate_rle.specs.Reading.{BegunValue};
 
     ghost Value = { BegunValue };
 

@@ -2,7 +2,7 @@
 
 ghost use Rattle.std.specs.Prelude.{◌≡◌, ◌∷◌};
 ghost use Rattle.generations_rule.specs.Place.{is_before};
-ghost use Rattle.multistate_rle.specs.Cells.{place_of, are_writable as may_be_written, is_sorted, are_nonzero, are_below as are_states_below};
+ghost use Rattle.multistate_rle.specs.Cells.{place_of, may_be_written, is_sorted, are_nonzero, are_states_below};
 
 use crate::cell::Cell;
 use generations_rule::Rule;

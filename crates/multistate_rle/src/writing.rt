@@ -1,8 +1,8 @@
 //! Writing an RLE text: the two lines in front, and the tokens.
 
 ghost use Rattle.std.specs.Prelude.{◌≡◌, ◌<◌, ◌==◌, ◌++◌, ◌∷◌, [], IfOk, OnOk, true, map};
-ghost use Rattle.multistate_rle.specs.Cells.{is_sorted, are_nonzero, are_below};
-ghost use Rattle.multistate_rle.specs.Writing.{rle_text, head as head_of, body, token_text};
+ghost use Rattle.multistate_rle.specs.Cells.{is_sorted, are_nonzero, are_states_below};
+ghost use Rattle.multistate_rle.specs.Writing.{text_of_cells, head_lines, body, token_text};
 ghost use Rattle.multistate_rle.specs.Bounds.{seen_from, in_box};
 ghost use Rattle.multistate_rle.specs.Tokens.{tokens_from};
 ghost use Rattle.multistate_rle.specs.Filling.{Writes};
@@ -29,8 +29,8 @@ pub fn write(
 ) -> Result<Vec<u8>, AllocError>
     requires sorted { is_sorted cells.now ≡ true }
     requires nonzero { are_nonzero cells.now ≡ true }
-    requires below { are_below rule.now.states cells.now ≡ true }
-    ensures { IfOk result (λ text. text.items ≡ rle_text rule.now generation cells.now) }
+    requires below { are_states_below rule.now.states cells.now ≡ true }
+    ensures { IfOk result (λ text. text.items ≡ text_of_cells rule.now generation cells.now) }
 {
     let bounds = bounds_of(cells);
     let rule_text = rule.write_text(alloc)?;
@@ -40,7 +40,7 @@ pub fn write(
 
 /// The two lines in front.
 fn head(alloc: Global, rule: &[u8], generation: u64, bounds: &Bounds) -> Result<Vec<u8>, AllocError>
-    ensures { IfOk result (λ text. text.items ≡ head_of rule.now generation bounds.now) }
+    ensures { IfOk result (λ text. text.items ≡ head_lines rule.now generation bounds.now) }
 {
     let mut buffer = Buffer::new();
     let mut text = Vec::from_slice(alloc, b"#CXRLE Pos=")?;

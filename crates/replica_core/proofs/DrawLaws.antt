@@ -12,12 +12,12 @@ use Rattle.edit_stamps.specs.Edit.{has_states_below, PlaneEdit, is_covered, list
 use Rattle.edit_stamps.specs.Making.{cells_fault, settled}
 use Rattle.edit_stamps.specs.Pasting.{box_of, clear_fault, copy_fault, or_fault, placed}
 use Rattle.edit_stamps.specs.PlaneMap.{map_of, IsGreatestStamp, IsPartlyJoined}
-use Rattle.edit_stamps.specs.Stamp.{counter_of, last_counter, stamp_of}
+use Rattle.edit_stamps.specs.Stamp.{counter_in, last_counter, stamp_of}
 use Rattle.edit_stamps.specs.Write.{AreSame, greater, joined}
 use Rattle.replica_core.specs.declared.fault.Fault.{Fault}
 use Rattle.replica_core.specs.declared.fault.Fault.TheVariants as faults
-use Rattle.replica_core.specs.declared.spec.EditSpec.{EditSpec}
-use Rattle.replica_core.specs.declared.spec.EditSpec.TheVariants.{Cells, Copy, Or, Clear}
+use Rattle.replica_core.specs.declared.edit_spec.EditSpec.{EditSpec}
+use Rattle.replica_core.specs.declared.edit_spec.EditSpec.TheVariants.{Cells, Copy, Or, Clear}
 use Rattle.replica_core.specs.Fault.{IsWant}
 use Rattle.replica_core.specs.Replica.{ReplicaState, IsDraw, IsOneReplica, IsPartly, edit_drawn, made, or_edit_fault, stamp_after}
 
@@ -51,23 +51,23 @@ wins_above : (v w : Write) → v.stamp < w.stamp → greater v w ≡ w
 wins_above v w above = let less : nat_lt v.stamp w.stamp ≡ true = grind (arith, nat_tests, above) in rw less refl
 
 -- the next stamp is above the greatest
-above_greatest : (n number stamp : ℕ) (b : Bool) → unless (when (not b) faults.ClockFull) (stamp_of (counter_of n + 1) number) ≡ Ok stamp → n < stamp
-above_greatest n number stamp true is = let same : stamp_of (counter_of n + 1) number ≡ stamp = cc in omega (arith, same)
+above_greatest : (n number stamp : ℕ) (b : Bool) → unless (when (not b) faults.ClockFull) (stamp_of (counter_in n + 1) number) ≡ Ok stamp → n < stamp
+above_greatest n number stamp true is = let same : stamp_of (counter_in n + 1) number ≡ stamp = cc in omega (arith, same)
 above_greatest n number stamp false is = absurd (cc)
 
 -- so is that of the edit that is made with it
-pub next_above : (n number stamp : ℕ) (g : GenerationsRule) (spec : EditSpec) (e : PlaneEdit) → stamp_after (counter_of n) number ≡ Ok stamp
+pub next_above : (n number stamp : ℕ) (g : GenerationsRule) (spec : EditSpec) (e : PlaneEdit) → stamp_after (counter_in n) number ≡ Ok stamp
     → or_edit_fault (made g stamp spec) ≡ Ok e → n < e.stamp
 next_above n number stamp g spec e next is =
-    omega (arith, above_greatest n number stamp (nat_lt (counter_of n) last_counter) next, made_stamp g stamp spec e is)
+    omega (arith, above_greatest n number stamp (nat_lt (counter_in n) last_counter) next, made_stamp g stamp spec e is)
 
 -- ---- what a draw answers
 
 pub draws : (old new : ReplicaState) (n stamp : ℕ) (spec : EditSpec) (e : PlaneEdit)
-    → IsGreatestStamp n (map_of old.plane) → stamp_after (counter_of n) old.number ≡ Ok stamp → or_edit_fault (made old.rule stamp spec) ≡ Ok e
+    → IsGreatestStamp n (map_of old.plane) → stamp_after (counter_in n) old.number ≡ Ok stamp → or_edit_fault (made old.rule stamp spec) ≡ Ok e
     → IsTrue (has_states_below old.rule.states e)
     → IsOneReplica old new → AreSame (map_of new.plane) (joined (map_of old.plane) (writes_of e)) → new.journal ≡ old.journal ++ e ∷ []
-    → IsDraw old new (edit_drawn old.rule (counter_of n) old.number spec) (Ok e)
+    → IsDraw old new (edit_drawn old.rule (counter_in n) old.number spec) (Ok e)
 draws old new n stamp spec e greatest_is next is states one map journal = (
   ap (λ s. s >>= (λ stamp. or_edit_fault (made old.rule stamp spec))) next ∙ is,
   record {
@@ -76,7 +76,7 @@ draws old new n stamp spec e greatest_is next is states one map journal = (
     map = map;
     journal = journal;
     wins = λ c some. map c ∙ wins_above (map_of old.plane c) (writes_of e c) (
-        let above : n < stamp = above_greatest n old.number stamp (nat_lt (counter_of n) last_counter) next in
+        let above : n < stamp = above_greatest n old.number stamp (nat_lt (counter_in n) last_counter) next in
         let mine : (writes_of e c).stamp ≡ stamp = stamp_written e.stamp (listed e.cells c) (is_covered e.area c) some ∙ made_stamp old.rule stamp spec e is in
         let held : (map_of old.plane c).stamp ≤ n = greatest_is.above c in
         omega (arith, above, mine, held)
@@ -86,9 +86,9 @@ draws old new n stamp spec e greatest_is next is states one map journal = (
 
 -- a draw that was refused memory half way
 pub stops : (old new : ReplicaState) (n stamp : ℕ) (spec : EditSpec) (e : PlaneEdit)
-    → stamp_after (counter_of n) old.number ≡ Ok stamp → or_edit_fault (made old.rule stamp spec) ≡ Ok e
+    → stamp_after (counter_in n) old.number ≡ Ok stamp → or_edit_fault (made old.rule stamp spec) ≡ Ok e
     → IsOneReplica old new → new.journal ≡ old.journal → IsPartlyJoined (map_of old.plane) (writes_of e) (map_of new.plane)
-    → IsDraw old new (edit_drawn old.rule (counter_of n) old.number spec) (Err faults.Memory)
+    → IsDraw old new (edit_drawn old.rule (counter_in n) old.number spec) (Err faults.Memory)
 stops old new n stamp spec e next is one journal part = inl (
   tt,
   (
@@ -119,8 +119,8 @@ refuses r meant made_now fault is (inl want) last = wants r meant made_now fault
 refuses r meant made_now fault is (inr same) last = inr (is ∙ same, refl)
 
 pub refuses_made : (r : ReplicaState) (n stamp : ℕ) (spec : EditSpec) (fault : Fault)
-    → stamp_after (counter_of n) r.number ≡ Ok stamp → IsWant fault ⊎ (or_edit_fault (made r.rule stamp spec) ≡ Err fault)
-    → (IsWant fault → IsOk (made r.rule stamp spec)) → IsDraw r r (edit_drawn r.rule (counter_of n) r.number spec) (Err fault)
+    → stamp_after (counter_in n) r.number ≡ Ok stamp → IsWant fault ⊎ (or_edit_fault (made r.rule stamp spec) ≡ Err fault)
+    → (IsWant fault → IsOk (made r.rule stamp spec)) → IsDraw r r (edit_drawn r.rule (counter_in n) r.number spec) (Err fault)
 refuses_made r n stamp spec fault next told last =
-    refuses r (edit_drawn r.rule (counter_of n) r.number spec) (made r.rule stamp spec) fault
+    refuses r (edit_drawn r.rule (counter_in n) r.number spec) (made r.rule stamp spec) fault
     (ap (λ s. s >>= (λ stamp. or_edit_fault (made r.rule stamp spec))) next) told last

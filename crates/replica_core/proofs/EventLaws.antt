@@ -10,7 +10,7 @@ use Rattle.replica_core.specs.declared.event.Reply.{Reply}
 use Rattle.replica_core.specs.declared.event.Reply.TheVariants as replies
 use Rattle.replica_core.specs.declared.fault.Fault.{Fault}
 use Rattle.replica_core.specs.declared.fault.Fault.TheVariants as faults
-use Rattle.replica_core.specs.declared.spec.EditSpec.{EditSpec}
+use Rattle.replica_core.specs.declared.edit_spec.EditSpec.{EditSpec}
 use Rattle.replica_core.specs.Message.{Shared}
 use Rattle.replica_core.specs.Replica.{ReplicaState, edit_drawn}
 use Rattle.replica_core.specs.World.{IsEditUnder, History, ReplicaHistory, Sent, State, AreEdits, Given, IsReply, StandSideBySide, StandsFor, StandsForSent, StandsForWorld, WorldState, after, after_drawing, after_message, changed, delivered, drawn, message, next_message, numbered, replica, with_message, with_replica}

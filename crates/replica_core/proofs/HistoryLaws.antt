@@ -10,12 +10,12 @@ use Rattle.std.proofs.lemmas.Option.{slice_get_within}
 use Rattle.generations_rule.specs.Refusal.{◌>>=◌, when, unless}
 use Rattle.generations_rule.specs.Rule.{GenerationsRule}
 use Rattle.edit_stamps.specs.Edit.{PlaneEdit, IsEdit, greatest_counter}
-use Rattle.edit_stamps.specs.Stamp.{counter_of, last_counter, replica_of, stamp_of}
+use Rattle.edit_stamps.specs.Stamp.{counter_in, last_counter, replica_in, stamp_of}
 use Rattle.replica_core.specs.declared.event.Event.{Event}
 use Rattle.replica_core.specs.declared.event.Event.TheVariants.{Draw, SendState, Deliver, Show}
 use Rattle.replica_core.specs.declared.fault.Fault.{Fault}
 use Rattle.replica_core.specs.declared.fault.Fault.TheVariants as faults
-use Rattle.replica_core.specs.declared.spec.EditSpec.{EditSpec}
+use Rattle.replica_core.specs.declared.edit_spec.EditSpec.{EditSpec}
 use Rattle.replica_core.specs.Replica.{edit_drawn, made, or_edit_fault}
 use Rattle.replica_core.specs.World.{IsEditUnder, History, ReplicaHistory, Sent, State, AreEdits, IsIn, after, after_all, after_drawing, after_message, beginner, changed, delivered, drawn, edits_sent, message, opening, replica, with_message, with_replica}
 use Rattle.replica_core.proofs.DrawLaws.{made_stamp}
@@ -173,7 +173,7 @@ next_stamp g counter r spec e true is = made_stamp g (stamp_of (counter + 1) r) 
 
 pub record IsOwned (w : History) (e : PlaneEdit) : Type 0 where
   pub owner : ReplicaHistory
-  pub there : replica w (replica_of e.stamp) ≡ Ok owner
+  pub there : replica w (replica_in e.stamp) ≡ Ok owner
   pub taken : Contains owner.taken e
 
 pub record IsSound (w : History) : Type 0 where
@@ -185,22 +185,22 @@ drawn_next : (w : History) (event : Event) (e : PlaneEdit) (d : IsDrawnAt w even
 drawn_next w event e d =
     next_stamp w.rule (greatest_counter d.held.taken) d.number d.spec e (nat_lt (greatest_counter d.held.taken) last_counter) d.edit_is
 
-owner_of : (counter r : ℕ) → r < 2 ^ 16 → replica_of (stamp_of (counter + 1) r) ≡ r
+owner_of : (counter r : ℕ) → r < 2 ^ 16 → replica_in (stamp_of (counter + 1) r) ≡ r
 owner_of counter r few = omega (arith, few)
 
 -- ---- counters
 
-counters_from : (edits : List PlaneEdit) (n : ℕ) → n ≤ fold (λ m e. max m (counter_of e.stamp)) n edits
+counters_from : (edits : List PlaneEdit) (n : ℕ) → n ≤ fold (λ m e. max m (counter_in e.stamp)) n edits
 counters_from [] n = omega arith
-counters_from (e ∷ edits) n = omega (arith, counters_from edits (max n (counter_of e.stamp)))
+counters_from (e ∷ edits) n = omega (arith, counters_from edits (max n (counter_in e.stamp)))
 
-counter_at : (edits : List PlaneEdit) (n k : ℕ) (d : PlaneEdit) → k < length edits → counter_of (slice_index_or edits k d).stamp ≤ fold (λ m e. max m (counter_of e.stamp)) n edits
+counter_at : (edits : List PlaneEdit) (n k : ℕ) (d : PlaneEdit) → k < length edits → counter_in (slice_index_or edits k d).stamp ≤ fold (λ m e. max m (counter_in e.stamp)) n edits
 counter_at [] n k d below = absurd (omega (arith, below))
-counter_at (e ∷ edits) n zero d below = omega (arith, counters_from edits (max n (counter_of e.stamp)))
-counter_at (e ∷ edits) n (suc k) d below = counter_at edits (max n (counter_of e.stamp)) k d (omega (arith, below))
+counter_at (e ∷ edits) n zero d below = omega (arith, counters_from edits (max n (counter_in e.stamp)))
+counter_at (e ∷ edits) n (suc k) d below = counter_at edits (max n (counter_in e.stamp)) k d (omega (arith, below))
 
-counter_below : (edits : List PlaneEdit) (e : PlaneEdit) → Contains edits e → counter_of e.stamp ≤ greatest_counter edits
-counter_below edits e here = subst (λ x. counter_of x.stamp ≤ greatest_counter edits) here.2 (counter_at edits 0 here.0 e here.1)
+counter_below : (edits : List PlaneEdit) (e : PlaneEdit) → Contains edits e → counter_in e.stamp ≤ greatest_counter edits
+counter_below edits e here = subst (λ x. counter_in x.stamp ≤ greatest_counter edits) here.2 (counter_at edits 0 here.0 e here.1)
 
 -- a drawn edit has a stamp that no edit of the history has
 is_new : (w : History) (event : Event) (e f : PlaneEdit) → IsSound w → IsDrawnAt w event e → IsIn w f → e.stamp ≢ f.stamp
@@ -208,9 +208,9 @@ is_new w event e f sound d inside same =
     let next = drawn_next w event e d in
     let own = sound.owned f inside in
     let few : d.number < 2 ^ 16 = omega (arith, within w d.number d.held d.replica_is, sound.few) in
-    let owner : replica_of f.stamp ≡ d.number = ap replica_of (sym same ∙ next) ∙ owner_of (greatest_counter d.held.taken) d.number few in
+    let owner : replica_in f.stamp ≡ d.number = ap replica_in (sym same ∙ next) ∙ owner_of (greatest_counter d.held.taken) d.number few in
     let held : own.owner ≡ d.held = same_ok (replica w d.number) own.owner d.held (ap (replica w) (sym owner) ∙ own.there) d.replica_is in
-    let below : counter_of f.stamp ≤ greatest_counter d.held.taken = counter_below d.held.taken f (subst (λ h. Contains h.taken f) held own.taken) in
+    let below : counter_in f.stamp ≤ greatest_counter d.held.taken = counter_below d.held.taken f (subst (λ h. Contains h.taken f) held own.taken) in
     absurd (omega (arith, below, same, next))
 
 -- ---- an event keeps all that
@@ -330,11 +330,11 @@ sound_after w event sound = record {
   owned = λ e inside. elim (comes_from w event e inside) [
     | inl old ↦
         let own = sound.owned e old in
-        let grown = grows w event (replica_of e.stamp) own.owner own.there in
+        let grown = grows w event (replica_in e.stamp) own.owner own.there in
         record { owner = grown.now; there = grown.there; taken = subst (λ l. Contains l e) (sym grown.grown) (Contains-append_left own.owner.taken grown.more e own.taken) }
     | inr new ↦
         let few : new.number < 2 ^ 16 = omega (arith, within w new.number new.held new.replica_is, sound.few) in
-        let owner : replica_of e.stamp ≡ new.number = ap replica_of (drawn_next w event e new) ∙ owner_of (greatest_counter new.held.taken) new.number few in
+        let owner : replica_in e.stamp ≡ new.number = ap replica_in (drawn_next w event e new) ∙ owner_of (greatest_counter new.held.taken) new.number few in
         record {
           owner = after_drawing new.held e;
           there = ap (replica (after w event)) owner ∙ drawn_is_there w event e new;

@@ -6,14 +6,14 @@ use Rattle.generations_rule.specs.Rule.{GenerationsRule}
 use Rattle.edit_stamps.specs.declared.write.Write.{Write}
 use Rattle.edit_stamps.specs.Edit.{PlaneEdit, IsEdit, greatest, writes_of, greatest_counter}
 use Rattle.edit_stamps.specs.PlaneMap.{map_of, IsGreatestStamp}
-use Rattle.edit_stamps.specs.Stamp.{counter_of}
+use Rattle.edit_stamps.specs.Stamp.{counter_in}
 use Rattle.edit_stamps.specs.Write.{unwritten, greater, Writes, AreSame, joined}
 use Rattle.edit_stamps.proofs.WriteLaws.{is_lattice, is_least_upper_bound, is_total, joins_lists}
 use Rattle.replica_core.specs.declared.fault.Fault.{Fault}
 use Rattle.replica_core.specs.declared.fault.Fault.TheVariants as faults
 use Rattle.replica_core.specs.declared.message.Content.{Content}
 use Rattle.replica_core.specs.declared.message.Content.TheVariants as contents
-use Rattle.replica_core.specs.declared.spec.EditSpec.{EditSpec}
+use Rattle.replica_core.specs.declared.edit_spec.EditSpec.{EditSpec}
 use Rattle.edit_stamps.proofs.ClockLaws.{tells_counter}
 use Rattle.replica_core.specs.Message.{Shared}
 use Rattle.replica_core.specs.Fault.{IsWant}
@@ -63,14 +63,14 @@ all_recursively (e ∷ edits) each = (each e (0, omega arith, refl), all_recursi
 -- the clock that is read of the map is that of the edits
 pub draws_at_clock : (rule : GenerationsRule) (number n : ℕ) (h : ReplicaHistory) (r : ReplicaState) (spec : EditSpec)
     → ((e : PlaneEdit) → Contains h.taken e → IsEdit e) → StandsFor rule number h r → IsGreatestStamp n (map_of r.plane)
-    → edit_drawn r.rule (counter_of n) r.number spec ≡ edit_drawn rule (greatest_counter h.taken) number spec
+    → edit_drawn r.rule (counter_in n) r.number spec ≡ edit_drawn rule (greatest_counter h.taken) number spec
 draws_at_clock rule number n h r spec valid stands clock =
     let in_edits : IsGreatestStamp n (greatest h.taken) = record {
       above = λ c. subst (λ w. w.stamp ≤ n) (stands.map c) (clock.above c);
       least = λ m bound. clock.least m (λ c. subst (λ w. w.stamp ≤ m) (sym (stands.map c)) (bound c));
     } in
-    ap (λ g. edit_drawn g (counter_of n) r.number spec) stands.same_rule
-    ∙ ap (λ k. edit_drawn rule (counter_of n) k spec) stands.same_number
+    ap (λ g. edit_drawn g (counter_in n) r.number spec) stands.same_rule
+    ∙ ap (λ k. edit_drawn rule (counter_in n) k spec) stands.same_number
     ∙ ap (λ k. edit_drawn rule k number spec) (tells_counter h.taken n (all_recursively h.taken valid) in_edits)
 
 greater-unwritten : (w : Write) → greater w unwritten ≡ w

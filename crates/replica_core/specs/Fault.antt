@@ -1,6 +1,6 @@
 -- The refusals of replicas and of worlds of replicas, as users meet them.
 use Rattle.std.specs.Prelude.{ℕ, List, codes, Option, Some, None, ⊤}
-use Rattle.edit_stamps.specs.EditFault.{fault_number as edit_fault_number, fault_text as edit_fault_text}
+use Rattle.edit_stamps.specs.EditFault.{edit_fault_number, edit_fault_text}
 use Rattle.edit_stamps.specs.declared.fault.EditFault.{EditFault}
 use Rattle.edit_stamps.specs.declared.fault.EditFault.TheVariants as edit_faults
 use Rattle.replica_core.specs.declared.event.Stop.{Stop}
@@ -9,21 +9,21 @@ use Rattle.replica_core.specs.declared.fault.Fault.{Fault}
 use Rattle.replica_core.specs.declared.fault.Fault.TheVariants.{Edit, OtherRule, ClockFull, NoReplica, NoMessage, Memory}
 
 -- its number in the table of faults
-abbrev pub fault_number : Fault → ℕ
-fault_number (Edit fault) = edit_fault_number fault
-fault_number OtherRule = 16
-fault_number ClockFull = 24
-fault_number NoReplica = 26
-fault_number NoMessage = 27
-fault_number Memory = 255
+abbrev pub replica_fault_number : Fault → ℕ
+replica_fault_number (Edit fault) = edit_fault_number fault
+replica_fault_number OtherRule = 16
+replica_fault_number ClockFull = 24
+replica_fault_number NoReplica = 26
+replica_fault_number NoMessage = 27
+replica_fault_number Memory = 255
 
-abbrev pub fault_text : Fault → List ℕ
-fault_text (Edit fault) = edit_fault_text fault
-fault_text OtherRule = codes "OtherRule"
-fault_text ClockFull = codes "ClockFull"
-fault_text NoReplica = codes "NoReplica"
-fault_text NoMessage = codes "NoMessage"
-fault_text Memory = codes "Memory"
+abbrev pub replica_fault_text : Fault → List ℕ
+replica_fault_text (Edit fault) = edit_fault_text fault
+replica_fault_text OtherRule = codes "OtherRule"
+replica_fault_text ClockFull = codes "ClockFull"
+replica_fault_text NoReplica = codes "NoReplica"
+replica_fault_text NoMessage = codes "NoMessage"
+replica_fault_text Memory = codes "Memory"
 
 -- a fault that is no part of what a call means
 abbrev pub IsWant : Fault → Type 0

@@ -11,8 +11,8 @@ use Rattle.edit_stamps.specs.Pasting.{edit_of_clear, edit_of_copy, edit_of_or}
 use Rattle.edit_stamps.specs.PlaneMap.{HasStampedWrites, PlaneValue, map_of, HasStatesBelow, IsPartlyJoined}
 use Rattle.edit_stamps.specs.Stamp.{stamp_of, last_counter}
 use Rattle.edit_stamps.specs.Write.{unwritten, Writes, AreSame, IsBelow, joined}
-use Rattle.replica_core.specs.declared.spec.EditSpec.{EditSpec}
-use Rattle.replica_core.specs.declared.spec.EditSpec.TheVariants.{Cells, Copy, Or, Clear}
+use Rattle.replica_core.specs.declared.edit_spec.EditSpec.{EditSpec}
+use Rattle.replica_core.specs.declared.edit_spec.EditSpec.TheVariants.{Cells, Copy, Or, Clear}
 use Rattle.replica_core.specs.declared.fault.Fault.{Fault}
 use Rattle.replica_core.specs.declared.fault.Fault.TheVariants as faults
 use Rattle.replica_core.specs.declared.message.Content.{Content}

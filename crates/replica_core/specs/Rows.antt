@@ -10,9 +10,9 @@ use Rattle.edit_stamps.specs.Stamp.{last_counter, stamp_of}
 use Rattle.replica_core.specs.declared.event.Event.{Event}
 use Rattle.replica_core.specs.declared.event.Event.TheVariants.{Draw, SendState, Deliver}
 use Rattle.replica_core.specs.declared.fault.Fault.TheVariants as faults
-use Rattle.replica_core.specs.declared.spec.EditSpec.{EditSpec}
-use Rattle.replica_core.specs.declared.spec.EditSpec.TheVariants.{Cells, Clear}
-use Rattle.replica_core.specs.Fault.{fault_number, fault_of_edit}
+use Rattle.replica_core.specs.declared.edit_spec.EditSpec.{EditSpec}
+use Rattle.replica_core.specs.declared.edit_spec.EditSpec.TheVariants.{Cells, Clear}
+use Rattle.replica_core.specs.Fault.{replica_fault_number, fault_of_edit}
 use Rattle.replica_core.specs.Replica.{edit_drawn, stamp_after}
 use Rattle.replica_core.specs.World.{after, after_all, delivered, drawn, numbered, opening, replica}
 
@@ -80,7 +80,7 @@ replica_of_a_delivery = refl
 pub refused_draw_changes_nothing : after (opening rule 1) (Draw 2 (one_cell 1)) ≡ opening rule 1
 refused_draw_changes_nothing = refl
 
-pub numbers_of_edits : fault_number (fault_of_edit edit_faults.AreaSide) ≡ 12
+pub numbers_of_edits : replica_fault_number (fault_of_edit edit_faults.AreaSide) ≡ 12
 numbers_of_edits = refl
 
 pub want_of_an_edit : fault_of_edit edit_faults.Memory ≡ faults.Memory

@@ -16,7 +16,7 @@ use Rattle.replica_core.specs.declared.event.Reply.TheVariants as replies
 use Rattle.replica_core.specs.declared.fault.Fault.{Fault}
 use Rattle.replica_core.specs.declared.fault.Fault.TheVariants as faults
 use Rattle.replica_core.specs.declared.message.Content.{Content}
-use Rattle.replica_core.specs.declared.spec.EditSpec.{EditSpec}
+use Rattle.replica_core.specs.declared.edit_spec.EditSpec.{EditSpec}
 use Rattle.replica_core.specs.Message.{Shared}
 use Rattle.replica_core.specs.Replica.{ReplicaState, IsMapOf, edit_drawn}
 

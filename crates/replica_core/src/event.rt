@@ -1,7 +1,7 @@
 //! What happens in a world of replicas, and what is answered.
 
+use crate::edit_spec::EditSpec;
 use crate::fault::Fault;
-use crate::spec::EditSpec;
 use edit_stamps::{Stamp, Write};
 use std::alloc::{AllocError, AllocFailed};
 use std::error::Error;

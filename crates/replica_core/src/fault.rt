@@ -26,11 +26,11 @@ pub enum Fault {
 }
 
 impl Fault {
-    ghost use Rattle.replica_core.specs.Fault.{fault_number, stop_of};
+    ghost use Rattle.replica_core.specs.Fault.{replica_fault_number, stop_of};
 
     /// Its number in the table of faults; 255 for want of memory.
     pub fn number(self) -> u8
-        ensures { result ≡ fault_number self }
+        ensures { result ≡ replica_fault_number self }
     {
         match self {
             Fault::Edit(fault) => fault.number(),
@@ -56,9 +56,9 @@ impl Fault {
 /// Its name.
 impl fmt::Display for Fault {
     ghost use Rattle.std.specs.Prelude.{Some};
-    ghost use Rattle.replica_core.specs.Fault.{fault_text};
+    ghost use Rattle.replica_core.specs.Fault.{replica_fault_text};
 
-    ghost output = { λ fault. Some (fault_text fault) };
+    ghost output = { λ fault. Some (replica_fault_text fault) };
 
     fn fmt<W: fmt::Write>(&self, f: &mut fmt::Formatter<W>) -> fmt::Result {
         match self {

@@ -1,19 +1,19 @@
 //! Replicas of a shared plane: drawing, taking and showing.
 #![tactic(auto)]
 
+mod edit_spec;
 mod event;
 mod fault;
 mod laws;
 mod message;
 mod replica;
-mod spec;
 mod world;
 
 pub use devices::{Failed, ReadSource, Sink, Source, WriteSink};
+pub use edit_spec::{CellList, EditSpec};
 pub use event::{Event, Reply, Stop};
 pub use fault::Fault;
 pub use laws::world_laws;
 pub use message::Message;
 pub use replica::Replica;
-pub use spec::{CellList, EditSpec};
 pub use world::{World, replay};

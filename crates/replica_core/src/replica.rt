@@ -4,7 +4,7 @@ ghost use Rattle.std.specs.Prelude.{◌≡◌, ◌≤◌, ◌++◌, ◌∷◌, [
 ghost use Rattle.std.specs.Result.{IsOk};
 ghost use Rattle.generations_rule.specs.Refusal.{Answers};
 ghost use Rattle.generations_rule.specs.Place.{at_place};
-ghost use Rattle.edit_stamps.specs.Stamp.{counter_of as counter_in};
+ghost use Rattle.edit_stamps.specs.Stamp.{counter_in};
 ghost use Rattle.edit_stamps.specs.PlaneMap.{map_of, HasStampedWrites, IsGreatestStamp, IsPartlyJoined, KeepsStates};
 ghost use Rattle.edit_stamps.specs.Write.{unwritten, AreSame, joined};
 ghost use Rattle.edit_stamps.specs.Edit.{PlaneEdit, IsEdit, greatest, has_states_below, writes_of, HaveStatesBelow, IsPartlyEdited};
@@ -13,9 +13,9 @@ ghost use Rattle.edit_journal.specs.Journal.{noted};
 ghost use Rattle.replica_core.specs.Message.{edits_in, writes_in, IsBelowStates, IsPartlyTaken};
 ghost use Rattle.replica_core.specs.Replica.{made, or_edit_fault, stamp_after};
 
+use crate::edit_spec::EditSpec;
 use crate::fault::Fault;
 use crate::message::{Content, Message};
-use crate::spec::EditSpec;
 use edit_journal::Journal;
 use edit_stamps::{Edit, Stamp, Write, counter_of};
 use generations_rule::Rule;

@@ -9,11 +9,11 @@ ghost use Rattle.replica_core.specs.Fault.{IsStopWant, IsWant};
 ghost use Rattle.replica_core.specs.Replica.{edit_drawn, IsNew, IsSnapshot};
 ghost use Rattle.replica_core.specs.World.{History, IsEditUnder, IsThere, ReplicaHistory, Sent, opening, after, after_all, after_drawing, after_message, numbered, AreEdits, AreReplies, IsReply, StandSideBySide, StandsFor, StandsForSent, StandsForWorld};
 
+use crate::edit_spec::EditSpec;
 use crate::event::{Event, Reply, Stop};
 use crate::fault::Fault;
 use crate::message::Message;
 use crate::replica::Replica;
-use crate::spec::EditSpec;
 use generations_rule::Rule;
 use std::alloc::Global;
 use std::marker::Model;

@@ -4,7 +4,7 @@ use Rattle.std.specs.Prelude.{IsTrue, nat_lt}
 use Rattle.std.proofs.lemmas.Bool.{cases_Bool, and_parts, ltb-true}
 use Rattle.generations_rule.specs.Place.{Place, is_place}
 use Rattle.multistate_rle.specs.declared.cell.Cell.{Cell}
-use Rattle.multistate_rle.specs.Cells.{are_below}
+use Rattle.multistate_rle.specs.Cells.{are_states_below}
 use Rattle.edit_stamps.specs.declared.write.Write.{Write}
 use Rattle.edit_stamps.specs.Edit.{PlaneEdit, greatest, writes_of, has_states_below, HaveStatesBelow}
 use Rattle.edit_stamps.specs.PlaneMap.{PlaneMap, write_at, only, HasStatesBelow, KeepsStates}
@@ -38,12 +38,12 @@ keeps_on P Q old now later far step gives n below own =
     step n here (gives n here own)
 
 -- each of the cells that are listed
-cells_below : (n : ℕ) (cells : List Cell) (i : ℕ) → are_below n cells ≡ true → i < length cells → (cell_of cells i).state < n
+cells_below : (n : ℕ) (cells : List Cell) (i : ℕ) → are_states_below n cells ≡ true → i < length cells → (cell_of cells i).state < n
 cells_below n [] i all within = absurd (omega arith)
-cells_below n (a ∷ cells) zero all within = ltb-true a.state n (and_parts (nat_lt a.state n) (are_below n cells) all).0
-cells_below n (a ∷ cells) (suc i) all within = cells_below n cells i (and_parts (nat_lt a.state n) (are_below n cells) all).1 (omega arith)
+cells_below n (a ∷ cells) zero all within = ltb-true a.state n (and_parts (nat_lt a.state n) (are_states_below n cells) all).0
+cells_below n (a ∷ cells) (suc i) all within = cells_below n cells i (and_parts (nat_lt a.state n) (are_states_below n cells) all).1 (omega arith)
 
-pub cell_below : (n : ℕ) (cells : List Cell) (i : ℕ) → IsTrue (are_below n cells) → i < length cells → (cell_of cells i).state < n
+pub cell_below : (n : ℕ) (cells : List Cell) (i : ℕ) → IsTrue (are_states_below n cells) → i < length cells → (cell_of cells i).state < n
 cell_below n cells i all within = cells_below n cells i all within
 
 -- ---- edits

@@ -10,7 +10,7 @@ ghost use Rattle.edit_stamps.specs.PlaneMap.{map_of, only, write_at};
 ghost use Rattle.edit_stamps.specs.Stamp.{is_stamp};
 ghost use Rattle.edit_stamps.specs.Write.{unwritten, AreSame, joined};
 ghost use Rattle.edit_stamps.specs.Edit.{PlaneEdit, IsEdit, greatest, has_states_below, writes_of};
-ghost use Rattle.multistate_rle.specs.Cells.{are_below, is_sorted};
+ghost use Rattle.multistate_rle.specs.Cells.{are_states_below, is_sorted};
 ghost use Rattle.stamped_map.specs.Plane.{IsJoinable, map_of_entries, place_at, strip};
 
 use edit_stamps::{Edit, Rect, Write};
@@ -186,7 +186,7 @@ impl Plane {
         requires stamp { IsTrue (is_stamp stamp) }
         ensures ok { OnOk result (AreSame (map_of self.new) (joined (map_of self.old) (written stamp cells.now))) }
         ensures err { OnErr result (IsPartlyJoined (map_of self.old) (written stamp cells.now) (map_of self.new)) }
-        ensures states { KeepsStates (λ states. IsTrue (are_below states cells.now)) (map_of self.old) (map_of self.new) }
+        ensures states { KeepsStates (λ states. IsTrue (are_states_below states cells.now)) (map_of self.old) (map_of self.new) }
     {
         for cell in cells {
             let write = Write {

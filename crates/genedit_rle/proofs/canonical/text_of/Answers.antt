@@ -1,5 +1,5 @@
 use Rattle.std.proofs.Common.{◌∙◌, ap}
-use Rattle.multistate_rle.specs.Cells.{are_below, are_nonzero, is_sorted}
+use Rattle.multistate_rle.specs.Cells.{are_states_below, are_nonzero, is_sorted}
 use Rattle.multistate_rle.specs.Pattern.{are_alive, are_sorted}
 use Rattle.edit_stamps.specs.Pasting.{are_placeable, placed}
 use Rattle.edit_stamps.proofs.PastingLaws.{alive_placed, sorted_placed}
@@ -23,6 +23,6 @@ write-requires-clause-nonzero c =
 
 pub write-requires-clause-below : goal.write-requires-clause-below
 write-requires-clause-below c =
-    ap (are_below c.args.rule.now.states) (c.deref.ensures.value ∙ c.in_ok-cells.ensures)
-    ∙ (λ i. are_below c.args.rule.now.states (placed (c.position_of.ensures i).x (c.position_of.ensures i).y (c.cells.ensures.value i)))
+    ap (are_states_below c.args.rule.now.states) (c.deref.ensures.value ∙ c.in_ok-cells.ensures)
+    ∙ (λ i. are_states_below c.args.rule.now.states (placed (c.position_of.ensures i).x (c.position_of.ensures i).y (c.cells.ensures.value i)))
     ∙ below c.args.rule.now.states c.args.pattern.now c.requires

@@ -6,7 +6,7 @@ use Rattle.multistate_rle.specs.Position.{words}
 use Rattle.genedit_script.specs.declared.command.Command.{Command}
 use Rattle.genedit_script.specs.declared.fault.ScriptFault.{ScriptFault}
 use Rattle.genedit_script.specs.declared.fault.ScriptFault.TheVariants.{Line}
-use Rattle.genedit_script.specs.Script.{command_in}
+use Rattle.genedit_script.specs.Script.{command_spelled}
 use Rattle.genedit_script.specs.ScriptFault.{IsFaultOf}
 use Rattle.genedit_script.proofs.ScriptLemmas.{opens, asks, faulty, found}
 use Rattle.genedit_script.proofs.script.command_at.Goals as goal
@@ -19,7 +19,7 @@ pub returns-in_err-command-in-None-clause-fault : goal.returns-in_err-command-in
 returns-in_err-command-in-None-clause-fault c =
     let p = err_from_is_err_and c.from_residual-in_err-command-in-None.result c.from_residual-in_err-command-in-None.ensures.1 in
     let fault : ScriptFault = c.in_err-command-in-None.field-0.0 in
-    let told : Err fault ≡ ok_or (command_in (words c.args.line.text.now)) (Line c.args.line.number) =
+    let told : Err fault ≡ ok_or (command_spelled (words c.args.line.text.now)) (Line c.args.line.number) =
     c.in_err-command-in-None.ensures.value ∙ ap (λ (o : Option Command). ok_or o (Line c.args.line.number)) c.in_ok-command_in-in-None.ensures in
     rw (p.1, p.2) (λ all is. subst (IsFaultOf fault) (sym (asks all _ _ is (sym c.in-None.ensures))) (faulty _ _ _ _ told))
 
@@ -29,6 +29,6 @@ returns-in-Some-clause-command c =
 
 pub returns-in_ok-command-in-None-clause-command : goal.returns-in_ok-command-in-None-clause-command
 returns-in_ok-command-in-None-clause-command c =
-    let told : Ok c.in_ok-command-in-None.command ≡ ok_or (command_in (words c.args.line.text.now)) (Line c.args.line.number) =
+    let told : Ok c.in_ok-command-in-None.command ≡ ok_or (command_spelled (words c.args.line.text.now)) (Line c.args.line.number) =
     c.in_ok-command-in-None.ensures.value ∙ ap (λ (o : Option Command). ok_or o (Line c.args.line.number)) c.in_ok-command_in-in-None.ensures in
     λ all is. asks all _ _ is (sym c.in-None.ensures) ∙ found _ _ _ _ told

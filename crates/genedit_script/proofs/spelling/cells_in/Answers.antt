@@ -2,7 +2,7 @@ use Rattle.std.proofs.Common.{◌≡◌, ◌∙◌, sym, ap, refl, List, [], ◌
 use Rattle.std.specs.Prelude.{Option, Some, None, option_map}
 use Rattle.multistate_rle.specs.Position.{words}
 use Rattle.multistate_rle.specs.declared.cell.Cell.{Cell}
-use Rattle.genedit_script.specs.Script.{cells_in}
+use Rattle.genedit_script.specs.Script.{cells_spelled}
 use Rattle.genedit_script.proofs.spelling.cells_in.Goals as goal
 
 -- a cell at the end of those so far stands in front of those to come
@@ -13,7 +13,7 @@ cell_between cells cell (Some more) = ap Some (append_assoc cells (cell ∷ []) 
 
 pub loop-x-preserved : goal.loop-x-preserved
 loop-x-preserved c =
-    ap (λ (cells : List Cell). option_map (λ more. cells ++ more) (cells_in (words c.in-Some-split_cell.behind.now))) c.in_ok-push.ensures.items
-    ∙ cell_between c.loop-x.cells.items c.in-Some-split_cell.cell (cells_in (words c.in-Some-split_cell.behind.now))
-    ∙ ap (option_map (λ more. c.loop-x.cells.items ++ more)) (sym c.in-Some-split_cell.ensures.cell ∙ ap cells_in (sym c.in-Some.ensures.word))
+    ap (λ (cells : List Cell). option_map (λ more. cells ++ more) (cells_spelled (words c.in-Some-split_cell.behind.now))) c.in_ok-push.ensures.items
+    ∙ cell_between c.loop-x.cells.items c.in-Some-split_cell.cell (cells_spelled (words c.in-Some-split_cell.behind.now))
+    ∙ ap (option_map (λ more. c.loop-x.cells.items ++ more)) (sym c.in-Some-split_cell.ensures.cell ∙ ap cells_spelled (sym c.in-Some.ensures.word))
     ∙ c.loop-x.invariant

@@ -2,11 +2,11 @@ use Rattle.std.proofs.Common.{◌≡◌, ◌∙◌, sym, ap, refl, List, ℕ, []
 use Rattle.std.specs.Prelude.{None}
 use Rattle.std.proofs.lemmas.Bool.{false≢true}
 use Rattle.multistate_rle.specs.Position.{words}
-use Rattle.genedit_script.specs.Script.{show_in}
+use Rattle.genedit_script.specs.Script.{show_spelled}
 use Rattle.genedit_script.proofs.spelling.show_in.Goals as goal
 
 -- a fourth word is too many
-longer : (replica x y : List ℕ) (more : List (List ℕ)) → (more ≡ [] → ⊥) → None ≡ show_in (replica ∷ x ∷ y ∷ more)
+longer : (replica x y : List ℕ) (more : List (List ℕ)) → (more ≡ [] → ⊥) → None ≡ show_spelled (replica ∷ x ∷ y ∷ more)
 longer replica x y [] some = absurd (some refl)
 longer replica x y (word ∷ more) some = refl
 
@@ -15,4 +15,4 @@ returns-then-not-ends c =
     let all : words c.args.arguments.now ≡ c.in_ok-replica.replica.now ∷ c.in_ok-x.x.now ∷ c.in_ok-y.y.now ∷ words c.in_ok-y.rest.now =
     cc (c.in_ok-replica.ensures.word, c.in_ok-x.ensures.word, c.in_ok-y.ensures.word) in
     longer c.in_ok-replica.replica.now c.in_ok-x.x.now c.in_ok-y.y.now (words c.in_ok-y.rest.now) (λ none. absurd (false≢true (c.if-not-ends.ensures.1 none)))
-    ∙ ap show_in (sym all)
+    ∙ ap show_spelled (sym all)

@@ -1,6 +1,6 @@
 use Rattle.std.proofs.Common.{ℕ, sym, ◌∙◌, subst, ap, refl, Ok, Err}
 use Rattle.std.proofs.lemmas.Result.{err_from_is_err_and}
-use Rattle.edit_stamps.specs.Stamp.{counter_of}
+use Rattle.edit_stamps.specs.Stamp.{counter_in}
 use Rattle.edit_stamps.specs.Edit.{HaveStatesBelow, IsEdit}
 use Rattle.edit_stamps.specs.PlaneMap.{map_of, IsGreatestStamp}
 use Rattle.replica_core.specs.Replica.{ReplicaState, edit_drawn, IsDraw, IsJournalOf}
@@ -13,11 +13,11 @@ returns-in_err-edit c =
     let told = c.next_stamp.ensures in
     let is = err_from_is_err_and c.from_residual-in_err-edit.result c.from_residual-in_err-edit.ensures.1 in
     let old : ReplicaState = record { rule = c.self.inside.rule; number = c.self.inside.number; plane = c.self.inside.plane; journal = c.self.inside.journal } in
-    subst (λ r. (n : ℕ) × IsGreatestStamp n (map_of r.plane) × IsDraw r r (edit_drawn r.rule (counter_of n) r.number c.args.spec.now) c.from_residual-in_err-edit.result)
+    subst (λ r. (n : ℕ) × IsGreatestStamp n (map_of r.plane) × IsDraw r r (edit_drawn r.rule (counter_in n) r.number c.args.spec.now) c.from_residual-in_err-edit.result)
     c.self.view_is (
       told.0,
       told.1,
-      subst (IsDraw old old (edit_drawn old.rule (counter_of told.0) old.number c.args.spec.now)) (sym (is.1 ∙ ap Err is.2))
+      subst (IsDraw old old (edit_drawn old.rule (counter_in told.0) old.number c.args.spec.now)) (sym (is.1 ∙ ap Err is.2))
           (refuses_made old told.0 c.in_ok-stamp.stamp c.args.spec.now c.in_err-edit.field-0.0 (sym told.2 ∙ c.in_ok-stamp.was) c.in_err-edit.ensures.edit c.in_err-edit.ensures.want),
     )
 
@@ -26,7 +26,7 @@ returns c =
     let told = c.next_stamp.ensures in
     let old : ReplicaState = record { rule = c.self.inside.rule; number = c.self.inside.number; plane = c.self.inside.plane; journal = c.self.inside.journal } in
     let new : ReplicaState = record { rule = c.self.inside.rule; number = c.self.inside.number; plane = c.draw_into.new.plane; journal = c.draw_into.new.journal } in
-    subst (λ r. (n : ℕ) × IsGreatestStamp n (map_of r.plane) × IsDraw r new (edit_drawn r.rule (counter_of n) r.number c.args.spec.now) (Ok c.in_ok-edit.edit))
+    subst (λ r. (n : ℕ) × IsGreatestStamp n (map_of r.plane) × IsDraw r new (edit_drawn r.rule (counter_in n) r.number c.args.spec.now) (Ok c.in_ok-edit.edit))
     c.self.view_is (
       told.0,
       told.1,
@@ -41,11 +41,11 @@ returns-in_err-draw_into c =
     let is = err_from_is_err_and c.from_residual-in_err-draw_into.result c.from_residual-in_err-draw_into.ensures.1 in
     let old : ReplicaState = record { rule = c.self.inside.rule; number = c.self.inside.number; plane = c.self.inside.plane; journal = c.self.inside.journal } in
     let new : ReplicaState = record { rule = c.self.inside.rule; number = c.self.inside.number; plane = c.draw_into.new.plane; journal = c.draw_into.new.journal } in
-    subst (λ r. (n : ℕ) × IsGreatestStamp n (map_of r.plane) × IsDraw r new (edit_drawn r.rule (counter_of n) r.number c.args.spec.now) c.from_residual-in_err-draw_into.result)
+    subst (λ r. (n : ℕ) × IsGreatestStamp n (map_of r.plane) × IsDraw r new (edit_drawn r.rule (counter_in n) r.number c.args.spec.now) c.from_residual-in_err-draw_into.result)
     c.self.view_is (
       told.0,
       told.1,
-      subst (IsDraw old new (edit_drawn old.rule (counter_of told.0) old.number c.args.spec.now)) (sym (is.1 ∙ ap Err (is.2 ∙ err.0)))
+      subst (IsDraw old new (edit_drawn old.rule (counter_in told.0) old.number c.args.spec.now)) (sym (is.1 ∙ ap Err (is.2 ∙ err.0)))
           (stops old new told.0 c.in_ok-stamp.stamp c.args.spec.now c.in_ok-edit.edit (sym told.2 ∙ c.in_ok-stamp.was) c.in_ok-edit.ensures.edit
           (record { rule = refl; number = refl }) err.1 err.2),
     )

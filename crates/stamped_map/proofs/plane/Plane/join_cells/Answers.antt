@@ -1,7 +1,7 @@
 use Rattle.std.proofs.Common.{◌+◌, ◌<◌, ap, arith, drop, subst, sym}
 use Rattle.std.proofs.lemmas.List.{drop_all}
 use Rattle.std.specs.Prelude.{IsTrue}
-use Rattle.multistate_rle.specs.Cells.{are_below}
+use Rattle.multistate_rle.specs.Cells.{are_states_below}
 use Rattle.stamped_map.proofs.StateLaws.{keeps_on, cell_below}
 use Rattle.edit_stamps.specs.PlaneMap.{map_of, PlaneValue, write_at, only, IsPartlyJoined}
 use Rattle.stamped_map.specs.Plane.{place_at}
@@ -31,7 +31,7 @@ loop-cell-preserved c = (
       (cell_part c.args.stamp c.args.cells.now c.loop-cell.cell-index c.coordinate_of.result c.requires.sorted c.loop-cell-test.true c.coordinate_of.ensures)
       (partly_whole (map_of c.loop-cell.self) (only (place_at c.coordinate_of.result) (record { stamp = c.args.stamp; state = (cell_of c.args.cells.now c.loop-cell.cell-index).state }))
       (map_of c.join_write.new.self) c.in_ok-join_write.ensures.ok),
-  keeps_on (λ n. IsTrue (are_below n c.args.cells.now)) (λ n. (cell_of c.args.cells.now c.loop-cell.cell-index).state < n)
+  keeps_on (λ n. IsTrue (are_states_below n c.args.cells.now)) (λ n. (cell_of c.args.cells.now c.loop-cell.cell-index).state < n)
       (map_of c.args.self.now) (map_of c.loop-cell.self) (map_of c.join_write.new.self)
       c.loop-cell.invariant.2 c.join_write.ensures.states (λ n below own. cell_below n c.args.cells.now c.loop-cell.cell-index own c.loop-cell-test.true),
 )

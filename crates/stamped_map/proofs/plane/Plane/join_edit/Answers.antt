@@ -1,6 +1,6 @@
 use Rattle.std.proofs.Common.{sym, ◌∙◌, subst}
 use Rattle.std.specs.Prelude.{IsTrue}
-use Rattle.multistate_rle.specs.Cells.{are_below}
+use Rattle.multistate_rle.specs.Cells.{are_states_below}
 use Rattle.edit_stamps.specs.PlaneMap.{map_of, write_at}
 use Rattle.stamped_map.proofs.JoiningLaws.{on_err}
 use Rattle.stamped_map.proofs.EditWrites.{area_is_rest, area_stops, cells_are_all, cells_stop}
@@ -19,7 +19,7 @@ returns-in_err-join_area-clause-err c =
 
 pub returns-in_err-join_area-clause-states : goal.returns-in_err-join_area-clause-states
 returns-in_err-join_area-clause-states c n below own =
-    c.join_area.ensures.states n (c.join_cells.ensures.states n below (subst (λ cells. IsTrue (are_below n cells)) (sym c.listed_cells.ensures.cells) own)) tt
+    c.join_area.ensures.states n (c.join_cells.ensures.states n below (subst (λ cells. IsTrue (are_states_below n cells)) (sym c.listed_cells.ensures.cells) own)) tt
 
 pub returns-in_ok-join_area-clause-ok : goal.returns-in_ok-join_area-clause-ok
 returns-in_ok-join_area-clause-ok c =
@@ -29,7 +29,7 @@ returns-in_ok-join_area-clause-ok c =
 
 pub returns-in_ok-join_area-clause-states : goal.returns-in_ok-join_area-clause-states
 returns-in_ok-join_area-clause-states c n below own =
-    c.join_area.ensures.states n (c.join_cells.ensures.states n below (subst (λ cells. IsTrue (are_below n cells)) (sym c.listed_cells.ensures.cells) own)) tt
+    c.join_area.ensures.states n (c.join_cells.ensures.states n below (subst (λ cells. IsTrue (are_states_below n cells)) (sym c.listed_cells.ensures.cells) own)) tt
 
 pub returns-in_default-clause-ok : goal.returns-in_default-clause-ok
 returns-in_default-clause-ok c =
