@@ -19,11 +19,15 @@ abbrev pub token_text : Bool → Token → List ℕ
 token_text two (Cells n s) = spelling n (letters_of two s)
 token_text two (Rows n) = spelling n (plain 36)
 
--- pieces on lines of at most 70 bytes, none split; the first number is how many stand on the line
+-- how many bytes a line has, at most
+abbrev pub line_limit : ℕ
+line_limit = 70
+
+-- pieces on lines of at most so many bytes, none split; the first number is how many stand on the line
 abbrev pub filled : ℕ → List (List ℕ) → List ℕ
 filled used [] = codes "\n"
 filled used (piece ∷ pieces) =
-    if nat_le (used + length piece) 70 then piece ++ filled (used + length piece) pieces
+    if nat_le (used + length piece) line_limit then piece ++ filled (used + length piece) pieces
     else codes "\n" ++ piece ++ filled (length piece) pieces
 
 -- the tokens and the end mark

@@ -20,7 +20,7 @@ pub struct Ahead {
 pub fn token_at(text: &[u8], start: usize) -> Ahead
     requires { start ≤ length text.now }
     ensures front { IsFront text.now start result.place result.count result.prefix }
-    ensures count { result.count ≤ 4294967297 }
+    ensures count { result.count ≤ COUNT_LIMIT }
     ensures prefix { IfSome result.prefix (λ k. k ≤ 10) }
 {
     let ahead = count_at(text, start);
@@ -45,7 +45,7 @@ fn is_prefix(byte: u8) -> bool
 fn count_at(text: &[u8], start: usize) -> Ahead
     requires { start ≤ length text.now }
     ensures front { IsFront text.now start result.place result.count None }
-    ensures count { result.count ≤ 4294967297 }
+    ensures count { result.count ≤ COUNT_LIMIT }
     ensures prefix { result.prefix ≡ None }
 {
     if start < text.len() && text[start].is_ascii_digit() {
@@ -62,7 +62,7 @@ fn digits_from(text: &[u8], start: usize) -> Ahead
     requires within { start < length text.now }
     requires digit { is_decimal_digit (get_or text.now start 0) ≡ true }
     ensures front { IsFront text.now start result.place result.count None }
-    ensures count { result.count ≤ 4294967297 }
+    ensures count { result.count ≤ COUNT_LIMIT }
     ensures prefix { result.prefix ≡ None }
 {
     let mut count = u64::from(text[start] - b'0');

@@ -1,5 +1,6 @@
 //! Tokens, written on lines.
 
+ghost use Rattle.multistate_rle.specs.declared.lines.TheConstants.{LINE_LIMIT};
 ghost use Rattle.std.specs.Prelude.{◌≡◌, ◌≢◌, ◌≤◌, ◌<◌, ◌^◌, ◌∷◌, ◌++◌, [], OnOk, IfOk, map, length, codes, vec_len, vec_capacity, ◌+◌, ◌==◌};
 ghost use Rattle.multistate_rle.specs.Writing.{count_text, spelling, token_text, filled};
 ghost use Rattle.multistate_rle.specs.Letters.{letters_text};
@@ -67,7 +68,7 @@ pub struct Lines {
     pub text: Vec<u8>,
     pub used: usize,
     pub two_states: bool,
-    ghost short: { used ≤ 70 },
+    ghost short: { used ≤ LINE_LIMIT },
 }
 
 impl Lines {
@@ -113,9 +114,9 @@ impl Lines {
 
     /// Makes room for so many bytes, on the next line where this one has none left.
     fn make_room(&mut self, len: usize) -> Result<(), AllocError>
-        requires { len ≤ 70 }
-        ensures text { OnOk result (self.new.text.items ≡ (if nat_le (self.old.used + len) 70 then self.old.text.items else self.old.text.items ++ codes "\n")) }
-        ensures used { OnOk result (self.new.used ≡ (if nat_le (self.old.used + len) 70 then self.old.used else 0)) }
+        requires { len ≤ LINE_LIMIT }
+        ensures text { OnOk result (self.new.text.items ≡ (if nat_le (self.old.used + len) LINE_LIMIT then self.old.text.items else self.old.text.items ++ codes "\n")) }
+        ensures used { OnOk result (self.new.used ≡ (if nat_le (self.old.used + len) LINE_LIMIT then self.old.used else 0)) }
         ensures two_states { self.new.two_states ≡ self.old.two_states }
         ensures room { OnOk result (vec_len self.new.text + len ≤ vec_capacity self.new.text) }
     {

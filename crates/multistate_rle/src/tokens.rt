@@ -4,6 +4,7 @@ ghost use Rattle.std.specs.Prelude.{◌≡◌, ◌≢◌, ◌+◌, ◌*◌, ◌�
 ghost use Rattle.multistate_rle.specs.Reading.{fresh, with_digit, with_prefix, fault_of, width_of, height_of};
 ghost use Rattle.std.specs.Prelude.{[]};
 ghost use Rattle.multistate_rle.specs.Begun.{capped};
+ghost use Rattle.multistate_rle.specs.declared.tokens.TheConstants.{COUNT_LIMIT};
 ghost use Rattle.multistate_rle.specs.Tokens.{Cells, Rows, run, cells_in_row};
 
 use crate::ahead::token_at;
@@ -49,7 +50,7 @@ impl Begun {
     }
 
     pub fn with_digit(self, place: u64, digit: u8) -> Begun
-        requires count { unwrap_or self.count 0 ≤ 4294967297 }
+        requires count { unwrap_or self.count 0 ≤ COUNT_LIMIT }
         requires digit { digit ≤ 9 }
         ensures { result ≡ capped (with_digit place digit self) }
     {
@@ -89,9 +90,9 @@ pub struct Reader {
     pub width: u64,
     pub height: u64,
     pub begun: Begun,
-    ghost column_fits: { column ≤ 4294967296 },
-    ghost row_fits: { row ≤ 4294967295 },
-    ghost count_fits: { unwrap_or begun.count 0 ≤ 4294967297 },
+    ghost column_fits: { column ≤ 2 ^ 32 },
+    ghost row_fits: { row < 2 ^ 32 },
+    ghost count_fits: { unwrap_or begun.count 0 ≤ COUNT_LIMIT },
     ghost prefix_fits: { unwrap_or begun.prefix 0 ≤ 10 },
     ghost wide: { width ≡ width_of 0 cells.items },
     ghost high: { height ≡ height_of 0 cells.items },
@@ -205,7 +206,7 @@ impl Reader {
     /// Draws a run whose token begins at this place.
     fn draw_run(&mut self, place: u64, count: u64, state: u16) -> Result<(), RleFault>
         requires begun { self.old.begun ≡ fresh }
-        requires count { count ≤ 4294967297 }
+        requires count { count ≤ COUNT_LIMIT }
         ensures { Puts place (Cells count state) self.old result self.new }
     {
         if let Some(fault) = self.run_fault(place, count, state) {
@@ -233,7 +234,7 @@ impl Reader {
     }
 
     fn run_fault(&self, place: u64, count: u64, state: u16) -> Option<RleFault>
-        requires { count ≤ 4294967297 }
+        requires { count ≤ COUNT_LIMIT }
         ensures { result ≡ fault_of place (pen_of self.now) (Cells count state) }
     {
         if state > 255 {
@@ -265,8 +266,8 @@ fn push_run(
     column: u64,
     row: u64,
 ) -> Result<(), AllocError>
-    requires columns { column + count ≤ 4294967296 }
-    requires row { row ≤ 4294967295 }
+    requires columns { column + count ≤ 2 ^ 32 }
+    requires row { row < 2 ^ 32 }
     ensures ok { OnOk result (cells.new.items ≡ cells.old.items ++ run count state column row) }
     ensures err { OnErr result (cells.new.items ≡ cells.old.items) }
 {
@@ -283,8 +284,8 @@ fn push_cells(
     column: u64,
     row: u64,
 ) -> Result<(), AllocError>
-    requires columns { column + count ≤ 4294967296 }
-    requires row { row ≤ 4294967295 }
+    requires columns { column + count ≤ 2 ^ 32 }
+    requires row { row < 2 ^ 32 }
     ensures ok { OnOk result (cells.new.items ≡ cells.old.items ++ cells_in_row count state column row) }
     ensures err { OnErr result (cells.new.items ≡ cells.old.items) }
 {
