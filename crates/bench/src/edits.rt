@@ -6,8 +6,9 @@ use generations_rule::Rule;
 use rand::seq::SliceRandom;
 use rand_pcg::Pcg32;
 use std::alloc::{AllocError, Global};
+use std::io;
 use std::rt::Clock;
-use std::time::Instant;
+use std::time::{Duration, Instant};
 
 /// How many entries an edit may have.
 const ENTRIES: u32 = 0x10_0000;
@@ -29,21 +30,31 @@ fn entries(alloc: Global) -> Result<Vec<Cell>, AllocError> {
     Ok(cells)
 }
 
-pub fn run(rt: &(impl Clock + Print), alloc: Global, is_timed: bool) -> Result<()> {
+/// How many cells the edit of some entries has, and how long it took to make.
+fn made(clock: &impl Clock, alloc: Global, entries: &[Cell]) -> Result<(usize, Duration)> {
     let rule = Rule::parse(b"/2/3")?;
     let stamp = Stamp::new(1, 1).context("a stamp in range")?;
-    let cells = entries(alloc)?;
-    let start = Instant::now(rt)?;
-    let edit = Edit::cells(alloc, &rule, stamp, &cells)?;
-    let taken = start.elapsed(rt)?;
-    println!(rt;
-        "Edit::cells: {} entries, {} cells",
-        cells.len(),
-        edit.listed_cells().len()
-    )?;
+    let start = Instant::now(clock)?;
+    let edit = Edit::cells(alloc, &rule, stamp, entries)?;
+    let taken = start.elapsed(clock)?;
+    Ok((edit.listed_cells().len(), taken))
+}
+
+pub fn run(rt: &(impl Clock + Print), alloc: Global, is_timed: bool) -> Result<()> {
+    let entries = entries(alloc)?;
+    let (cells, taken) = made(rt, alloc, &entries)?;
+    tell(rt, entries.len(), cells)?;
     if is_timed {
-        let rate = f64::from(ENTRIES) / taken.as_secs_f64();
-        println!(rt; "Edit::cells: {rate:.0} entries a second")?;
+        report(rt, taken)?;
     }
     Ok(())
+}
+
+fn tell(rt: &impl Print, entries: usize, cells: usize) -> io::Result<()> {
+    println!(rt; "Edit::cells: {entries} entries, {cells} cells")
+}
+
+fn report(rt: &impl Print, taken: Duration) -> io::Result<()> {
+    let rate = f64::from(ENTRIES) / taken.as_secs_f64();
+    println!(rt; "Edit::cells: {rate:.0} entries a second")
 }

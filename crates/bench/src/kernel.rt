@@ -36,13 +36,19 @@ const STEPS: u32 = 2;
 const ROUNDS: u32 = 8;
 
 pub fn run(rt: &(impl Clock + Print), alloc: Global, is_timed: bool) -> Result<()> {
+    let blocks = if is_timed { MEGABYTE } else { 8 };
     for text in RULES {
-        let rule = Rule::parse(text)?;
-        let mut race = Race::new(alloc, rule, if is_timed { MEGABYTE } else { 8 })?;
-        compare(rt, &mut race)?;
-        if is_timed {
-            report(rt, &mut race)?;
-        }
+        let mut race = Race::new(alloc, Rule::parse(text)?, blocks)?;
+        run_one(rt, &mut race, is_timed)?;
+    }
+    Ok(())
+}
+
+fn run_one(rt: &(impl Clock + Print), race: &mut Race, is_timed: bool) -> io::Result<()> {
+    compare(rt, race)?;
+    if is_timed {
+        let (planes, cells) = quickest(rt, race)?;
+        report(rt, planes, cells)?;
     }
     Ok(())
 }
@@ -51,20 +57,17 @@ pub fn run(rt: &(impl Clock + Print), alloc: Global, is_timed: bool) -> Result<(
 fn compare(rt: &impl Print, race: &mut Race) -> io::Result<()> {
     race.advance();
     race.step();
-    println!(rt;
-        "{} states: {} of {} cells are the same",
-        race.rule.states(),
-        race.same(),
-        race.count().saturating_mul(INNER)
-    )
+    let cells = race.count().saturating_mul(INNER);
+    tell(rt, race.rule.states(), race.same(), cells)
 }
 
-fn report(rt: &(impl Clock + Print), race: &mut Race) -> io::Result<()> {
-    let (planes, cells) = quickest(rt, race)?;
-    println!(rt;
-        "  {planes} million cells a second on planes, {cells} cell by cell: {} times",
-        planes / cells.max(1)
-    )
+fn tell(rt: &impl Print, states: u16, same: u64, cells: u64) -> io::Result<()> {
+    println!(rt; "{states} states: {same} of {cells} cells are the same")
+}
+
+fn report(rt: &impl Print, planes: u64, cells: u64) -> io::Result<()> {
+    let times = planes / cells.max(1);
+    println!(rt; "  {planes} million cells a second on planes, {cells} cell by cell: {times} times")
 }
 
 /// The best rates of several measurements, on planes and cell by cell, taken in turn.

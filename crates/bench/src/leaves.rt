@@ -6,8 +6,8 @@ mod race;
 
 use anyhow::Result;
 use pairs::{Pairs, set_of};
-use race::{Times, quickest};
-use std::alloc::Global;
+use race::{Race, Times};
+use std::alloc::{AllocError, Global};
 use std::io;
 use std::rt::Clock;
 
@@ -22,30 +22,65 @@ const NEAR_ROUNDS: u32 = 256;
 const FAR_ROUNDS: u32 = 12;
 
 pub fn run(rt: &(impl Clock + Print), alloc: Global, is_timed: bool) -> Result<()> {
-    let mut near = Pairs::scattered(alloc, NEAR)?;
-    near.merge();
-    println!(rt;
-        "{} leaves: {} of {} places hold the greater write",
-        near.leaves(),
-        near.right_places(),
-        64 * NEAR
-    )?;
-    let set = set_of(alloc, near.firsts())?;
-    println!(rt; "{} leaves in the set", set.len())?;
+    compare(rt, &merged(alloc)?)?;
+    tell_distinct(rt, distinct(alloc)?)?;
     if is_timed {
-        report(rt, "in cache", &quickest(rt, alloc, near, 16, NEAR_ROUNDS)?)?;
-        let far = Pairs::scattered(alloc, FAR)?;
-        report(rt, "from memory", &quickest(rt, alloc, far, 1, FAR_ROUNDS)?)?;
+        measure(rt, alloc, "in cache", NEAR, 16, NEAR_ROUNDS)?;
+        measure(rt, alloc, "from memory", FAR, 1, FAR_ROUNDS)?;
     }
     Ok(())
 }
 
-fn report(rt: &impl Print, place: &str, times: &Times) -> io::Result<()> {
+/// The pairs that stay in cache, merged.
+fn merged(alloc: Global) -> Result<Pairs, AllocError> {
+    let mut near = Pairs::scattered(alloc, NEAR)?;
+    near.merge();
+    Ok(near)
+}
+
+fn compare(rt: &impl Print, pairs: &Pairs) -> io::Result<()> {
+    println!(rt;
+        "{} leaves: {} of {} places hold the greater write",
+        pairs.leaves(),
+        pairs.right_places(),
+        64 * NEAR
+    )
+}
+
+/// How many leaves the set of their first leaves has.
+fn distinct(alloc: Global) -> Result<usize, AllocError> {
+    let near = Pairs::scattered(alloc, NEAR)?;
+    Ok(set_of(alloc, near.firsts())?.len())
+}
+
+fn tell_distinct(rt: &impl Print, leaves: usize) -> io::Result<()> {
+    println!(rt; "{leaves} leaves in the set")
+}
+
+/// Measures so many pairs, so often in a row and for so many rounds.
+fn measure(
+    rt: &(impl Clock + Print),
+    alloc: Global,
+    place: &str,
+    count: usize,
+    repeats: u32,
+    rounds: u32,
+) -> Result<()> {
+    let mut race = Race::scattered(alloc, count, repeats)?;
+    let times = race.quickest(rt, rounds)?;
+    report_merges(rt, place, &times)?;
+    Ok(report_keys(rt, place, &times)?)
+}
+
+fn report_merges(rt: &impl Print, place: &str, times: &Times) -> io::Result<()> {
     println!(rt;
         "  {place}: {:.1} ns a merge, {:.2} times a copy of as many bytes",
         times.merge,
         times.merge / times.copy
-    )?;
+    )
+}
+
+fn report_keys(rt: &impl Print, place: &str, times: &Times) -> io::Result<()> {
     println!(rt;
         "  {place}: {:.1} ns a hash, {:.1} ns an insert of a leaf that is there",
         times.hash, times.insert

@@ -15,8 +15,12 @@ use anyhow::Result;
 use std::env;
 
 fn wants_time(rt: &(impl env::Env + Alloc)) -> Result<bool> {
-    let mut words = env::args(rt)?;
-    Ok(words.any(|word| word.as_str() == "--time"))
+    for word in env::args(rt)? {
+        if word.as_str() == "--time" {
+            return Ok(true);
+        }
+    }
+    Ok(false)
 }
 
 fn main(rt: HostRuntime) -> Result<()> {

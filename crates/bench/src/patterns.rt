@@ -6,7 +6,6 @@ mod race;
 
 use anyhow::Result;
 use generations_rule::Rule;
-use multistate_rle::parse;
 use picture::{cells_of, picture, text_of};
 use race::{Times, quickest};
 use std::alloc::Global;
@@ -19,21 +18,33 @@ const ROUNDS: u32 = 16;
 
 pub fn run(rt: &(impl Clock + Print), alloc: Global, is_timed: bool) -> Result<()> {
     let rule = Rule::parse(b"345/2/64")?;
-    let text = text_of(alloc, &rule, &picture(alloc)?)?;
-    let pattern = parse(alloc, &text)?;
-    let cells = cells_of(alloc, &pattern)?;
-    let again = text_of(alloc, &rule, &cells)?;
-    println!(rt;
-        "{} bytes, {} cells read, written again the same: {}",
-        text.len(),
-        cells.len(),
-        again == text
-    )?;
+    let text = text_of_picture(alloc, &rule)?;
+    compare(rt, alloc, &rule, &text)?;
     if is_timed {
-        let times = quickest(rt, alloc, &rule, &text, ROUNDS)?;
-        report(rt, text.len() as u64, &times)?;
+        measure(rt, alloc, &rule, &text)?;
     }
     Ok(())
+}
+
+fn text_of_picture(alloc: Global, rule: &Rule) -> Result<Vec<u8>> {
+    let cells = picture(alloc)?;
+    text_of(alloc, rule, &cells)
+}
+
+/// Reads the text, writes its cells, and tells whether the text is the same again.
+fn compare(rt: &impl Print, alloc: Global, rule: &Rule, text: &[u8]) -> Result<()> {
+    let cells = cells_of(alloc, text)?;
+    let again = text_of(alloc, rule, &cells)?;
+    Ok(tell(rt, text.len(), cells.len(), again.as_slice() == text)?)
+}
+
+fn tell(rt: &impl Print, bytes: usize, cells: usize, is_same: bool) -> io::Result<()> {
+    println!(rt; "{bytes} bytes, {cells} cells read, written again the same: {is_same}")
+}
+
+fn measure(rt: &(impl Clock + Print), alloc: Global, rule: &Rule, text: &[u8]) -> Result<()> {
+    let times = quickest(rt, alloc, rule, text, ROUNDS)?;
+    Ok(report(rt, text.len() as u64, &times)?)
 }
 
 fn report(rt: &impl Print, bytes: u64, times: &Times) -> io::Result<()> {

@@ -7,6 +7,7 @@ use generations_rule::Rule;
 use rand_pcg::Pcg32;
 use replica_core::{Message, Replica};
 use std::alloc::Global;
+use std::io;
 use std::rt::Clock;
 use std::time::{Duration, Instant};
 
@@ -50,30 +51,47 @@ fn other_snapshot(alloc: Global, rule: Rule, random: &mut Pcg32, draws: u32) -> 
     Ok(replica.snapshot()?)
 }
 
-pub fn run(rt: &(impl Clock + Print), alloc: Global, is_timed: bool) -> Result<()> {
-    let draws = if is_timed { 10_000 } else { 100 };
+/// How many edits were noted, and how long drawing them and taking a snapshot took.
+#[derive(Clone, Copy)]
+struct Outcome {
+    noted: usize,
+    drawing: Duration,
+    taking: Duration,
+}
+
+fn measured(clock: &impl Clock, alloc: Global, draws: u32) -> Result<Outcome> {
     let rule = Rule::parse(b"/2/3")?;
     let mut random = Pcg32::new(2026, 11);
     let snapshot = other_snapshot(alloc, rule, &mut random, draws)?;
     let mut replica = Replica::new(alloc, rule, 1)?;
-    let drawn = timed_draws(rt, alloc, &mut replica, &mut random, draws)?;
-    let taken = timed_take(rt, &mut replica, &snapshot)?;
-    println!(rt;
-        "Replica: {draws} draws of {CELLS} cells, {} edits noted",
-        replica.journal().len()
-    )?;
+    Ok(Outcome {
+        drawing: timed_draws(clock, alloc, &mut replica, &mut random, draws)?,
+        taking: timed_take(clock, &mut replica, &snapshot)?,
+        noted: replica.journal().len(),
+    })
+}
+
+pub fn run(rt: &(impl Clock + Print), alloc: Global, is_timed: bool) -> Result<()> {
+    let draws = if is_timed { 10_000 } else { 100 };
+    let outcome = measured(rt, alloc, draws)?;
+    tell(rt, draws, outcome.noted)?;
     if is_timed {
-        report(rt, draws, drawn, taken)?;
+        report_drawing(rt, draws, outcome.drawing)?;
+        report_taking(rt, draws, outcome.taking)?;
     }
     Ok(())
 }
 
-fn report(rt: &impl Print, draws: u32, drawn: Duration, taken: Duration) -> Result<()> {
-    let rate = f64::from(draws) / drawn.as_secs_f64();
-    println!(rt; "Replica::draw: {rate:.0} edits of {CELLS} cells a second")?;
-    println!(rt;
-        "Replica::take: a snapshot of {draws} such edits in {:.3} s",
-        taken.as_secs_f64()
-    )?;
-    Ok(())
+fn tell(rt: &impl Print, draws: u32, noted: usize) -> io::Result<()> {
+    println!(rt; "Replica: {draws} draws of {CELLS} cells, {noted} edits noted")
+}
+
+fn report_drawing(rt: &impl Print, draws: u32, drawing: Duration) -> io::Result<()> {
+    let rate = f64::from(draws) / drawing.as_secs_f64();
+    println!(rt; "Replica::draw: {rate:.0} edits of {CELLS} cells a second")
+}
+
+fn report_taking(rt: &impl Print, draws: u32, taking: Duration) -> io::Result<()> {
+    let seconds = taking.as_secs_f64();
+    println!(rt; "Replica::take: a snapshot of {draws} such edits in {seconds:.3} s")
 }

@@ -53,17 +53,6 @@ fn random_events(alloc: Global, count: u32) -> Result<Vec<Event>, AllocError> {
     Ok(events)
 }
 
-fn timed_replay(
-    rt: &impl Clock,
-    alloc: Global,
-    rule: Rule,
-    events: &[Event],
-) -> Result<(Vec<Reply>, Duration)> {
-    let start = Instant::now(rt)?;
-    let (_, replies) = replay(alloc, rule, REPLICAS, events)?;
-    Ok((replies, start.elapsed(rt)?))
-}
-
 /// How many replies of each kind there are.
 #[derive(Clone, Copy)]
 struct Counts {
@@ -95,7 +84,7 @@ fn counted(replies: &[Reply]) -> Counts {
     counts
 }
 
-fn report(rt: &impl Print, counts: Counts) -> io::Result<()> {
+fn tell(rt: &impl Print, counts: Counts) -> io::Result<()> {
     let Counts {
         drawn,
         sent,
@@ -108,15 +97,27 @@ fn report(rt: &impl Print, counts: Counts) -> io::Result<()> {
     )
 }
 
+fn report(rt: &impl Print, events: u32, taken: Duration) -> io::Result<()> {
+    let rate = f64::from(events) / taken.as_secs_f64();
+    println!(rt; "replay: {rate:.0} events a second")
+}
+
+/// The replies to events, and how long it took to make them.
+fn replayed(clock: &impl Clock, alloc: Global, events: &[Event]) -> Result<(Counts, Duration)> {
+    let rule = Rule::parse(b"/2/3")?;
+    let start = Instant::now(clock)?;
+    let (_, replies) = replay(alloc, rule, REPLICAS, events)?;
+    let taken = start.elapsed(clock)?;
+    Ok((counted(&replies), taken))
+}
+
 pub fn run(rt: &(impl Clock + Print), alloc: Global, is_timed: bool) -> Result<()> {
     let count = if is_timed { 100_000 } else { 1_000 };
-    let rule = Rule::parse(b"/2/3")?;
     let events = random_events(alloc, count)?;
-    let (replies, taken) = timed_replay(rt, alloc, rule, &events)?;
-    report(rt, counted(&replies))?;
+    let (counts, taken) = replayed(rt, alloc, &events)?;
+    tell(rt, counts)?;
     if is_timed {
-        let rate = f64::from(count) / taken.as_secs_f64();
-        println!(rt; "replay: {rate:.0} events a second")?;
+        report(rt, count, taken)?;
     }
     Ok(())
 }

@@ -72,11 +72,11 @@ fn orders_writes_by_stamp_then_state(rt: HostRuntime) {
     );
 }
 
-/// What is drawn of cells under /2/4 with counter 2 at replica 1.
-fn drawn(alloc: Global, cells: &[Cell]) -> Result<String, AllocError> {
+/// What is drawn of cells under 345/2/4 with counter 2 at replica 1.
+fn drawn(alloc: Global, cells: &[Cell]) -> Result<Edit, EditFault> {
     match (Rule::parse(b"345/2/4"), Stamp::new(2, 1)) {
-        (Ok(rule), Some(stamp)) => told::made(alloc, Edit::cells(alloc, &rule, stamp, cells)),
-        _ => Ok(String::new(alloc)),
+        (Ok(rule), Some(stamp)) => Edit::cells(alloc, &rule, stamp, cells),
+        _ => Err(EditFault::Memory),
     }
 }
 
@@ -94,13 +94,10 @@ fn entries() -> [Cell; 7] {
 }
 
 #[test]
-fn settles_entries(rt: HostRuntime) -> Result<(), AllocError> {
-    let settled = drawn(rt.alloc(), &entries())?;
-    assert_eq!(rt;
-        settled.as_str(),
-        "2 1, 1073741823 -1073741824 3, 5 -1 0, -5 0 0, 0 0 2, -1073741824 1073741823 3"
-    );
-    Ok(())
+fn settles_entries(rt: HostRuntime) {
+    let settled = "2 1, 1073741823 -1073741824 3, 5 -1 0, -5 0 0, 0 0 2, -1073741824 1073741823 3";
+    let drawn = drawn(rt.alloc(), &entries());
+    assert!(rt; told::is(rt.alloc(), drawn, settled) == Ok(true));
 }
 
 /// Whether the edit of some cells at counter 1, which its copy has to be too, is that of others at
@@ -141,33 +138,46 @@ fn tells_edits_apart(rt: HostRuntime) {
     assert!(rt; is_another(alloc, &[cell(0, 0, 1)], 1));
 }
 
+/// Why cells are not drawn.
+fn refusal(alloc: Global, cells: &[Cell]) -> Option<EditFault> {
+    drawn(alloc, cells).err()
+}
+
 #[test]
-fn refuses_in_order(rt: HostRuntime) -> Result<(), AllocError> {
-    let alloc = rt.alloc();
-    assert_eq!(rt; drawn(alloc, &[])?.as_str(), "Nothing");
-    for outside in [
-        cell(EDGE, 0, 1),
-        cell(-EDGE - 1, 0, 1),
-        cell(0, EDGE, 1),
-        cell(0, -EDGE - 1, 1),
-        cell(i32::MIN, i32::MAX, 255),
-    ] {
-        assert_eq!(rt;
-            drawn(alloc, &[cell(0, 0, 4), outside])?.as_str(),
-            "OutOfPlane"
-        );
+fn refuses_none_and_one(rt: HostRuntime) {
+    assert!(rt; refusal(rt.alloc(), &[]) == Some(EditFault::Nothing));
+    let one = refusal(rt.alloc(), &[cell(0, 0, 255)]);
+    assert!(rt; one == Some(EditFault::StateRange));
+}
+
+/// Column, row and state of a cell.
+type Drawn = (i32, i32, u8);
+
+/// Why two cells are not drawn.
+fn refusal_of_both(alloc: Global, one: Drawn, other: Drawn) -> Option<EditFault> {
+    refusal(
+        alloc,
+        &[cell(one.0, one.1, one.2), cell(other.0, other.1, other.2)],
+    )
+}
+
+/// Two cells and their refusal: a cell beyond the plane before a state that the rule lacks, wherever
+/// they stand; and such a state also where a later entry replaces it.
+static REFUSED: [(Drawn, Drawn, EditFault); 7] = [
+    ((0, 0, 4), (EDGE, 0, 1), EditFault::OutOfPlane),
+    ((0, 0, 4), (-EDGE - 1, 0, 1), EditFault::OutOfPlane),
+    ((0, 0, 4), (0, EDGE, 1), EditFault::OutOfPlane),
+    ((0, 0, 4), (0, -EDGE - 1, 1), EditFault::OutOfPlane),
+    ((0, 0, 4), (i32::MIN, i32::MAX, 255), EditFault::OutOfPlane),
+    ((1, 1, 1), (0, 0, 4), EditFault::StateRange),
+    ((0, 0, 5), (0, 0, 1), EditFault::StateRange),
+];
+
+#[test]
+fn refuses_in_order(rt: HostRuntime) {
+    for (one, other, fault) in &REFUSED {
+        assert!(rt; refusal_of_both(rt.alloc(), *one, *other) == Some(*fault));
     }
-    assert_eq!(rt;
-        drawn(alloc, &[cell(1, 1, 1), cell(0, 0, 4)])?.as_str(),
-        "StateRange"
-    );
-    assert_eq!(rt; drawn(alloc, &[cell(0, 0, 255)])?.as_str(), "StateRange");
-    // also where a later entry replaces what is refused
-    assert_eq!(rt;
-        drawn(alloc, &[cell(0, 0, 5), cell(0, 0, 1)])?.as_str(),
-        "StateRange"
-    );
-    Ok(())
 }
 
 /// 2^20 entries at half as many places, and behind them others that may not stand there.
@@ -198,44 +208,54 @@ fn takes_2_to_the_20_entries(rt: HostRuntime) {
     assert!(rt; matches!(beyond, Err(EditFault::TooMany)));
 }
 
-/// An edit for each counter below 4, put into a list and taken out of it.
-fn listed(alloc: Global) -> Result<(usize, usize), EditFault> {
+/// An edit for each counter below 4.
+fn three(alloc: Global) -> Result<Vec<Edit>, EditFault> {
     let mut edits = Vec::new(alloc);
     for counter in 1..4u64 {
-        if let (Ok(rule), Some(stamp)) = (Rule::parse(b"/2/3"), Stamp::new(counter, 7)) {
-            told::push(
-                &mut edits,
-                Edit::cells(alloc, &rule, stamp, &[cell(0, 0, 1)])?,
-            )?;
-        }
+        told::push(&mut edits, one_cell(alloc, counter)?)?;
     }
-    let list = EditList::of_vec(edits);
+    Ok(edits)
+}
+
+fn one_cell(alloc: Global, counter: u64) -> Result<Edit, EditFault> {
+    match (Rule::parse(b"/2/3"), Stamp::new(counter, 7)) {
+        (Ok(rule), Some(stamp)) => Edit::cells(alloc, &rule, stamp, &[cell(0, 0, 1)]),
+        _ => Err(EditFault::Memory),
+    }
+}
+
+/// How many of them a list has, and gives back.
+fn listed(alloc: Global) -> Result<(usize, usize), EditFault> {
+    let list = EditList::of_vec(three(alloc)?);
     Ok((list.as_slice().len(), list.into_vec().len()))
 }
 
 #[test]
 fn keeps_a_list(rt: HostRuntime) {
-    assert_eq!(rt; listed(rt.alloc()), Ok((3, 3)));
+    assert!(rt; listed(rt.alloc()) == Ok((3, 3)));
 }
 
+/// Whether a fault has this number and this name.
+fn is_named(alloc: Global, fault: EditFault, number: u8, name: &str) -> Result<bool, AllocError> {
+    let text = fault.to_string(alloc)?;
+    Ok(fault.number() == number && text.as_str() == name)
+}
+
+static NAMES: [(EditFault, u8, &str); 6] = [
+    (EditFault::TooMany, 8, "TooMany"),
+    (EditFault::Nothing, 9, "Nothing"),
+    (EditFault::OutOfPlane, 10, "OutOfPlane"),
+    (EditFault::StateRange, 11, "StateRange"),
+    (EditFault::AreaSide, 12, "AreaSide"),
+    (EditFault::Memory, 255, "Memory"),
+];
+
 #[test]
-fn names_faults(rt: HostRuntime) -> Result<(), AllocError> {
-    let alloc = rt.alloc();
-    let faults = [
-        EditFault::TooMany,
-        EditFault::Nothing,
-        EditFault::OutOfPlane,
-        EditFault::StateRange,
-        EditFault::AreaSide,
-        EditFault::Memory,
-    ];
-    let mut names = String::new(alloc);
-    for fault in faults {
-        names = format!(in alloc; "{names} {} {fault}", fault.number())?;
+fn names_faults(rt: HostRuntime) {
+    for (fault, number, name) in &NAMES {
+        assert!(rt;
+            is_named(rt.alloc(), *fault, *number, name) == Ok(true),
+            "{name}"
+        );
     }
-    assert_eq!(rt;
-        names.as_str(),
-        " 8 TooMany 9 Nothing 10 OutOfPlane 11 StateRange 12 AreaSide 255 Memory"
-    );
-    Ok(())
 }

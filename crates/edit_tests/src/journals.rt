@@ -36,23 +36,52 @@ fn text(alloc: Global, journal: &Journal) -> Result<String, AllocError> {
     Ok(text)
 }
 
-/// A journal of edits that were pushed one by one, and of others that were appended, each once.
-fn journal(alloc: Global, pushed: &[(u64, u8)], given: &[(u64, u8)]) -> Result<Journal, EditFault> {
+/// A journal of edits that were pushed one by one.
+fn pushed(alloc: Global, pushed: &[(u64, u8)]) -> Result<Journal, EditFault> {
     let mut journal = Journal::new(alloc);
     for (counter, state) in pushed {
         journal.push(edit(alloc, *counter, *state)?)?;
     }
-    let fresh = journal.fresh(&edits(alloc, given)?)?;
-    journal.append(fresh)?;
     Ok(journal)
 }
 
-/// What a journal has, pushed and given.
-fn noted(alloc: Global, pushed: &[(u64, u8)], given: &[(u64, u8)]) -> Result<String, EditFault> {
-    Ok(text(alloc, &journal(alloc, pushed, given)?)?)
+/// Appends some edits, each once.
+fn append(journal: &mut Journal, edits: &[Edit]) -> Result<(), AllocError> {
+    let fresh = journal.fresh(edits)?;
+    journal.append(fresh)
 }
 
-/// How many of some edits such a journal finds.
+/// A journal of edits that were pushed one by one, and of others that were appended, each once.
+fn journal(alloc: Global, first: &[(u64, u8)], given: &[(u64, u8)]) -> Result<Journal, EditFault> {
+    let edits = edits(alloc, given)?;
+    let mut journal = pushed(alloc, first)?;
+    append(&mut journal, &edits)?;
+    Ok(journal)
+}
+
+/// Whether it has these edits, in order.
+fn is_noted(
+    alloc: Global,
+    pushed: &[(u64, u8)],
+    given: &[(u64, u8)],
+    want: &str,
+) -> Result<bool, EditFault> {
+    let journal = journal(alloc, pushed, given)?;
+    Ok(text(alloc, &journal)?.as_str() == want)
+}
+
+/// How many of some edits a journal finds.
+fn count_of_found(journal: &Journal, edits: &[Edit]) -> u32 {
+    let mut found = 0u32;
+    for edit in edits {
+        if journal.contains(edit) {
+            found = found.saturating_add(1);
+        }
+    }
+    found
+}
+
+/// How many of some edits a journal of pushed and of appended ones finds.
 fn found(
     alloc: Global,
     pushed: &[(u64, u8)],
@@ -60,50 +89,57 @@ fn found(
     sought: &[(u64, u8)],
 ) -> Result<u32, EditFault> {
     let journal = journal(alloc, pushed, given)?;
-    let mut found = 0u32;
-    for edit in &edits(alloc, sought)? {
-        if journal.contains(edit) {
-            found = found.saturating_add(1);
-        }
-    }
-    Ok(found)
+    Ok(count_of_found(&journal, &edits(alloc, sought)?))
 }
+
+type List = &'static [(u64, u8)];
+
+const NONE: List = &[];
 
 /// An edit twice in one list, and two different edits of one stamp with another between them.
-const GIVEN: [(u64, u8); 7] = [(3, 1), (1, 2), (3, 1), (2, 1), (1, 4), (3, 1), (1, 2)];
+const GIVEN: List = &[(3, 1), (1, 2), (3, 1), (2, 1), (1, 4), (3, 1), (1, 2)];
 
-const KEPT: [(u64, u8); 4] = [(3, 1), (1, 2), (2, 1), (1, 4)];
+const KEPT: List = &[(3, 1), (1, 2), (2, 1), (1, 4)];
+
+const NOT_GIVEN: List = &[(1, 1), (1, 3), (3, 2), (2, 4), (4, 1)];
+
+const PUSHED: List = &[(1, 1), (2, 1), (1, 2)];
+
+const ADDED: List = &[(1, 3), (2, 1), (4, 1), (1, 1), (1, 5), (4, 2)];
+
+const ALL: List = &[(1, 1), (2, 1), (1, 2), (1, 3), (4, 1), (1, 5), (4, 2)];
+
+const NOT_ADDED: List = &[(1, 4), (2, 2), (4, 3), (3, 1), (5, 1)];
+
+/// What was pushed, what was given, and what is noted. What is noted again adds nothing.
+static NOTED: [(List, List, &str); 4] = [
+    (NONE, NONE, ""),
+    (NONE, GIVEN, "3 1, 1 2, 2 1, 1 4, "),
+    (KEPT, GIVEN, "3 1, 1 2, 2 1, 1 4, "),
+    (PUSHED, ADDED, "1 1, 2 1, 1 2, 1 3, 4 1, 1 5, 4 2, "),
+];
 
 #[test]
-fn notes_in_order_each_once(rt: HostRuntime) -> Result<(), EditFault> {
-    let alloc = rt.alloc();
-    assert_eq!(rt; noted(alloc, &[], &[])?.as_str(), "");
-    assert_eq!(rt; noted(alloc, &[], &GIVEN)?.as_str(), "3 1, 1 2, 2 1, 1 4, ");
-    assert_eq!(rt; found(alloc, &[], &GIVEN, &KEPT), Ok(4));
-    let others = [(1, 1), (1, 3), (3, 2), (2, 4), (4, 1)];
-    assert_eq!(rt; found(alloc, &[], &GIVEN, &others), Ok(0));
-    // what is noted again adds nothing
-    assert_eq!(rt;
-        noted(alloc, &KEPT, &GIVEN)?.as_str(),
-        "3 1, 1 2, 2 1, 1 4, "
-    );
-    Ok(())
+fn notes_in_order_each_once(rt: HostRuntime) {
+    for (pushed, given, want) in &NOTED {
+        assert!(rt;
+            is_noted(rt.alloc(), pushed, given, want) == Ok(true),
+            "{want}"
+        );
+    }
 }
 
-const PUSHED: [(u64, u8); 3] = [(1, 1), (2, 1), (1, 2)];
-
-const ADDED: [(u64, u8); 6] = [(1, 3), (2, 1), (4, 1), (1, 1), (1, 5), (4, 2)];
+/// What was pushed, what was given, what is sought, and how many of it are found.
+static FOUND: [(List, List, List, u32); 4] = [
+    (NONE, GIVEN, KEPT, 4),
+    (NONE, GIVEN, NOT_GIVEN, 0),
+    (PUSHED, ADDED, ALL, 7),
+    (PUSHED, ADDED, NOT_ADDED, 0),
+];
 
 #[test]
-fn appends_behind_its_own(rt: HostRuntime) -> Result<(), EditFault> {
-    let alloc = rt.alloc();
-    assert_eq!(rt;
-        noted(alloc, &PUSHED, &ADDED)?.as_str(),
-        "1 1, 2 1, 1 2, 1 3, 4 1, 1 5, 4 2, "
-    );
-    let all = [(1, 1), (2, 1), (1, 2), (1, 3), (4, 1), (1, 5), (4, 2)];
-    assert_eq!(rt; found(alloc, &PUSHED, &ADDED, &all), Ok(7));
-    let others = [(1, 4), (2, 2), (4, 3), (3, 1), (5, 1)];
-    assert_eq!(rt; found(alloc, &PUSHED, &ADDED, &others), Ok(0));
-    Ok(())
+fn finds_what_it_noted(rt: HostRuntime) {
+    for (pushed, given, sought, want) in &FOUND {
+        assert!(rt; found(rt.alloc(), pushed, given, sought) == Ok(*want));
+    }
 }

@@ -34,13 +34,20 @@ fn hash_of(leaf: &Leaf) -> u64 {
     hasher.finish()
 }
 
+/// Whether one leaf is at most another and not the other way round, and both merge to the greater.
+fn is_less(one: &Leaf, other: &Leaf) -> bool {
+    Leaf::at_most(one, other)
+        && !Leaf::at_most(other, one)
+        && Leaf::merge(one, other) == *other
+        && Leaf::merge(other, one) == *other
+}
+
 #[test]
 fn breaks_ties_by_state(rt: HostRuntime) {
-    let (a, b) = (last(65537, 1), last(65537, 2));
-    assert!(rt; Leaf::merge(&a, &b) == b && Leaf::merge(&b, &a) == b);
-    assert!(rt; b.get(63) == write(65537, 2) && b.get(62) == Write::UNWRITTEN);
-    assert_eq!(rt; b.stamp_bounds(), (0, 65537));
-    assert!(rt; Leaf::at_most(&a, &b) && !Leaf::at_most(&b, &a));
+    let greater = last(65537, 2);
+    assert!(rt; is_less(&last(65537, 1), &greater));
+    assert!(rt; greater.get(63) == write(65537, 2) && greater.get(62) == Write::UNWRITTEN);
+    assert!(rt; greater.stamp_bounds() == (0, 65537));
 }
 
 /// How many places of two leaves' merge hold the greater write, and its state among the states.
@@ -57,14 +64,21 @@ fn merged_places(a: &Leaf, b: &Leaf) -> u32 {
     places
 }
 
+/// Whether neither leaf is at most the other, and both are at most their merge, which has these bounds.
+fn are_below_merge(one: &Leaf, other: &Leaf, bounds: (u64, u64)) -> bool {
+    let merged = Leaf::merge(one, other);
+    Leaf::at_most(one, &merged)
+        && Leaf::at_most(other, &merged)
+        && !Leaf::at_most(&merged, one)
+        && !Leaf::at_most(one, other)
+        && merged.stamp_bounds() == bounds
+}
+
 #[test]
 fn merges_place_by_place(rt: HostRuntime) {
     let (a, b) = (scattered(1), scattered(2));
     assert_eq!(rt; merged_places(&a, &b), 64);
-    let merged = Leaf::merge(&a, &b);
-    assert_eq!(rt; merged.stamp_bounds(), (65537, 65540));
-    assert!(rt; Leaf::at_most(&a, &merged) && Leaf::at_most(&b, &merged));
-    assert!(rt; !Leaf::at_most(&a, &b) && !Leaf::at_most(&merged, &a));
+    assert!(rt; are_below_merge(&a, &b, (65537, 65540)));
 }
 
 /// The same writes, put from the last place to the first over another leaf.
@@ -88,12 +102,9 @@ fn tells_equal_leaves(rt: HostRuntime) {
 #[test]
 fn tells_blank_leaves(rt: HostRuntime) {
     let mut leaf = Leaf::blank(65537);
-    assert_eq!(rt; leaf.is_blank(), Some(65537));
+    assert!(rt; leaf.is_blank() == Some(65537));
     leaf.put(63, write(65537, 1));
-    assert_eq!(rt; leaf.is_blank(), None);
+    assert!(rt; leaf.is_blank().is_none());
     leaf.put(63, write(65538, 0));
-    assert_eq!(rt;
-        (leaf.is_blank(), leaf.stamp_bounds()),
-        (None, (65537, 65538))
-    );
+    assert!(rt; leaf.is_blank().is_none() && leaf.stamp_bounds() == (65537, 65538));
 }

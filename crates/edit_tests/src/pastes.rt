@@ -18,36 +18,32 @@ enum Mode {
     Or,
 }
 
-/// A paste of a text's pattern under a rule with counter 1 at replica 1, if that stands for something.
-fn pasted(
-    alloc: Global,
+/// A paste with counter 1 at replica 1, and what is answered to it.
+#[derive(Clone, Copy)]
+struct Paste {
     mode: Mode,
-    rule: &[u8],
-    text: &[u8],
+    rule: &'static [u8],
+    text: &'static [u8],
     x: i32,
     y: i32,
-) -> Option<Result<Edit, EditFault>> {
-    let rule = Rule::parse(rule).ok()?;
+    answer: &'static str,
+}
+
+/// What a paste makes, if its texts stand for something.
+fn pasted(alloc: Global, paste: &Paste) -> Option<Result<Edit, EditFault>> {
+    let rule = Rule::parse(paste.rule).ok()?;
     let stamp = Stamp::new(1, 1)?;
-    let pattern = parse(alloc, text).ok()?;
-    Some(match mode {
-        Mode::Copy => Edit::paste_copy(alloc, &rule, stamp, &pattern, x, y),
-        Mode::Or => Edit::paste_or(alloc, &rule, stamp, &pattern, x, y),
+    let pattern = parse(alloc, paste.text).ok()?;
+    Some(match paste.mode {
+        Mode::Copy => Edit::paste_copy(alloc, &rule, stamp, &pattern, paste.x, paste.y),
+        Mode::Or => Edit::paste_or(alloc, &rule, stamp, &pattern, paste.x, paste.y),
     })
 }
 
-/// The same, as a text.
-fn paste(
-    alloc: Global,
-    mode: Mode,
-    rule: &[u8],
-    text: &[u8],
-    x: i32,
-    y: i32,
-) -> Result<String, AllocError> {
-    match pasted(alloc, mode, rule, text, x, y) {
-        Some(made) => told::made(alloc, made),
-        None => Ok(String::new(alloc)),
+fn is_answered(alloc: Global, paste: &Paste) -> Result<bool, AllocError> {
+    match pasted(alloc, paste) {
+        Some(made) => told::is(alloc, made, paste.answer),
+        None => Ok(false),
     }
 }
 
@@ -55,28 +51,88 @@ const BRAIN: &[u8] = b"/2/3";
 
 const LIFE: &[u8] = b"23/3/2";
 
-#[test]
-fn copies_the_whole_box_and_ors_the_nonzero_cells(rt: HostRuntime) -> Result<(), AllocError> {
-    let alloc = rt.alloc();
-    let copied = paste(alloc, Mode::Copy, BRAIN, SMALL, -1, 5)?;
-    assert_eq!(rt; copied.as_str(), "1 1 area -1 5 3 2, -1 5 1, 1 5 2");
-    let ored = paste(alloc, Mode::Or, BRAIN, SMALL, -1, 5)?;
-    assert_eq!(rt; ored.as_str(), "1 1, -1 5 1, 1 5 2");
-    Ok(())
-}
+/// A dead cell and a live one to its right.
+const EDGE: &[u8] = b"x = 2, y = 1\no!";
 
-/// A copy may leave the plane by dead cells alone; the nonzero cells may still fit.
+/// A copy writes the whole box and an or the nonzero cells. A copy may leave the plane by dead cells
+/// alone, where the nonzero cells still fit. Then states that the rule lacks, and boxes without cells.
+static PASTES: [Paste; 8] = [
+    Paste {
+        mode: Mode::Copy,
+        rule: BRAIN,
+        text: SMALL,
+        x: -1,
+        y: 5,
+        answer: "1 1 area -1 5 3 2, -1 5 1, 1 5 2",
+    },
+    Paste {
+        mode: Mode::Or,
+        rule: BRAIN,
+        text: SMALL,
+        x: -1,
+        y: 5,
+        answer: "1 1, -1 5 1, 1 5 2",
+    },
+    Paste {
+        mode: Mode::Copy,
+        rule: LIFE,
+        text: EDGE,
+        x: 0x3fff_ffff,
+        y: 0,
+        answer: "OutOfPlane",
+    },
+    Paste {
+        mode: Mode::Or,
+        rule: LIFE,
+        text: EDGE,
+        x: 0x3fff_ffff,
+        y: 0,
+        answer: "1 1, 1073741823 0 1",
+    },
+    Paste {
+        mode: Mode::Or,
+        rule: LIFE,
+        text: EDGE,
+        x: i32::MAX,
+        y: 0,
+        answer: "OutOfPlane",
+    },
+    Paste {
+        mode: Mode::Copy,
+        rule: LIFE,
+        text: SMALL,
+        x: 0,
+        y: 0,
+        answer: "StateRange",
+    },
+    Paste {
+        mode: Mode::Or,
+        rule: LIFE,
+        text: b"x = 2, y = 1\n2.!",
+        x: 0,
+        y: 0,
+        answer: "Nothing",
+    },
+    Paste {
+        mode: Mode::Copy,
+        rule: LIFE,
+        text: b"x = 9, y = 0\n!",
+        x: i32::MAX,
+        y: 0,
+        answer: "Nothing",
+    },
+];
+
 #[test]
-fn refuses_what_leaves_the_plane(rt: HostRuntime) -> Result<(), AllocError> {
-    let alloc = rt.alloc();
-    let edge = b"x = 2, y = 1\no!".as_slice();
-    let copied = paste(alloc, Mode::Copy, LIFE, edge, 0x3fff_ffff, 0)?;
-    assert_eq!(rt; copied.as_str(), "OutOfPlane");
-    let ored = paste(alloc, Mode::Or, LIFE, edge, 0x3fff_ffff, 0)?;
-    assert_eq!(rt; ored.as_str(), "1 1, 1073741823 0 1");
-    let past = paste(alloc, Mode::Or, LIFE, edge, i32::MAX, 0)?;
-    assert_eq!(rt; past.as_str(), "OutOfPlane");
-    Ok(())
+fn pastes(rt: HostRuntime) {
+    for paste in &PASTES {
+        assert_eq!(rt;
+            is_answered(rt.alloc(), paste),
+            Ok(true),
+            "{}",
+            paste.answer
+        );
+    }
 }
 
 /// The last of the small pattern's cells, put in place with its corner at a column of row 5, where
@@ -104,50 +160,54 @@ fn is_small_below(alloc: Global, states: u16) -> bool {
 #[test]
 fn puts_cells_in_place(rt: HostRuntime) {
     let alloc = rt.alloc();
-    assert_eq!(rt; last_placed(alloc, i32::MAX - 2), Some((i32::MAX, 5, 2)));
-    assert_eq!(rt; last_placed(alloc, i32::MAX - 1), None);
+    assert!(rt; last_placed(alloc, i32::MAX - 2) == Some((i32::MAX, 5, 2)));
+    assert!(rt; last_placed(alloc, i32::MAX - 1).is_none());
     assert!(rt; is_small_below(alloc, 3) && !is_small_below(alloc, 2));
 }
 
-#[test]
-fn refuses_states_and_empty_boxes(rt: HostRuntime) -> Result<(), AllocError> {
-    let alloc = rt.alloc();
-    let copied = paste(alloc, Mode::Copy, LIFE, SMALL, 0, 0)?;
-    assert_eq!(rt; copied.as_str(), "StateRange");
-    let ored = paste(alloc, Mode::Or, LIFE, b"x = 2, y = 1\n2.!", 0, 0)?;
-    assert_eq!(rt; ored.as_str(), "Nothing");
-    let empty = paste(alloc, Mode::Copy, LIFE, b"x = 9, y = 0\n!", i32::MAX, 0)?;
-    assert_eq!(rt; empty.as_str(), "Nothing");
-    Ok(())
-}
-
 /// How many cells a paste at the origin under /2/3 has.
-fn count(alloc: Global, mode: Mode, text: &[u8]) -> Option<Result<usize, EditFault>> {
-    Some(told::count(pasted(alloc, mode, BRAIN, text, 0, 0)?))
+fn count(alloc: Global, mode: Mode, text: &'static [u8]) -> Option<Result<usize, EditFault>> {
+    let paste = Paste {
+        mode,
+        rule: BRAIN,
+        text,
+        x: 0,
+        y: 0,
+        answer: "",
+    };
+    Some(told::count(pasted(alloc, &paste)?))
 }
 
 /// Sides at the limit and past it, and a row of as many cells as a pattern may have.
+static BOUNDS: [(Mode, &[u8], Result<usize, EditFault>); 5] = [
+    (Mode::Copy, b"x = 4096, y = 4096\n!", Ok(0)),
+    (
+        Mode::Copy,
+        b"x = 0, y = 0\n4097A!",
+        Err(EditFault::AreaSide),
+    ),
+    (Mode::Or, b"x = 0, y = 0\n4097A!", Ok(4097)),
+    (
+        Mode::Copy,
+        b"x = 0, y = 0\n1048576o!",
+        Err(EditFault::AreaSide),
+    ),
+    (Mode::Or, b"x = 0, y = 0\n1048576o!", Ok(1_048_576)),
+];
+
 #[test]
 fn bounds_the_sides(rt: HostRuntime) {
-    let alloc = rt.alloc();
-    let widest = b"x = 4096, y = 4096\n!".as_slice();
-    assert_eq!(rt; count(alloc, Mode::Copy, widest), Some(Ok(0)));
-    let wider = b"x = 0, y = 0\n4097A!".as_slice();
-    assert_eq!(rt;
-        count(alloc, Mode::Copy, wider),
-        Some(Err(EditFault::AreaSide))
-    );
-    assert_eq!(rt; count(alloc, Mode::Or, wider), Some(Ok(4097)));
-    let longest = b"x = 0, y = 0\n1048576o!".as_slice();
-    assert_eq!(rt;
-        count(alloc, Mode::Copy, longest),
-        Some(Err(EditFault::AreaSide))
-    );
-    assert_eq!(rt; count(alloc, Mode::Or, longest), Some(Ok(1_048_576)));
+    for (mode, text, cells) in &BOUNDS {
+        assert!(rt; count(rt.alloc(), *mode, text) == Some(*cells));
+    }
 }
 
-/// A clear with counter 1 at replica 1, as a text.
-fn cleared(alloc: Global, x: i32, y: i32, width: u32, height: u32) -> Result<String, AllocError> {
+/// Column, row, width and height.
+type Area = (i32, i32, u32, u32);
+
+/// Whether that is answered to a clear with counter 1 at replica 1.
+fn is_cleared(alloc: Global, area: Area, answer: &str) -> Result<bool, AllocError> {
+    let (x, y, width, height) = area;
     let area = Rect {
         x,
         y,
@@ -155,32 +215,28 @@ fn cleared(alloc: Global, x: i32, y: i32, width: u32, height: u32) -> Result<Str
         height,
     };
     match Stamp::new(1, 1) {
-        Some(stamp) => told::made(alloc, Edit::clear(alloc, stamp, area)),
-        None => Ok(String::new(alloc)),
+        Some(stamp) => told::is(alloc, Edit::clear(alloc, stamp, area), answer),
+        None => Ok(false),
     }
 }
 
+/// Areas, and what is answered to their clears.
+static CLEARS: [(Area, &str); 7] = [
+    ((-4, -4, 9, 9), "1 1 area -4 -4 9 9"),
+    ((0, 0, 4096, 4096), "1 1 area 0 0 4096 4096"),
+    ((0, 0, 0, 3), "Nothing"),
+    ((0x4000_0000, 0, 0, 1), "Nothing"),
+    ((0, 0, 4097, 1), "AreaSide"),
+    ((0x3fff_ffff, 0, 2, 1), "OutOfPlane"),
+    ((0x3fff_ffff, 0, 5000, 1), "OutOfPlane"),
+];
+
 #[test]
-fn clears(rt: HostRuntime) -> Result<(), AllocError> {
-    let alloc = rt.alloc();
-    assert_eq!(rt;
-        cleared(alloc, -4, -4, 9, 9)?.as_str(),
-        "1 1 area -4 -4 9 9"
-    );
-    assert_eq!(rt;
-        cleared(alloc, 0, 0, 4096, 4096)?.as_str(),
-        "1 1 area 0 0 4096 4096"
-    );
-    assert_eq!(rt; cleared(alloc, 0, 0, 0, 3)?.as_str(), "Nothing");
-    assert_eq!(rt; cleared(alloc, 0x4000_0000, 0, 0, 1)?.as_str(), "Nothing");
-    assert_eq!(rt; cleared(alloc, 0, 0, 4097, 1)?.as_str(), "AreaSide");
-    assert_eq!(rt;
-        cleared(alloc, 0x3fff_ffff, 0, 2, 1)?.as_str(),
-        "OutOfPlane"
-    );
-    assert_eq!(rt;
-        cleared(alloc, 0x3fff_ffff, 0, 5000, 1)?.as_str(),
-        "OutOfPlane"
-    );
-    Ok(())
+fn clears(rt: HostRuntime) {
+    for (area, answer) in &CLEARS {
+        assert!(rt;
+            is_cleared(rt.alloc(), *area, answer) == Ok(true),
+            "{answer}"
+        );
+    }
 }

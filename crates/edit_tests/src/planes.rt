@@ -28,6 +28,94 @@ fn clear(alloc: Global, counter: u64) -> Result<Edit, EditFault> {
     }
 }
 
+/// An edit that is joined.
+#[derive(Clone, Copy)]
+enum Joined {
+    /// Counter, replica, column and state of a cell.
+    Draw(u64, u16, i32, u8),
+    /// The counter of a clear.
+    Clear(u64),
+}
+
+fn made(alloc: Global, joined: Joined) -> Result<Edit, EditFault> {
+    match joined {
+        Joined::Draw(counter, replica, x, state) => edit(alloc, counter, replica, x, state),
+        Joined::Clear(counter) => clear(alloc, counter),
+    }
+}
+
+/// Two draws at replicas 1 and 2, and a clear between them.
+static THREE: [Joined; 3] = [
+    Joined::Draw(1, 1, 0, 1),
+    Joined::Clear(2),
+    Joined::Draw(3, 2, 2, 2),
+];
+
+/// The same in another order.
+static TURNED: [Joined; 3] = [
+    Joined::Draw(3, 2, 2, 2),
+    Joined::Clear(2),
+    Joined::Draw(1, 1, 0, 1),
+];
+
+/// State 2 of replica 2 at column 0.
+static OTHER: [Joined; 1] = [Joined::Draw(2, 2, 0, 2)];
+
+/// A plane into which edits were joined one by one.
+fn one_by_one(alloc: Global, list: &[Joined]) -> Result<Plane, EditFault> {
+    let mut plane = Plane::new(alloc);
+    for joined in list {
+        plane.join_edit(&made(alloc, *joined)?)?;
+    }
+    Ok(plane)
+}
+
+fn edits(alloc: Global, list: &[Joined]) -> Result<Vec<Edit>, EditFault> {
+    let mut edits = Vec::new(alloc);
+    for joined in list {
+        told::push(&mut edits, made(alloc, *joined)?)?;
+    }
+    Ok(edits)
+}
+
+/// A plane into which a list was joined.
+fn at_once(alloc: Global, list: &[Joined]) -> Result<Plane, EditFault> {
+    let edits = edits(alloc, list)?;
+    let mut plane = Plane::new(alloc);
+    plane.join_edits(&edits)?;
+    Ok(plane)
+}
+
+/// A copy of the plane of one list, into which that of another was joined.
+fn sum(alloc: Global, one: &[Joined], other: &[Joined]) -> Result<Plane, EditFault> {
+    let mut sum = one_by_one(alloc, one)?.copy()?;
+    let other = one_by_one(alloc, other)?;
+    sum.join(&other)?;
+    Ok(sum)
+}
+
+/// How a plane was made.
+#[derive(Clone, Copy)]
+enum Way {
+    Empty,
+    OneByOne,
+    AtOnce,
+    /// The three, and then the other.
+    Merged,
+    /// The other, and then the three.
+    MergedTurned,
+}
+
+fn plane(alloc: Global, way: Way) -> Result<Plane, EditFault> {
+    match way {
+        Way::Empty => Ok(Plane::new(alloc)),
+        Way::OneByOne => one_by_one(alloc, &THREE),
+        Way::AtOnce => at_once(alloc, &TURNED),
+        Way::Merged => sum(alloc, &THREE, &OTHER),
+        Way::MergedTurned => sum(alloc, &OTHER, &THREE),
+    }
+}
+
 /// The writes at columns 0, 1 and 2 of row 0, and the greatest stamp.
 fn text(alloc: Global, plane: &Plane) -> Result<String, AllocError> {
     let mut text = String::new(alloc);
@@ -38,51 +126,22 @@ fn text(alloc: Global, plane: &Plane) -> Result<String, AllocError> {
     format!(in alloc; "{text}{}", plane.greatest_stamp())
 }
 
-/// A plane that a clear at counter 2 was joined into, between two draws.
-fn drawn_and_cleared(alloc: Global) -> Result<Plane, EditFault> {
-    let mut plane = Plane::new(alloc);
-    plane.join_edit(&edit(alloc, 1, 1, 0, 1)?)?;
-    plane.join_edit(&clear(alloc, 2)?)?;
-    plane.join_edit(&edit(alloc, 3, 2, 2, 2)?)?;
-    Ok(plane)
+fn is_read(alloc: Global, way: Way, want: &str) -> Result<bool, EditFault> {
+    let plane = plane(alloc, way)?;
+    Ok(text(alloc, &plane)?.as_str() == want)
 }
 
-/// The same three in another order, in one list.
-fn joined_in_one(alloc: Global) -> Result<Plane, EditFault> {
-    let mut edits = Vec::new(alloc);
-    told::push(&mut edits, edit(alloc, 3, 2, 2, 2)?)?;
-    told::push(&mut edits, clear(alloc, 2)?)?;
-    told::push(&mut edits, edit(alloc, 1, 1, 0, 1)?)?;
-    let mut plane = Plane::new(alloc);
-    plane.join_edits(&edits)?;
-    Ok(plane)
-}
-
-/// A plane with state 2 of replica 2 at column 0, joined with a copy of the first, or that with it.
-fn merged(alloc: Global, is_turned: bool) -> Result<Plane, EditFault> {
-    let mut one = drawn_and_cleared(alloc)?.copy()?;
-    let mut other = Plane::new(alloc);
-    other.join_edit(&edit(alloc, 2, 2, 0, 2)?)?;
-    if is_turned {
-        other.join(&one)?;
-        return Ok(other);
-    }
-    one.join(&other)?;
-    Ok(one)
-}
+static PLANES: [(Way, &str); 5] = [
+    (Way::Empty, "0 0, 0 0, 0 0, 0"),
+    (Way::OneByOne, "131073 0, 131073 0, 196610 2, 196610"),
+    (Way::AtOnce, "131073 0, 131073 0, 196610 2, 196610"),
+    (Way::Merged, "131074 2, 131073 0, 196610 2, 196610"),
+    (Way::MergedTurned, "131074 2, 131073 0, 196610 2, 196610"),
+];
 
 #[test]
-fn joins_edits_and_planes(rt: HostRuntime) -> Result<(), EditFault> {
-    let alloc = rt.alloc();
-    assert_eq!(rt;
-        text(alloc, &Plane::new(alloc))?.as_str(),
-        "0 0, 0 0, 0 0, 0"
-    );
-    let cleared = "131073 0, 131073 0, 196610 2, 196610";
-    assert_eq!(rt; text(alloc, &drawn_and_cleared(alloc)?)?.as_str(), cleared);
-    assert_eq!(rt; text(alloc, &joined_in_one(alloc)?)?.as_str(), cleared);
-    let merged_so = "131074 2, 131073 0, 196610 2, 196610";
-    assert_eq!(rt; text(alloc, &merged(alloc, false)?)?.as_str(), merged_so);
-    assert_eq!(rt; text(alloc, &merged(alloc, true)?)?.as_str(), merged_so);
-    Ok(())
+fn joins_edits_and_planes(rt: HostRuntime) {
+    for (way, want) in &PLANES {
+        assert!(rt; is_read(rt.alloc(), *way, want) == Ok(true), "{want}");
+    }
 }

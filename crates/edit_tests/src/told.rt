@@ -3,16 +3,21 @@
 use edit_stamps::{Edit, EditFault};
 use std::alloc::{AllocError, Global};
 
-/// An edit: its stamp, its area where it has one, and its cells.
-pub fn edit(alloc: Global, edit: &Edit) -> Result<String, AllocError> {
-    let stamp = edit.stamp();
-    let mut text = format!(in alloc; "{} {}", stamp.counter(), stamp.replica())?;
-    if let Some(area) = edit.area() {
-        text = format!(in alloc;
-            "{text} area {} {} {} {}",
+/// Its stamp, and its area where it has one.
+fn head(alloc: Global, edit: &Edit) -> Result<String, AllocError> {
+    let (counter, replica) = (edit.stamp().counter(), edit.stamp().replica());
+    match edit.area() {
+        Some(area) => format!(in alloc;
+            "{counter} {replica} area {} {} {} {}",
             area.x, area.y, area.width, area.height
-        )?;
+        ),
+        None => format!(in alloc; "{counter} {replica}"),
     }
+}
+
+/// An edit: its stamp, its area where it has one, and its cells.
+fn edit(alloc: Global, edit: &Edit) -> Result<String, AllocError> {
+    let mut text = head(alloc, edit)?;
     for cell in edit.listed_cells() {
         text = format!(in alloc; "{text}, {} {} {}", cell.x, cell.y, cell.state)?;
     }
@@ -20,14 +25,19 @@ pub fn edit(alloc: Global, edit: &Edit) -> Result<String, AllocError> {
 }
 
 /// What a maker of edits answers: the edit, or the name of its refusal.
-pub fn made(alloc: Global, made: Result<Edit, EditFault>) -> Result<String, AllocError> {
+fn made(alloc: Global, made: Result<Edit, EditFault>) -> Result<String, AllocError> {
     match made {
         Ok(made) => edit(alloc, &made),
         Err(fault) => fault.to_string(alloc),
     }
 }
 
-/// The same of an edit with many cells: how many there are.
+/// Whether that is this text.
+pub fn is(alloc: Global, answer: Result<Edit, EditFault>, text: &str) -> Result<bool, AllocError> {
+    Ok(made(alloc, answer)?.as_str() == text)
+}
+
+/// How many cells an edit has.
 pub fn count(made: Result<Edit, EditFault>) -> Result<usize, EditFault> {
     Ok(made?.listed_cells().len())
 }

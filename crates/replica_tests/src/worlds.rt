@@ -4,14 +4,13 @@ ghost use Rattle.std.specs.Prelude.{◌≤◌, ◌<◌};
 
 use edit_stamps::Cell;
 use generations_rule::Rule;
-use replica_core::{CellList, EditSpec, Event, Reply, World, replay};
+use replica_core::{CellList, EditSpec, Event, Reply, Stop, World, replay};
 use std::alloc::{AllocError, Global};
-use std::test::Fail;
 
 /// An event whose cell takes no memory yet.
 #[derive(Clone, Copy)]
 enum Step {
-    Draw(u32, Cell),
+    Draw(u32, i32, i32, u8),
     Send(u32),
     Deliver(u64, u32),
     Show(u32, i32, i32),
@@ -19,8 +18,8 @@ enum Step {
 
 fn event(alloc: Global, step: Step) -> Result<Event, AllocError> {
     Ok(match step {
-        Step::Draw(number, cell) => {
-            let cells = Vec::from_slice(alloc, &[cell])?;
+        Step::Draw(number, x, y, state) => {
+            let cells = Vec::from_slice(alloc, &[Cell { x, y, state }])?;
             Event::Draw(number, EditSpec::Cells(CellList::of_vec(cells)))
         }
         Step::Send(number) => Event::SendState(number),
@@ -29,12 +28,16 @@ fn event(alloc: Global, step: Step) -> Result<Event, AllocError> {
     })
 }
 
-fn draw(number: u32, x: i32, y: i32, state: u8) -> Step {
-    Step::Draw(number, Cell { x, y, state })
+fn rule() -> Result<Rule, Stop> {
+    match Rule::parse(b"/2/3") {
+        Ok(rule) => Ok(rule),
+        Err(_) => Err(Stop::StoreFull),
+    }
 }
 
-fn run(alloc: Global, rule: &[u8], n: u16, events: &[Event]) -> Result<Vec<Reply>, Fail> {
-    let (_, replies) = replay(alloc, Rule::parse(rule)?, n, events)?;
+/// What a world of n replicas under /2/3 answers.
+fn run(alloc: Global, n: u16, events: &[Event]) -> Result<Vec<Reply>, Stop> {
+    let (_, replies) = replay(alloc, rule()?, n, events)?;
     Ok(replies)
 }
 
@@ -48,103 +51,118 @@ fn reply_told(alloc: Global, reply: &Reply) -> Result<String, AllocError> {
     }
 }
 
-/// What a world of n replicas under /2/3 answers to the steps.
-fn answers(alloc: Global, n: u16, steps: &[Step]) -> Result<String, Fail> {
+fn events(alloc: Global, steps: &[Step]) -> Result<Vec<Event>, AllocError> {
     let mut events = Vec::new(alloc);
     for step in steps {
         events.push(event(alloc, *step)?)?;
     }
+    Ok(events)
+}
+
+/// The replies, one a line.
+fn told(alloc: Global, replies: &[Reply]) -> Result<String, AllocError> {
     let mut told = String::new(alloc);
-    for reply in &run(alloc, b"/2/3", n, &events)? {
+    for reply in replies {
         told = format!(in alloc; "{told}{}\n", reply_told(alloc, reply)?)?;
     }
     Ok(told)
 }
 
-#[test]
-fn opens(rt: HostRuntime) -> Result<(), Fail> {
-    let world = World::new(rt.alloc(), Rule::parse(b"/2/3")?, 3)?;
-    let are_there = [0, 1, 3, 4, u32::MAX].map(|number| world.replica(number).is_some());
-    assert_eq!(rt; are_there, [false, true, true, false, false]);
-    let last = world
-        .replica(3)
-        .map(|last| (last.number(), last.journal().len()));
-    assert_eq!(rt; last, Some((3, 0)));
-    Ok(())
+/// Whether a world of n replicas answers to the steps with these lines.
+fn is_answered(alloc: Global, n: u16, steps: &[Step], lines: &str) -> Result<bool, Stop> {
+    let replies = run(alloc, n, &events(alloc, steps)?)?;
+    Ok(told(alloc, &replies)?.as_str() == lines)
 }
 
-#[test]
-fn opens_without_replicas(rt: HostRuntime) -> Result<(), Fail> {
-    let world = World::new(rt.alloc(), Rule::parse(b"/2/3")?, 0)?;
-    assert!(rt; world.replica(1).is_none());
-    Ok(())
+/// Number and edits of a replica in a new world of n, if it is there.
+fn opened(alloc: Global, n: u16, number: u32) -> Result<Option<(u16, usize)>, Stop> {
+    let world = World::new(alloc, rule()?, n)?;
+    Ok(match world.replica(number) {
+        Some(replica) => Some((replica.number(), replica.journal().len())),
+        None => None,
+    })
 }
 
+/// How many replicas there are, a number, and what stands at it.
+static OPENED: [(u16, u32, Option<(u16, usize)>); 6] = [
+    (3, 0, None),
+    (3, 1, Some((1, 0))),
+    (3, 3, Some((3, 0))),
+    (3, 4, None),
+    (3, u32::MAX, None),
+    (0, 1, None),
+];
+
 #[test]
-fn settles_a_tie(rt: HostRuntime) -> Result<(), Fail> {
-    let steps = [
-        draw(1, 0, 0, 1),
-        draw(2, 0, 0, 2),
-        Step::Send(1),
-        Step::Send(2),
-        Step::Deliver(1, 2),
-        Step::Deliver(2, 1),
-        Step::Show(1, 0, 0),
-        Step::Show(2, 0, 0),
-    ];
-    assert_eq!(rt;
-        answers(rt.alloc(), 2, &steps)?.as_str(),
-        "drawn 1 1\ndrawn 1 2\nsent 1\nsent 2\ntaken\ntaken\nshown 65538 2\nshown 65538 2\n"
-    );
-    Ok(())
+fn opens(rt: HostRuntime) {
+    for (n, number, there) in &OPENED {
+        assert!(rt;
+            opened(rt.alloc(), *n, *number) == Ok(*there),
+            "{number} of {n}"
+        );
+    }
+}
+
+static TIE: [Step; 8] = [
+    Step::Draw(1, 0, 0, 1),
+    Step::Draw(2, 0, 0, 2),
+    Step::Send(1),
+    Step::Send(2),
+    Step::Deliver(1, 2),
+    Step::Deliver(2, 1),
+    Step::Show(1, 0, 0),
+    Step::Show(2, 0, 0),
+];
+
+#[test]
+fn settles_a_tie(rt: HostRuntime) {
+    let lines =
+        "drawn 1 1\ndrawn 1 2\nsent 1\nsent 2\ntaken\ntaken\nshown 65538 2\nshown 65538 2\n";
+    assert!(rt; is_answered(rt.alloc(), 2, &TIE, lines) == Ok(true));
 }
 
 /// A replica that took a map draws past the counters in it.
+static RAISING: [Step; 11] = [
+    Step::Draw(1, 3, 3, 1),
+    Step::Draw(1, 3, 3, 1),
+    Step::Draw(1, 3, 3, 1),
+    Step::Draw(1, 3, 3, 1),
+    Step::Draw(1, 3, 3, 1),
+    Step::Send(1),
+    Step::Deliver(1, 2),
+    Step::Draw(2, 3, 3, 2),
+    Step::Send(2),
+    Step::Deliver(2, 1),
+    Step::Show(1, 3, 3),
+];
+
 #[test]
-fn raises_the_clock(rt: HostRuntime) -> Result<(), Fail> {
-    let steps = [
-        draw(1, 3, 3, 1),
-        draw(1, 3, 3, 1),
-        draw(1, 3, 3, 1),
-        draw(1, 3, 3, 1),
-        draw(1, 3, 3, 1),
-        Step::Send(1),
-        Step::Deliver(1, 2),
-        draw(2, 3, 3, 2),
-        Step::Send(2),
-        Step::Deliver(2, 1),
-        Step::Show(1, 3, 3),
-    ];
-    assert_eq!(rt;
-        answers(rt.alloc(), 2, &steps)?.as_str(),
-        "drawn 1 1\ndrawn 2 1\ndrawn 3 1\ndrawn 4 1\ndrawn 5 1\nsent 1\ntaken\ndrawn 6 2\n\
-        sent 2\ntaken\nshown 393218 2\n"
-    );
-    Ok(())
+fn raises_the_clock(rt: HostRuntime) {
+    let lines = "drawn 1 1\ndrawn 2 1\ndrawn 3 1\ndrawn 4 1\ndrawn 5 1\nsent 1\ntaken\ndrawn 6 2\n\
+        sent 2\ntaken\nshown 393218 2\n";
+    assert!(rt; is_answered(rt.alloc(), 2, &RAISING, lines) == Ok(true));
 }
 
 /// Each refusal, the first of two where both stand.
+static REFUSED: [Step; 11] = [
+    Step::Draw(0, 0, 0, 9),
+    Step::Draw(2, 0x4000_0000, 0, 1),
+    Step::Draw(1, 0x4000_0000, 0, 9),
+    Step::Draw(1, 0, 0, 3),
+    Step::Send(3),
+    Step::Deliver(1, 9),
+    Step::Deliver(0, 1),
+    Step::Show(2, 0, 0),
+    Step::Send(1),
+    Step::Deliver(1, 2),
+    Step::Show(1, 0, 0),
+];
+
 #[test]
-fn refuses(rt: HostRuntime) -> Result<(), Fail> {
-    let steps = [
-        draw(0, 0, 0, 9),
-        draw(2, 0x4000_0000, 0, 1),
-        draw(1, 0x4000_0000, 0, 9),
-        draw(1, 0, 0, 3),
-        Step::Send(3),
-        Step::Deliver(1, 9),
-        Step::Deliver(0, 1),
-        Step::Show(2, 0, 0),
-        Step::Send(1),
-        Step::Deliver(1, 2),
-        Step::Show(1, 0, 0),
-    ];
-    assert_eq!(rt;
-        answers(rt.alloc(), 1, &steps)?.as_str(),
-        "NoReplica\nNoReplica\nOutOfPlane\nStateRange\nNoReplica\nNoMessage\nNoMessage\nNoReplica\n\
-        sent 1\nNoReplica\nshown 0 0\n"
-    );
-    Ok(())
+fn refuses(rt: HostRuntime) {
+    let lines = "NoReplica\nNoReplica\nOutOfPlane\nStateRange\nNoReplica\nNoMessage\nNoMessage\n\
+        NoReplica\nsent 1\nNoReplica\nshown 0 0\n";
+    assert!(rt; is_answered(rt.alloc(), 1, &REFUSED, lines) == Ok(true));
 }
 
 /// Numbers by chance, the same in each run.
@@ -172,7 +190,7 @@ fn by_chance(dice: &mut Dice, messages: u32) -> Step {
     match dice.roll(4) {
         0 | 1 => {
             let (x, y) = (dice.roll(4) as i32, dice.roll(4) as i32);
-            draw(number, x, y, dice.roll(3) as u8)
+            Step::Draw(number, x, y, dice.roll(3) as u8)
         }
         2 if messages > 0 => Step::Deliver(u64::from(1 + dice.roll(messages)), number),
         _ => Step::Send(number),
@@ -184,26 +202,33 @@ fn scattered(alloc: Global) -> Result<(Vec<Event>, u32), AllocError> {
     let mut dice = Dice { state: 2026 };
     let mut events = Vec::new(alloc);
     let mut messages = 0u32;
-    for _ in 0..200 {
-        let step = by_chance(&mut dice, messages);
+    for i in 0..203u32 {
+        let step = if i < 200 {
+            by_chance(&mut dice, messages)
+        } else {
+            Step::Send(i - 199)
+        };
         if let Step::Send(_) = step {
             messages = messages.saturating_add(1);
         }
         events.push(event(alloc, step)?)?;
     }
-    for number in 1..=3 {
-        events.push(Event::SendState(number))?;
-    }
-    Ok((events, messages.saturating_add(3)))
+    Ok((events, messages))
 }
 
-/// Each message reaches each replica, and then each shows its field.
-fn gather(events: &mut Vec<Event>, order: &[u32]) -> Result<(), AllocError> {
-    for message in order {
+/// Each of so many messages reaches each replica, the last one first where they are turned.
+fn deliver(events: &mut Vec<Event>, messages: u32, are_turned: bool) -> Result<(), AllocError> {
+    for i in 0..messages {
+        let message = if are_turned { messages - i } else { i + 1 };
         for number in 1..=3 {
-            events.push(Event::Deliver(u64::from(*message), number))?;
+            events.push(Event::Deliver(u64::from(message), number))?;
         }
     }
+    Ok(())
+}
+
+/// Each replica shows its field.
+fn show(events: &mut Vec<Event>) -> Result<(), AllocError> {
     for number in 1..=3 {
         for place in 0..16 {
             events.push(Event::Show(number, place % 4, place / 4))?;
@@ -212,44 +237,58 @@ fn gather(events: &mut Vec<Event>, order: &[u32]) -> Result<(), AllocError> {
     Ok(())
 }
 
-/// The messages from the first to the last, or the other way round.
-fn order(alloc: Global, messages: u32, is_reversed: bool) -> Result<Vec<u32>, AllocError> {
-    if is_reversed {
-        (1..=messages).rev().collect(alloc)
-    } else {
-        (1..=messages).collect(alloc)
-    }
+/// The events by chance, every message to each replica, and what each shows then.
+fn gathered(alloc: Global, are_turned: bool) -> Result<Vec<Event>, AllocError> {
+    let (mut events, messages) = scattered(alloc)?;
+    deliver(&mut events, messages, are_turned)?;
+    show(&mut events)?;
+    Ok(events)
 }
 
 /// What is shown in the end: three fields of 16 cells.
-fn fields(alloc: Global, is_reversed: bool) -> Result<Vec<Reply>, Fail> {
-    let (mut events, messages) = scattered(alloc)?;
-    gather(&mut events, &order(alloc, messages, is_reversed)?)?;
-    let mut replies = run(alloc, b"/2/3", 3, &events)?;
+fn fields(alloc: Global, are_turned: bool) -> Result<Vec<Reply>, Stop> {
+    let mut replies = run(alloc, 3, &gathered(alloc, are_turned)?)?;
     Ok(replies.split_off(replies.len().saturating_sub(48))?)
 }
 
-#[test]
-fn scatters_events(rt: HostRuntime) -> Result<(), Fail> {
-    let (events, _) = scattered(rt.alloc())?;
-    assert_eq!(rt; events.len(), 203);
-    Ok(())
+/// How many replies are the same as the one at their place in the first field.
+fn same_as_first(shown: &[Reply]) -> usize {
+    let mut same = 0usize;
+    for (i, reply) in shown.iter().enumerate() {
+        if shown.get(i % 16) == Some(reply) {
+            same = same.wrapping_add(1);
+        }
+    }
+    same
+}
+
+fn shown_by_each(alloc: Global) -> Result<(usize, usize), Stop> {
+    let shown = fields(alloc, false)?;
+    Ok((shown.len(), same_as_first(&shown)))
+}
+
+fn agree(alloc: Global) -> Result<bool, Stop> {
+    let shown = fields(alloc, false)?;
+    let turned = fields(alloc, true)?;
+    Ok(shown.as_slice() == turned.as_slice())
+}
+
+fn count_of_scattered(alloc: Global) -> Result<usize, AllocError> {
+    let (events, _) = scattered(alloc)?;
+    Ok(events.len())
 }
 
 #[test]
-fn each_shows_the_same(rt: HostRuntime) -> Result<(), Fail> {
-    let shown = fields(rt.alloc(), false)?;
-    assert_eq!(rt; shown.len(), 48);
-    let mut of_each = shown.chunks(16);
-    let first = of_each.next();
-    assert!(rt; of_each.all(|field| Some(field) == first));
-    Ok(())
+fn scatters_events(rt: HostRuntime) {
+    assert!(rt; count_of_scattered(rt.alloc()) == Ok(203));
 }
 
 #[test]
-fn agrees_in_any_order(rt: HostRuntime) -> Result<(), Fail> {
-    let shown = fields(rt.alloc(), false)?;
-    let again = fields(rt.alloc(), true)?;
-    assert_eq!(rt; again.as_slice(), shown.as_slice());
-    Ok(())
+fn each_shows_the_same(rt: HostRuntime) {
+    assert!(rt; shown_by_each(rt.alloc()) == Ok((48, 48)));
+}
+
+#[test]
+fn agrees_in_any_order(rt: HostRuntime) {
+    assert!(rt; agree(rt.alloc()) == Ok(true));
 }

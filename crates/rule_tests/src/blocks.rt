@@ -171,22 +171,38 @@ fn turns_a_blinker(rt: HostRuntime) {
     assert!(rt; !turns(&row, &row, 1) && !turns(&row, &column, 2));
 }
 
+/// Patterns that move, each with its rule.
+static MOVING: [(&[u8], [&[u8]; 3]); 4] = [
+    (LIFE, [b".A.", b"..A", b"AAA"]),
+    (BRIANS_BRAIN, [b"AA", b"", b""]),
+    (BRIANS_BRAIN, [b"BA", b"BA", b""]),
+    (STAR_WARS, [b".A.", b"CAB", b".AA"]),
+];
+
 #[test]
 fn moves_patterns_as_the_rule_does(rt: HostRuntime) {
-    assert!(rt; advances_by_each(LIFE, &drawn(&[b".A.", b"..A", b"AAA"])));
-    assert!(rt; advances_by_each(BRIANS_BRAIN, &drawn(&[b"AA"])));
-    assert!(rt; advances_by_each(BRIANS_BRAIN, &drawn(&[b"BA", b"BA"])));
-    assert!(rt; advances_by_each(STAR_WARS, &drawn(&[b".A.", b"CAB", b".AA"])));
+    for (rule, rows) in &MOVING {
+        assert!(rt; advances_by_each(rule, &drawn(rows)));
+    }
 }
+
+/// Rules and states that fill a block.
+static FILLING: [(&[u8], u8); 8] = [
+    (LIFE, 0),
+    (LIFE, 1),
+    (BRIANS_BRAIN, 1),
+    (BRIANS_BRAIN, 2),
+    (STAR_WARS, 1),
+    (STAR_WARS, 3),
+    (b"8/8/25", 1),
+    (b"8/8/25", 24),
+];
 
 #[test]
 fn fills_blocks_with_one_state(rt: HostRuntime) {
-    assert!(rt; advances_by_each(LIFE, &[0; 256]) && advances_by_each(LIFE, &[1; 256]));
-    assert!(rt;
-        advances_by_each(BRIANS_BRAIN, &[1; 256]) && advances_by_each(BRIANS_BRAIN, &[2; 256])
-    );
-    assert!(rt; advances_by_each(STAR_WARS, &[1; 256]) && advances_by_each(STAR_WARS, &[3; 256]));
-    assert!(rt; advances_by_each(b"8/8/25", &[1; 256]) && advances_by_each(b"8/8/25", &[24; 256]));
+    for (rule, state) in &FILLING {
+        assert!(rt; advances_by_each(rule, &[*state; 256]));
+    }
 }
 
 /// A rule with so many states, as a text.

@@ -1,7 +1,6 @@
 //! Merges, copies, hashes and inserts, measured in turn.
 
 use crate::leaves::pairs::{Pairs, set_of};
-use anyhow::{Result, bail};
 use indexmap::IndexSet;
 use leaf_merge_lanes::Leaf;
 use std::alloc::{AllocError, Global};
@@ -10,8 +9,8 @@ use std::io;
 use std::rt::Clock;
 use std::time::{Duration, Instant};
 
-/// The least time that each took, in nanoseconds; the copy is of one and a half leaves, so that it
-/// reads and writes together as many bytes as a merge.
+/// The least time that each took for one pair, in nanoseconds; the copy is of one and a half leaves, so
+/// that it reads and writes together as many bytes as a merge.
 #[derive(Clone, Copy)]
 pub struct Times {
     pub merge: f64,
@@ -21,6 +20,13 @@ pub struct Times {
 }
 
 impl Times {
+    const LONGEST: Times = Times {
+        merge: f64::MAX,
+        copy: f64::MAX,
+        hash: f64::MAX,
+        insert: f64::MAX,
+    };
+
     /// The lesser of each.
     fn min(self, other: Times) -> Times {
         Times {
@@ -32,37 +38,19 @@ impl Times {
     }
 }
 
-/// What is measured.
+/// Bytes, and where they are copied to.
 #[derive(Drop)]
-struct Race {
-    pairs: Pairs,
-    bytes: Vec<u8>,
-    copied: Vec<u8>,
-    set: IndexSet<Leaf>,
-    repeats: u32,
+struct Copies {
+    from: Vec<u8>,
+    to: Vec<u8>,
 }
 
-/// The best of several measurements, each of so many passes over all pairs.
-pub fn quickest(
-    clock: &impl Clock,
-    alloc: Global,
-    pairs: Pairs,
-    repeats: u32,
-    rounds: u32,
-) -> Result<Times> {
-    let length = 864 * pairs.firsts().len().min(0x10_0000);
-    let mut race = Race {
-        bytes: zeros(alloc, length)?,
-        copied: zeros(alloc, length)?,
-        set: set_of(alloc, pairs.firsts())?,
-        pairs,
-        repeats,
-    };
-    let mut best = race.measured(clock)?;
-    for _ in 1..rounds {
-        best = best.min(race.measured(clock)?);
+impl Copies {
+    fn of_zeros(alloc: Global, length: usize) -> Result<Copies, AllocError> {
+        let from = zeros(alloc, length)?;
+        let to = zeros(alloc, length)?;
+        Ok(Copies { from, to })
     }
-    Ok(best)
 }
 
 fn zeros(alloc: Global, length: usize) -> Result<Vec<u8>, AllocError> {
@@ -71,35 +59,69 @@ fn zeros(alloc: Global, length: usize) -> Result<Vec<u8>, AllocError> {
     Ok(bytes)
 }
 
+/// What is measured, and how many passes over all pairs one measurement makes.
+#[derive(Drop)]
+pub struct Race {
+    pairs: Pairs,
+    copies: Copies,
+    set: IndexSet<Leaf>,
+    repeats: u32,
+}
+
 impl Race {
-    fn measured(&mut self, clock: &impl Clock) -> Result<Times> {
-        let pairs = u32::try_from(self.pairs.firsts().len()).unwrap_or(u32::MAX);
-        let count = f64::from(self.repeats) * f64::from(pairs);
-        Ok(Times {
-            merge: nanoseconds(self.time_of_merging(clock)?) / count,
-            copy: nanoseconds(self.time_of_copying(clock)?) / count,
-            hash: nanoseconds(self.time_of_hashing(clock)?) / count,
-            insert: nanoseconds(self.time_of_inserting(clock)?) / count,
+    pub fn scattered(alloc: Global, count: usize, repeats: u32) -> Result<Race, AllocError> {
+        let pairs = Pairs::scattered(alloc, count)?;
+        let set = set_of(alloc, pairs.firsts())?;
+        let copies = Copies::of_zeros(alloc, 864 * count.min(0x10_0000))?;
+        Ok(Race {
+            pairs,
+            copies,
+            set,
+            repeats,
         })
     }
 
-    fn time_of_merging(&mut self, clock: &impl Clock) -> io::Result<Duration> {
+    /// The best of so many measurements.
+    pub fn quickest(&mut self, clock: &impl Clock, rounds: u32) -> io::Result<Times> {
+        let mut best = Times::LONGEST;
+        for _ in 0..rounds {
+            best = best.min(self.measured(clock)?);
+        }
+        Ok(best)
+    }
+
+    fn measured(&mut self, clock: &impl Clock) -> io::Result<Times> {
+        Ok(Times {
+            merge: self.time_of_merging(clock)?,
+            copy: self.time_of_copying(clock)?,
+            hash: self.time_of_hashing(clock)?,
+            insert: self.time_of_inserting(clock)?,
+        })
+    }
+
+    /// The nanoseconds of one pair, of a time for all passes.
+    fn of_one(&self, time: Duration) -> f64 {
+        let pairs = u32::try_from(self.pairs.firsts().len()).unwrap_or(u32::MAX);
+        time.as_secs_f64() * 1e9 / (f64::from(self.repeats) * f64::from(pairs))
+    }
+
+    fn time_of_merging(&mut self, clock: &impl Clock) -> io::Result<f64> {
         let start = Instant::now(clock)?;
         for _ in 0..self.repeats {
             self.pairs.merge();
         }
-        start.elapsed(clock)
+        Ok(self.of_one(start.elapsed(clock)?))
     }
 
-    fn time_of_copying(&mut self, clock: &impl Clock) -> io::Result<Duration> {
+    fn time_of_copying(&mut self, clock: &impl Clock) -> io::Result<f64> {
         let start = Instant::now(clock)?;
         for _ in 0..self.repeats {
-            copy(&self.bytes, &mut self.copied);
+            copy(&self.copies.from, &mut self.copies.to);
         }
-        start.elapsed(clock)
+        Ok(self.of_one(start.elapsed(clock)?))
     }
 
-    fn time_of_hashing(&mut self, clock: &impl Clock) -> Result<Duration> {
+    fn time_of_hashing(&mut self, clock: &impl Clock) -> io::Result<f64> {
         let start = Instant::now(clock)?;
         let mut number = 1;
         for _ in 0..self.repeats {
@@ -107,22 +129,18 @@ impl Race {
         }
         let taken = start.elapsed(clock)?;
         if number == 0 {
-            bail!("a hash of 0");
+            return Err(io::Error::other("a hash of 0"));
         }
-        Ok(taken)
+        Ok(self.of_one(taken))
     }
 
-    fn time_of_inserting(&mut self, clock: &impl Clock) -> Result<Duration> {
+    fn time_of_inserting(&mut self, clock: &impl Clock) -> io::Result<f64> {
         let start = Instant::now(clock)?;
         for _ in 0..self.repeats {
             insert(&mut self.set, self.pairs.firsts())?;
         }
-        Ok(start.elapsed(clock)?)
+        Ok(self.of_one(start.elapsed(clock)?))
     }
-}
-
-fn nanoseconds(time: Duration) -> f64 {
-    time.as_secs_f64() * 1e9
 }
 
 #[inline(never)]

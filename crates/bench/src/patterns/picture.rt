@@ -2,7 +2,7 @@
 
 use anyhow::{Context, Result, bail};
 use generations_rule::Rule;
-use multistate_rle::{Cell, Pattern, are_writable, write};
+use multistate_rle::{Cell, Pattern, are_writable, parse, write};
 use rand::seq::SliceRandom;
 use rand_pcg::Pcg32;
 use std::alloc::{AllocError, Global};
@@ -63,20 +63,30 @@ fn cell_at(place: u32, state: u8) -> Cell {
     }
 }
 
-/// The cells of a pattern, where it was in its plane.
-pub fn cells_of(alloc: Global, pattern: &Pattern) -> Result<Vec<Cell>> {
+/// The cells of a text's pattern, where it was in its plane.
+pub fn cells_of(alloc: Global, text: &[u8]) -> Result<Vec<Cell>> {
+    let pattern = parse(alloc, text)?;
+    in_plane(alloc, &pattern)?.context("a cell too far")
+}
+
+/// The cells of a pattern in its plane, if they are all in it.
+fn in_plane(alloc: Global, pattern: &Pattern) -> Result<Option<Vec<Cell>>, AllocError> {
     let (left, top) = pattern.pos();
     let mut cells = Vec::with_capacity(alloc, pattern.cells().len())?;
     for cell in pattern.cells() {
+        let (Some(x), Some(y)) = (
+            left.checked_add_unsigned(cell.column),
+            top.checked_add_unsigned(cell.row),
+        ) else {
+            return Ok(None);
+        };
         cells.push(Cell {
-            x: left
-                .checked_add_unsigned(cell.column)
-                .context("a column too far")?,
-            y: top.checked_add_unsigned(cell.row).context("a row too far")?,
+            x,
+            y,
             state: cell.state,
         })?;
     }
-    Ok(cells)
+    Ok(Some(cells))
 }
 
 /// The text of cells, if they can be written under the rule.

@@ -17,6 +17,12 @@ pub struct Times {
 }
 
 impl Times {
+    const LONGEST: Times = Times {
+        summing: Duration::MAX,
+        reading: Duration::MAX,
+        writing: Duration::MAX,
+    };
+
     /// The lesser of each.
     fn min(self, other: Times) -> Times {
         Times {
@@ -35,9 +41,9 @@ pub fn quickest(
     text: &[u8],
     rounds: u32,
 ) -> Result<Times> {
-    let cells = cells_of(alloc, &parse(alloc, text)?)?;
-    let mut best = measured(clock, alloc, rule, text, &cells)?;
-    for _ in 1..rounds {
+    let cells = cells_of(alloc, text)?;
+    let mut best = Times::LONGEST;
+    for _ in 0..rounds {
         best = best.min(measured(clock, alloc, rule, text, &cells)?);
     }
     Ok(best)
@@ -60,9 +66,11 @@ fn measured(
 /// A plain pass over bytes.
 #[inline(never)]
 fn sum(bytes: &[u8]) -> u64 {
-    bytes
-        .iter()
-        .fold(0u64, |sum, byte| sum.wrapping_add(u64::from(*byte)))
+    let mut sum = 0u64;
+    for byte in bytes {
+        sum = sum.wrapping_add(u64::from(*byte));
+    }
+    sum
 }
 
 fn time_of_summing(clock: &impl Clock, text: &[u8]) -> Result<Duration> {
