@@ -11,40 +11,49 @@ use std::alloc::{AllocError, Global};
 use std::io;
 use std::rt::Clock;
 
-/// How many pairs stay in cache, and how many do not.
+/// How many pairs stay in cache.
 const NEAR: usize = 128;
 
-const FAR: usize = 0x8000;
+/// How many pairs are measured, how many passes one measurement makes, and how many are made.
+#[derive(Clone, Copy)]
+struct Extent {
+    pairs: usize,
+    repeats: u32,
+    rounds: u32,
+}
 
-/// How many measurements are made of each; the quickest counts.
-const NEAR_ROUNDS: u32 = 256;
+const IN_CACHE: Extent = Extent {
+    pairs: NEAR,
+    repeats: 16,
+    rounds: 256,
+};
 
-const FAR_ROUNDS: u32 = 12;
+const FROM_MEMORY: Extent = Extent {
+    pairs: 0x8000,
+    repeats: 1,
+    rounds: 12,
+};
 
 pub fn run(rt: &(impl Clock + Print), alloc: Global, is_timed: bool) -> Result<()> {
-    compare(rt, &merged(alloc)?)?;
-    tell_distinct(rt, distinct(alloc)?)?;
+    compare(rt, alloc)?;
+    tell_distinct(rt, alloc)?;
     if is_timed {
-        measure(rt, alloc, "in cache", NEAR, 16, NEAR_ROUNDS)?;
-        measure(rt, alloc, "from memory", FAR, 1, FAR_ROUNDS)?;
+        measure(rt, alloc, "in cache", IN_CACHE)?;
+        measure(rt, alloc, "from memory", FROM_MEMORY)?;
     }
     Ok(())
 }
 
-/// The pairs that stay in cache, merged.
-fn merged(alloc: Global) -> Result<Pairs, AllocError> {
+/// Merges the pairs that stay in cache, and tells how many places hold the greater write.
+fn compare(rt: &impl Print, alloc: Global) -> io::Result<()> {
     let mut near = Pairs::scattered(alloc, NEAR)?;
     near.merge();
-    Ok(near)
+    tell(rt, near.leaves(), near.right_places())
 }
 
-fn compare(rt: &impl Print, pairs: &Pairs) -> io::Result<()> {
-    println!(rt;
-        "{} leaves: {} of {} places hold the greater write",
-        pairs.leaves(),
-        pairs.right_places(),
-        64 * NEAR
-    )
+fn tell(rt: &impl Print, leaves: u64, right: u64) -> io::Result<()> {
+    let places = 64 * NEAR;
+    println!(rt; "{leaves} leaves: {right} of {places} places hold the greater write")
 }
 
 /// How many leaves the set of their first leaves has.
@@ -53,23 +62,25 @@ fn distinct(alloc: Global) -> Result<usize, AllocError> {
     Ok(set_of(alloc, near.firsts())?.len())
 }
 
-fn tell_distinct(rt: &impl Print, leaves: usize) -> io::Result<()> {
+fn tell_distinct(rt: &impl Print, alloc: Global) -> io::Result<()> {
+    let leaves = distinct(alloc)?;
     println!(rt; "{leaves} leaves in the set")
 }
 
-/// Measures so many pairs, so often in a row and for so many rounds.
+fn quickest(clock: &impl Clock, alloc: Global, extent: Extent) -> io::Result<Times> {
+    let mut race = Race::scattered(alloc, extent.pairs, extent.repeats)?;
+    race.quickest(clock, extent.rounds)
+}
+
 fn measure(
     rt: &(impl Clock + Print),
     alloc: Global,
     place: &str,
-    count: usize,
-    repeats: u32,
-    rounds: u32,
-) -> Result<()> {
-    let mut race = Race::scattered(alloc, count, repeats)?;
-    let times = race.quickest(rt, rounds)?;
+    extent: Extent,
+) -> io::Result<()> {
+    let times = quickest(rt, alloc, extent)?;
     report_merges(rt, place, &times)?;
-    Ok(report_keys(rt, place, &times)?)
+    report_keys(rt, place, &times)
 }
 
 fn report_merges(rt: &impl Print, place: &str, times: &Times) -> io::Result<()> {

@@ -59,21 +59,33 @@ struct Outcome {
     taking: Duration,
 }
 
-fn measured(clock: &impl Clock, alloc: Global, draws: u32) -> Result<Outcome> {
+fn drawn_and_taken(clock: &impl Clock, alloc: Global, draws: u32) -> Result<Outcome> {
     let rule = Rule::parse(b"/2/3")?;
     let mut random = Pcg32::new(2026, 11);
     let snapshot = other_snapshot(alloc, rule, &mut random, draws)?;
-    let mut replica = Replica::new(alloc, rule, 1)?;
+    measured(clock, alloc, &mut random, draws, &snapshot)
+}
+
+fn measured(
+    clock: &impl Clock,
+    alloc: Global,
+    random: &mut Pcg32,
+    draws: u32,
+    snapshot: &Message,
+) -> Result<Outcome> {
+    let mut replica = Replica::new(alloc, snapshot.rule(), 1)?;
+    let drawing = timed_draws(clock, alloc, &mut replica, random, draws)?;
+    let taking = timed_take(clock, &mut replica, snapshot)?;
     Ok(Outcome {
-        drawing: timed_draws(clock, alloc, &mut replica, &mut random, draws)?,
-        taking: timed_take(clock, &mut replica, &snapshot)?,
         noted: replica.journal().len(),
+        drawing,
+        taking,
     })
 }
 
 pub fn run(rt: &(impl Clock + Print), alloc: Global, is_timed: bool) -> Result<()> {
     let draws = if is_timed { 10_000 } else { 100 };
-    let outcome = measured(rt, alloc, draws)?;
+    let outcome = drawn_and_taken(rt, alloc, draws)?;
     tell(rt, draws, outcome.noted)?;
     if is_timed {
         report_drawing(rt, draws, outcome.drawing)?;

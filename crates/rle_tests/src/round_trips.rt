@@ -39,7 +39,7 @@ struct Part {
 }
 
 /// Crowded, in one column, in one row, and as wide and as high as a text can say.
-const PARTS: [Part; 6] = [
+static PARTS: [Part; 6] = [
     Part {
         x: -7,
         y: 5,
@@ -113,21 +113,54 @@ fn in_plane(alloc: Global, pattern: &Pattern) -> Result<Vec<Cell>, AllocError> {
     Ok(cells)
 }
 
-/// The least coordinate, and how many there are up to the greatest.
-fn reach(coordinates: &[i32]) -> (i32, u64) {
-    match (coordinates.iter().min(), coordinates.iter().max()) {
-        (Some(least), Some(greatest)) => (*least, u64::from(greatest.abs_diff(*least)) + 1),
-        _ => (0, 0),
-    }
+/// How many coordinates there are up to the greatest.
+fn side(least: i32, greatest: i32) -> u64 {
+    u64::from(greatest.abs_diff(least)) + 1
 }
 
-/// Whether a pattern's position and sides are those of the cells' box.
-fn has_box_of(alloc: Global, pattern: &Pattern, cells: &[Cell]) -> Result<bool, AllocError> {
-    let columns: Vec<i32> = cells.iter().map(|cell| cell.x).collect(alloc)?;
-    let rows: Vec<i32> = cells.iter().map(|cell| cell.y).collect(alloc)?;
-    let (x, width) = reach(&columns);
-    let (y, height) = reach(&rows);
-    Ok(pattern.pos() == (x, y) && pattern.width() == width && pattern.height() == height)
+/// The position and the sides of the cells' box, if there are cells.
+fn box_of(cells: &[Cell]) -> ((i32, i32), u64, u64) {
+    if cells.is_empty() {
+        return ((0, 0), 0, 0);
+    }
+    let (mut left, mut top) = (i32::MAX, i32::MAX);
+    let (mut right, mut bottom) = (i32::MIN, i32::MIN);
+    for cell in cells {
+        left = left.min(cell.x);
+        top = top.min(cell.y);
+        right = right.max(cell.x);
+        bottom = bottom.max(cell.y);
+    }
+    ((left, top), side(left, right), side(top, bottom))
+}
+
+/// Whether a pattern has these cells in its plane, their box and this generation.
+fn is_of(
+    alloc: Global,
+    pattern: &Pattern,
+    generation: u64,
+    cells: &[Cell],
+) -> Result<bool, AllocError> {
+    let read = in_plane(alloc, pattern)?;
+    Ok(
+        read.as_slice() == cells
+            && (pattern.pos(), pattern.width(), pattern.height()) == box_of(cells)
+            && pattern.generation() == generation,
+    )
+}
+
+/// Whether a pattern's cells can be written, and make this text.
+fn is_written_as(
+    alloc: Global,
+    rule: &Rule,
+    pattern: &Pattern,
+    text: &[u8],
+) -> Result<bool, AllocError> {
+    let cells = in_plane(alloc, pattern)?;
+    if !are_writable(rule, &cells) {
+        return Ok(false);
+    }
+    Ok(write(alloc, rule, pattern.generation(), &cells)?.as_slice() == text)
 }
 
 /// Whether cells are the same once they were written and read, and are written again the same.
@@ -142,12 +175,8 @@ fn are_read_back(
     }
     let text = write(alloc, rule, generation, cells)?;
     let pattern = parse(alloc, &text)?;
-    let again = in_plane(alloc, &pattern)?;
-    let is_same = again.as_slice() == cells && pattern.generation() == generation;
-    if !is_same || !has_box_of(alloc, &pattern, cells)? || !are_writable(rule, &again) {
-        return Ok(false);
-    }
-    Ok(write(alloc, rule, generation, &again)?.as_slice() == text.as_slice())
+    let is_same = is_of(alloc, &pattern, generation, cells)?;
+    Ok(is_written_as(alloc, rule, &pattern, &text)? && is_same)
 }
 
 /// How many of the parts of the plane have random cells that are read back.
@@ -166,13 +195,22 @@ fn parts_read_back(alloc: Global, rule: &[u8], seed: u64) -> Result<u32, RleFaul
     Ok(count)
 }
 
+/// Rules, each with a seed.
+static RULES: [(&[u8], u64); 4] = [
+    (b"23/3/2", 2),
+    (b"/2/3", 3),
+    (b"345/2/25", 25),
+    (b"//256", 256),
+];
+
 #[test]
 fn reads_back_random_cells(rt: HostRuntime) {
-    let alloc = rt.alloc();
-    assert_eq!(rt; parts_read_back(alloc, b"23/3/2", 2), Ok(6));
-    assert_eq!(rt; parts_read_back(alloc, b"/2/3", 3), Ok(6));
-    assert_eq!(rt; parts_read_back(alloc, b"345/2/25", 25), Ok(6));
-    assert_eq!(rt; parts_read_back(alloc, b"//256", 256), Ok(6));
+    for (rule, seed) in &RULES {
+        assert!(rt;
+            parts_read_back(rt.alloc(), rule, *seed) == Ok(6),
+            "seed {seed}"
+        );
+    }
 }
 
 /// Whether such cells are read back under the rule with the most states.
@@ -187,22 +225,27 @@ fn last_state(x: i32, y: i32) -> Cell {
     Cell { x, y, state: 255 }
 }
 
+static CORNERS: [(i32, i32); 4] = [
+    (i32::MIN, i32::MIN),
+    (i32::MAX, i32::MIN),
+    (i32::MIN, i32::MAX),
+    (i32::MAX, i32::MAX),
+];
+
 #[test]
 fn reads_back_the_corners(rt: HostRuntime) {
-    let alloc = rt.alloc();
-    assert_eq!(rt; with_most_states(alloc, u64::MAX, &[]), Ok(true));
-    for (x, y) in [
-        (i32::MIN, i32::MIN),
-        (i32::MAX, i32::MIN),
-        (i32::MIN, i32::MAX),
-        (i32::MAX, i32::MAX),
-    ] {
-        assert_eq!(rt; with_most_states(alloc, 0, &[last_state(x, y)]), Ok(true));
+    for (x, y) in &CORNERS {
+        assert!(rt; with_most_states(rt.alloc(), 0, &[last_state(*x, *y)]) == Ok(true));
     }
-    // the box of two cells that are as far from each other as a text can say
+}
+
+/// No cells, and two that are as far from each other as a text can say.
+#[test]
+fn reads_back_the_least_and_the_largest_box(rt: HostRuntime) {
+    assert!(rt; with_most_states(rt.alloc(), u64::MAX, &[]) == Ok(true));
     let farthest = [
         last_state(i32::MIN, i32::MIN),
         last_state(i32::MAX - 1, i32::MAX - 1),
     ];
-    assert_eq!(rt; with_most_states(alloc, 1, &farthest), Ok(true));
+    assert!(rt; with_most_states(rt.alloc(), 1, &farthest) == Ok(true));
 }

@@ -17,7 +17,7 @@ fn population(alloc: Global, text: &[u8]) -> Result<u32, RleFault>
 
 #[test]
 fn counts_cells(rt: HostRuntime) {
-    assert_eq!(rt; population(rt.alloc(), b"x = 3, y = 3\nbo$2bo$3o!"), Ok(5));
+    assert!(rt; population(rt.alloc(), b"x = 3, y = 3\nbo$2bo$3o!") == Ok(5));
 }
 
 /// Texts, in which `|` stands for a line feed, each with its pattern: width, height, position,
@@ -82,19 +82,28 @@ const ORIGINS: &str = "\
 
 /// The text with its line feeds.
 fn with_line_feeds(alloc: Global, text: &str) -> Result<Vec<u8>, AllocError> {
-    text.bytes()
-        .map(|byte| if byte == b'|' { b'\n' } else { byte })
-        .collect(alloc)
+    let mut bytes = Vec::from_slice(alloc, text.as_bytes())?;
+    for byte in bytes.iter_mut() {
+        if *byte == b'|' {
+            *byte = b'\n';
+        }
+    }
+    Ok(bytes)
 }
 
-fn pattern_told(alloc: Global, pattern: &Pattern) -> Result<String, AllocError> {
+/// Sides, position and generation.
+fn head_told(alloc: Global, pattern: &Pattern) -> Result<String, AllocError> {
     let (x, y) = pattern.pos();
-    let mut told = format!(in alloc;
+    format!(in alloc;
         "{} {} at {x} {y} gen {}",
         pattern.width(),
         pattern.height(),
         pattern.generation()
-    )?;
+    )
+}
+
+fn pattern_told(alloc: Global, pattern: &Pattern) -> Result<String, AllocError> {
+    let mut told = head_told(alloc, pattern)?;
     let mut mark = ":";
     for cell in pattern.cells() {
         told = format!(in alloc; "{told}{mark} {} {} {}", cell.column, cell.row, cell.state)?;
@@ -103,44 +112,55 @@ fn pattern_told(alloc: Global, pattern: &Pattern) -> Result<String, AllocError> 
     Ok(told)
 }
 
-/// The line of a text, with its pattern or its refusal.
-fn read(alloc: Global, line: &str) -> Result<String, AllocError> {
-    let text = line.split(" -> ").next().unwrap_or(line);
-    let told = match parse(alloc, &with_line_feeds(alloc, text)?) {
-        Ok(pattern) => pattern_told(alloc, &pattern)?,
-        Err(fault) => fault.to_string(alloc)?,
-    };
-    format!(in alloc; "{text} -> {told}")
-}
-
-#[test]
-fn reads_texts(rt: HostRuntime) -> Result<(), AllocError> {
-    for line in TEXTS.lines() {
-        assert_eq!(rt; read(rt.alloc(), line)?.as_str(), line);
-    }
-    Ok(())
-}
-
-/// The line of what stands before a header, with position and generation. What stands behind the
-/// header gives none.
-fn origin(alloc: Global, line: &str) -> Result<String, AllocError> {
-    let front = line.split(" -> ").next().unwrap_or(line);
-    let text = format!(in alloc; "{front}|x = 0, y = 0|#CXRLE Pos=9,9 Gen=9|o!")?;
-    match parse(alloc, &with_line_feeds(alloc, text.as_str())?) {
-        Ok(pattern) => {
-            let (x, y) = pattern.pos();
-            format!(in alloc; "{front} -> {x} {y} gen {}", pattern.generation())
-        }
+/// The pattern of a text, or its refusal.
+fn answer(alloc: Global, text: &str) -> Result<String, AllocError> {
+    match parse(alloc, &with_line_feeds(alloc, text)?) {
+        Ok(pattern) => pattern_told(alloc, &pattern),
         Err(fault) => fault.to_string(alloc),
     }
 }
 
-#[test]
-fn reads_origins(rt: HostRuntime) -> Result<(), AllocError> {
-    for line in ORIGINS.lines() {
-        assert_eq!(rt; origin(rt.alloc(), line)?.as_str(), line);
+/// Whether the text of a line is answered as the line says.
+fn is_answered(alloc: Global, line: &str) -> Result<bool, AllocError> {
+    match line.split_once(" -> ") {
+        Some((text, want)) => Ok(answer(alloc, text)?.as_str() == want),
+        None => Ok(false),
     }
-    Ok(())
+}
+
+#[test]
+fn reads_texts(rt: HostRuntime) {
+    for line in TEXTS.lines() {
+        assert!(rt; is_answered(rt.alloc(), line) == Ok(true), "{line}");
+    }
+}
+
+fn origin_told(alloc: Global, pattern: &Pattern) -> Result<String, AllocError> {
+    let (x, y) = pattern.pos();
+    format!(in alloc; "{x} {y} gen {}", pattern.generation())
+}
+
+/// Position and generation of a text.
+fn origin(alloc: Global, text: &str) -> Result<String, AllocError> {
+    match parse(alloc, &with_line_feeds(alloc, text)?) {
+        Ok(pattern) => origin_told(alloc, &pattern),
+        Err(fault) => fault.to_string(alloc),
+    }
+}
+
+/// Whether what stands before a header gives this position and generation. What stands behind the
+/// header gives none.
+fn is_origin(alloc: Global, front: &str, want: &str) -> Result<bool, AllocError> {
+    let text = format!(in alloc; "{front}|x = 0, y = 0|#CXRLE Pos=9,9 Gen=9|o!")?;
+    Ok(origin(alloc, text.as_str())?.as_str() == want)
+}
+
+#[test]
+fn reads_origins(rt: HostRuntime) {
+    for line in ORIGINS.lines() {
+        let (front, want) = line.split_once(" -> ").unwrap_or((line, ""));
+        assert!(rt; is_origin(rt.alloc(), front, want) == Ok(true), "{line}");
+    }
 }
 
 /// Width and number of cells of a text's pattern, and whether its copy has the same cells.
@@ -159,24 +179,40 @@ fn keeps_a_million_cells(rt: HostRuntime) {
     );
 }
 
-/// Number and place of a fault.
-fn numbered(fault: RleFault) -> (u8, Option<u64>) {
-    (fault.number(), fault.place())
+/// Whether a fault has this number and this place.
+fn is_numbered(fault: RleFault, number: u8, place: Option<u64>) -> bool {
+    fault.number() == number && fault.place() == place
 }
+
+static FAULTS: [(RleFault, u8, Option<u64>); 6] = [
+    (RleFault::Tag(12), 5, Some(12)),
+    (RleFault::Count(13), 6, Some(13)),
+    (RleFault::State(14), 7, Some(14)),
+    (RleFault::Header, 4, None),
+    (RleFault::TooMany, 8, None),
+    (RleFault::Memory, 255, None),
+];
 
 #[test]
 fn numbers_faults(rt: HostRuntime) {
-    let with_places = [RleFault::Tag(12), RleFault::Count(13), RleFault::State(14)];
-    assert_eq!(rt;
-        with_places.map(numbered),
-        [(5, Some(12)), (6, Some(13)), (7, Some(14))]
-    );
-    let others = [RleFault::Header, RleFault::TooMany, RleFault::Memory];
-    assert_eq!(rt; others.map(numbered), [(4, None), (8, None), (255, None)]);
+    for (fault, number, place) in &FAULTS {
+        assert!(rt; is_numbered(*fault, *number, *place), "{number}");
+    }
 }
 
-fn cell(x: i32, y: i32, state: u8) -> Cell {
-    Cell { x, y, state }
+/// Column, row and state.
+type Drawn = (i32, i32, u8);
+
+fn cells(alloc: Global, drawn: &[Drawn]) -> Result<Vec<Cell>, AllocError> {
+    let mut cells = Vec::new(alloc);
+    for (x, y, state) in drawn {
+        cells.push(Cell {
+            x: *x,
+            y: *y,
+            state: *state,
+        })?;
+    }
+    Ok(cells)
 }
 
 /// The text of cells under the rule of a text, if they can be written.
@@ -185,92 +221,92 @@ fn written(
     rule: &[u8],
     generation: u64,
     cells: &[Cell],
-) -> Result<String, AllocError> {
+) -> Result<Vec<u8>, AllocError> {
     if let Ok(rule) = Rule::parse(rule) {
         if are_writable(&rule, cells) {
-            return String::from_utf8_lossy(alloc, &write(alloc, &rule, generation, cells)?);
+            return write(alloc, &rule, generation, cells);
         }
     }
-    Ok(String::new(alloc))
+    Ok(Vec::new(alloc))
+}
+
+/// Whether cells make this text.
+fn is_written(
+    alloc: Global,
+    rule: &[u8],
+    generation: u64,
+    drawn: &[Drawn],
+    text: &str,
+) -> Result<bool, AllocError> {
+    let cells = cells(alloc, drawn)?;
+    Ok(written(alloc, rule, generation, &cells)?.as_slice() == text.as_bytes())
 }
 
 #[test]
-fn writes_a_text_without_cells(rt: HostRuntime) -> Result<(), AllocError> {
-    assert_eq!(rt;
-        written(rt.alloc(), b"/2/3", 536_870_912, &[])?.as_str(),
-        "#CXRLE Pos=0,0 Gen=536870912\nx = 0, y = 0, rule = /2/3\n!\n"
-    );
-    Ok(())
+fn writes_a_text_without_cells(rt: HostRuntime) {
+    let text = "#CXRLE Pos=0,0 Gen=536870912\nx = 0, y = 0, rule = /2/3\n!\n";
+    assert!(rt; is_written(rt.alloc(), b"/2/3", 536_870_912, &[], text) == Ok(true));
 }
 
-#[test]
-fn writes_two_generations_of_a_pair(rt: HostRuntime) -> Result<(), AllocError> {
-    let alloc = rt.alloc();
-    let one = [
-        cell(0, -1, 1),
-        cell(1, -1, 1),
-        cell(0, 0, 2),
-        cell(1, 0, 2),
-        cell(0, 1, 1),
-        cell(1, 1, 1),
-    ];
-    assert_eq!(rt;
-        written(alloc, b"/2/3", 1, &one)?.as_str(),
-        "#CXRLE Pos=0,-1 Gen=1\nx = 2, y = 3, rule = /2/3\n2A$2B$2A!\n"
-    );
-    let two = [
-        cell(0, -2, 1),
-        cell(1, -2, 1),
-        cell(0, -1, 2),
-        cell(1, -1, 2),
-        cell(-1, 0, 1),
-        cell(2, 0, 1),
-        cell(0, 1, 2),
-        cell(1, 1, 2),
-        cell(0, 2, 1),
-        cell(1, 2, 1),
-    ];
-    assert_eq!(rt;
-        written(alloc, b"/2/3", 2, &two)?.as_str(),
-        "#CXRLE Pos=-1,-2 Gen=2\nx = 4, y = 5, rule = /2/3\n.2A$.2B$A2.A$.2B$.2A!\n"
-    );
-    Ok(())
-}
+static ONE: [Drawn; 6] = [
+    (0, -1, 1),
+    (1, -1, 1),
+    (0, 0, 2),
+    (1, 0, 2),
+    (0, 1, 1),
+    (1, 1, 1),
+];
+
+static TWO: [Drawn; 10] = [
+    (0, -2, 1),
+    (1, -2, 1),
+    (0, -1, 2),
+    (1, -1, 2),
+    (-1, 0, 1),
+    (2, 0, 1),
+    (0, 1, 2),
+    (1, 1, 2),
+    (0, 2, 1),
+    (1, 2, 1),
+];
 
 #[test]
-fn writes_prefixes_gaps_and_the_widest_box(rt: HostRuntime) -> Result<(), AllocError> {
-    let cells = [
-        cell(-2_147_483_648, -7, 24),
-        cell(-2_147_483_647, -7, 25),
-        cell(-2_147_483_646, -7, 48),
-        cell(-2_147_483_645, -7, 49),
-        cell(2_147_483_647, -4, 255),
-    ];
-    assert_eq!(rt;
-        written(rt.alloc(), b"//256", 0, &cells)?.as_str(),
-        "#CXRLE Pos=-2147483648,-7 Gen=0\nx = 4294967296, y = 4, rule = //256\nXpApXqA3$4294967295.yO!\n"
-    );
-    Ok(())
+fn writes_two_generations_of_a_pair(rt: HostRuntime) {
+    let one = "#CXRLE Pos=0,-1 Gen=1\nx = 2, y = 3, rule = /2/3\n2A$2B$2A!\n";
+    assert!(rt; is_written(rt.alloc(), b"/2/3", 1, &ONE, one) == Ok(true));
+    let two = "#CXRLE Pos=-1,-2 Gen=2\nx = 4, y = 5, rule = /2/3\n.2A$.2B$A2.A$.2B$.2A!\n";
+    assert!(rt; is_written(rt.alloc(), b"/2/3", 2, &TWO, two) == Ok(true));
+}
+
+static WIDEST: [Drawn; 5] = [
+    (-2_147_483_648, -7, 24),
+    (-2_147_483_647, -7, 25),
+    (-2_147_483_646, -7, 48),
+    (-2_147_483_645, -7, 49),
+    (2_147_483_647, -4, 255),
+];
+
+#[test]
+fn writes_prefixes_gaps_and_the_widest_box(rt: HostRuntime) {
+    let text = "#CXRLE Pos=-2147483648,-7 Gen=0\nx = 4294967296, y = 4, rule = //256\n\
+        XpApXqA3$4294967295.yO!\n";
+    assert!(rt; is_written(rt.alloc(), b"//256", 0, &WIDEST, text) == Ok(true));
 }
 
 /// Every other cell of a row, from column 0 to column 80.
-fn every_other(alloc: Global) -> Result<Vec<Cell>, AllocError> {
-    let mut cells = Vec::new(alloc);
-    for i in 0..41u8 {
-        cells.push(cell(2 * i32::from(i), 0, 1))?;
+fn every_other() -> [Drawn; 41] {
+    let mut cells = [(0, 0, 1); 41];
+    for i in 0..41usize {
+        cells[i] = (2 * i as i32, 0, 1);
     }
-    Ok(cells)
+    cells
 }
 
 /// A line has at most 70 bytes.
 #[test]
-fn writes_two_lines_of_tokens(rt: HostRuntime) -> Result<(), AllocError> {
-    let alloc = rt.alloc();
-    assert_eq!(rt;
-        written(alloc, b"23/3/2", 0, &every_other(alloc)?)?.as_str(),
-        "#CXRLE Pos=0,0 Gen=0\nx = 81, y = 1, rule = 23/3/2\n\
+fn writes_two_lines_of_tokens(rt: HostRuntime) {
+    let text = "#CXRLE Pos=0,0 Gen=0\nx = 81, y = 1, rule = 23/3/2\n\
         obobobobobobobobobobobobobobobobobobobobobobobobobobobobobobobobobobob\n\
-        obobobobobo!\n"
-    );
-    Ok(())
+        obobobobobo!\n";
+    assert!(rt; is_written(rt.alloc(), b"23/3/2", 0, &every_other(), text) == Ok(true));
 }
