@@ -1,6 +1,7 @@
 //! Lamport's stamps.
 
 ghost use Rattle.std.specs.Prelude.{◌≡◌, ◌==◌, IsTrue, Some, refl};
+ghost use Rattle.std.specs.Bool.{then_some};
 ghost use Rattle.std.specs.Cmp.{nat_cmp_total, nat_eq_equiv, partial_equiv_from_equiv, unsigned_po, unsigned_ties};
 ghost use Rattle.std.specs.Ordering.{nat_cmp};
 ghost use Rattle.edit_stamps.specs.Stamp.{counter_of as counter_in, is_stamp, replica_of as replica_in, stamp_made};
@@ -42,6 +43,16 @@ impl Stamp {
         Some(Stamp {
             number: counter * 0x1_0000 + u64::from(replica),
         })
+    }
+
+    /// The stamp of a number, `counter * 65536 + replica`, or `None` where counter or replica is 0.
+    pub fn of_number(number: u64) -> Option<Stamp>
+        ensures { result ≡ then_some (is_stamp number) number }
+    {
+        if counter_of(number) == 0 || replica_of(number) == 0 {
+            return None;
+        }
+        Some(Stamp { number })
     }
 
     pub fn counter(self) -> u64
