@@ -1,5 +1,5 @@
 -- Reading so many values in a loop: what was read before, and what is still to be read.
-use Rattle.std.proofs.Common.{◌≡◌, ℕ, suc, ◌-◌, ◌+◌, ◌≤◌, ◌<◌, List, [], ◌∷◌, ◌++◌, Result, Ok, Err, refl, sym, ap, ◌∙◌, append_assoc, arith}
+use Rattle.std.proofs.Common.{◌≡◌, ℕ, zero, suc, ◌-◌, ◌+◌, ◌≤◌, ◌<◌, List, [], ◌∷◌, ◌++◌, Result, Ok, Err, refl, sym, ap, ◌∙◌, append_assoc, arith, ◌⊎◌, inl, inr}
 use Rattle.std.proofs.lemmas.List.{append-nil}
 use Rattle.byte_codec.specs.Reading.{Reading, onwards, many_at}
 
@@ -32,6 +32,13 @@ stops next read front count i state bytes fault total more is so_far =
     let one : in_front front (many_at next read (count - i) state bytes) ≡ Err fault = rw (k, is) refl in
     sym so_far ∙ one
 
+-- a fault is read, or there was none and something else was in the way
+pub stops_or : {F S A : Type 0} (IsOther : F → Type 0) (next : S → A → S) (read : S → Reading F A) (front : List A) (count i : ℕ) (state : S) (bytes : List ℕ) (fault : F)
+    (total : Result (List A × List ℕ) F) → i < count → IsOther fault ⊎ (read state bytes ≡ Err fault)
+    → in_front front (many_at next read (count - i) state bytes) ≡ total → IsOther fault ⊎ (total ≡ Err fault)
+stops_or IsOther next read front count i state bytes fault total more (inl other) so_far = inl other
+stops_or IsOther next read front count i state bytes fault total more (inr is) so_far = inr (stops next read front count i state bytes fault total more is so_far)
+
 -- all are read
 pub is_done : {F S A : Type 0} (next : S → A → S) (read : S → Reading F A) (front : List A) (count i : ℕ) (state : S) (bytes : List ℕ)
     (total : Result (List A × List ℕ) F) → count ≤ i
@@ -40,3 +47,14 @@ is_done {F} {S} {A} next read front count i state bytes total le so_far =
     let k : count - i ≡ 0 = omega arith in
     let one : in_front front (many_at next read (count - i) state bytes) ≡ Ok (front, bytes) = rw k (ap (λ (xs : List A). Ok (xs, bytes)) (append-nil front)) in
     sym so_far ∙ one
+
+nothing_in_front : {F A : Type 0} (read : Result (List A × List ℕ) F) → in_front [] read ≡ read
+nothing_in_front (Ok x) = refl
+nothing_in_front (Err fault) = refl
+
+-- none is read yet
+pub starts : {F S A : Type 0} (next : S → A → S) (read : S → Reading F A) (front : List A) (count : ℕ) (state : S) (bytes : List ℕ) → front ≡ []
+    → in_front front (many_at next read (count - 0) state bytes) ≡ many_at next read count state bytes
+starts next read front count state bytes none =
+    let all : count - 0 ≡ count = omega arith in
+    rw (none, all) (nothing_in_front (many_at next read count state bytes))

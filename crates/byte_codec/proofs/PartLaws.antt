@@ -7,7 +7,7 @@ use Rattle.std.proofs.lemmas.List.{take_at, drop_at, take-append-drop, length-ap
 use Rattle.std.proofs.lemmas.Nat.{be_bytes_2, be_bytes_4, be_bytes_8, from_be_bytes-to_be_bytes_2, from_be_bytes-to_be_bytes_4, from_be_bytes-to_be_bytes_8}
 use Rattle.byte_codec.specs.Reading.{Reading, onwards, number_at, pair_at, chosen_at, many_at, nested_at, unrefused}
 use Rattle.byte_codec.specs.Codec.{AreBytes, BeginsWith, IsCodec, pass_in_turn}
-use Rattle.byte_codec.specs.Laws.{AreNumberCodecs, AreBytesCodecs, MappedIsCodec, CheckedIsCodec, PairIsCodec, ChosenIsCodec, ManyAreCodec, NestedIsCodec}
+use Rattle.byte_codec.specs.Laws.{AreNumberCodecs, AreBytesCodecs, MappedIsCodec, CheckedIsCodec, PairIsCodec, ChosenIsCodec, ManyAreCodec, NestedIsCodec, RetoldIsCodec}
 use Rattle.byte_codec.proofs.Steps.{found, ok_is, onwards_ok, unrefused_ok, unrefused_none, refused_first, AreBytes-take, AreBytes-behind}
 
 -- the value and the rest in other words
@@ -184,7 +184,7 @@ chosen_codec {F} {T} {A} spell_tag is_tag tag tag_of spell has_text branch codec
       let t : BeginsWith spell_tag is_tag bytes s.0 s.1 = codec.takes bytes s.0 s.1 are s.2 in
       let after_are : AreBytes s.1 = AreBytes-behind (spell_tag s.0) s.1 bytes t.spelt are in
       let u : BeginsWith (spell s.0) (has_text s.0) s.1 value rest = (branches s.0 t.fits).takes s.1 value rest after_are s.3 in
-      let told : s.0 ≡ tag_of value = sym (tells s.0 value u.fits) in
+      let told : s.0 ≡ tag_of value = sym (tells s.0 value t.fits u.fits) in
       let whole : bytes ≡ (spell_tag s.0 ++ spell s.0 value) ++ rest =
       t.spelt ∙ ap (λ (l : List ℕ). spell_tag s.0 ++ l) u.spelt ∙ sym (append_assoc (spell_tag s.0) (spell s.0 value) rest) in
       let fits : (is_tag s.0 && has_text s.0 value) ≡ true = and_from _ _ t.fits u.fits in
@@ -248,3 +248,17 @@ pub nested_codec : {F A : Type 0} → NestedIsCodec F A
 nested_codec spell has_text innermost around codec step zero = codec
 nested_codec spell has_text innermost around codec step (suc depth) =
     step depth (nested_at innermost around depth) (nested_codec spell has_text innermost around codec step depth)
+
+-- ---- in other words
+
+pub retold_codec : {F A : Type 0} → RetoldIsCodec F A
+retold_codec {F} {A} spell retold has_text suits read codec there here = record {
+  takes = λ bytes value rest are e.
+      let t : BeginsWith spell has_text bytes value rest = codec.takes bytes value rest are e in
+      let suit : suits value ≡ true = there value t.fits in
+      let same : retold value ≡ spell value = (here value suit).1 in
+      record { fits = suit; spelt = rw same t.spelt };
+  again = λ value rest suit.
+      let both : (has_text value ≡ true) × (retold value ≡ spell value) = here value suit in
+      rw both.1 (codec.again value rest both.0);
+}

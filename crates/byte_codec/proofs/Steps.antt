@@ -1,9 +1,9 @@
 -- What a reading that found a value found on its way, and bytes behind bytes.
-use Rattle.std.proofs.Common.{◌≡◌, ℕ, ◌+◌, Bool, true, false, cond, List, ◌++◌, length, take, drop, Option, Some, None, Result, Ok, Err, refl, arith, inl, inr}
+use Rattle.std.proofs.Common.{◌≡◌, ℕ, ◌+◌, Bool, true, false, cond, List, ◌++◌, length, take, drop, Option, Some, None, Result, Ok, Err, refl, arith, inl, inr, append_assoc}
 use Rattle.std.specs.Prelude.{is_none}
 use Rattle.std.proofs.lemmas.Bool.{cases_lt}
 use Rattle.std.proofs.lemmas.List.{get_or-drop, get_or-take, get_or_past, length-take, drop_at}
-use Rattle.byte_codec.specs.Reading.{onwards, unrefused}
+use Rattle.byte_codec.specs.Reading.{leaving, onwards, unrefused}
 use Rattle.byte_codec.specs.Codec.{AreBytes}
 
 -- a value and what stands behind it, of the type of results
@@ -56,3 +56,12 @@ AreBytes-take n bytes h i =
 -- what stands behind a text in bytes is bytes
 pub AreBytes-behind : (text rest bytes : List ℕ) → bytes ≡ text ++ rest → AreBytes bytes → AreBytes rest
 AreBytes-behind text rest bytes e h = rw (← drop_at text rest (length text) refl, ← e) (AreBytes-drop (length text) bytes h)
+
+-- a value that may be refused, behind what was read
+pub leaving_unrefused : {F A : Type 0} (fault : Option F) (x : A) (rest : List ℕ) → leaving (λ (y : A). y) (unrefused fault x) rest ≡ unrefused fault (x, rest)
+leaving_unrefused None x rest = refl
+leaving_unrefused (Some fault) x rest = refl
+
+-- bytes behind bytes
+pub four_behind : (text a b c d : List ℕ) → (((text ++ a) ++ b) ++ c) ++ d ≡ text ++ (a ++ (b ++ (c ++ d)))
+four_behind text a b c d = simp append_assoc

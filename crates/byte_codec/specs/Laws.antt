@@ -44,7 +44,7 @@ ChosenIsCodec F T A =
     (spell_tag : T → List ℕ) (is_tag : T → Bool) (tag : Reading F T) (tag_of : A → T)
     (spell : T → A → List ℕ) (has_text : T → A → Bool) (branch : T → Reading F A)
     → IsCodec spell_tag is_tag tag → ((t : T) → IsTrue (is_tag t) → IsCodec (spell t) (has_text t) (branch t))
-    → ((t : T) (x : A) → IsTrue (has_text t x) → tag_of x ≡ t)
+    → ((t : T) (x : A) → IsTrue (is_tag t) → IsTrue (has_text t x) → tag_of x ≡ t)
     → IsCodec (λ x. spell_tag (tag_of x) ++ spell (tag_of x) x) (λ x. is_tag (tag_of x) && has_text (tag_of x) x) (chosen_at tag branch)
 
 -- so many values, each read by the state that the ones before it left
@@ -62,6 +62,13 @@ NestedIsCodec F A =
     → IsCodec spell (has_text zero) innermost
     → ((depth : ℕ) (read : Reading F A) → IsCodec spell (has_text depth) read → IsCodec spell (has_text (suc depth)) (around read))
     → (depth : ℕ) → IsCodec spell (has_text depth) (nested_at innermost around depth)
+
+-- the same values and texts in other words
+abbrev pub RetoldIsCodec : Type 0 → Type 0 → Type 0
+RetoldIsCodec F A =
+    (spell retold : A → List ℕ) (has_text suits : A → Bool) (read : Reading F A) → IsCodec spell has_text read
+    → ((x : A) → IsTrue (has_text x) → IsTrue (suits x)) → ((x : A) → IsTrue (suits x) → IsTrue (has_text x) × (retold x ≡ spell x))
+    → IsCodec retold suits read
 
 -- ---- what follows
 

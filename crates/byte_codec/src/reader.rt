@@ -13,15 +13,19 @@ pub struct Reader<'a> {
 
 impl<'a> Model for Reader<'a> {
     ghost use Rattle.std.specs.Prelude.{ℕ, List};
+    ghost use Rattle.byte_codec.specs.Codec.{AreBytes};
 
     ghost Value = { List ℕ };
 
     ghost view = { λ r. r.rest.now };
+
+    ghost invariant = { λ r. AreBytes r.rest.now };
 }
 
 impl<'a> Reader<'a> {
     ghost use Rattle.std.specs.Prelude.{OnErr};
     ghost use Rattle.std.specs.Int.{w8, w16, w32, w64};
+    ghost use Rattle.byte_codec.specs.Codec.{AreBytes};
     ghost use Rattle.byte_codec.specs.Reading.{bytes_at, ended, leaving, number_at};
 
     pub fn new(bytes: &'a [u8]) -> Reader<'a>
@@ -32,7 +36,8 @@ impl<'a> Reader<'a> {
 
     /// How many bytes are left.
     pub fn len(&self) -> usize
-        ensures { result ≡ length self.now }
+        ensures value { result ≡ length self.now }
+        ensures bytes { AreBytes self.now }
     {
         self.rest.len()
     }

@@ -1,4 +1,4 @@
-use Rattle.byte_codec.proofs.PartLaws.{number_codecs, bytes_codec, mapped_codec, checked_codec, pair_codec, chosen_codec, many_codec, nested_codec}
+use Rattle.byte_codec.proofs.PartLaws.{number_codecs, bytes_codec, mapped_codec, checked_codec, pair_codec, chosen_codec, many_codec, nested_codec, retold_codec}
 use Rattle.byte_codec.proofs.laws.part_laws.Goals as goal
 
 pub returns-clause-numbers : goal.returns-clause-numbers
@@ -24,3 +24,6 @@ returns-clause-many g c = many_codec
 
 pub returns-clause-nested : goal.returns-clause-nested
 returns-clause-nested g c = nested_codec
+
+pub returns-clause-retold : goal.returns-clause-retold
+returns-clause-retold g c = retold_codec
