@@ -135,6 +135,15 @@ impl Edit {
         })
     }
 
+    /// The edit of a stamp, an area and listed cells that are those of one, as where a text of an
+    /// edit was read and checked. It takes no memory.
+    pub fn of_parts(stamp: Stamp, area: Option<Rect>, cells: Vec<Cell>) -> Edit
+        requires { IsEdit (record { stamp = stamp; area = area; cells = cells.items }) }
+        ensures { result ≡ record { stamp = stamp; area = area; cells = cells.items } }
+    {
+        Edit { stamp, area, cells }
+    }
+
     pub fn stamp(&self) -> Stamp
         ensures { result ≡ self.now.stamp }
     {

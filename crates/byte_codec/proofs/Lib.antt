@@ -1,0 +1,4 @@
+pub mod Steps
+pub mod PartLaws
+pub mod CodecLaws
+pub mod ManySteps

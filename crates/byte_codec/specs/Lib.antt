@@ -1,0 +1,4 @@
+pub mod Reading
+pub mod Codec
+pub mod Laws
+pub mod Rows

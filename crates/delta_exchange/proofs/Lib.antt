@@ -1,0 +1,9 @@
+pub mod ReadSteps
+pub mod WordLaws
+pub mod CellCodec
+pub mod AreaCodec
+pub mod EditCodec
+pub mod Suits
+pub mod DeltaCodec
+pub mod DeltaLaws
+pub mod EditSteps
