@@ -1,0 +1,6 @@
+pub mod Grid
+pub mod Squares
+pub mod Store
+pub mod Steps
+pub mod Seen
+pub mod StoreFault
