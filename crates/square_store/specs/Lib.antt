@@ -4,3 +4,4 @@ pub mod Store
 pub mod Steps
 pub mod Seen
 pub mod StoreFault
+pub mod Rows

@@ -3,7 +3,7 @@
 ghost use Rattle.std.specs.Prelude.{◌≡◌, ◌-◌, ◌<◌, ◌↔◌, ◌∷◌, ◌++◌, ℕ, [], IsTrue, IfOk, OnErr, IfSome, IfNone, Some, Err, length, slice_get};
 ghost use Rattle.square_store.specs.Grid.{Grid, blank_grid, IsSpeltWithin};
 ghost use Rattle.square_store.specs.Squares.{Held, IsAt, write_at, side_at, four_grid, quarters_grid, Draws};
-ghost use Rattle.square_store.specs.Store.{nothing_held, IsHeld, HasParts, IsGrown, IsAdded, IsFullFor, IsOnePartEach};
+ghost use Rattle.square_store.specs.Store.{nothing_held, IsHeld, HasParts, IsGrown, IsAdded, IsFullFor, IsOnePartEach, IsStore};
 ghost use Rattle.square_store.specs.Steps.{IsWanted, IsSummed, IsAbsentNode, IsAbsentLeaf, IsPushed, IsLeafPushed, IsPlaceOfLeaf, IsOneBlank};
 ghost use Rattle.square_store.specs.Seen.{AreAt, IsSeen};
 
@@ -119,9 +119,11 @@ impl<L: LeafKind> Store<L> {
         *summary
     }
 
-    /// Equal writes are equal parts.
+    /// Each leaf and each square stands once, and no blank is spelt out. So two parts of one level
+    /// with the same writes are one part.
     pub fn part_laws(&self)
-        ensures { IsOnePartEach L.write L.side self.now }
+        ensures store { IsStore L.write L.side L.IsLeaf self.now }
+        ensures parts { IsOnePartEach L.write L.side self.now }
     {
         let _ = &self.room;
     }
