@@ -1,6 +1,8 @@
 -- Four squares put together.
-use Rattle.std.proofs.Common.{◌≡◌, ℕ, suc, ◌+◌, ◌-◌, ◌*◌, ◌^◌, ◌<◌, ◌≤◌, Bool, true, false, sym, ap, ◌∙◌, arith, rules, refl, pow-suc}
+use Rattle.std.proofs.Common.{◌≡◌, ℕ, suc, ◌+◌, ◌-◌, ◌*◌, ◌^◌, ◌<◌, ◌≤◌, Bool, true, false, sym, ap, ◌∙◌, arith, rules, refl, pow-suc, inl, inr}
+use Rattle.std.proofs.lemmas.Bool.{cases_lt}
 use Rattle.std.specs.Prelude.{if◌then◌else◌, nat_lt}
+use Rattle.edit_stamps.specs.declared.write.Write.{Write}
 use Rattle.square_store.specs.Grid.{Grid, blank_grid, quartered, AreSameWithin}
 use Rattle.square_store.specs.Squares.{side_at}
 
@@ -71,3 +73,18 @@ blank_quarters n t u v = go (nat_lt v n) (nat_lt u n)
     go true false = refl
     go false true = refl
     go false false = refl
+
+-- what holds of each quarter holds of the four
+pub each_quarter : (P : Write → Type 0) (n : ℕ) (a b c d : Grid)
+    → ((u v : ℕ) → u < n → v < n → P (a u v)) → ((u v : ℕ) → u < n → v < n → P (b u v)) → ((u v : ℕ) → u < n → v < n → P (c u v)) → ((u v : ℕ) → u < n → v < n → P (d u v))
+    → (u v : ℕ) → u < n + n → v < n + n → P (quartered n a b c d u v)
+each_quarter P n a b c d pa pb pc pd u v hu hv = elim (cases_lt v n) [
+  | inl top ↦ elim (cases_lt u n) [
+    | inl left ↦ rw (lt_true v n top, lt_true u n left) (pa u v left top)
+    | inr right ↦ rw (lt_true v n top, lt_false u n right) (pb (u - n) v (omega (arith, hu)) top)
+  ]
+  | inr bottom ↦ elim (cases_lt u n) [
+    | inl left ↦ rw (lt_false v n bottom, lt_true u n left) (pc u (v - n) left (omega (arith, hv)))
+    | inr right ↦ rw (lt_false v n bottom, lt_false u n right) (pd (u - n) (v - n) (omega (arith, hu)) (omega (arith, hv)))
+  ]
+]
