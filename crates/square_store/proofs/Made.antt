@@ -6,7 +6,7 @@ use Rattle.square_store.specs.declared.node.Node.{Node}
 use Rattle.square_store.specs.declared.node.Node.TheVariants.{Blank, Leaf, Four}
 use Rattle.square_store.specs.Grid.{Grid, blank_grid, quartered, AreSameWithin, IsBlankWithin, IsSpeltWithin}
 use Rattle.square_store.specs.Squares.{Held, side_at, IsAt, write_at, quarters_grid, Draws}
-use Rattle.square_store.specs.Store.{HasParts, IsCanonical, IsStore, IsAbsent, IsGrown, IsAdded, Stood, Added, IsFullFor}
+use Rattle.square_store.specs.Store.{HasParts, IsCanonical, IsStore, IsAbsent, IsGrown, IsAdded, Stood, Added, IsFullFor, IsRoomFor}
 use Rattle.square_store.specs.Steps.{node_grid, IsBlankNode, IsOneBlank, IsAbsentNode, IsAbsentLeaf, IsPlaceOfLeaf, IsWanted, IsPushed, IsLeafPushed}
 use Rattle.square_store.specs.Seen.{IsBlankAt, IsLeafAt, IsFourAt}
 use Rattle.square_store.proofs.Lists.{got_last}
@@ -155,6 +155,9 @@ module _ {L : Type 0} (writes : L → Grid) (side k : ℕ) (f g : Grid) (alike :
 
   pub full_as : (s : Held L) → IsFullFor writes side s k g → IsFullFor writes side s k f
   full_as s full = record { full = full.full; absent = absent_as s full.absent }
+
+  pub room_as : (s : Held L) → IsRoomFor writes side s k g → IsRoomFor writes side s k f
+  room_as s room = record { room = room.room; absent = absent_as s room.absent }
 
   pub added_as : (old new : Held L) (p : ℕ) → IsAdded writes side old new k g p → IsAdded writes side old new k f p
   added_as old new p (Stood e) = Stood e

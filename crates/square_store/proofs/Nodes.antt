@@ -1,6 +1,7 @@
 -- Nodes are told apart exactly; what a search in the store finds; entries and one more.
-use Rattle.std.proofs.Common.{rules, ◌≡◌, ℕ, ◌<◌, Bool, true, List, [], ◌∷◌, ◌++◌, length, sym, ap, ◌∙◌, subst, refl}
-use Rattle.std.specs.Prelude.{Option, None, Some, Decides, IfSome, IfNone, IsTrue, nat_eq, if◌then◌else◌}
+use Rattle.std.proofs.Common.{inl, inr, arith, ◌≤◌, false, rules, ◌≡◌, ℕ, ◌<◌, Bool, true, List, [], ◌∷◌, ◌++◌, length, sym, ap, ◌∙◌, subst, refl}
+use Rattle.std.proofs.lemmas.Bool.{cases_lt}
+use Rattle.std.specs.Prelude.{Option, None, Some, Decides, IfSome, IfNone, IsTrue, ◌↔◌, nat_eq, if◌then◌else◌}
 use Rattle.std.specs.Map.{keys_of, values_of}
 use Rattle.std.specs.List.{list_any, position_or_len}
 use Rattle.indexmap.specs.IndexMap.{insert_entry}
@@ -41,6 +42,16 @@ some_map (Some x) f h = f x h
 pub none_map : {A P Q : Type 0} (r : Option A) → (P → Q) → IfNone r P → IfNone r Q
 none_map None f h = f h
 none_map (Some x) f h = tt
+
+-- a store that is not full has room
+pub not_full : (count room : ℕ) (b : Bool) → (IsTrue b ↔ (count ≡ room)) → b ≡ false → count ≤ room → count < room
+not_full count room b full e few = elim (cases_lt count room) [
+  | inl below ↦ below
+  | inr above ↦ absurd (never (sym e ∙ full.1 (omega (arith, above, few))))
+]
+  where
+    never : false ≡ true → ⊥
+    never z = cc
 
 -- a store whose entries are one more
 module _ {L S : Type 0} (writes : L → Grid) (side : ℕ) (IsLeaf : L → Type 0) (IsSummary : ℕ → Grid → S → Type 0) (leaves : List L) (room : ℕ) (es : List (Node × S)) where

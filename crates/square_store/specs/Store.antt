@@ -63,6 +63,11 @@ pub record IsFullFor {L : Type 0} (writes : L → Grid) (side : ℕ) (s : Held L
   pub full : length s.squares ≡ s.room
   pub absent : IsAbsent writes side s k f
 
+-- the store has room for one more square, and not this one
+pub record IsRoomFor {L : Type 0} (writes : L → Grid) (side : ℕ) (s : Held L) (k : ℕ) (f : Grid) : Type 0 where
+  pub room : length s.squares < s.room
+  pub absent : IsAbsent writes side s k f
+
 -- two parts of one level with the same writes are one
 abbrev pub IsOnePartEach : {L : Type 0} → (L → Grid) → ℕ → Held L → Type 0
 IsOnePartEach writes side s = (k p q : ℕ) → IsAt s k p → IsAt s k q → AreSameWithin (side_at side k) (write_at writes side s k p) (write_at writes side s k q) → p ≡ q

@@ -3,7 +3,7 @@
 ghost use Rattle.std.specs.Prelude.{◌≡◌, ◌-◌, ◌<◌, ◌↔◌, ◌∷◌, ◌++◌, ℕ, [], IsTrue, IfOk, OnErr, IfSome, IfNone, Some, Err, length, slice_get};
 ghost use Rattle.square_store.specs.Grid.{Grid, blank_grid, IsSpeltWithin};
 ghost use Rattle.square_store.specs.Squares.{Held, IsAt, write_at, side_at, four_grid, quarters_grid, Draws};
-ghost use Rattle.square_store.specs.Store.{nothing_held, IsHeld, HasParts, IsGrown, IsAdded, IsFullFor, IsOnePartEach, IsStore};
+ghost use Rattle.square_store.specs.Store.{nothing_held, IsHeld, HasParts, IsGrown, IsAdded, IsFullFor, IsRoomFor, IsOnePartEach, IsStore};
 ghost use Rattle.square_store.specs.Steps.{IsWanted, IsSummed, IsAbsentNode, IsAbsentLeaf, IsPushed, IsLeafPushed, IsPlaceOfLeaf, IsOneBlank};
 ghost use Rattle.square_store.specs.Seen.{AreAt, IsSeen};
 
@@ -136,6 +136,7 @@ impl<L: LeafKind> Store<L> {
         ensures grows { IsGrown L.write L.side self.old self.new }
         ensures err { OnErr result (self.new ≡ self.old) }
         ensures full { result ≡ Err StoreFault.StoreFull → (k : ℕ) → IsFullFor L.write L.side self.old k (blank_grid stamp) }
+        ensures memory { result ≡ Err StoreFault.Memory → (k : ℕ) → IsRoomFor L.write L.side self.old k (blank_grid stamp) }
     {
         let _ = &self.room;
         if let Some(part) = self.find(Node::Blank(stamp)) {
@@ -152,6 +153,7 @@ impl<L: LeafKind> Store<L> {
         ensures grows { IsGrown L.write L.side self.old self.new }
         ensures err { OnErr result (self.new ≡ self.old) }
         ensures full { result ≡ Err StoreFault.StoreFull → IsFullFor L.write L.side self.old 0 (L.write leaf) }
+        ensures memory { result ≡ Err StoreFault.Memory → IsRoomFor L.write L.side self.old 0 (L.write leaf) }
     {
         let _ = &self.room;
         if let Some(stamp) = leaf.blank_stamp() {
@@ -175,6 +177,7 @@ impl<L: LeafKind> Store<L> {
         ensures grows { IsGrown L.write L.side self.old self.new }
         ensures err { OnErr result (self.new ≡ self.old) }
         ensures full { result ≡ Err StoreFault.StoreFull → IsFullFor L.write L.side self.old level (four_grid L.write L.side self.old (level - 1) parts) }
+        ensures memory { result ≡ Err StoreFault.Memory → IsRoomFor L.write L.side self.old level (four_grid L.write L.side self.old (level - 1) parts) }
     {
         let part = self.add_quarters(level, parts[0], parts[1], parts[2], parts[3])?;
         Ok(part)
@@ -194,6 +197,7 @@ impl<L: LeafKind> Store<L> {
         ensures grows { IsGrown L.write L.side self.old self.new }
         ensures err { OnErr result (self.new ≡ self.old) }
         ensures full { result ≡ Err StoreFault.StoreFull → IsFullFor L.write L.side self.old level (quarters_grid L.write L.side self.old (level - 1) nw ne sw se) }
+        ensures memory { result ≡ Err StoreFault.Memory → IsRoomFor L.write L.side self.old level (quarters_grid L.write L.side self.old (level - 1) nw ne sw se) }
     {
         let _ = &self.room;
         if self.are_one_blank(nw, ne, sw, se) {
@@ -270,6 +274,12 @@ impl<L: LeafKind> Store<L> {
         }
     }
 
+    fn is_full(&self) -> bool
+        ensures { IsTrue result ↔ (length self.now.squares ≡ self.now.room) }
+    {
+        self.squares.len() >= self.room as usize
+    }
+
     /// Puts a square last.
     fn push(&mut self, node: Node, summary: L::Summary) -> Result<Part, StoreFault>
         requires absent { IsAbsentNode self.old node }
@@ -278,8 +288,9 @@ impl<L: LeafKind> Store<L> {
         ensures pushed { IfOk result (λ p. IsPushed self.old self.new node p) }
         ensures err { OnErr result (self.new ≡ self.old) }
         ensures full { result ≡ Err StoreFault.StoreFull → length self.old.squares ≡ self.old.room }
+        ensures memory { result ≡ Err StoreFault.Memory → length self.old.squares < self.old.room }
     {
-        if self.squares.len() >= self.room as usize {
+        if self.is_full() {
             return Err(StoreFault::StoreFull);
         }
         let Ok((place, _)) = self.squares.insert_full(node, summary) else {
@@ -298,8 +309,9 @@ impl<L: LeafKind> Store<L> {
         ensures pushed { IfOk result (λ p. IsLeafPushed self.old self.new leaf p) }
         ensures err { OnErr result (self.new ≡ self.old) }
         ensures full { result ≡ Err StoreFault.StoreFull → length self.old.squares ≡ self.old.room }
+        ensures memory { result ≡ Err StoreFault.Memory → length self.old.squares < self.old.room }
     {
-        if self.squares.len() >= self.room as usize {
+        if self.is_full() {
             return Err(StoreFault::StoreFull);
         }
         // With room made first, no leaf stays without its square.

@@ -13,6 +13,12 @@ returns-in_err-part-clause-full g c = λ h k. record {
   absent = blank_absent g.L.LeafKind.write g.L.LeafKind.side g.L.LeafKind.IsLeaf _ (rw c.self.view_is at c.self.invariant.0.canonical) g.met.L.LeafKind.some c.args.stamp k c.in_default.ensures.none;
 }
 
+pub returns-in_err-part-clause-memory : goal.returns-in_err-part-clause-memory
+returns-in_err-part-clause-memory g c = λ h k. record {
+  room = c.in_err-part.ensures.memory (ap (λ e. Err e) (told _ _ _ c.from_residual.ensures.1 h));
+  absent = blank_absent g.L.LeafKind.write g.L.LeafKind.side g.L.LeafKind.IsLeaf _ (rw c.self.view_is at c.self.invariant.0.canonical) g.met.L.LeafKind.some c.args.stamp k c.in_default.ensures.none;
+}
+
 pub returns-clause-draws : goal.returns-clause-draws
 returns-clause-draws g c = blank_draws g.L.LeafKind.write g.L.LeafKind.side _ _ _ (pushed_there g.L.LeafKind.write g.L.LeafKind.side _ _ _ _ c.in_ok-part.ensures.pushed)
 

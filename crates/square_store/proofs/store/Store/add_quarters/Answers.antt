@@ -39,6 +39,16 @@ returns-in_err-part-clause-full g c = λ h. record {
     never : false ≡ true → ⊥
     never z = cc
 
+pub returns-in_err-part-clause-memory : goal.returns-in_err-part-clause-memory
+returns-in_err-part-clause-memory g c = λ h. record {
+  room = c.in_err-part.ensures.memory (ap (λ e. Err e) (told _ _ _ c.from_residual.ensures.1 h));
+  absent = four_absent g.L.LeafKind.write g.L.LeafKind.side g.L.LeafKind.IsLeaf _ (rw c.self.view_is at c.self.invariant.0.canonical) g.met.L.LeafKind.some g.met.L.LeafKind.exact _ _ _ _ _
+      (c.requires, λ one. never (sym c.if-are_one_blank.false ∙ c.are_one_blank.ensures.1 one)) c.in_default.ensures.none;
+}
+  where
+    never : false ≡ true → ⊥
+    never z = cc
+
 pub returns-clause-draws : goal.returns-clause-draws
 returns-clause-draws g c =
     four_draws g.L.LeafKind.write g.L.LeafKind.side g.L.LeafKind.IsLeaf c.args.self.now (rw c.self.view_is at c.self.invariant.0.canonical) g.met.L.LeafKind.some g.met.L.LeafKind.exact _

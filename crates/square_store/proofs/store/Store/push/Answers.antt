@@ -3,7 +3,7 @@ use Rattle.std.specs.Map.{keys_of}
 use Rattle.std.proofs.lemmas.Map.Entries.{length-keys_of}
 use Rattle.square_store.specs.Steps.{IsAbsentNode, IsWanted, IsSummed}
 use Rattle.square_store.proofs.Lists.{missing_entry, missing_place, keys_more}
-use Rattle.square_store.proofs.Nodes.{is_node, node_same, good_node, held_of}
+use Rattle.square_store.proofs.Nodes.{not_full, is_node, node_same, good_node, held_of}
 use Rattle.square_store.proofs.store.Store.push.Goals as goal
 
 pub invariant_of-self-2 : goal.invariant_of-self-2
@@ -14,7 +14,7 @@ invariant_of-self-2 g c =
     let wanted = subst (λ h. IsWanted h c.args.node) (sym c.self.view_is) c.requires.wanted in
     let summed = subst (λ h. IsSummed g.L.LeafKind.write g.L.LeafKind.side g.L.LeafKind.IsSummary h c.args.node c.args.summary) (sym c.self.view_is) c.requires.summed in
     let entry : c.insert_full.new.self.entries ≡ _ = c.in-Ok.ensures.entries ∙ missing_entry is_node node_same c.args.node es c.args.summary absent in
-    let below : length (keys_of es) < s.room = (let len = c.len.ensures.len in let h = c.if-len-self.false in omega (arith, len, h, length-keys_of es)) in
+    let below : length (keys_of es) < s.room = not_full (length (keys_of es)) s.room _ (rw (← c.self.view_is) at c.is_full.ensures) c.if-is_full.false c.self.invariant.0.few_squares in
     rw entry (good_node g.L.LeafKind.write g.L.LeafKind.side g.L.LeafKind.IsLeaf g.L.LeafKind.IsSummary s.leaves.keys s.room es c.self.invariant c.args.node c.args.summary absent wanted summed below)
 
 pub returns-clause-pushed : goal.returns-clause-pushed

@@ -2,7 +2,7 @@ use Rattle.std.proofs.Common.{◌≡◌, ◌<◌, true, sym, subst, arith, lengt
 use Rattle.std.specs.Map.{keys_of}
 use Rattle.std.proofs.lemmas.Map.Entries.{length-keys_of}
 use Rattle.square_store.specs.Steps.{IsAbsentLeaf}
-use Rattle.square_store.proofs.Nodes.{leaf_last, last_held, good_leaf}
+use Rattle.square_store.proofs.Nodes.{not_full, leaf_last, last_held, good_leaf}
 use Rattle.square_store.proofs.store.Store.push_leaf.Goals as goal
 
 pub invariant_of-self-2 : goal.invariant_of-self-2
@@ -11,7 +11,7 @@ invariant_of-self-2 g c =
     let es = s.squares.entries in
     let eq = g.L.PartialEq.eq in
     let absent = subst (λ h. IsAbsentLeaf h c.args.leaf) (sym c.self.view_is) c.requires.absent in
-    let below : length (keys_of es) < s.room = (let len = c.len.ensures.len in let h = c.if-len-self.false in omega (arith, len, h, length-keys_of es)) in
+    let below : length (keys_of es) < s.room = not_full (length (keys_of es)) s.room _ (rw (← c.self.view_is) at c.is_full.ensures) c.if-is_full.false c.self.invariant.0.few_squares in
     let last = leaf_last g.L.LeafKind.write g.L.LeafKind.side g.L.LeafKind.IsLeaf eq (λ a b. (g.met.L.LeafKind.same a b, λ e. subst (λ z. eq a z ≡ true) e (g.met.L.Eq.laws.refl a)))
     s.leaves.keys _ s.room es _ _ c.args.leaf _ _ _ c.self.invariant.0.canonical absent c.in_ok-reserve.ensures.entries c.in-Ok.ensures.keys c.in-Ok.ensures.index c.in-Ok-insert_full.ensures.entries c.in-Ok-insert_full.ensures.index in
     rw (last.leaves_are, last.squares_are)
