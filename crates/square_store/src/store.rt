@@ -67,7 +67,8 @@ impl<L: LeafKind> Store<L> {
 
     /// Whether a square of a level stands at a part. A blank stands for every level.
     pub fn is_at(&self, part: Part, level: u32) -> bool
-        ensures { IsTrue result ↔ IsAt self.now level part }
+        ensures level { IsTrue result ↔ IsAt self.now level part }
+        ensures held { IsTrue result → IsHeld self.now part }
     {
         match self.node(part) {
             Some(Node::Blank(_)) => true,

@@ -14,9 +14,28 @@ fn last(stamp: u64, state: u8) -> PlaneLeaf {
     PlaneLeaf { leaf }
 }
 
-/// What stands at a part: a blank's stamp, the state at a leaf's last place, or the level of four.
-fn seen(store: &Store<PlaneLeaf>, part: Part) -> (u8, u64) {
-    if !store.is_at(part, 0) && !store.is_at(part, 1) && !store.is_at(part, 2) {
+/// A square of three blanks and a leaf.
+fn add_small(store: &mut Store<PlaneLeaf>) -> Result<Part, StoreFault> {
+    let blank = store.add_blank(7)?;
+    let leaf = store.add_leaf(last(65537, 3))?;
+    four(store, 1, [blank, blank, leaf, blank])
+}
+
+/// A square of a level, of three blanks and one of another stamp.
+fn add_blanks(
+    store: &mut Store<PlaneLeaf>,
+    level: u32,
+    stamp: u64,
+) -> Result<Part, StoreFault> {
+    let blank = store.add_blank(7)?;
+    let other = store.add_blank(stamp)?;
+    four(store, level, [blank, blank, blank, other])
+}
+
+/// What stands at a part of a level: a blank's stamp, the state at a leaf's last place, or the level
+/// of four.
+fn seen(store: &Store<PlaneLeaf>, part: Part, level: u32) -> (u8, u64) {
+    if !store.is_at(part, level) {
         return (9, 9);
     }
     match store.square(part) {
@@ -26,70 +45,60 @@ fn seen(store: &Store<PlaneLeaf>, part: Part) -> (u8, u64) {
     }
 }
 
-/// The bounds of a square of level 2 of one leaf and three blanks, and what is seen on the way.
-fn looks(alloc: Global) -> Result<[(u8, u64); 4], StoreFault> {
+fn seen_blank(alloc: Global) -> Result<(u8, u64), StoreFault> {
     let mut store = Store::new(alloc, 9);
-    let blank = store.add_blank(7)?;
+    let blank = add_blanks(&mut store, 5, 7)?;
+    Ok(seen(&store, blank, 30))
+}
+
+fn seen_leaf(alloc: Global) -> Result<(u8, u64), StoreFault> {
+    let mut store = Store::new(alloc, 9);
     let leaf = store.add_leaf(last(65537, 3))?;
-    let small = four(&mut store, 1, [blank, blank, leaf, blank])?;
-    let large = four(&mut store, 2, [blank, small, blank, blank])?;
-    Ok([
-        seen(&store, blank),
-        seen(&store, leaf),
-        seen(&store, small),
-        seen(&store, large),
-    ])
+    Ok(seen(&store, leaf, 0))
+}
+
+fn seen_small(alloc: Global) -> Result<(u8, u64), StoreFault> {
+    let mut store = Store::new(alloc, 9);
+    let small = add_small(&mut store)?;
+    Ok(seen(&store, small, 1))
 }
 
 /// The least and the greatest stamp of that square.
 fn bounds(alloc: Global) -> Result<StampBounds, StoreFault> {
     let mut store = Store::new(alloc, 9);
-    let blank = store.add_blank(7)?;
-    let leaf = store.add_leaf(last(65537, 3))?;
-    let small = four(&mut store, 1, [blank, blank, leaf, blank])?;
-    let large = four(&mut store, 2, [blank, small, blank, blank])?;
-    if store.is_at(large, 2) {
-        return Ok(store.summary(large));
+    let small = add_small(&mut store)?;
+    if store.is_at(small, 1) {
+        return Ok(store.summary(small));
     }
     Err(StoreFault::StoreFull)
 }
 
-/// Four blanks of one stamp at two levels are one part; four of two stamps are two.
-fn are_same(alloc: Global, other: u64) -> Result<bool, StoreFault> {
-    let mut store: Store<PlaneLeaf> = Store::new(alloc, 9);
-    let (a, b) = (store.add_blank(7)?, store.add_blank(other)?);
-    let small = four(&mut store, 1, [a, a, a, b])?;
-    let large = four(&mut store, 2, [a, a, a, b])?;
+/// Whether squares of three blanks and another, of levels 1 and 2, are one part.
+fn are_same(alloc: Global, stamp: u64) -> Result<bool, StoreFault> {
+    let mut store = Store::new(alloc, 9);
+    let small = add_blanks(&mut store, 1, stamp)?;
+    let large = add_blanks(&mut store, 2, stamp)?;
     Ok(small == large)
-}
-
-/// Whether a leaf of dead cells of one stamp is that stamp's blank.
-fn is_blank(alloc: Global) -> Result<bool, StoreFault> {
-    let mut store = Store::new(alloc, 1);
-    let blank = store.add_blank(65537)?;
-    let leaf = store.add_leaf(PlaneLeaf {
-        leaf: Leaf::blank(65537),
-    })?;
-    Ok(blank == leaf)
 }
 
 #[test]
 fn sees_what_was_added(rt: HostRuntime) -> Result<(), StoreFault> {
     let alloc = rt.alloc();
-    assert_eq!(rt; looks(alloc)?, [(0, 7), (1, 3), (2, 1), (2, 2)]);
+    assert_eq!(rt; seen_blank(alloc)?, (0, 7));
+    assert_eq!(rt; seen_leaf(alloc)?, (1, 3));
+    assert_eq!(rt; seen_small(alloc)?, (2, 1));
     Ok(())
 }
 
 #[test]
 fn bounds_the_stamps(rt: HostRuntime) -> Result<(), StoreFault> {
-    let alloc = rt.alloc();
-    assert_eq!(rt; bounds(alloc)?, StampBounds { least: 0, greatest: 65537 });
+    assert_eq!(rt; bounds(rt.alloc())?, StampBounds { least: 0, greatest: 65537 });
     Ok(())
 }
 
 #[test]
 fn keeps_levels_apart_but_not_those_of_blanks(rt: HostRuntime) -> Result<(), StoreFault> {
     let alloc = rt.alloc();
-    assert_eq!(rt; (are_same(alloc, 7)?, are_same(alloc, 8)?, is_blank(alloc)?), (true, false, true));
+    assert_eq!(rt; (are_same(alloc, 7)?, are_same(alloc, 8)?), (true, false));
     Ok(())
 }

@@ -11,7 +11,7 @@ use std::alloc::Global;
 enum Plain {
     Blank(u64),
     Leaf(u64, u8),
-    Four(u32, [usize; 4]),
+    Four(u32, usize, usize, usize, usize),
 }
 
 /// A square of the list, and the part that the store gave for it.
@@ -49,8 +49,17 @@ fn asked(store: &Store<Single>, list: &[Known], number: &mut u64) -> Plain {
             let ne = drawn(store, list, level, number);
             let sw = drawn(store, list, level, number);
             let se = drawn(store, list, level, number);
-            Plain::Four(level + 1, [nw, ne, sw, se])
+            Plain::Four(level + 1, nw, ne, sw, se)
         }
+    }
+}
+
+/// The stamp of a blank of the list.
+fn stamp_at(list: &[Known], place: usize) -> Option<u64> {
+    let known = *list.get(place)?;
+    match known.plain {
+        Plain::Blank(stamp) => Some(stamp),
+        _ => None,
     }
 }
 
@@ -58,10 +67,10 @@ fn asked(store: &Store<Single>, list: &[Known], number: &mut u64) -> Plain {
 fn settled(list: &[Known], plain: Plain) -> Plain {
     match plain {
         Plain::Leaf(stamp, 0) => Plain::Blank(stamp),
-        Plain::Four(_, [a, b, c, d]) if a == b && a == c && a == d => {
-            match list.get(a) {
-                Some(Known { plain: Plain::Blank(stamp), .. }) => Plain::Blank(*stamp),
-                _ => plain,
+        Plain::Four(_, a, b, c, d) if a == b && a == c && a == d => {
+            match stamp_at(list, a) {
+                Some(stamp) => Plain::Blank(stamp),
+                None => plain,
             }
         }
         _ => plain,
@@ -79,7 +88,7 @@ fn add(store: &mut Store<Single>, list: &[Known], plain: Plain) -> Result<Part, 
     match plain {
         Plain::Blank(stamp) => store.add_blank(stamp),
         Plain::Leaf(stamp, state) => store.add_leaf(single(stamp, state)),
-        Plain::Four(level, [a, b, c, d]) => {
+        Plain::Four(level, a, b, c, d) => {
             let parts = [
                 part_of(list, a)?,
                 part_of(list, b)?,
