@@ -1,11 +1,10 @@
 -- Worked values of the definitions, over leaves of one write.
-use Rattle.std.specs.Prelude.{◌≡◌, ℕ, List, [], ◌∷◌, refl}
+use Rattle.std.specs.Prelude.{◌≡◌, [], ◌∷◌, refl}
 use Rattle.edit_stamps.specs.declared.write.Write.{Write}
 use Rattle.edit_stamps.specs.Write.{unwritten}
-use Rattle.square_store.specs.declared.node.Node.{Node}
 use Rattle.square_store.specs.declared.node.Node.TheVariants.{Blank, Leaf, Four}
-use Rattle.square_store.specs.Grid.{Grid, blank_grid, quartered}
-use Rattle.square_store.specs.Squares.{Held, side_at, IsAt, write_at, quarters_grid, four_grid}
+use Rattle.square_store.specs.Grid.{Grid}
+use Rattle.square_store.specs.Squares.{Held, side_at, IsAt, write_at, four_grid}
 use Rattle.square_store.specs.Store.{nothing_held}
 
 -- a leaf of one write

@@ -83,15 +83,15 @@ bounds_four n a b c d w x y z hw hx hy hz =
     let greatest = max (max (max w.greatest x.greatest) y.greatest) z.greatest in
     record {
       above = each_quarter (λ r. least ≤ r.stamp) n a b c d
-      (λ u v hu hv. (let h = hw.above u v hu hv in omega (arith, h)))
-      (λ u v hu hv. (let h = hx.above u v hu hv in omega (arith, h)))
-      (λ u v hu hv. (let h = hy.above u v hu hv in omega (arith, h)))
-      (λ u v hu hv. (let h = hz.above u v hu hv in omega (arith, h)));
+          (λ u v hu hv. (let h = hw.above u v hu hv in omega (arith, h)))
+          (λ u v hu hv. (let h = hx.above u v hu hv in omega (arith, h)))
+          (λ u v hu hv. (let h = hy.above u v hu hv in omega (arith, h)))
+          (λ u v hu hv. (let h = hz.above u v hu hv in omega (arith, h)));
       below = each_quarter (λ r. r.stamp ≤ greatest) n a b c d
-      (λ u v hu hv. (let h = hw.below u v hu hv in omega (arith, h)))
-      (λ u v hu hv. (let h = hx.below u v hu hv in omega (arith, h)))
-      (λ u v hu hv. (let h = hy.below u v hu hv in omega (arith, h)))
-      (λ u v hu hv. (let h = hz.below u v hu hv in omega (arith, h)));
+          (λ u v hu hv. (let h = hw.below u v hu hv in omega (arith, h)))
+          (λ u v hu hv. (let h = hx.below u v hu hv in omega (arith, h)))
+          (λ u v hu hv. (let h = hy.below u v hu hv in omega (arith, h)))
+          (λ u v hu hv. (let h = hz.below u v hu hv in omega (arith, h)));
       least = one_of n a b c d least w.least x.least y.least z.least (least_is w.least x.least y.least z.least) hw.least hx.least hy.least hz.least;
       greatest = one_of n a b c d greatest w.greatest x.greatest y.greatest z.greatest (greatest_is w.greatest x.greatest y.greatest z.greatest) hw.greatest hx.greatest hy.greatest hz.greatest;
     }

@@ -59,9 +59,9 @@ module _ (n : ℕ) (a b c d : Grid) where
       ]
     ],
     λ has. each_quarter (λ w. w.state ≢ 0 → IsTrue (p || q || r || s)) n a b c d
-    (λ u v hu hv live. or_first p q r s (hp.1 (record { u = u; v = v; u_within = hu; v_within = hv; state = live })))
-    (λ u v hu hv live. or_second p q r s (hq.1 (record { u = u; v = v; u_within = hu; v_within = hv; state = live })))
-    (λ u v hu hv live. or_third p q r s (hr.1 (record { u = u; v = v; u_within = hu; v_within = hv; state = live })))
-    (λ u v hu hv live. or_fourth p q r s (hs.1 (record { u = u; v = v; u_within = hu; v_within = hv; state = live })))
-    has.u has.v has.u_within has.v_within has.state,
+        (λ u v hu hv live. or_first p q r s (hp.1 (record { u = u; v = v; u_within = hu; v_within = hv; state = live })))
+        (λ u v hu hv live. or_second p q r s (hq.1 (record { u = u; v = v; u_within = hu; v_within = hv; state = live })))
+        (λ u v hu hv live. or_third p q r s (hr.1 (record { u = u; v = v; u_within = hu; v_within = hv; state = live })))
+        (λ u v hu hv live. or_fourth p q r s (hs.1 (record { u = u; v = v; u_within = hu; v_within = hv; state = live })))
+        has.u has.v has.u_within has.v_within has.state,
   )

@@ -22,11 +22,7 @@ fn add_small(store: &mut Store<PlaneLeaf>) -> Result<Part, StoreFault> {
 }
 
 /// A square of a level, of three blanks and one of another stamp.
-fn add_blanks(
-    store: &mut Store<PlaneLeaf>,
-    level: u32,
-    stamp: u64,
-) -> Result<Part, StoreFault> {
+fn add_blanks(store: &mut Store<PlaneLeaf>, level: u32, stamp: u64) -> Result<Part, StoreFault> {
     let blank = store.add_blank(7)?;
     let other = store.add_blank(stamp)?;
     four(store, level, [blank, blank, blank, other])
@@ -92,7 +88,13 @@ fn sees_what_was_added(rt: HostRuntime) -> Result<(), StoreFault> {
 
 #[test]
 fn bounds_the_stamps(rt: HostRuntime) -> Result<(), StoreFault> {
-    assert_eq!(rt; bounds(rt.alloc())?, StampBounds { least: 0, greatest: 65537 });
+    assert_eq!(rt;
+        bounds(rt.alloc())?,
+        StampBounds {
+            least: 0,
+            greatest: 65537
+        }
+    );
     Ok(())
 }
 

@@ -1,6 +1,5 @@
-use Rattle.std.proofs.Common.{◌≡◌, ◌<◌, ◌∙◌, sym, ap, subst, arith, length}
+use Rattle.std.proofs.Common.{◌≡◌, ◌<◌, ◌∙◌, sym, ap, subst, length}
 use Rattle.std.specs.Map.{keys_of}
-use Rattle.std.proofs.lemmas.Map.Entries.{length-keys_of}
 use Rattle.square_store.specs.Steps.{IsAbsentNode, IsWanted, IsSummed}
 use Rattle.square_store.proofs.Lists.{missing_entry, missing_place, keys_more}
 use Rattle.square_store.proofs.Nodes.{not_full, is_node, node_same, good_node, held_of}

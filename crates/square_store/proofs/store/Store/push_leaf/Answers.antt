@@ -1,6 +1,5 @@
-use Rattle.std.proofs.Common.{◌≡◌, ◌<◌, true, sym, subst, arith, length}
+use Rattle.std.proofs.Common.{◌≡◌, ◌<◌, true, sym, subst, length}
 use Rattle.std.specs.Map.{keys_of}
-use Rattle.std.proofs.lemmas.Map.Entries.{length-keys_of}
 use Rattle.square_store.specs.Steps.{IsAbsentLeaf}
 use Rattle.square_store.proofs.Nodes.{not_full, leaf_last, last_held, good_leaf}
 use Rattle.square_store.proofs.store.Store.push_leaf.Goals as goal
