@@ -1,0 +1,6 @@
+pub mod Lists
+pub mod Quarters
+pub mod Places
+pub mod Growth
+pub mod Made
+pub mod Nodes

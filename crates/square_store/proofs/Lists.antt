@@ -1,0 +1,108 @@
+-- Lists of distinct keys, and one more.
+use Rattle.std.proofs.Common.{arith, ◌≡◌, ℕ, zero, suc, ◌<◌, Bool, true, false, cond, List, [], ◌∷◌, ◌++◌, length, get_or, sym, ap, ◌∙◌, inl, inr, ◌⊎◌, refl}
+use borrow.Author.Tests.{ltb-false}
+use Rattle.std.specs.Prelude.{slice_get, Some, None, Decides, nat_lt}
+use Rattle.std.specs.List.{position, position_or_len, list_any}
+use Rattle.std.specs.Map.{keys_of, values_of}
+use Rattle.std.proofs.lemmas.List.Quantifiers.{position-Some}
+use Rattle.std.proofs.lemmas.List.Sums.{position_or_len_is, fails_before_first}
+use Rattle.std.proofs.lemmas.Option.{slice_get_within, slice_get-get_or, get_or_from_slice_get}
+use Rattle.indexmap.specs.IndexMap.{insert_entry}
+
+pub got_append : {A : Type 0} (xs ys : List A) (i : ℕ) (x : A) → slice_get xs i ≡ Some x → slice_get (xs ++ ys) i ≡ Some x
+got_append [] ys i x e = cc
+got_append (z ∷ xs) ys zero x e = e
+got_append (z ∷ xs) ys (suc i) x e = got_append xs ys i x e
+
+pub got_last : {A : Type 0} (xs : List A) (y : A) → slice_get (xs ++ y ∷ []) (length xs) ≡ Some y
+got_last [] y = refl
+got_last (x ∷ xs) y = got_last xs y
+
+pub some_inj : {A : Type 0} {a b : A} → Some a ≡ Some b → a ≡ b
+some_inj h = cc
+
+-- what stands in a list with one more at the end
+pub got_more : {A : Type 0} (xs : List A) (y : A) (i : ℕ) (x : A) → slice_get (xs ++ y ∷ []) i ≡ Some x → (slice_get xs i ≡ Some x) ⊎ ((i ≡ length xs) × (x ≡ y))
+got_more [] y zero x e = inr (refl, sym (some_inj e))
+got_more [] y (suc i) x e = cc
+got_more (z ∷ xs) y zero x e = inl e
+got_more (z ∷ xs) y (suc i) x e = elim (got_more xs y i x e) [
+  | inl old ↦ inl old
+  | inr new ↦ inr (ap suc new.0, new.1)
+]
+
+pub got_back : {A : Type 0} (xs ys : List A) (i : ℕ) (x : A) → i < length xs → slice_get (xs ++ ys) i ≡ Some x → slice_get xs i ≡ Some x
+got_back [] ys i x h e = absurd (omega arith)
+got_back (z ∷ xs) ys zero x h e = e
+got_back (z ∷ xs) ys (suc i) x h e = got_back xs ys i x (omega arith) e
+
+-- distinct keys and one that is none of them are distinct
+pub once_more : {A : Type 0} (ks : List A) (x : A) → ((p q : ℕ) (y : A) → slice_get ks p ≡ Some y → slice_get ks q ≡ Some y → p ≡ q) → ((p : ℕ) → slice_get ks p ≡ Some x → ⊥)
+    → (p q : ℕ) (y : A) → slice_get (ks ++ x ∷ []) p ≡ Some y → slice_get (ks ++ x ∷ []) q ≡ Some y → p ≡ q
+once_more ks x once missing p q y at at' = elim (got_more ks x p y at) [
+  | inl old ↦ elim (got_more ks x q y at') [
+    | inl old' ↦ once p q y old old'
+    | inr new ↦ absurd (missing p (old ∙ ap (λ z. Some z) new.1))
+  ]
+  | inr new ↦ elim (got_more ks x q y at') [
+    | inl old ↦ absurd (missing q (old ∙ ap (λ z. Some z) new.1))
+    | inr new' ↦ new.0 ∙ sym new'.0
+  ]
+]
+
+pub keys_more : {K V : Type 0} (es : List (K × V)) (k : K) (v : V) → keys_of (es ++ (k, v) ∷ []) ≡ keys_of es ++ k ∷ []
+keys_more [] k v = refl
+keys_more (e ∷ es) k v = ap (λ l. e.0 ∷ l) (keys_more es k v)
+
+pub values_more : {K V : Type 0} (es : List (K × V)) (k : K) (v : V) → values_of (es ++ (k, v) ∷ []) ≡ values_of es ++ v ∷ []
+values_more [] k v = refl
+values_more (e ∷ es) k v = ap (λ l. e.1 ∷ l) (values_more es k v)
+
+module _ {T : Type 0} (eq : T → T → Bool) (same : (a b : T) → Decides (eq a b) (a ≡ b)) where
+  module _ (x : T) where
+    -- x is none of the keys
+    abbrev pub IsMissing : List T → Type 0
+    IsMissing ks = (p : ℕ) → slice_get ks p ≡ Some x → ⊥
+
+    fails : (y : T) → (x ≡ y → ⊥) → eq x y ≡ false
+    fails y h = go (eq x y) refl
+      where
+        go : (b : Bool) → eq x y ≡ b → b ≡ false
+        go true e = absurd (h ((same x y).0 e))
+        go false e = refl
+
+    fails_all : (ks : List T) → IsMissing ks → (k : ℕ) (d : T) → k < length ks → eq x (get_or ks k d) ≡ false
+    fails_all ks h k d within = fails (get_or ks k d) (λ e. h k (slice_get-get_or ks k d within ∙ ap (λ z. Some z) (sym e)))
+
+    pub missing_any : (ks : List T) → IsMissing ks → list_any (eq x) ks ≡ false
+    missing_any [] h = refl
+    missing_any (y ∷ ks) h = rw (fails y (λ e. h 0 (ap (λ z. Some z) (sym e)))) (missing_any ks (λ p at. h (suc p) at))
+
+    pub missing_place : (ks : List T) → IsMissing ks → position_or_len (eq x) ks ≡ length ks
+    missing_place ks h = position_or_len_is (eq x) ks (length ks) x (omega arith) (λ k within. fails_all ks h k x within) (λ below. absurd (omega arith))
+
+    pub missing_entry : {V : Type 0} (es : List (T × V)) (v : V) → IsMissing (keys_of es) → insert_entry eq es x v ≡ es ++ (x, v) ∷ []
+    missing_entry [] v h = refl
+    missing_entry (e ∷ es) v h = rw (fails e.0 (λ z. h 0 (ap (λ z. Some z) (sym z)))) (ap (λ l. e ∷ l) (missing_entry es v (λ p at. h (suc p) at)))
+
+    -- what a search finds
+    pub found : (ks : List T) (i : ℕ) → Some i ≡ position (eq x) ks → slice_get ks i ≡ Some x
+    found ks i e =
+        let at = position-Some (eq x) ks i x (sym e) in
+        slice_get-get_or ks i x at.0 ∙ ap (λ z. Some z) (sym ((same x (get_or ks i x)).0 at.1))
+
+    no_place : (b : Bool) (n : ℕ) → None ≡ cond b (Some n) None → b ≡ false
+    no_place true n none = absurd (cc)
+    no_place false n none = refl
+
+    -- and that it finds nothing
+    pub not_found : (ks : List T) → None ≡ position (eq x) ks → IsMissing ks
+    not_found ks e p at =
+        let past : nat_lt (position_or_len (eq x) ks) (length ks) ≡ false = no_place (nat_lt (position_or_len (eq x) ks) (length ks)) (position_or_len (eq x) ks) e in
+        let within = slice_get_within ks p x at in
+        let fails_there = fails_before_first (eq x) ks p x (omega (arith, ltb-false _ _ past, within)) in
+        let here = get_or_from_slice_get ks p x x at in
+        never (sym fails_there ∙ ap (eq x) here ∙ (same x x).1 refl)
+      where
+        never : false ≡ true → ⊥
+        never z = cc

@@ -1,0 +1,7 @@
+pub mod Grid
+pub mod Squares
+pub mod Store
+pub mod Steps
+pub mod Seen
+pub mod StoreFault
+pub mod Rows
