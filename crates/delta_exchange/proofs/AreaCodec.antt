@@ -6,7 +6,7 @@ use Rattle.std.proofs.lemmas.Bool.{false≢true, and_parts, and_from, not-true, 
 use Rattle.generations_rule.specs.Refusal.{when, first_of}
 use Rattle.edit_stamps.specs.declared.rect.Rect.{Rect}
 use Rattle.edit_stamps.specs.Edit.{most_side}
-use Rattle.edit_stamps.specs.Plane.{is_area_in_plane, is_empty, is_plane_coordinate}
+use Rattle.edit_stamps.specs.Plane.{is_area_in_plane, is_empty, is_coordinate_in_plane}
 use Rattle.byte_codec.specs.Codec.{IsCodec, IsReversible}
 use Rattle.byte_codec.proofs.PartLaws.{mapped_codec, checked_codec, pair_codec, chosen_codec, retold_codec}
 use Rattle.byte_codec.proofs.Steps.{ok_is}
@@ -66,7 +66,7 @@ told_where_it_suits : (r : Rect) → rect_suits r ≡ true → is_told_rect r �
 told_where_it_suits r suits =
     let parts : ((is_area_in_plane r && not (is_empty r)) ≡ true) × (not (nat_lt most_side r.width || nat_lt most_side r.height) ≡ true) = and_parts _ _ suits in
     let in_plane : is_area_in_plane r ≡ true = (and_parts _ _ parts.0).0 in
-    let corner : (is_plane_coordinate r.x ≡ true) × (is_plane_coordinate r.y ≡ true) = and_parts _ _ (and_parts _ _ (and_parts _ _ in_plane).0).0 in
+    let corner : (is_coordinate_in_plane r.x ≡ true) × (is_coordinate_in_plane r.y ≡ true) = and_parts _ _ (and_parts _ _ (and_parts _ _ in_plane).0).0 in
     let sides : (nat_lt most_side r.width ≡ false) × (nat_lt most_side r.height ≡ false) = or_parts _ _ (not-true _ parts.1) in
     and_from _ _ (and_from _ _ (is_told_in_plane r.x corner.0) (is_told_in_plane r.y corner.1)) (and_from _ _ (side_fits r.width sides.0) (side_fits r.height sides.1))
 

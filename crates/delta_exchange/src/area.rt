@@ -2,7 +2,7 @@
 
 ghost use Rattle.std.specs.Prelude.{◌≡◌, ◌++◌, ◌&&◌, ◌+ℤ◌, pos, int_le, OnOk, IfSome, IsTrue, ◌≤ℤ◌, negsuc};
 ghost use Rattle.byte_codec.specs.Reading.{leaving, unrefused};
-ghost use Rattle.edit_stamps.specs.Plane.{is_area_in_plane, is_plane_coordinate, past};
+ghost use Rattle.edit_stamps.specs.Plane.{is_area_in_plane, is_coordinate_in_plane, past};
 ghost use Rattle.delta_exchange.specs.PlaceWord.{coordinate_of};
 ghost use Rattle.delta_exchange.specs.Spelling.{area_text, rect_text, sides_text};
 ghost use Rattle.delta_exchange.specs.Reading.{area_at, area_fault, flag_at, rect_at};
@@ -100,7 +100,7 @@ fn checked_rect(x: u32, y: u32, width: u32, height: u32) -> Result<Rect, ReadFau
 
 /// Why an area whose corner the plane has is refused.
 fn fault_of_rect(area: Rect) -> Option<ReadFault>
-    requires { IsTrue (is_plane_coordinate area.x && is_plane_coordinate area.y) }
+    requires { IsTrue (is_coordinate_in_plane area.x && is_coordinate_in_plane area.y) }
     ensures { result ≡ area_fault area }
 {
     if !ends_in_plane(area) {
@@ -117,7 +117,7 @@ fn fault_of_rect(area: Rect) -> Option<ReadFault>
 
 /// Whether an area ends in the plane.
 fn ends_in_plane(area: Rect) -> bool
-    requires { IsTrue (is_plane_coordinate area.x && is_plane_coordinate area.y) }
+    requires { IsTrue (is_coordinate_in_plane area.x && is_coordinate_in_plane area.y) }
     ensures { result ≡ is_area_in_plane area }
 {
     side_ends_in_plane(area.x, area.width) && side_ends_in_plane(area.y, area.height)

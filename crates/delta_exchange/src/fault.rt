@@ -41,11 +41,11 @@ pub enum ReadFault {
 }
 
 impl ReadFault {
-    ghost use Rattle.delta_exchange.specs.Fault.{fault_number};
+    ghost use Rattle.delta_exchange.specs.Fault.{read_fault_number};
 
     /// Its number in the table of faults; 255 for want of memory.
     pub fn number(self) -> u8
-        ensures { result ≡ fault_number self }
+        ensures { result ≡ read_fault_number self }
     {
         match self {
             ReadFault::TooMany => 8,
@@ -78,9 +78,9 @@ pub fn value_unless<T: Copy>(fault: Option<ReadFault>, value: T) -> Result<T, Re
 /// Its name.
 impl fmt::Display for ReadFault {
     ghost use Rattle.std.specs.Prelude.{Some};
-    ghost use Rattle.delta_exchange.specs.Fault.{fault_text};
+    ghost use Rattle.delta_exchange.specs.Fault.{read_fault_text};
 
-    ghost output = { λ fault. Some (fault_text fault) };
+    ghost output = { λ fault. Some (read_fault_text fault) };
 
     fn fmt<W: fmt::Write>(&self, f: &mut fmt::Formatter<W>) -> fmt::Result {
         match self {

@@ -16,11 +16,11 @@ pub enum StoreFault {
 }
 
 impl StoreFault {
-    ghost use Rattle.square_store.specs.StoreFault.{fault_number};
+    ghost use Rattle.square_store.specs.StoreFault.{store_fault_number};
 
     /// Its number in the table of faults; 255 for want of memory.
     pub fn number(self) -> u8
-        ensures { result ≡ fault_number self }
+        ensures { result ≡ store_fault_number self }
     {
         match self {
             StoreFault::StoreFull => 13,
@@ -32,9 +32,9 @@ impl StoreFault {
 /// Its name.
 impl fmt::Display for StoreFault {
     ghost use Rattle.std.specs.Prelude.{Some};
-    ghost use Rattle.square_store.specs.StoreFault.{fault_text};
+    ghost use Rattle.square_store.specs.StoreFault.{store_fault_text};
 
-    ghost output = { λ fault. Some (fault_text fault) };
+    ghost output = { λ fault. Some (store_fault_text fault) };
 
     fn fmt<W: fmt::Write>(&self, f: &mut fmt::Formatter<W>) -> fmt::Result {
         match self {

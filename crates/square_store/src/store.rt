@@ -122,7 +122,7 @@ impl<L: LeafKind> Store<L> {
 
     /// Each leaf and each square stands once, and no blank is spelt out. So two parts of one level
     /// with the same writes are one part.
-    pub fn part_laws(&self)
+    pub fn store_laws(&self)
         ensures store { IsStore L.write L.side L.IsLeaf self.now }
         ensures parts { IsOnePartEach L.write L.side self.now }
     {

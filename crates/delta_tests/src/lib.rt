@@ -1,0 +1,7 @@
+//! Tests of `delta_exchange`.
+#![tactic(auto)]
+
+#[cfg(test)]
+mod deltas;
+#[cfg(test)]
+mod random;
