@@ -1,8 +1,8 @@
 //! Areas of edits.
 
-ghost use Rattle.std.specs.Prelude.{◌≡◌, ◌++◌, ◌&&◌, ◌+ℤ◌, pos, int_le, OnOk, IfSome, IsTrue, ◌≤ℤ◌, negsuc};
+ghost use Rattle.std.specs.Prelude.{◌≡◌, ◌++◌, OnOk, IfSome, IsTrue};
 ghost use Rattle.byte_codec.specs.Reading.{leaving, unrefused};
-ghost use Rattle.edit_stamps.specs.Plane.{is_area_in_plane, is_coordinate_in_plane, past};
+ghost use Rattle.edit_stamps.specs.Plane.{is_area_in_plane};
 ghost use Rattle.delta_exchange.specs.PlaceWord.{coordinate_of};
 ghost use Rattle.delta_exchange.specs.Spelling.{area_text, rect_text, sides_text};
 ghost use Rattle.delta_exchange.specs.Reading.{area_at, area_fault, flag_at, rect_at};
@@ -10,14 +10,8 @@ ghost use Rattle.delta_exchange.specs.Reading.{area_at, area_fault, flag_at, rec
 use crate::fault::{ReadFault, value_unless};
 use crate::place::{coordinate, is_place_word, push_place};
 use byte_codec::Reader;
-use edit_stamps::Rect;
+use edit_stamps::{MOST_SIDE, Rect};
 use std::alloc::AllocError;
-
-/// One past the greatest coordinate of the plane.
-const PAST: i64 = 0x4000_0000;
-
-/// The greatest side of an area.
-const MOST_SIDE: u32 = 4096;
 
 #[tactic(auto, unfolding(crate::specs::Spelling::area_text))]
 pub fn push_area(text: &mut Vec<u8>, area: Option<Rect>) -> Result<(), AllocError>
@@ -98,34 +92,18 @@ fn checked_rect(x: u32, y: u32, width: u32, height: u32) -> Result<Rect, ReadFau
     value_unless(fault_of_rect(area), area)
 }
 
-/// Why an area whose corner the plane has is refused.
+/// Why an area is refused.
 fn fault_of_rect(area: Rect) -> Option<ReadFault>
-    requires { IsTrue (is_coordinate_in_plane area.x && is_coordinate_in_plane area.y) }
     ensures { result ≡ area_fault area }
 {
-    if !ends_in_plane(area) {
+    if !area.is_in_plane() {
         return Some(ReadFault::OutOfPlane);
     }
     if area.width == 0 || area.height == 0 {
         return Some(ReadFault::Nothing);
     }
-    if area.width > MOST_SIDE || area.height > MOST_SIDE {
+    if u64::from(area.width) > MOST_SIDE || u64::from(area.height) > MOST_SIDE {
         return Some(ReadFault::AreaSide);
     }
     None
-}
-
-/// Whether an area ends in the plane.
-fn ends_in_plane(area: Rect) -> bool
-    requires { IsTrue (is_coordinate_in_plane area.x && is_coordinate_in_plane area.y) }
-    ensures { result ≡ is_area_in_plane area }
-{
-    side_ends_in_plane(area.x, area.width) && side_ends_in_plane(area.y, area.height)
-}
-
-/// Whether a side that begins at a coordinate ends in the plane.
-fn side_ends_in_plane(start: i32, side: u32) -> bool
-    ensures { result ≡ int_le (start +ℤ pos side) past }
-{
-    i64::from(start) + i64::from(side) <= PAST
 }

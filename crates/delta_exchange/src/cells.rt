@@ -1,6 +1,6 @@
 //! Listed cells.
 
-ghost use Rattle.std.specs.Prelude.{◌≡◌, ◌≤◌, ◌++◌, ◌&&◌, ◌+ℤ◌, pos, int_le, int_lt, IsTrue, OnOk, length, flat_map, Some, None};
+ghost use Rattle.std.specs.Prelude.{◌≡◌, ◌≤◌, ◌++◌, IsTrue, OnOk, length, flat_map, Some, None};
 ghost use Rattle.std.specs.List.{list_all};
 ghost use Rattle.generations_rule.specs.Refusal.{Answers};
 ghost use Rattle.multistate_rle.specs.Cells.{place_of};
@@ -121,17 +121,6 @@ fn may_be_listed(area: Option<Rect>, cell: Cell) -> bool
 {
     match area {
         None => true,
-        Some(area) => {
-            cell.state != 0
-                && is_between(area.x, cell.x, area.width)
-                && is_between(area.y, cell.y, area.height)
-        }
+        Some(area) => cell.state != 0 && area.has(cell.x, cell.y),
     }
-}
-
-/// Whether a coordinate lies on a side that begins there and is so long.
-fn is_between(start: i32, coordinate: i32, side: u32) -> bool
-    ensures { result ≡ int_le start coordinate && int_lt coordinate (start +ℤ pos side) }
-{
-    start <= coordinate && i64::from(coordinate) < i64::from(start) + i64::from(side)
 }

@@ -11,11 +11,8 @@ use crate::area::{push_area, read_area};
 use crate::cells::{push_cells, read_cells};
 use crate::fault::{ReadFault, value_unless};
 use byte_codec::Reader;
-use edit_stamps::{Cell, Edit, Rect, Stamp};
+use edit_stamps::{Cell, Edit, MOST_CELLS, Rect, Stamp};
 use std::alloc::{AllocError, Global};
-
-/// The greatest number of listed cells.
-const MOST_CELLS: u32 = 1 << 20;
 
 #[tactic(auto, unfolding(crate::specs::Spelling::edit_text))]
 pub fn push_edit(text: &mut Vec<u8>, edit: &Edit) -> Result<(), AllocError>
@@ -96,7 +93,7 @@ fn read_count(text: &mut Reader<'_>, area: Option<Rect>) -> Result<u32, ReadFaul
 fn fault_of_count(area: Option<Rect>, count: u32) -> Option<ReadFault>
     ensures { result ≡ count_fault area count }
 {
-    if count > MOST_CELLS {
+    if count as usize > MOST_CELLS {
         return Some(ReadFault::TooMany);
     }
     if area.is_none() && count == 0 {

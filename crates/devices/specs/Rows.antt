@@ -1,7 +1,7 @@
 -- Worked values of the definitions.
 use Rattle.std.specs.Prelude.{◌≡◌, ◌^◌, ◌-◌, ℕ, refl, Result, Ok, Err}
 use Rattle.devices.specs.Count.{one_more, so_many_more, failures_after}
-use Rattle.devices.specs.Source.{empty_pulls_after}
+use Rattle.devices.specs.Source.{ends_met_after}
 
 -- ---- counts
 
@@ -25,16 +25,16 @@ pulled count = Ok count
 abbrev pub failed : Result ℕ ℕ
 failed = Err 0
 
-pub end_met : empty_pulls_after 8 (pulled 0) 2 ≡ 3
+pub end_met : ends_met_after 8 (pulled 0) 2 ≡ 3
 end_met = refl
 
-pub no_end_with_a_byte : empty_pulls_after 8 (pulled 1) 2 ≡ 2
+pub no_end_with_a_byte : ends_met_after 8 (pulled 1) 2 ≡ 2
 no_end_with_a_byte = refl
 
-pub no_end_without_room : empty_pulls_after 0 (pulled 0) 2 ≡ 2
+pub no_end_without_room : ends_met_after 0 (pulled 0) 2 ≡ 2
 no_end_without_room = refl
 
-pub no_end_at_a_failure : empty_pulls_after 8 failed 2 ≡ 2
+pub no_end_at_a_failure : ends_met_after 8 failed 2 ≡ 2
 no_end_at_a_failure = refl
 
 pub failure_counted : failures_after failed 2 ≡ 3

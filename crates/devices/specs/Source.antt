@@ -7,18 +7,18 @@ use Rattle.devices.specs.Count.{one_more, failures_after}
 -- they are known
 pub record KnownSource : Type 0 where
   pub pulls : ℕ
-  pub empty_pulls : ℕ
+  pub ends_met : ℕ
   pub failures : ℕ
   pub left : Option (List ℕ)
 
 -- how many pulls met the end, after one into a piece of so many bytes: an empty piece meets none
-abbrev pub empty_pulls_after : {E : Type 0} → ℕ → Result ℕ E → ℕ → ℕ
-empty_pulls_after room (Ok count) n = if count == 0 && not (room == 0) then one_more n else n
-empty_pulls_after room (Err failed) n = n
+abbrev pub ends_met_after : {E : Type 0} → ℕ → Result ℕ E → ℕ → ℕ
+ends_met_after room (Ok count) n = if count == 0 && not (room == 0) then one_more n else n
+ends_met_after room (Err failed) n = n
 
 -- a pull gave so many bytes at the front of a piece, or failed
 pub record IsPull {E : Type 0} (old new : KnownSource) (result : Result ℕ E) (piece : List ℕ) : Type 0 where
   pub bytes : ReadConsumes old.left new.left result piece
   pub pulls : new.pulls ≡ one_more old.pulls
-  pub empty_pulls : new.empty_pulls ≡ empty_pulls_after (length piece) result old.empty_pulls
+  pub ends_met : new.ends_met ≡ ends_met_after (length piece) result old.ends_met
   pub failures : new.failures ≡ failures_after result old.failures

@@ -12,18 +12,18 @@ use std::io::{ErrorKind, Read};
 pub struct ReadSource<R> {
     reader: R,
     pulls: u64,
-    empty_pulls: u64,
+    ends_met: u64,
     failures: u64,
 }
 
 impl<R: Read> ReadSource<R> {
     pub fn new(reader: R) -> ReadSource<R>
-        ensures { result ≡ record { reader = reader; pulls = 0; empty_pulls = 0; failures = 0 } }
+        ensures { result ≡ record { reader = reader; pulls = 0; ends_met = 0; failures = 0 } }
     {
         ReadSource {
             reader,
             pulls: 0,
-            empty_pulls: 0,
+            ends_met: 0,
             failures: 0,
         }
     }
@@ -36,10 +36,10 @@ impl<R: Read> ReadSource<R> {
     }
 
     /// How many of its pulls met its end: they gave nothing, though the piece was not empty.
-    pub fn empty_pulls(&self) -> u64
-        ensures { result ≡ self.now.empty_pulls }
+    pub fn ends_met(&self) -> u64
+        ensures { result ≡ self.now.ends_met }
     {
-        self.empty_pulls
+        self.ends_met
     }
 
     /// How often it failed.
@@ -51,14 +51,14 @@ impl<R: Read> ReadSource<R> {
 }
 
 impl<R: Read> Source for ReadSource<R> {
-    ghost known = { λ s. record { pulls = s.pulls; empty_pulls = s.empty_pulls; failures = s.failures; left = R.remaining s.reader } };
+    ghost known = { λ s. record { pulls = s.pulls; ends_met = s.ends_met; failures = s.failures; left = R.remaining s.reader } };
 
     fn pull(&mut self, piece: &mut [u8]) -> Result<usize, Failed> {
         count(&mut self.pulls);
         match read(&mut self.reader, piece) {
             Ok(read) => {
                 if read == 0 && !piece.is_empty() {
-                    count(&mut self.empty_pulls);
+                    count(&mut self.ends_met);
                 }
                 Ok(read)
             }

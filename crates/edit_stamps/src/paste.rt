@@ -14,17 +14,8 @@ use crate::rect::Rect;
 use generations_rule::Rule;
 use multistate_rle::{Cell, Pattern, PatternCell};
 
-/// The greatest side of an edit's area.
-const MOST_SIDE: u64 = 4096;
-
-fn corner_of(area: Rect) -> Corner
-    ensures { result ≡ record { x = area.x; y = area.y } }
-{
-    Corner {
-        x: area.x,
-        y: area.y,
-    }
-}
+/// The greatest side of an edit's area, in cells.
+pub const MOST_SIDE: u64 = 4096;
 
 /// The first refusal of a copy of a pattern.
 pub fn fault_of_copy(rule: &Rule, pattern: &Pattern, at: Corner) -> Option<EditFault>
@@ -68,7 +59,7 @@ pub fn fault_of_clear(area: Rect) -> Option<EditFault>
     let (width, height) = (u64::from(area.width), u64::from(area.height));
     if is_empty(width, height) {
         Some(EditFault::Nothing)
-    } else if !is_area_in_plane(corner_of(area), width, height) {
+    } else if !area.is_in_plane() {
         Some(EditFault::OutOfPlane)
     } else if is_too_wide(width, height) {
         Some(EditFault::AreaSide)

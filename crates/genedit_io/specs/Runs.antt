@@ -32,13 +32,13 @@ pub record IsPulled (least most : ℕ) (old new : ℕ) : Type 0 where
 pub record IsReadWhole (turns : ℕ) (text : List ℕ) (old new : KnownSource) : Type 0 where
   pub all : PullsAll old.left new.left text
   pub pulls : IsPulled 1 turns old.pulls new.pulls
-  pub end : new.empty_pulls ≡ one_more old.empty_pulls
+  pub end : new.ends_met ≡ one_more old.ends_met
   pub works : new.failures ≡ old.failures
 
 -- a source was pulled so often, at least and at most; no pull met its end, and then it had failed so often
 pub record IsReadOn (least most failed : ℕ) (old new : KnownSource) : Type 0 where
   pub pulls : IsPulled least most old.pulls new.pulls
-  pub no_end : new.empty_pulls ≡ old.empty_pulls
+  pub no_end : new.ends_met ≡ old.ends_met
   pub failures : new.failures ≡ failed
 
 -- a source was left before its end was met: it failed, or gave bytes as often as it may be pulled, or what it gave found

@@ -11,7 +11,7 @@ pub struct Pieces<'a> {
     size: usize,
     fails_at: u64,
     pub pulls: u64,
-    pub empty_pulls: u64,
+    pub ends_met: u64,
     pub failures: u64,
 }
 
@@ -22,19 +22,19 @@ impl<'a> Pieces<'a> {
             size,
             fails_at,
             pulls: 0,
-            empty_pulls: 0,
+            ends_met: 0,
             failures: 0,
         }
     }
 
     /// How often it was pulled, how often it met its end, and how often it failed.
     pub fn counts(&self) -> (u64, u64, u64) {
-        (self.pulls, self.empty_pulls, self.failures)
+        (self.pulls, self.ends_met, self.failures)
     }
 }
 
 impl Source for Pieces<'_> {
-    ghost known = { λ s. record { pulls = s.pulls; empty_pulls = s.empty_pulls; failures = s.failures; left = None } };
+    ghost known = { λ s. record { pulls = s.pulls; ends_met = s.ends_met; failures = s.failures; left = None } };
 
     fn pull(&mut self, piece: &mut [u8]) -> Result<usize, Failed> {
         self.pulls = self.pulls.saturating_add(1);
@@ -46,7 +46,7 @@ impl Source for Pieces<'_> {
         piece[..count].copy_from_slice(&self.rest[..count]);
         self.rest = &self.rest[count..];
         if count == 0 && !piece.is_empty() {
-            self.empty_pulls = self.empty_pulls.saturating_add(1);
+            self.ends_met = self.ends_met.saturating_add(1);
         }
         Ok(count)
     }

@@ -18,7 +18,7 @@ fn pulled(alloc: Global, turns: u64) -> (Result<usize, RunFault>, u64, u64) {
             0
         }
     });
-    (all, source.pulls(), source.empty_pulls())
+    (all, source.pulls(), source.ends_met())
 }
 
 /// Three pieces, and a fourth pull that gives nothing.
@@ -83,5 +83,5 @@ fn interrupted_reads_are_made_again(rt: HostRuntime) {
 fn an_empty_piece_meets_no_end(rt: HostRuntime) {
     let mut source = ReadSource::new(b"o!".as_slice());
     assert_eq!(rt; source.pull(&mut []), Ok(0));
-    assert_eq!(rt; source.empty_pulls(), 0);
+    assert_eq!(rt; source.ends_met(), 0);
 }

@@ -6,7 +6,7 @@ use Rattle.std.proofs.lemmas.Bool.{cases_lt}
 use Rattle.square_store.specs.declared.node.Node.{Node}
 use Rattle.square_store.specs.declared.node.Node.TheVariants.{Blank, Leaf, Four}
 use Rattle.square_store.specs.Grid.{Grid, quartered, IsSpeltWithin}
-use Rattle.square_store.specs.Squares.{Held, side_at, HasLevel, IsAt, small_grid, large_grid, write_at}
+use Rattle.square_store.specs.Squares.{Held, side_at, HasLevel, IsAt, small_grid, large_grid, grid_at}
 use Rattle.square_store.specs.Store.{HasParts, IsCanonical, IsStore, AreSummaries, IsGrown}
 use Rattle.square_store.specs.Steps.{node_grid, IsBlankNode, IsAbsentNode, IsAbsentLeaf, IsWanted, IsSummed}
 use Rattle.square_store.proofs.Lists.{got_append, got_last, got_more, got_back, once_more}
@@ -51,27 +51,27 @@ extends_leaf s l = record { leaves = λ q m at. got_append s.leaves (l ∷ []) q
 module _ {L : Type 0} (writes : L → Grid) (side : ℕ) (IsLeaf : L → Type 0) (old : Held L) (can : IsCanonical writes side IsLeaf old) where
   -- the writes of what stood stay
   module _ (new : Held L) (ext : Extends old new) where
-    leaf_same : (p q : ℕ) → slice_get old.squares p ≡ Some (Leaf q) → write_at writes side new 0 p ≡ write_at writes side old 0 p
+    leaf_same : (p q : ℕ) → slice_get old.squares p ≡ Some (Leaf q) → grid_at writes side new 0 p ≡ grid_at writes side old 0 p
     leaf_same p q e = elim ((slice_get_cases old.leaves q).1) [
       | inl c ↦ leaf_writes writes side new p q c.0 (ext.squares p (Leaf q) e) (ext.leaves q c.0 c.2) ∙ sym (leaf_writes writes side old p q c.0 e c.2)
       | inr c ↦ (let h = can.leaf_within p q e in absurd (omega (arith, c.0)))
     ]
 
-    blank_same : (k p t : ℕ) → slice_get old.squares p ≡ Some (Blank t) → write_at writes side new k p ≡ write_at writes side old k p
+    blank_same : (k p t : ℕ) → slice_get old.squares p ≡ Some (Blank t) → grid_at writes side new k p ≡ grid_at writes side old k p
     blank_same k p t e = blank_writes writes side new k p t (ext.squares p (Blank t) e) ∙ sym (blank_writes writes side old k p t e)
 
-    same_small : (p : ℕ) (x : Option Node) → slice_get old.squares p ≡ x → HasLevel 0 x → write_at writes side new 0 p ≡ write_at writes side old 0 p
+    same_small : (p : ℕ) (x : Option Node) → slice_get old.squares p ≡ x → HasLevel 0 x → grid_at writes side new 0 p ≡ grid_at writes side old 0 p
     same_small p None e h = absurd h
     same_small p (Some (Blank t)) e h = blank_same 0 p t e
     same_small p (Some (Leaf q)) e h = leaf_same p q e
     same_small p (Some (Four j a b c d)) e h = let parts = can.parts p j a b c d e in absurd (omega (arith, parts.level, h))
 
-    four_same : (k a b c d : ℕ) → ((p : ℕ) → IsAt old k p → write_at writes side new k p ≡ write_at writes side old k p) → IsAt old k a × IsAt old k b × IsAt old k c × IsAt old k d
-        → quartered (side_at side k) (write_at writes side new k a) (write_at writes side new k b) (write_at writes side new k c) (write_at writes side new k d)
-        ≡ quartered (side_at side k) (write_at writes side old k a) (write_at writes side old k b) (write_at writes side old k c) (write_at writes side old k d)
+    four_same : (k a b c d : ℕ) → ((p : ℕ) → IsAt old k p → grid_at writes side new k p ≡ grid_at writes side old k p) → IsAt old k a × IsAt old k b × IsAt old k c × IsAt old k d
+        → quartered (side_at side k) (grid_at writes side new k a) (grid_at writes side new k b) (grid_at writes side new k c) (grid_at writes side new k d)
+        ≡ quartered (side_at side k) (grid_at writes side old k a) (grid_at writes side old k b) (grid_at writes side old k c) (grid_at writes side old k d)
     four_same k a b c d below parts = rw (below a parts.0, below b parts.1, below c parts.2, below d parts.3) refl
 
-    same_large : (k p : ℕ) (x : Option Node) → slice_get old.squares p ≡ x → HasLevel (suc k) x → ((p : ℕ) → IsAt old k p → write_at writes side new k p ≡ write_at writes side old k p) → write_at writes side new (suc k) p ≡ write_at writes side old (suc k) p
+    same_large : (k p : ℕ) (x : Option Node) → slice_get old.squares p ≡ x → HasLevel (suc k) x → ((p : ℕ) → IsAt old k p → grid_at writes side new k p ≡ grid_at writes side old k p) → grid_at writes side new (suc k) p ≡ grid_at writes side old (suc k) p
     same_large k p None e h below = absurd h
     same_large k p (Some (Blank t)) e h below = blank_same (suc k) p t e
     same_large k p (Some (Leaf q)) e h below = absurd (omega (arith, h))
@@ -80,7 +80,7 @@ module _ {L : Type 0} (writes : L → Grid) (side : ℕ) (IsLeaf : L → Type 0)
         ∙ four_same k a b c d below (parts_below old k j a b c d (can.parts p j a b c d e) h)
         ∙ sym (four_writes writes side old k p j a b c d e)
 
-    pub same_writes : (k p : ℕ) → IsAt old k p → write_at writes side new k p ≡ write_at writes side old k p
+    pub same_writes : (k p : ℕ) → IsAt old k p → grid_at writes side new k p ≡ grid_at writes side old k p
     same_writes zero p h = same_small p (slice_get old.squares p) refl (node_at old 0 p (slice_get old.squares p) refl h)
     same_writes (suc k) p h = same_large k p (slice_get old.squares p) refl (node_at old (suc k) p (slice_get old.squares p) refl h) (same_writes k)
 
@@ -123,13 +123,13 @@ module _ {L : Type 0} (writes : L → Grid) (side : ℕ) (IsLeaf : L → Type 0)
     node_small : (y : Node) → IsWanted old y → HasLevel 0 (Some y) → small_grid writes (with_node old x).leaves (Some y) ≡ node_grid writes side old 0 (Some y)
     node_small y w h = refl
 
-    node_large : (k : ℕ) (y : Node) → IsWanted old y → HasLevel (suc k) (Some y) → large_grid (side_at side k) (write_at writes side (with_node old x) k) (Some y) ≡ node_grid writes side old (suc k) (Some y)
+    node_large : (k : ℕ) (y : Node) → IsWanted old y → HasLevel (suc k) (Some y) → large_grid (side_at side k) (grid_at writes side (with_node old x) k) (Some y) ≡ node_grid writes side old (suc k) (Some y)
     node_large k (Blank t) w h = refl
     node_large k (Leaf q) w h = absurd w
     node_large k (Four j a b c d) w h = four_same (with_node old x) (extends_node old x) k a b c d (same_writes (with_node old x) (extends_node old x) k) (parts_below old k j a b c d w.0 h)
 
-    pub node_writes : (k p : ℕ) → slice_get (with_node old x).squares p ≡ Some x → HasLevel k (Some x) → write_at writes side (with_node old x) k p ≡ node_grid writes side old k (Some x)
-    unfolding write_at
+    pub node_writes : (k p : ℕ) → slice_get (with_node old x).squares p ≡ Some x → HasLevel k (Some x) → grid_at writes side (with_node old x) k p ≡ node_grid writes side old k (Some x)
+    unfolding grid_at
     node_writes zero p e h = rw e (node_small x wanted h)
     node_writes (suc k) p e h = rw e (node_large k x wanted h)
 
@@ -220,7 +220,7 @@ module _ {L : Type 0} (writes : L → Grid) (side : ℕ) (IsLeaf : L → Type 0)
         go None f = absurd (node_at new k p None f h)
         go (Some y) f = at_node old k p y (got_back old.squares (x ∷ []) p y within (ap (λ l. slice_get l p) (sym e) ∙ f)) (node_at new k p (Some y) f h)
 
-    summary_kept : (x : Node) (new : Held L) → Extends old new → new.squares ≡ old.squares ++ x ∷ [] → (k p : ℕ) (y : S) → IsAt new k p → slice_get summaries p ≡ Some y → IsSummary (side_at side k) (write_at writes side new k p) y
+    summary_kept : (x : Node) (new : Held L) → Extends old new → new.squares ≡ old.squares ++ x ∷ [] → (k p : ℕ) (y : S) → IsAt new k p → slice_get summaries p ≡ Some y → IsSummary (side_at side k) (grid_at writes side new k p) y
     summary_kept x new ext e k p y h at =
         let within : p < length old.squares = (let w = slice_get_within summaries p y at in omega (arith, w, long)) in
         let there = stood x new e k p within h in
@@ -234,11 +234,11 @@ module _ {L : Type 0} (writes : L → Grid) (side : ℕ) (IsLeaf : L → Type 0)
       ];
     }
       where
-        made : (k p : ℕ) (y : S) → p ≡ length old.squares → y ≡ summary → IsAt (with_node old x) k p → IsSummary (side_at side k) (write_at writes side (with_node old x) k p) y
+        made : (k p : ℕ) (y : S) → p ≡ length old.squares → y ≡ summary → IsAt (with_node old x) k p → IsSummary (side_at side k) (grid_at writes side (with_node old x) k p) y
         made k p y e f h =
             let there : slice_get (with_node old x).squares p ≡ Some x = ap (λ i. slice_get (old.squares ++ x ∷ []) i) e ∙ got_last old.squares x in
             let level = node_at (with_node old x) k p (Some x) there h in
-            subst (λ z. IsSummary (side_at side k) (write_at writes side (with_node old x) k p) z) (sym f)
+            subst (λ z. IsSummary (side_at side k) (grid_at writes side (with_node old x) k p) z) (sym f)
             (subst (λ g. IsSummary (side_at side k) g summary) (sym (node_writes writes side IsLeaf old is.canonical x absent wanted k p there level)) (summed k level))
 
     pub summaries_leaf : (l : L) (summary : S) → IsSummary side (writes l) summary → AreSummaries writes side IsSummary (with_leaf old l) (summaries ++ summary ∷ [])
@@ -249,12 +249,12 @@ module _ {L : Type 0} (writes : L → Grid) (side : ℕ) (IsLeaf : L → Type 0)
       ];
     }
       where
-        made : (k p : ℕ) (y : S) → p ≡ length old.squares → y ≡ summary → IsAt (with_leaf old l) k p → IsSummary (side_at side k) (write_at writes side (with_leaf old l) k p) y
+        made : (k p : ℕ) (y : S) → p ≡ length old.squares → y ≡ summary → IsAt (with_leaf old l) k p → IsSummary (side_at side k) (grid_at writes side (with_leaf old l) k p) y
         made k p y e f h =
             let there : slice_get (with_leaf old l).squares p ≡ Some (Leaf (length old.leaves)) = ap (λ i. slice_get (with_leaf old l).squares i) e ∙ got_last old.squares (Leaf (length old.leaves)) in
             let level : k ≡ 0 = node_at (with_leaf old l) k p (Some (Leaf (length old.leaves))) there h in
             let whole : side_at side 0 ≡ side = omega arith in
             let w = leaf_writes writes side (with_leaf old l) p (length old.leaves) l there (got_last old.leaves l) in
-            subst (λ z. IsSummary (side_at side k) (write_at writes side (with_leaf old l) k p) z) (sym f)
-            (subst (λ j. IsSummary (side_at side j) (write_at writes side (with_leaf old l) j p) summary) (sym level)
+            subst (λ z. IsSummary (side_at side k) (grid_at writes side (with_leaf old l) k p) z) (sym f)
+            (subst (λ j. IsSummary (side_at side j) (grid_at writes side (with_leaf old l) j p) summary) (sym level)
             (subst (λ g. IsSummary (side_at side 0) g summary) (sym w) (subst (λ n. IsSummary n (writes l) summary) (sym whole) summed)))

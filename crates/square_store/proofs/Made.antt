@@ -5,7 +5,7 @@ use Rattle.std.specs.Result.{IsErrAnd}
 use Rattle.square_store.specs.declared.node.Node.{Node}
 use Rattle.square_store.specs.declared.node.Node.TheVariants.{Blank, Leaf, Four}
 use Rattle.square_store.specs.Grid.{Grid, blank_grid, quartered, AreSameWithin, IsBlankWithin, IsSpeltWithin}
-use Rattle.square_store.specs.Squares.{Held, side_at, IsAt, write_at, quarters_grid, Draws}
+use Rattle.square_store.specs.Squares.{Held, side_at, IsAt, grid_at, quarters_grid, Draws}
 use Rattle.square_store.specs.Store.{HasParts, IsCanonical, IsStore, IsAbsent, IsGrown, IsAdded, Stood, Added, IsFullFor, IsRoomFor}
 use Rattle.square_store.specs.Steps.{node_grid, IsBlankNode, IsOneBlank, IsAbsentNode, IsAbsentLeaf, IsPlaceOfLeaf, IsWanted, IsPushed, IsLeafPushed}
 use Rattle.square_store.specs.Seen.{IsBlankAt, IsLeafAt, IsFourAt}
@@ -66,14 +66,14 @@ module _ {L : Type 0} (writes : L → Grid) (side : ℕ) (IsLeaf : L → Type 0)
     side_twice k h = let e : suc (k - 1) ≡ k = omega (arith, h) in ap (side_at side) (sym e) ∙ twice side (k - 1)
 
     -- the parts of a square whose writes are those of four parts
-    same_parts : (k p j a b c d a' b' c' d' : ℕ) → HasParts s k a b c d → slice_get s.squares p ≡ Some (Four j a' b' c' d') → k ≡ j → AreSameWithin (side_at side k) (write_at writes side s k p) (quarters_grid writes side s (k - 1) a b c d)
+    same_parts : (k p j a b c d a' b' c' d' : ℕ) → HasParts s k a b c d → slice_get s.squares p ≡ Some (Four j a' b' c' d') → k ≡ j → AreSameWithin (side_at side k) (grid_at writes side s k p) (quarters_grid writes side s (k - 1) a b c d)
         → slice_get s.squares p ≡ Some (Four k a b c d)
     same_parts k p j a b c d a' b' c' d' parts e level same =
         let n = side_at side (k - 1) in
-        let at = λ (q : ℕ). write_at writes side s (k - 1) q in
+        let at = λ (q : ℕ). grid_at writes side s (k - 1) q in
         let up : suc (k - 1) ≡ k = (let h = parts.level in omega (arith, h)) in
         let parts' = parts_below s (k - 1) j a' b' c' d' (can.parts p j a' b' c' d' e) (up ∙ level) in
-        let w : write_at writes side s k p ≡ quartered n (at a') (at b') (at c') (at d') = ap (λ i. write_at writes side s i p) (sym up) ∙ four_writes writes side s (k - 1) p j a' b' c' d' e in
+        let w : grid_at writes side s k p ≡ quartered n (at a') (at b') (at c') (at d') = ap (λ i. grid_at writes side s i p) (sym up) ∙ four_writes writes side s (k - 1) p j a' b' c' d' e in
         let each = same_quarters n (at a') (at b') (at c') (at d') (at a) (at b) (at c) (at d)
         (λ u v hu hv. sym (ap (λ (f : Grid). f u v) w) ∙ same u v (omega (arith, side_twice k parts.level, hu)) (omega (arith, side_twice k parts.level, hv))) in
         let one = same_place writes side IsLeaf s can some exact (k - 1) in
@@ -87,7 +87,7 @@ module _ {L : Type 0} (writes : L → Grid) (side : ℕ) (IsLeaf : L → Type 0)
     blank_parts : (k t a b c d : ℕ) → HasParts s k a b c d → IsBlankWithin (side_at side k) (quarters_grid writes side s (k - 1) a b c d) t → (slice_get s.squares a ≡ Some (Blank t)) × (b ≡ a) × (c ≡ a) × (d ≡ a)
     blank_parts k t a b c d parts blank =
         let n = side_at side (k - 1) in
-        let at = λ (q : ℕ). write_at writes side s (k - 1) q in
+        let at = λ (q : ℕ). grid_at writes side s (k - 1) q in
         let each = quarters_of n (at a) (at b) (at c) (at d) (blank_grid t) (λ u v hu hv. blank u v (omega (arith, side_twice k parts.level, hu)) (omega (arith, side_twice k parts.level, hv))) in
         let is = blank_place writes side IsLeaf s can some (k - 1) t in
         let ea = is a parts.nw each.nw in
@@ -114,8 +114,8 @@ module _ {L : Type 0} (writes : L → Grid) (side : ℕ) (IsLeaf : L → Type 0)
     four_draws new ext k p a b c d parts e =
         let up : suc (k - 1) ≡ k = (let h = parts.level in omega (arith, h)) in
         let same = same_writes writes side IsLeaf s can new ext (k - 1) in
-        let w : write_at writes side new k p ≡ quarters_grid writes side s (k - 1) a b c d
-        = ap (λ i. write_at writes side new i p) (sym up) ∙ four_writes writes side new (k - 1) p k a b c d e ∙ rw (same a parts.nw, same b parts.ne, same c parts.sw, same d parts.se) refl in
+        let w : grid_at writes side new k p ≡ quarters_grid writes side s (k - 1) a b c d
+        = ap (λ i. grid_at writes side new i p) (sym up) ∙ four_writes writes side new (k - 1) p k a b c d e ∙ rw (same a parts.nw, same b parts.ne, same c parts.sw, same d parts.se) refl in
         record {
           stands = at_node new k p (Four k a b c d) e refl;
           same = λ u v hu hv. ap (λ (f : Grid). f u v) w;

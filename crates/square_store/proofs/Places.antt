@@ -6,7 +6,7 @@ use Rattle.edit_stamps.specs.declared.write.Write.{Write}
 use Rattle.square_store.specs.declared.node.Node.{Node}
 use Rattle.square_store.specs.declared.node.Node.TheVariants.{Blank, Leaf, Four}
 use Rattle.square_store.specs.Grid.{Grid, blank_grid, quartered, AreSameWithin, IsBlankWithin}
-use Rattle.square_store.specs.Squares.{Held, side_at, HasLevel, IsAt, write_at}
+use Rattle.square_store.specs.Squares.{Held, side_at, HasLevel, IsAt, grid_at}
 use Rattle.square_store.specs.Store.{HasParts, IsCanonical}
 use Rattle.square_store.proofs.Quarters.{twice, quarters_of, same_quarters}
 
@@ -31,17 +31,17 @@ module _ {L : Type 0} (writes : L → Grid) (side : ℕ) (s : Held L) where
   pub blank_at : (k p t : ℕ) → slice_get s.squares p ≡ Some (Blank t) → IsAt s k p
   blank_at k p t e = at_node s k p (Blank t) e tt
 
-  pub blank_writes : (k p t : ℕ) → slice_get s.squares p ≡ Some (Blank t) → write_at writes side s k p ≡ blank_grid t
-  unfolding write_at
+  pub blank_writes : (k p t : ℕ) → slice_get s.squares p ≡ Some (Blank t) → grid_at writes side s k p ≡ blank_grid t
+  unfolding grid_at
   blank_writes zero p t e = rw e refl
   blank_writes (suc k) p t e = rw e refl
 
-  pub leaf_writes : (p q : ℕ) (l : L) → slice_get s.squares p ≡ Some (Leaf q) → slice_get s.leaves q ≡ Some l → write_at writes side s 0 p ≡ writes l
-  unfolding write_at
+  pub leaf_writes : (p q : ℕ) (l : L) → slice_get s.squares p ≡ Some (Leaf q) → slice_get s.leaves q ≡ Some l → grid_at writes side s 0 p ≡ writes l
+  unfolding grid_at
   leaf_writes p q l e at = rw (e, at) refl
 
-  pub four_writes : (k p j a b c d : ℕ) → slice_get s.squares p ≡ Some (Four j a b c d) → write_at writes side s (suc k) p ≡ quartered (side_at side k) (write_at writes side s k a) (write_at writes side s k b) (write_at writes side s k c) (write_at writes side s k d)
-  unfolding write_at
+  pub four_writes : (k p j a b c d : ℕ) → slice_get s.squares p ≡ Some (Four j a b c d) → grid_at writes side s (suc k) p ≡ quartered (side_at side k) (grid_at writes side s k a) (grid_at writes side s k b) (grid_at writes side s k c) (grid_at writes side s k d)
+  unfolding grid_at
   four_writes k p j a b c d e = rw e refl
 
 -- the parts of a square of level k + 1
@@ -63,14 +63,14 @@ module _ {L : Type 0} (writes : L → Grid) (side : ℕ) (IsLeaf : L → Type 0)
   ]
 
   IsBlankPlace : ℕ → ℕ → Type 0
-  IsBlankPlace k t = (p : ℕ) → IsAt s k p → IsBlankWithin (side_at side k) (write_at writes side s k p) t → slice_get s.squares p ≡ Some (Blank t)
+  IsBlankPlace k t = (p : ℕ) → IsAt s k p → IsBlankWithin (side_at side k) (grid_at writes side s k p) t → slice_get s.squares p ≡ Some (Blank t)
 
-  stamp_of_blank : (k p m t : ℕ) → slice_get s.squares p ≡ Some (Blank m) → IsBlankWithin (side_at side k) (write_at writes side s k p) t → slice_get s.squares p ≡ Some (Blank t)
+  stamp_of_blank : (k p m t : ℕ) → slice_get s.squares p ≡ Some (Blank m) → IsBlankWithin (side_at side k) (grid_at writes side s k p) t → slice_get s.squares p ≡ Some (Blank t)
   stamp_of_blank k p m t e blank =
       let w : blank_grid m 0 0 ≡ blank_grid t 0 0 = sym (ap (λ (f : Grid). f 0 0) (blank_writes writes side s k p m e)) ∙ blank 0 0 (side_some k) (side_some k) in
       e ∙ ap (λ (w : Write). Some (Blank w.stamp)) w
 
-  blank_small : (t p : ℕ) (x : Option Node) → slice_get s.squares p ≡ x → HasLevel 0 x → IsBlankWithin (side_at side 0) (write_at writes side s 0 p) t → slice_get s.squares p ≡ Some (Blank t)
+  blank_small : (t p : ℕ) (x : Option Node) → slice_get s.squares p ≡ x → HasLevel 0 x → IsBlankWithin (side_at side 0) (grid_at writes side s 0 p) t → slice_get s.squares p ≡ Some (Blank t)
   blank_small t p None e h blank = absurd h
   blank_small t p (Some (Blank m)) e h blank = stamp_of_blank 0 p m t e blank
   blank_small t p (Some (Leaf q)) e h blank =
@@ -79,14 +79,14 @@ module _ {L : Type 0} (writes : L → Grid) (side : ℕ) (IsLeaf : L → Type 0)
       absurd (can.spelt q l.0 l.1 t (λ u v hu hv. sym (ap (λ (f : Grid). f u v) w) ∙ blank u v (omega (arith, hu)) (omega (arith, hv))))
   blank_small t p (Some (Four j a b c d)) e h blank = let parts = can.parts p j a b c d e in absurd (omega (arith, parts.level, h))
 
-  blank_large : (t k p : ℕ) (x : Option Node) → slice_get s.squares p ≡ x → HasLevel (suc k) x → IsBlankPlace k t → IsBlankWithin (side_at side (suc k)) (write_at writes side s (suc k) p) t → slice_get s.squares p ≡ Some (Blank t)
+  blank_large : (t k p : ℕ) (x : Option Node) → slice_get s.squares p ≡ x → HasLevel (suc k) x → IsBlankPlace k t → IsBlankWithin (side_at side (suc k)) (grid_at writes side s (suc k) p) t → slice_get s.squares p ≡ Some (Blank t)
   unfolding IsBlankPlace
   blank_large t k p None e h below blank = absurd h
   blank_large t k p (Some (Blank m)) e h below blank = stamp_of_blank (suc k) p m t e blank
   blank_large t k p (Some (Leaf q)) e h below blank = absurd (omega (arith, h))
   blank_large t k p (Some (Four j a b c d)) e h below blank =
       let n = side_at side k in
-      let at = λ (q : ℕ). write_at writes side s k q in
+      let at = λ (q : ℕ). grid_at writes side s k q in
       let parts = parts_below s k j a b c d (can.parts p j a b c d e) h in
       let w = four_writes writes side s k p j a b c d e in
       let each = quarters_of n (at a) (at b) (at c) (at d) (blank_grid t) (λ u v hu hv. sym (ap (λ (f : Grid). f u v) w) ∙ blank u v (omega (arith, twice side k, hu)) (omega (arith, twice side k, hv))) in
@@ -97,14 +97,14 @@ module _ {L : Type 0} (writes : L → Grid) (side : ℕ) (IsLeaf : L → Type 0)
       absurd (can.four p j a b c d t e ea (can.once b a (Blank t) eb ea) (can.once c a (Blank t) ec ea) (can.once d a (Blank t) ed ea))
 
   -- a square whose writes are those of a blank is that blank
-  pub blank_place : (k t p : ℕ) → IsAt s k p → IsBlankWithin (side_at side k) (write_at writes side s k p) t → slice_get s.squares p ≡ Some (Blank t)
+  pub blank_place : (k t p : ℕ) → IsAt s k p → IsBlankWithin (side_at side k) (grid_at writes side s k p) t → slice_get s.squares p ≡ Some (Blank t)
   unfolding IsBlankPlace
   blank_place zero t p h blank = blank_small t p (slice_get s.squares p) refl (node_at s 0 p (slice_get s.squares p) refl h) blank
   blank_place (suc k) t p h blank = blank_large t k p (slice_get s.squares p) refl (node_at s (suc k) p (slice_get s.squares p) refl h) (blank_place k t) blank
 
   module _ (exact : (a b : L) → IsLeaf a → IsLeaf b → AreSameWithin side (writes a) (writes b) → a ≡ b) where
     abbrev pub AreSameAt : ℕ → ℕ → ℕ → Type 0
-    AreSameAt k p q = AreSameWithin (side_at side k) (write_at writes side s k p) (write_at writes side s k q)
+    AreSameAt k p q = AreSameWithin (side_at side k) (grid_at writes side s k p) (grid_at writes side s k q)
 
     IsOnePlace : ℕ → Type 0
     IsOnePlace k = (p q : ℕ) → IsAt s k p → IsAt s k q → AreSameAt k p q → p ≡ q
@@ -141,7 +141,7 @@ module _ {L : Type 0} (writes : L → Grid) (side : ℕ) (IsLeaf : L → Type 0)
     same_large k p q (Some (Four j a b c d)) (Some (Leaf m)) e f hp hq below same = let level = node_at s (suc k) q (Some (Leaf m)) f hq in absurd (omega (arith, level))
     same_large k p q (Some (Four j a b c d)) (Some (Four j' a' b' c' d')) e f hp hq below same =
         let n = side_at side k in
-        let at = λ (q : ℕ). write_at writes side s k q in
+        let at = λ (q : ℕ). grid_at writes side s k q in
         let level = node_at s (suc k) p (Some (Four j a b c d)) e hp in
         let level' = node_at s (suc k) q (Some (Four j' a' b' c' d')) f hq in
         let parts = parts_below s k j a b c d (can.parts p j a b c d e) level in

@@ -4,7 +4,7 @@ use Rattle.edit_stamps.specs.declared.write.Write.{Write}
 use Rattle.edit_stamps.specs.Write.{unwritten}
 use Rattle.square_store.specs.declared.node.Node.TheVariants.{Blank, Leaf, Four}
 use Rattle.square_store.specs.Grid.{Grid}
-use Rattle.square_store.specs.Squares.{Held, side_at, IsAt, write_at, four_grid}
+use Rattle.square_store.specs.Squares.{Held, side_at, IsAt, grid_at, four_grid}
 use Rattle.square_store.specs.Store.{nothing_held}
 
 -- a leaf of one write
@@ -23,25 +23,25 @@ pub plane_side : side_at 8 28 ≡ 2147483648
 plane_side = refl
 
 -- the leaf stands NE in the square of level 1
-pub north_east : write_at one_write 1 four_squares 1 2 1 0 ≡ live
-unfolding write_at
+pub north_east : grid_at one_write 1 four_squares 1 2 1 0 ≡ live
+unfolding grid_at
 north_east = refl
 
-pub north_west : write_at one_write 1 four_squares 1 2 0 0 ≡ unwritten
-unfolding write_at
+pub north_west : grid_at one_write 1 four_squares 1 2 0 0 ≡ unwritten
+unfolding grid_at
 north_west = refl
 
 -- and so in NE and SW of the square of level 2
-pub two_deep : write_at one_write 1 four_squares 2 3 3 0 ≡ live
-unfolding write_at
+pub two_deep : grid_at one_write 1 four_squares 2 3 3 0 ≡ live
+unfolding grid_at
 two_deep = refl
 
-pub south_west : write_at one_write 1 four_squares 2 3 1 2 ≡ live
-unfolding write_at
+pub south_west : grid_at one_write 1 four_squares 2 3 1 2 ≡ live
+unfolding grid_at
 south_west = refl
 
-pub south_east : write_at one_write 1 four_squares 2 3 2 2 ≡ unwritten
-unfolding write_at
+pub south_east : grid_at one_write 1 four_squares 2 3 2 2 ≡ unwritten
+unfolding grid_at
 south_east = refl
 
 -- a blank stands for every level
@@ -56,7 +56,7 @@ own_level = refl
 
 -- parts are NW, NE, SW, SE
 pub corners : four_grid one_write 1 four_squares 0 (0 ∷ 1 ∷ 0 ∷ 0 ∷ []) 1 0 ≡ live
-unfolding write_at
+unfolding grid_at
 corners = refl
 
 pub no_squares : (nothing_held {L = Write} 3).room ≡ 3

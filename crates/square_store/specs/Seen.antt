@@ -3,7 +3,7 @@ use Rattle.std.specs.Prelude.{◌≡◌, ℕ, ◌-◌, ◌<◌, List, length, sl
 use Rattle.square_store.specs.declared.square.Square.{Square}
 use Rattle.square_store.specs.declared.square.Square.TheVariants.{Blank, Leaf, Four}
 use Rattle.square_store.specs.Grid.{Grid, blank_grid, IsSpeltWithin}
-use Rattle.square_store.specs.Squares.{Held, side_at, IsAt, write_at, four_grid, Draws}
+use Rattle.square_store.specs.Squares.{Held, side_at, IsAt, grid_at, four_grid, Draws}
 
 -- four squares of a level stand at these parts
 abbrev pub AreAt : {L : Type 0} → Held L → ℕ → List ℕ → Type 0
@@ -26,7 +26,7 @@ pub record IsFourAt {L : Type 0} (writes : L → Grid) (side : ℕ) (s : Held L)
   pub parts_stand : AreAt s (k - 1) parts
   pub draws : Draws writes side s k (four_grid writes side s (k - 1) parts) p
   pub level : (j : ℕ) → IsAt s j p → j ≡ k
-  pub spelt : IsSpeltWithin (side_at side k) (write_at writes side s k p)
+  pub spelt : IsSpeltWithin (side_at side k) (grid_at writes side s k p)
 
 -- the square at p
 abbrev pub IsSeen : {L : Type 0} → (L → Grid) → ℕ → Held L → ℕ → Square L → Type 0

@@ -46,13 +46,13 @@ large_grid n below (Some (Leaf q)) = blank_grid 0
 large_grid n below (Some (Four j a b c d)) = quartered n (below a) (below b) (below c) (below d)
 
 -- the writes of the square of level k at place p, by column and row
-unfoldable pub write_at : {L : Type 0} → (L → Grid) → ℕ → Held L → ℕ → ℕ → Grid
-write_at writes side s zero p = small_grid writes s.leaves (slice_get s.squares p)
-write_at writes side s (suc k) p = large_grid (side_at side k) (write_at writes side s k) (slice_get s.squares p)
+unfoldable pub grid_at : {L : Type 0} → (L → Grid) → ℕ → Held L → ℕ → ℕ → Grid
+grid_at writes side s zero p = small_grid writes s.leaves (slice_get s.squares p)
+grid_at writes side s (suc k) p = large_grid (side_at side k) (grid_at writes side s k) (slice_get s.squares p)
 
 -- the writes of the square of four parts of level k
 abbrev pub quarters_grid : {L : Type 0} → (L → Grid) → ℕ → Held L → ℕ → (nw ne sw se : ℕ) → Grid
-quarters_grid writes side s k nw ne sw se = quartered (side_at side k) (write_at writes side s k nw) (write_at writes side s k ne) (write_at writes side s k sw) (write_at writes side s k se)
+quarters_grid writes side s k nw ne sw se = quartered (side_at side k) (grid_at writes side s k nw) (grid_at writes side s k ne) (grid_at writes side s k sw) (grid_at writes side s k se)
 
 -- the same, of an array of parts: NW, NE, SW and SE
 abbrev pub four_grid : {L : Type 0} → (L → Grid) → ℕ → Held L → ℕ → List ℕ → Grid
@@ -61,4 +61,4 @@ four_grid writes side s k parts = quarters_grid writes side s k (slice_index_or 
 -- a square of level k with the writes of f stands at place p
 pub record Draws {L : Type 0} (writes : L → Grid) (side : ℕ) (s : Held L) (k : ℕ) (f : Grid) (p : ℕ) : Type 0 where
   pub stands : IsAt s k p
-  pub same : AreSameWithin (side_at side k) (write_at writes side s k p) f
+  pub same : AreSameWithin (side_at side k) (grid_at writes side s k p) f

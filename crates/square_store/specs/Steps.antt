@@ -3,13 +3,13 @@ use Rattle.std.specs.Prelude.{◌≡◌, ℕ, zero, suc, [], ◌++◌, ◌∷◌
 use Rattle.square_store.specs.declared.node.Node.{Node}
 use Rattle.square_store.specs.declared.node.Node.TheVariants.{Blank, Leaf, Four}
 use Rattle.square_store.specs.Grid.{Grid}
-use Rattle.square_store.specs.Squares.{Held, side_at, HasLevel, small_grid, large_grid, write_at}
+use Rattle.square_store.specs.Squares.{Held, side_at, HasLevel, small_grid, large_grid, grid_at}
 use Rattle.square_store.specs.Store.{HasParts}
 
 -- the writes of a node, taken as one of level k
 abbrev pub node_grid : {L : Type 0} → (L → Grid) → ℕ → Held L → ℕ → Option Node → Grid
 node_grid writes side s zero x = small_grid writes s.leaves x
-node_grid writes side s (suc k) x = large_grid (side_at side k) (write_at writes side s k) x
+node_grid writes side s (suc k) x = large_grid (side_at side k) (grid_at writes side s k) x
 
 -- the node is a blank
 abbrev pub IsBlankNode : Option Node → Type 0

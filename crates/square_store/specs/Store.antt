@@ -3,7 +3,7 @@ use Rattle.std.specs.Prelude.{◌≡◌, ℕ, suc, ◌-◌, ◌<◌, ◌≤◌, 
 use Rattle.square_store.specs.declared.node.Node.{Node}
 use Rattle.square_store.specs.declared.node.Node.TheVariants.{Blank, Leaf, Four}
 use Rattle.square_store.specs.Grid.{Grid, AreSameWithin, IsSpeltWithin}
-use Rattle.square_store.specs.Squares.{Held, side_at, IsAt, write_at, Draws}
+use Rattle.square_store.specs.Squares.{Held, side_at, IsAt, grid_at, Draws}
 
 -- the parts of a square of level k are squares of the level below
 pub record HasParts {L : Type 0} (s : Held L) (k a b c d : ℕ) : Type 0 where
@@ -32,7 +32,7 @@ pub record IsStore {L : Type 0} (writes : L → Grid) (side : ℕ) (IsLeaf : L �
 
 -- each square has the summary beside it that it should
 pub record AreSummaries {L S : Type 0} (writes : L → Grid) (side : ℕ) (IsSummary : ℕ → Grid → S → Type 0) (s : Held L) (summaries : List S) : Type 0 where
-  pub each : (k p : ℕ) (x : S) → IsAt s k p → slice_get summaries p ≡ Some x → IsSummary (side_at side k) (write_at writes side s k p) x
+  pub each : (k p : ℕ) (x : S) → IsAt s k p → slice_get summaries p ≡ Some x → IsSummary (side_at side k) (grid_at writes side s k p) x
 
 -- a store of nothing
 abbrev pub nothing_held : {L : Type 0} → ℕ → Held L
@@ -47,7 +47,7 @@ pub record IsGrown {L : Type 0} (writes : L → Grid) (side : ℕ) (old new : He
   pub room : new.room ≡ old.room
   pub held : (p : ℕ) → IsHeld old p → IsHeld new p
   pub stands : (k p : ℕ) → IsAt old k p → IsAt new k p
-  pub same : (k p : ℕ) → IsAt old k p → write_at writes side new k p ≡ write_at writes side old k p
+  pub same : (k p : ℕ) → IsAt old k p → grid_at writes side new k p ≡ grid_at writes side old k p
 
 -- no square of level k has the writes of f
 abbrev pub IsAbsent : {L : Type 0} → (L → Grid) → ℕ → Held L → ℕ → Grid → Type 0
@@ -70,4 +70,4 @@ pub record IsRoomFor {L : Type 0} (writes : L → Grid) (side : ℕ) (s : Held L
 
 -- two parts of one level with the same writes are one
 abbrev pub IsOnePartEach : {L : Type 0} → (L → Grid) → ℕ → Held L → Type 0
-IsOnePartEach writes side s = (k p q : ℕ) → IsAt s k p → IsAt s k q → AreSameWithin (side_at side k) (write_at writes side s k p) (write_at writes side s k q) → p ≡ q
+IsOnePartEach writes side s = (k p q : ℕ) → IsAt s k p → IsAt s k q → AreSameWithin (side_at side k) (grid_at writes side s k p) (grid_at writes side s k q) → p ≡ q

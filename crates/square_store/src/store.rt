@@ -2,7 +2,7 @@
 
 ghost use Rattle.std.specs.Prelude.{◌≡◌, ◌-◌, ◌<◌, ◌↔◌, ◌∷◌, ◌++◌, ℕ, [], IsTrue, IfOk, OnErr, IfSome, IfNone, Some, Err, length, slice_get};
 ghost use Rattle.square_store.specs.Grid.{Grid, blank_grid, IsSpeltWithin};
-ghost use Rattle.square_store.specs.Squares.{Held, IsAt, write_at, side_at, four_grid, quarters_grid, Draws};
+ghost use Rattle.square_store.specs.Squares.{Held, IsAt, grid_at, side_at, four_grid, quarters_grid, Draws};
 ghost use Rattle.square_store.specs.Store.{nothing_held, IsHeld, HasParts, IsGrown, IsAdded, IsFullFor, IsRoomFor, IsOnePartEach, IsStore};
 ghost use Rattle.square_store.specs.Steps.{IsWanted, IsSummed, IsAbsentNode, IsAbsentLeaf, IsPushed, IsLeafPushed, IsPlaceOfLeaf, IsOneBlank};
 ghost use Rattle.square_store.specs.Seen.{AreAt, IsSeen};
@@ -111,7 +111,7 @@ impl<L: LeafKind> Store<L> {
     /// The summary of the square at a part, in constant time.
     pub fn summary(&self, part: Part) -> L::Summary
         requires { IsHeld self.now part }
-        ensures { (k : ℕ) → IsAt self.now k part → L.IsSummary (side_at L.side k) (write_at L.write L.side self.now k part) result }
+        ensures { (k : ℕ) → IsAt self.now k part → L.IsSummary (side_at L.side k) (grid_at L.write L.side self.now k part) result }
     {
         let _ = &self.room;
         let Some((_, summary)) = self.squares.get_index(part.place as usize) else {

@@ -9,6 +9,6 @@ invariant-loop-turn g l = record {
   bytes : Consumes (g.S.Source.known l.fn.source).left (g.S.Source.known l.source).left l.text.items;
   works : (g.S.Source.known l.source).failures ≡ (g.S.Source.known l.fn.source).failures;
   counted : (g.S.Source.known l.source).pulls ≡ so_many_more l._turn (g.S.Source.known l.fn.source).pulls;
-  no_end : (g.S.Source.known l.source).empty_pulls ≡ (g.S.Source.known l.fn.source).empty_pulls;
+  no_end : (g.S.Source.known l.source).ends_met ≡ (g.S.Source.known l.fn.source).ends_met;
   many : l._turn ≤ length l.text.items;
 }
