@@ -10,7 +10,7 @@ use Rattle.std.proofs.lemmas.Option.{slice_get_within, slice_get_read, slice_get
 use Rattle.edit_stamps.specs.Edit.{PlaneEdit, is_edit}
 use Rattle.edit_journal.specs.Journal.{HasStamp, IsFreeOf, IsLastBelow, IsLinked, IsChained}
 
--- ---- the last place of a stamp
+-- ---- the last index of a stamp
 
 stamped : (E : List PlaneEdit) (s k : ℕ) (e : PlaneEdit) → slice_get E k ≡ Some e → e.stamp ≡ s → HasStamp E s k
 stamped E s k e there is = subst (λ o. IsSomeAnd o (λ (x : PlaneEdit). x.stamp ≡ s)) (sym there) is
@@ -21,8 +21,8 @@ stamp_of E s k e there has = subst (λ o. IsSomeAnd o (λ (x : PlaneEdit). x.sta
 stamped_in : (E F : List PlaneEdit) (s k : ℕ) → slice_get E k ≡ slice_get F k → HasStamp E s k → HasStamp F s k
 stamped_in E F s k same has = subst (λ o. IsSomeAnd o (λ (x : PlaneEdit). x.stamp ≡ s)) same has
 
--- which place is the last depends on the edits below alone
-last_in : (E F : List PlaneEdit) (s to : ℕ) (place : Option ℕ) → ((k : ℕ) → k < to → slice_get E k ≡ slice_get F k) → IsLastBelow E s to place → IsLastBelow F s to place
+-- which index is the last depends on the edits below alone
+last_in : (E F : List PlaneEdit) (s to : ℕ) (index : Option ℕ) → ((k : ℕ) → k < to → slice_get E k ≡ slice_get F k) → IsLastBelow E s to index → IsLastBelow F s to index
 last_in E F s to None same free = λ k from below has. free k from below (stamped_in F E s k (sym (same k below)) has)
 last_in E F s to (Some p) same last = (
   last.0,
@@ -43,25 +43,25 @@ free_more E s from n other free k low below has = elim (cases_eq k n) [
 ]
 
 -- an edit of another stamp changes nothing
-last_more : (E : List PlaneEdit) (s n : ℕ) (place : Option ℕ) → (HasStamp E s n → ⊥) → IsLastBelow E s n place → IsLastBelow E s (n + 1) place
+last_more : (E : List PlaneEdit) (s n : ℕ) (index : Option ℕ) → (HasStamp E s n → ⊥) → IsLastBelow E s n index → IsLastBelow E s (n + 1) index
 last_more E s n None other free = free_more E s 0 n other free
 last_more E s n (Some p) other last = let below = last.0 in (omega arith, (last.1.0, free_more E s (p + 1) n other last.1.1))
 
 -- ---- the way along the edits of one stamp
 
--- no edit from a place on is the one that is looked for
+-- no edit from an index on is the one that is looked for
 abbrev IsPast : List PlaneEdit → PlaneEdit → ℕ → Type 0
 IsPast E edit from = (k : ℕ) (e : PlaneEdit) → from ≤ k → slice_get E k ≡ Some e → is_edit edit e ≡ false
 
 -- how many edits may still be compared
 abbrev pub edits_ahead : Option ℕ → ℕ
 edits_ahead None = 0
-edits_ahead (Some place) = place + 1
+edits_ahead (Some index) = index + 1
 
--- what is known when the way has come to a place, or to its end
+-- what is known when the way has come to an index, or to its end
 pub record IsOnWay (E : List PlaneEdit) (edit : PlaneEdit) (here : Option ℕ) : Type 0 where
-  pub within : (place : ℕ) → here ≡ Some place → place < length E
-  pub stamp : (place : ℕ) → here ≡ Some place → HasStamp E edit.stamp place
+  pub within : (index : ℕ) → here ≡ Some index → index < length E
+  pub stamp : (index : ℕ) → here ≡ Some index → HasStamp E edit.stamp index
   pub past : IsPast E edit (edits_ahead here)
 
 other_edit : (edit e : PlaneEdit) → (e.stamp ≡ edit.stamp → ⊥) → is_edit edit e ≡ false
@@ -76,16 +76,16 @@ past_free E edit from to free past k e low there = elim (cases_lt k to) [
   | inr above ↦ past k e above there
 ]
 
-within_stamped : (E : List PlaneEdit) (s place : ℕ) → HasStamp E s place → place < length E
-within_stamped [] s place has = absurd has
+within_stamped : (E : List PlaneEdit) (s index : ℕ) → HasStamp E s index → index < length E
+within_stamped [] s index has = absurd has
 within_stamped (e ∷ E) s zero has = omega arith
-within_stamped (e ∷ E) s (suc place) has = let within = within_stamped E s place has in omega arith
+within_stamped (e ∷ E) s (suc index) has = let within = within_stamped E s index has in omega arith
 
 way_from : (E : List PlaneEdit) (edit : PlaneEdit) (to : ℕ) (here : Option ℕ) → IsLastBelow E edit.stamp to here → IsPast E edit to → IsOnWay E edit here
-way_from E edit to None free past = record { within = λ place is. absurd (cc); stamp = λ place is. absurd (cc); past = past_free E edit 0 to free past }
+way_from E edit to None free past = record { within = λ index is. absurd (cc); stamp = λ index is. absurd (cc); past = past_free E edit 0 to free past }
 way_from E edit to (Some p) last past = record {
-  within = λ place is. subst (λ q. q < length E) (same_Some p place is) (within_stamped E edit.stamp p last.1.0);
-  stamp = λ place is. subst (λ q. HasStamp E edit.stamp q) (same_Some p place is) last.1.0;
+  within = λ index is. subst (λ q. q < length E) (same_Some p index is) (within_stamped E edit.stamp p last.1.0);
+  stamp = λ index is. subst (λ q. HasStamp E edit.stamp q) (same_Some p index is) last.1.0;
   past = past_free E edit (p + 1) to last.1.1 past;
 }
 
@@ -101,32 +101,32 @@ same_edit E n k x e at here there =
     let same : Some x ≡ Some e = sym here ∙ ap (λ i. slice_get E i) (sym at) ∙ there in
     cc
 
-past_here : (E : List PlaneEdit) (edit x : PlaneEdit) (place : ℕ) → slice_get E place ≡ Some x → is_edit edit x ≡ false → IsPast E edit (place + 1) → IsPast E edit place
-past_here E edit x place here other past k e low there = elim (cases_eq k place) [
-  | inl at ↦ subst (λ y. is_edit edit y ≡ false) (same_edit E place k x e at here there) other
+past_here : (E : List PlaneEdit) (edit x : PlaneEdit) (index : ℕ) → slice_get E index ≡ Some x → is_edit edit x ≡ false → IsPast E edit (index + 1) → IsPast E edit index
+past_here E edit x index here other past k e low there = elim (cases_eq k index) [
+  | inl at ↦ subst (λ y. is_edit edit y ≡ false) (same_edit E index k x e at here there) other
   | inr apart ↦ past k e (omega arith) there
 ]
 
-fewer_ahead : (E : List PlaneEdit) (s place : ℕ) (next : Option ℕ) → IsLastBelow E s place next → edits_ahead next < place + 1
-fewer_ahead E s place None last = omega arith
-fewer_ahead E s place (Some p) last = let below = last.0 in omega arith
+fewer_ahead : (E : List PlaneEdit) (s index : ℕ) (next : Option ℕ) → IsLastBelow E s index next → edits_ahead next < index + 1
+fewer_ahead E s index None last = omega arith
+fewer_ahead E s index (Some p) last = let below = last.0 in omega arith
 
 -- an edit on the way is another one: the way goes on along its link
-pub way_goes_on : (E : List PlaneEdit) {earlier : List (Option ℕ)} {latest : ℕ → Option ℕ} (edit x : PlaneEdit) (here : Option ℕ) (place : ℕ) → IsChained E earlier latest →
-    IsOnWay E edit here → here ≡ Some place → x ≡ get_or E place x → is_edit edit x ≡ false →
-    (edits_ahead (get_or earlier place None) < edits_ahead here) × IsOnWay E edit (get_or earlier place None)
-way_goes_on E {earlier} edit x here place chained way at read other =
-    let within = way.within place at in
+pub way_goes_on : (E : List PlaneEdit) {earlier : List (Option ℕ)} {latest : ℕ → Option ℕ} (edit x : PlaneEdit) (here : Option ℕ) (index : ℕ) → IsChained E earlier latest →
+    IsOnWay E edit here → here ≡ Some index → x ≡ get_or E index x → is_edit edit x ≡ false →
+    (edits_ahead (get_or earlier index None) < edits_ahead here) × IsOnWay E edit (get_or earlier index None)
+way_goes_on E {earlier} edit x here index chained way at read other =
+    let within = way.within index at in
     let room = chained.room in
-    let there = slice_get_read E (length E) place x refl within read in
-    let stamp : x.stamp ≡ edit.stamp = stamp_of E edit.stamp place x there (way.stamp place at) in
-    let next = get_or earlier place None in
-    let linked = slice_get-get_or earlier place None (omega arith) in
-    let link : IsLastBelow E x.stamp place next = subst (λ o. IsSomeAnd o (λ p. IsLastBelow E x.stamp place p)) linked (chained.linked.links place x within there) in
-    let last : IsLastBelow E edit.stamp place next = subst (λ s. IsLastBelow E s place next) stamp link in
-    let past : IsPast E edit (place + 1) = subst (λ o. IsPast E edit (edits_ahead o)) at way.past in (
-      subst (λ o. edits_ahead next < edits_ahead o) (sym at) (fewer_ahead E edit.stamp place next last),
-      way_from E edit place next last (past_here E edit x place there other past),
+    let there = slice_get_read E (length E) index x refl within read in
+    let stamp : x.stamp ≡ edit.stamp = stamp_of E edit.stamp index x there (way.stamp index at) in
+    let next = get_or earlier index None in
+    let linked = slice_get-get_or earlier index None (omega arith) in
+    let link : IsLastBelow E x.stamp index next = subst (λ o. IsSomeAnd o (λ p. IsLastBelow E x.stamp index p)) linked (chained.linked.links index x within there) in
+    let last : IsLastBelow E edit.stamp index next = subst (λ s. IsLastBelow E s index next) stamp link in
+    let past : IsPast E edit (index + 1) = subst (λ o. IsPast E edit (edits_ahead o)) at way.past in (
+      subst (λ o. edits_ahead next < edits_ahead o) (sym at) (fewer_ahead E edit.stamp index next last),
+      way_from E edit index next last (past_here E edit x index there other past),
     )
 
 none_left : {X : Type 0} (o : Option X) → ((x : X) → o ≡ Some x → ⊥) → o ≡ None
@@ -138,7 +138,7 @@ none_past [] edit past = refl
 none_past (e ∷ E) edit past = rw (past 0 e (omega arith) refl) (none_past E edit (λ k x low there. past (suc k) x (omega arith) there))
 
 -- at the end of the way the edit was not found
-pub way_ends : (E : List PlaneEdit) (edit : PlaneEdit) (here : Option ℕ) → IsOnWay E edit here → ((place : ℕ) → here ≡ Some place → ⊥) → list_any (is_edit edit) E ≡ false
+pub way_ends : (E : List PlaneEdit) (edit : PlaneEdit) (here : Option ℕ) → IsOnWay E edit here → ((index : ℕ) → here ≡ Some index → ⊥) → list_any (is_edit edit) E ≡ false
 way_ends E edit here way end = none_past E edit (subst (λ o. IsPast E edit (edits_ahead o)) (none_left here end) way.past)
 
 -- ---- links
@@ -165,9 +165,9 @@ set_apart (x ∷ L) (suc n) zero v apart = refl
 set_apart (x ∷ L) (suc n) (suc k) v apart = set_apart L n k v (λ e. apart (ap suc e))
 
 link_in : (E F : List PlaneEdit) (s k : ℕ) (o p : Option (Option ℕ)) → o ≡ p → ((i : ℕ) → i < k → slice_get E i ≡ slice_get F i) →
-    IsSomeAnd o (λ place. IsLastBelow E s k place) → IsSomeAnd p (λ place. IsLastBelow F s k place)
+    IsSomeAnd o (λ index. IsLastBelow E s k index) → IsSomeAnd p (λ index. IsLastBelow F s k index)
 link_in E F s k None p is edits link = absurd link
-link_in E F s k (Some place) p is edits link = subst (λ q. IsSomeAnd q (λ y. IsLastBelow F s k y)) is (last_in E F s k place edits link)
+link_in E F s k (Some index) p is edits link = subst (λ q. IsSomeAnd q (λ y. IsLastBelow F s k y)) is (last_in E F s k index edits link)
 
 -- links stay where what is read stays
 linked_same : {E F : List PlaneEdit} {earlier wider : List (Option ℕ)} {latest : ℕ → Option ℕ} (n : ℕ) → IsLinked E earlier latest n →
@@ -188,13 +188,13 @@ linked_ahead {E} {all} {earlier} {wider} {latest} F n is len chained same =
     linked_same (length E) chained.linked (λ k below. sym (slice_get-append E F k below)) (λ k below. sym (same k (omega arith))) in
     subst (λ l. IsLinked l wider latest n) (sym is) (subst (λ m. IsLinked (E ++ F) wider latest m) (sym len) linked)
 
-start_more : (E : List PlaneEdit) (n : ℕ) (x : PlaneEdit) (s : ℕ) (place : Option ℕ) → slice_get E n ≡ Some x → IsLastBelow E s n place →
-    IsLastBelow E s (n + 1) (if x.stamp == s then Some n else place)
-start_more E n x s place here last = elim (eqb_tells x.stamp s) [
-  | inl h ↦ subst (λ b. IsLastBelow E s (n + 1) (if b then Some n else place)) (sym h.0) (subst (λ t. IsLastBelow E t (n + 1) (Some n)) h.1 (last_here E n x here))
+start_more : (E : List PlaneEdit) (n : ℕ) (x : PlaneEdit) (s : ℕ) (index : Option ℕ) → slice_get E n ≡ Some x → IsLastBelow E s n index →
+    IsLastBelow E s (n + 1) (if x.stamp == s then Some n else index)
+start_more E n x s index here last = elim (eqb_tells x.stamp s) [
+  | inl h ↦ subst (λ b. IsLastBelow E s (n + 1) (if b then Some n else index)) (sym h.0) (subst (λ t. IsLastBelow E t (n + 1) (Some n)) h.1 (last_here E n x here))
   | inr h ↦
-      subst (λ b. IsLastBelow E s (n + 1) (if b then Some n else place)) (sym h.0)
-      (last_more E s n place (λ has. h.1 (stamp_of E s n x here has)) last)
+      subst (λ b. IsLastBelow E s (n + 1) (if b then Some n else index)) (sym h.0)
+      (last_more E s n index (λ has. h.1 (stamp_of E s n x here has)) last)
 ]
 
 -- one more edit is linked
@@ -207,11 +207,11 @@ linked_more {E} {earlier} {latest} {after} n x linked room here starts = record 
         let stamp : x.stamp ≡ e.stamp = ap (λ (y : PlaneEdit). y.stamp) (same_edit E n k x e at here there) in
         let last : IsLastBelow E e.stamp k (latest x.stamp) =
         subst (λ i. IsLastBelow E e.stamp i (latest x.stamp)) (sym at) (subst (λ s. IsLastBelow E s n (latest x.stamp)) stamp (linked.starts x.stamp)) in
-        subst (λ o. IsSomeAnd o (λ place. IsLastBelow E e.stamp k place))
+        subst (λ o. IsSomeAnd o (λ index. IsLastBelow E e.stamp k index))
         (sym (ap (λ i. slice_get (slice_set earlier n (latest x.stamp)) i) at ∙ set_here earlier n (latest x.stamp) room))
         last
     | inr apart ↦
-        subst (λ o. IsSomeAnd o (λ place. IsLastBelow E e.stamp k place)) (sym (set_apart earlier n k (latest x.stamp) apart))
+        subst (λ o. IsSomeAnd o (λ index. IsLastBelow E e.stamp k index)) (sym (set_apart earlier n k (latest x.stamp) apart))
         (linked.links k e (omega arith) there)
   ];
 }

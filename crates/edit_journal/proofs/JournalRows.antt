@@ -1,4 +1,4 @@
--- Worked values of the last places of stamps.
+-- Worked values of the last indices of stamps.
 use Rattle.std.proofs.Common.{◌≡◌, ℕ, ◌+◌, ◌<◌, ◌≤◌, [], ◌∷◌, refl, subst, arith}
 use Rattle.std.specs.Prelude.{None, Some}
 use Rattle.edit_journal.specs.Journal.{HasStamp, IsLastBelow}
@@ -14,15 +14,15 @@ later_of_another k low below has =
 last_of_a_stamp : IsLastBelow (one 65537 1 ∷ one 131073 1 ∷ one 65537 2 ∷ one 131073 2 ∷ []) 65537 4 (Some 2)
 last_of_a_stamp = (omega arith, (refl, later_of_another))
 
--- below a place, an edit at or behind it does not count
+-- below an index, an edit at or behind it does not count
 second_of_another : (k : ℕ) → 0 + 1 ≤ k → k < 2 → HasStamp (one 65537 1 ∷ one 131073 1 ∷ one 65537 2 ∷ []) 65537 k → ⊥
 second_of_another k low below has =
     let at : k ≡ 1 = omega arith in
     let stamp : ◌≡◌ {A = ℕ} 131073 65537 = subst (λ i. HasStamp (one 65537 1 ∷ one 131073 1 ∷ one 65537 2 ∷ []) 65537 i) at has in
     omega arith
 
-last_below_a_place : IsLastBelow (one 65537 1 ∷ one 131073 1 ∷ one 65537 2 ∷ []) 65537 2 (Some 0)
-last_below_a_place = (omega arith, (refl, second_of_another))
+last_below_an_index : IsLastBelow (one 65537 1 ∷ one 131073 1 ∷ one 65537 2 ∷ []) 65537 2 (Some 0)
+last_below_an_index = (omega arith, (refl, second_of_another))
 
 last_of_no_stamp : IsLastBelow (one 65537 1 ∷ []) 65538 1 None
 last_of_no_stamp k low below has =

@@ -10,25 +10,25 @@ noted journal (e ∷ edits) = noted (if list_any (is_edit e) journal then journa
 
 -- ---- how an edit is found by its stamp
 
--- a place has an edit with the stamp
+-- an index has an edit with the stamp
 abbrev pub HasStamp : List PlaneEdit → ℕ → ℕ → Type 0
-HasStamp edits stamp place = IsSomeAnd (slice_get edits place) (λ e. e.stamp ≡ stamp)
+HasStamp edits stamp index = IsSomeAnd (slice_get edits index) (λ e. e.stamp ≡ stamp)
 
--- no place from one on and below another has an edit with the stamp
+-- no index from one on and below another has an edit with the stamp
 abbrev pub IsFreeOf : List PlaneEdit → ℕ → ℕ → ℕ → Type 0
 IsFreeOf edits stamp from to = (k : ℕ) → from ≤ k → k < to → HasStamp edits stamp k → ⊥
 
--- the last place below another that has an edit with the stamp, or none where there is none
+-- the last index below another that has an edit with the stamp, or none where there is none
 abbrev pub IsLastBelow : List PlaneEdit → ℕ → ℕ → Option ℕ → Type 0
 IsLastBelow edits stamp to None = IsFreeOf edits stamp 0 to
-IsLastBelow edits stamp to (Some place) = (place < to) × (HasStamp edits stamp place × IsFreeOf edits stamp (place + 1) to)
+IsLastBelow edits stamp to (Some index) = (index < to) × (HasStamp edits stamp index × IsFreeOf edits stamp (index + 1) to)
 
 -- of the first edits, each leads to the last one before it with its stamp, and each stamp to its last edit
 pub record IsLinked (edits : List PlaneEdit) (earlier : List (Option ℕ)) (latest : ℕ → Option ℕ) (count : ℕ) : Type 0 where
   pub starts : (s : ℕ) → IsLastBelow edits s count (latest s)
-  pub links : (k : ℕ) (e : PlaneEdit) → k < count → slice_get edits k ≡ Some e → IsSomeAnd (slice_get earlier k) (λ place. IsLastBelow edits e.stamp k place)
+  pub links : (k : ℕ) (e : PlaneEdit) → k < count → slice_get edits k ≡ Some e → IsSomeAnd (slice_get earlier k) (λ index. IsLastBelow edits e.stamp k index)
 
--- all edits are linked; there may be places for more
+-- all edits are linked; there may be links for more
 pub record IsChained (edits : List PlaneEdit) (earlier : List (Option ℕ)) (latest : ℕ → Option ℕ) : Type 0 where
   pub room : length edits ≤ length earlier
   pub linked : IsLinked edits earlier latest (length edits)

@@ -18,10 +18,10 @@ use std::marker::Model;
 #[derive(Debug, Drop)]
 pub struct Journal {
     edits: Vec<Edit>,
-    /// For each edit, the last place before it with an edit of its stamp. It may be longer than the
+    /// For each edit, the last index before it with an edit of its stamp. It may be longer than the
     /// edits, so that room for more is made without a change of the journal.
     earlier: Vec<Option<usize>>,
-    /// For each stamp in the journal, the last place with an edit of it.
+    /// For each stamp in the journal, the last index with an edit of it.
     latest: BTreeMap<u64, usize>,
 }
 
@@ -107,36 +107,36 @@ fn is_on_chain(
     ensures { result ≡ list_any (is_edit edit.now) edits.now }
 {
     let mut next = latest.get(&edit.stamp().number()).copied();
-    while let Some(place) = next {
-        if edit.same(&edits[place]) {
+    while let Some(index) = next {
+        if edit.same(&edits[index]) {
             return true;
         }
-        next = earlier[place];
+        next = earlier[index];
     }
     false
 }
 
 /// Makes room for a number of links.
-fn make_places(earlier: &mut Vec<Option<usize>>, places: usize) -> Result<(), AllocError>
-    ensures room { OnOk result (places ≤ length earlier.new.items) }
+fn lengthen(earlier: &mut Vec<Option<usize>>, count: usize) -> Result<(), AllocError>
+    ensures room { OnOk result (count ≤ length earlier.new.items) }
     ensures grows { length earlier.old.items ≤ length earlier.new.items }
     ensures same { (k : ℕ) → k < length earlier.old.items → slice_get earlier.new.items k ≡ slice_get earlier.old.items k }
 {
-    if earlier.len() < places {
-        earlier.resize(places, None)?;
+    if earlier.len() < count {
+        earlier.resize(count, None)?;
     }
     Ok(())
 }
 
-/// Leads a stamp of the map to another place, or takes it out.
-fn redirect(latest: &mut BTreeMap<u64, usize>, stamp: u64, place: Option<usize>)
+/// Leads a stamp of the map to another index, or takes it out.
+fn redirect(latest: &mut BTreeMap<u64, usize>, stamp: u64, index: Option<usize>)
     requires { IsSome (get nat_cmp latest.old stamp) }
-    ensures { (s : ℕ) → get nat_cmp latest.new s ≡ (if stamp == s then place else get nat_cmp latest.old s) }
+    ensures { (s : ℕ) → get nat_cmp latest.new s ≡ (if stamp == s then index else get nat_cmp latest.old s) }
 {
-    match place {
-        Some(place) => {
+    match index {
+        Some(index) => {
             if let Some(last) = latest.get_mut(&stamp) {
-                *last = place;
+                *last = index;
             }
         }
         None => {
@@ -145,7 +145,7 @@ fn redirect(latest: &mut BTreeMap<u64, usize>, stamp: u64, place: Option<usize>)
     }
 }
 
-/// Leads the map back to where it led before the edits from a place on were linked: the last first,
+/// Leads the map back to where it led before the edits from an index on were linked: the last first,
 /// since each leads to the one before it.
 fn unlink(
     edits: &[Edit],
@@ -160,12 +160,12 @@ fn unlink(
     requires linked { IsLinked edits.now earlier.now (get nat_cmp latest.old) linked }
     ensures { IsLinked edits.now earlier.now (get nat_cmp latest.new) from }
 {
-    for place in (from..linked).rev() {
-        redirect(latest, edits[place].stamp().number(), earlier[place]);
+    for index in (from..linked).rev() {
+        redirect(latest, edits[index].stamp().number(), earlier[index]);
     }
 }
 
-/// Links the edits from a place on. Where memory is refused, the map leads to none of them.
+/// Links the edits from an index on. Where memory is refused, the map leads to none of them.
 fn link(
     edits: &[Edit],
     earlier: &mut [Option<usize>],
@@ -178,11 +178,11 @@ fn link(
     ensures ok { OnOk result (IsLinked edits.now earlier.new (get nat_cmp latest.new) (length edits.now)) }
     ensures err { OnErr result (IsLinked edits.now earlier.new (get nat_cmp latest.new) from) }
 {
-    for place in from..edits.len() {
-        match latest.insert(edits[place].stamp().number(), place) {
-            Ok(before) => earlier[place] = before,
+    for index in from..edits.len() {
+        match latest.insert(edits[index].stamp().number(), index) {
+            Ok(before) => earlier[index] = before,
             Err(refused) => {
-                unlink(edits, earlier, latest, from, place);
+                unlink(edits, earlier, latest, from, index);
                 return Err(AllocError::from(refused));
             }
         }
@@ -190,7 +190,7 @@ fn link(
     Ok(())
 }
 
-/// Links the edits from a place on, or drops them where memory is refused.
+/// Links the edits from an index on, or drops them where memory is refused.
 fn link_or_drop(
     edits: &mut Vec<Edit>,
     earlier: &mut [Option<usize>],
@@ -224,7 +224,7 @@ fn push_linked(
     ensures chained { IsChained edits.new.items earlier.new.items (get nat_cmp latest.new) }
 {
     let linked = edits.len();
-    make_places(earlier, linked + 1)?;
+    lengthen(earlier, linked + 1)?;
     edits.push(edit)?;
     link_or_drop(edits, earlier, latest, linked)
 }
@@ -242,7 +242,7 @@ fn append_linked(
     ensures chained { IsChained edits.new.items earlier.new.items (get nat_cmp latest.new) }
 {
     let linked = edits.len();
-    make_places(earlier, linked + fresh.len())?;
+    lengthen(earlier, linked + fresh.len())?;
     edits.append(&mut fresh)?;
     link_or_drop(edits, earlier, latest, linked)
 }

@@ -17,13 +17,13 @@ use Rattle.edit_stamps.specs.Making.{are_in_plane}
 use Rattle.edit_stamps.specs.Plane.{is_area_in_plane, is_coordinate, is_empty}
 
 -- the state of a pattern's cells at a column and row of its box: 0 where none of them stands
-abbrev pub state_at : List PatternCell → ℕ → ℕ → ℕ
-state_at cells column row =
+abbrev pub pattern_state_at : List PatternCell → ℕ → ℕ → ℕ
+pattern_state_at cells column row =
     unwrap_or (option_map (λ cell. cell.state) (find (λ cell. cell.column == column && cell.row == row) cells)) 0
 
 -- a pattern's state at a place of the plane, where the upper left corner of its box is put at x and y
 abbrev pub state_there : RlePattern → ℤ → ℤ → Place → ℕ
-state_there p x y c = state_at p.cells (int_gap x c.x) (int_gap y c.y)
+state_there p x y c = pattern_state_at p.cells (int_gap x c.x) (int_gap y c.y)
 
 -- a pattern's cell, where the upper left corner of its box is put at x and y
 abbrev pub cell_placed : ℤ → ℤ → PatternCell → Cell

@@ -11,6 +11,7 @@ use crate::rect::Rect;
 use crate::stamp::Stamp;
 use crate::{paste, settle};
 use generations_rule::Rule;
+use lists::ListOf;
 use multistate_rle::{Cell, Pattern};
 use std::alloc::{AllocError, Global};
 use std::marker::Model;
@@ -24,6 +25,9 @@ pub struct Edit {
     area: Option<Rect>,
     cells: Vec<Cell>,
 }
+
+/// Edits in their order, as messages and journals hold them.
+pub type EditList = ListOf<Edit>;
 
 impl Model for Edit {
     ghost use Rattle.edit_stamps.specs.Edit.{PlaneEdit, IsEdit};

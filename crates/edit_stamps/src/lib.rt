@@ -8,7 +8,6 @@
 mod edit;
 mod fault;
 mod laws;
-mod list;
 mod paste;
 mod placing;
 mod plane;
@@ -17,10 +16,9 @@ mod settle;
 mod stamp;
 mod write;
 
-pub use edit::Edit;
+pub use edit::{Edit, EditList};
 pub use fault::EditFault;
 pub use laws::{clock_laws, edit_laws, stamp_laws, write_laws};
-pub use list::EditList;
 pub use multistate_rle::{Cell, Pattern};
 pub use paste::MOST_SIDE;
 pub use placing::{Corner, are_placeable, have_states_below, placed_cells};

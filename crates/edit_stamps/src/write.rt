@@ -12,22 +12,16 @@ pub struct Write {
 }
 
 impl Write {
-    ghost use Rattle.edit_stamps.specs.Write.{at_most, greater};
+    ghost use Rattle.edit_stamps.specs.Write.{at_most};
 
     /// The least write: nothing was written.
     pub const UNWRITTEN: Write = Write { stamp: 0, state: 0 };
 
-    /// Whether the other write wins, or is this one.
+    /// Whether the other write wins, or is this one. RR-7506 merges two registers to the greater
+    /// of their writes.
     pub fn at_most(self, other: Write) -> bool
         ensures { result ≡ at_most self other }
     {
         self <= other
-    }
-
-    /// The write that wins. RR-7506 merges two registers so.
-    pub fn greater(self, other: Write) -> Write
-        ensures { result ≡ greater self other }
-    {
-        if self <= other { other } else { self }
     }
 }

@@ -57,7 +57,7 @@ fn merged_places(a: &Leaf, b: &Leaf) -> u32 {
     let mut places = 0u32;
     for i in 0..64 {
         let write = merged.get(i);
-        if write == a.get(i).greater(b.get(i)) && states[i] == write.state {
+        if write == a.get(i).max(b.get(i)) && states[i] == write.state {
             places = places.saturating_add(1);
         }
     }

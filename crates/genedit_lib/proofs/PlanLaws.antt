@@ -7,14 +7,14 @@ use Rattle.genedit_script.specs.Script.{ScriptValue}
 use Rattle.genedit_script.specs.declared.command.Command.{Command}
 use Rattle.replica_core.specs.declared.event.Event.{Event}
 use Rattle.replica_core.specs.declared.event.Reply.{Reply}
-use Rattle.genedit_lib.specs.declared.plan.Line.{Line}
-use Rattle.genedit_lib.specs.Output.{ScriptStep, Happens, Says, OutputLine, IsScriptOutput, Patterns, after_command, command_step, events_among, filled, no_patterns, step_line, steps}
+use Rattle.genedit_lib.specs.declared.plan.PlannedLine.{PlannedLine}
+use Rattle.genedit_lib.specs.Output.{ScriptStep, Happens, Says, OutputLine, IsScriptOutput, NamedPatterns, after_command, command_step, events_among, filled, no_patterns, step_line, steps}
 use Rattle.genedit_lib.specs.Plan.{line_of}
 
 -- ---- plans
 
 -- the steps of commands are the first one's, and then those of the rest under the names behind it
-pub steps_on : (f g : Patterns) (left rest : List Command) (c : Command) (s : ScriptStep) → left ≡ c ∷ rest → s ≡ command_step f c
+pub steps_on : (f g : NamedPatterns) (left rest : List Command) (c : Command) (s : ScriptStep) → left ≡ c ∷ rest → s ≡ command_step f c
     → ((name : List ℕ) → g name ≡ after_command f c name) → steps f left ≡ s ∷ steps g rest
 steps_on f g left rest c s left_is s_is same = ap (steps f) left_is ∙ (λ i. sym s_is i ∷ steps (λ name. sym (same name) i) rest)
 
@@ -31,7 +31,7 @@ pub no_event_planned : (done all : List Event) (now then : List ScriptStep) (tex
     → all ≡ done ++ events_among then
 no_event_planned done all now then text all_is now_is = all_is ∙ ap (λ s. done ++ events_among s) now_is
 
-pub line_planned : (done new : List Line) (all : List OutputLine) (now then : List ScriptStep) (s : ScriptStep) (line : Line)
+pub line_planned : (done new : List PlannedLine) (all : List OutputLine) (now then : List ScriptStep) (s : ScriptStep) (line : PlannedLine)
     → all ≡ map line_of done ++ map step_line now → now ≡ s ∷ then → new ≡ done ++ line ∷ [] → line_of line ≡ step_line s
     → all ≡ map line_of new ++ map step_line then
 line_planned done new all now then s line all_is now_is new_is line_is =
@@ -41,7 +41,7 @@ line_planned done new all now then s line all_is now_is new_is line_is =
 -- ---- scripts
 
 -- what is printed of a script, by its plan and the replies to the plan's events
-pub outputs : (script : ScriptValue) (rule : GenerationsRule) (replicas : ℕ) (commands : List Command) (events : List Event) (plan given : List Line) (replies said : List Reply) (out : List ℕ)
+pub outputs : (script : ScriptValue) (rule : GenerationsRule) (replicas : ℕ) (commands : List Command) (events : List Event) (plan given : List PlannedLine) (replies said : List Reply) (out : List ℕ)
     → rule ≡ script.rule → replicas ≡ script.replicas → commands ≡ script.commands → events ≡ events_among (steps no_patterns commands)
     → map line_of plan ≡ map step_line (steps no_patterns commands) → given ≡ plan → said ≡ replies → AreReplies (opening rule replicas) events replies → out ≡ filled (map line_of given) said
     → IsScriptOutput script out

@@ -74,17 +74,17 @@ no_pattern_line = refused_text 38 (name_of_number 38)
 -- ---- names
 
 -- which pattern each name stands for
-abbrev pub Patterns : Type 0
-Patterns = List ℕ → Option RlePattern
+abbrev pub NamedPatterns : Type 0
+NamedPatterns = List ℕ → Option RlePattern
 
-abbrev pub no_patterns : Patterns
+abbrev pub no_patterns : NamedPatterns
 no_patterns name = None
 
-abbrev pub with_pattern : Patterns → List ℕ → RlePattern → Patterns
+abbrev pub with_pattern : NamedPatterns → List ℕ → RlePattern → NamedPatterns
 with_pattern patterns name pattern other = if bytes_eq name other then Some pattern else patterns other
 
 -- a text that is no pattern leaves its name as it was
-abbrev pub with_text : Patterns → List ℕ → Result RlePattern RleFault → Patterns
+abbrev pub with_text : NamedPatterns → List ℕ → Result RlePattern RleFault → NamedPatterns
 with_text patterns name (Ok pattern) = with_pattern patterns name pattern
 with_text patterns name (Err fault) = patterns
 
@@ -96,21 +96,21 @@ paste_step replica (Some spec) = Happens (Draw replica spec)
 paste_step replica None = Says no_pattern_line
 
 -- what a command comes to
-abbrev pub command_step : Patterns → Command → ScriptStep
+abbrev pub command_step : NamedPatterns → Command → ScriptStep
 command_step patterns (Does event) = Happens event
 command_step patterns (Names name text) = Says (naming_text name (parsed text))
 command_step patterns (Copies paste) = paste_step paste.replica (option_map (λ pattern. Copy pattern paste.x paste.y) (patterns paste.name))
 command_step patterns (Ors paste) = paste_step paste.replica (option_map (λ pattern. Or pattern paste.x paste.y) (patterns paste.name))
 
 -- the names after a command
-abbrev pub after_command : Patterns → Command → Patterns
+abbrev pub after_command : NamedPatterns → Command → NamedPatterns
 after_command patterns (Names name text) = with_text patterns name (parsed text)
 after_command patterns (Does event) = patterns
 after_command patterns (Copies paste) = patterns
 after_command patterns (Ors paste) = patterns
 
 -- the steps of commands; names are looked up as the commands go
-abbrev pub steps : Patterns → List Command → List ScriptStep
+abbrev pub steps : NamedPatterns → List Command → List ScriptStep
 steps patterns [] = []
 steps patterns (command ∷ commands) = command_step patterns command ∷ steps (after_command patterns command) commands
 

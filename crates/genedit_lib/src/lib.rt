@@ -7,7 +7,6 @@ mod patterns;
 mod plan;
 mod run;
 mod step;
-mod text;
 
 pub use genedit_io::RunFault;
 pub use laws::name_laws;

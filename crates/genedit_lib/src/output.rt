@@ -5,8 +5,8 @@ ghost use Rattle.multistate_rle.specs.RleFault.{text_fault_number, text_fault_te
 ghost use Rattle.genedit_lib.specs.Output.{no_pattern_line, filled, pattern_line, refused_text, reply_line, stamp_text, write_text};
 ghost use Rattle.genedit_lib.specs.Plan.{line_of};
 
-use crate::plan::Line;
-use crate::text::Text;
+use crate::plan::PlannedLine;
+use crate::step::Text;
 use edit_stamps::{Write, counter_of, replica_of};
 use itoa::Buffer;
 use multistate_rle::{Pattern, RleFault};
@@ -14,15 +14,15 @@ use replica_core::Reply;
 use std::alloc::{AllocError, Global};
 
 /// The lines, with the replies in their places.
-pub fn output(alloc: Global, lines: &[Line], replies: &[Reply]) -> Result<Vec<u8>, AllocError>
+pub fn output(alloc: Global, lines: &[PlannedLine], replies: &[Reply]) -> Result<Vec<u8>, AllocError>
     ensures { IfOk result (λ out. out.items ≡ filled (map line_of lines.now) replies.now) }
 {
     let mut out = Vec::new(alloc);
     let mut left = replies;
     for line in lines {
         match line {
-            Line::Own(text) => push_text(&mut out, text)?,
-            Line::Reply => {
+            PlannedLine::Own(text) => push_text(&mut out, text)?,
+            PlannedLine::Reply => {
                 let Some((reply, rest)) = left.split_first() else {
                     return Ok(out);
                 };
@@ -80,7 +80,7 @@ pub fn no_pattern_text(alloc: Global) -> Result<Text, AllocError>
 fn push_text(out: &mut Vec<u8>, text: &Text) -> Result<(), AllocError>
     ensures { OnOk result (out.new.items ≡ out.old.items ++ (text.now ++ codes "\n")) }
 {
-    out.extend_from_slice(text.as_bytes())?;
+    out.extend_from_slice(text.as_slice())?;
     out.push(b'\n')?;
     Ok(())
 }

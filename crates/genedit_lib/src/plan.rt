@@ -8,8 +8,7 @@ ghost use Rattle.genedit_lib.specs.Plan.{line_of, step_of};
 
 use crate::output::{no_pattern_text, pattern_text, text_refusal};
 use crate::patterns::Patterns;
-use crate::step::Step;
-use crate::text::Text;
+use crate::step::{Step, Text};
 use genedit_script::{Command, PatternName, PatternText};
 use multistate_rle::{RleFault, parse};
 use replica_core::{EditSpec, Event};
@@ -17,7 +16,7 @@ use std::alloc::{AllocError, Global};
 
 /// What is printed at a command.
 #[derive(Debug, Drop)]
-pub enum Line {
+pub enum PlannedLine {
     /// The line of the next reply.
     Reply,
     /// A line of the command's own.
@@ -28,7 +27,7 @@ pub enum Line {
 #[derive(Debug, Drop)]
 pub struct Plan {
     pub events: Vec<Event>,
-    pub lines: Vec<Line>,
+    pub lines: Vec<PlannedLine>,
 }
 
 /// The plan of a script's commands. A name means the last pattern that was given it before.
@@ -43,9 +42,9 @@ pub fn planned(alloc: Global, commands: Vec<Command>) -> Result<Plan, AllocError
         match next_step(alloc, &mut patterns, command)? {
             Step::Happens(event) => {
                 events.push(event)?;
-                lines.push(Line::Reply)?;
+                lines.push(PlannedLine::Reply)?;
             }
-            Step::Says(text) => lines.push(Line::Own(text))?,
+            Step::Says(text) => lines.push(PlannedLine::Own(text))?,
         }
     }
     Ok(Plan { events, lines })
@@ -92,7 +91,7 @@ fn give_name(
     ensures step { IfOk result (λ step. step_of step ≡ Says (naming_text name (parsed text.now))) }
     ensures after { OnOk result ((other : List ℕ) → pattern_in patterns.new other ≡ with_text (pattern_in patterns.old) name (parsed text.now) other) }
 {
-    match parse(alloc, text.as_bytes()) {
+    match parse(alloc, text.as_slice()) {
         Ok(pattern) => {
             let line = pattern_text(alloc, name.as_bytes(), &pattern)?;
             patterns.insert(name, pattern)?;

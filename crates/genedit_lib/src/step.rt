@@ -1,6 +1,6 @@
 //! What a command of a script comes to.
 
-use crate::text::Text;
+use lists::ListOf;
 use replica_core::Event;
 
 /// What a command of a script comes to.
@@ -11,3 +11,6 @@ pub enum Step {
     /// A line of its own; nothing happens in the world.
     Says(Text),
 }
+
+/// A line of output, without its end.
+pub type Text = ListOf<u8>;

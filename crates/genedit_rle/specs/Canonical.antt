@@ -23,8 +23,8 @@ pattern_refusal states p = first_of (
     ∷ [])
 
 -- the text of a pattern's cells in the plane, at its generation
-abbrev pub written : GenerationsRule → RlePattern → Result (List ℕ) FormRefusal
-written r p = unless (pattern_refusal r.states p) (text_of_cells r p.generation (cells_in_plane p))
+abbrev pub form_written : GenerationsRule → RlePattern → Result (List ℕ) FormRefusal
+form_written r p = unless (pattern_refusal r.states p) (text_of_cells r p.generation (cells_in_plane p))
 
 -- what was read, where the text was refused nothing
 abbrev pub read : Result RlePattern RleFault → Result RlePattern FormRefusal
@@ -33,4 +33,4 @@ read (Err fault) = Err (Text fault)
 
 -- the canonical form of a text, or its first refusal
 abbrev pub canonical : GenerationsRule → List ℕ → Result (List ℕ) FormRefusal
-canonical r text = read (parsed text) >>= written r
+canonical r text = read (parsed text) >>= form_written r

@@ -2,7 +2,7 @@
 
 ghost use Rattle.std.specs.Prelude.{◌≡◌, IfOk, IfErr, IfSome, IfNone, Ok, Err, Some, None, option_map};
 ghost use Rattle.multistate_rle.specs.Writing.{text_of_cells};
-ghost use Rattle.genedit_rle.specs.Canonical.{canonical, cells_in_plane, pattern_refusal, written};
+ghost use Rattle.genedit_rle.specs.Canonical.{canonical, cells_in_plane, pattern_refusal, form_written};
 ghost use Rattle.genedit_rle.specs.Fault.{refusal_of};
 
 use crate::fault::CanonicalFault;
@@ -23,8 +23,8 @@ pub fn canonical_form(alloc: Global, rule: &Rule, text: &[u8]) -> Result<Vec<u8>
 
 /// The text of a pattern that was read; it is looked at for refusals before memory is taken.
 fn form_of(alloc: Global, rule: &Rule, pattern: &Pattern) -> Result<Vec<u8>, CanonicalFault>
-    ensures form { IfOk result (λ form. written rule.now pattern.now ≡ Ok form.items) }
-    ensures fault { IfErr result (λ fault. IfSome (refusal_of fault) (λ refusal. written rule.now pattern.now ≡ Err refusal)) }
+    ensures form { IfOk result (λ form. form_written rule.now pattern.now ≡ Ok form.items) }
+    ensures fault { IfErr result (λ fault. IfSome (refusal_of fault) (λ refusal. form_written rule.now pattern.now ≡ Err refusal)) }
     ensures want_last { IfErr result (λ fault. IfNone (refusal_of fault) (pattern_refusal rule.now.states pattern.now ≡ None)) }
 {
     if let Some(fault) = fault_of(rule, pattern) {

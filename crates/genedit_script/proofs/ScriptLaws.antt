@@ -7,7 +7,7 @@ use Rattle.std.proofs.lemmas.List.{append-nil}
 use Rattle.generations_rule.specs.Refusal.{◌>>=◌}
 use Rattle.multistate_rle.specs.Position.{words}
 use Rattle.genedit_script.specs.declared.command.Command.{Command}
-use Rattle.genedit_script.specs.Script.{ScriptValue, numbered, is_spoken, opening_spelled, command_spelled, commands_spelled, Head, head_spelled}
+use Rattle.genedit_script.specs.Script.{ScriptValue, numbered_lines, is_spoken, opening_spelled, command_spelled, commands_spelled, Head, head_spelled}
 use Rattle.genedit_script.specs.Laws.{HaveNoEnd, AreScript, whole, HaveHeadFaultAt, HaveFaultAt, head_fault, no_command, open_block, AcceptsScripts, RefusesFaults, RefusesHeadFaults}
 use Rattle.genedit_script.proofs.ScriptLemmas.{with_front}
 use Rattle.genedit_script.proofs.PieceLaws.{opens_one, block_goes_on, asked}
@@ -20,14 +20,14 @@ script_by head = head >>= λ head. commands_spelled None head.behind >>= λ comm
 
 -- the script of lines that are numbered from 1
 abbrev read_of : ℕ → List (List ℕ) → Result ScriptValue ℕ
-read_of end lines = script_by (head_spelled end (numbered 1 lines))
+read_of end lines = script_by (head_spelled end (numbered_lines 1 lines))
 
 -- a script, and what is read of lines behind it
 abbrev with_more : ScriptValue → Result (List Command) ℕ → Result ScriptValue ℕ
 with_more s more = with_front s.commands more >>= λ commands. Ok (record { rule = s.rule; replicas = s.replicas; commands = commands })
 
 script_read : {front : List (List ℕ)} {script : ScriptValue} → AreScript front script → (end : ℕ) (rest : List (List ℕ)) →
-    read_of end (front ++ rest) ≡ with_more script (commands_spelled None (numbered (length front + 1) rest))
+    read_of end (front ++ rest) ≡ with_more script (commands_spelled None (numbered_lines (length front + 1) rest))
 script_read (whole front between line behind {script = s} named all is asks) end rest =
     let regroup : (front ++ (between ++ line ∷ behind)) ++ rest ≡ front ++ (between ++ line ∷ (behind ++ rest)) = simp append_assoc in
     let start : ℕ = ((1 + length front) + length between) + 1 in
@@ -37,7 +37,7 @@ script_read (whole front between line behind {script = s} named all is asks) end
     ∙ ap script_by (rule_named named end 1 (between ++ line ∷ (behind ++ rest)))
     ∙ ap script_by (replicas_named end (1 + length front) s.rule between line (behind ++ rest) s.replicas all is)
     ∙ ap (λ (more : Result (List Command) ℕ). more >>= λ commands. Ok (record { rule = s.rule; replicas = s.replicas; commands = commands })) (asked asks start rest)
-    ∙ ap (λ k. with_more s (commands_spelled None (numbered k rest))) place
+    ∙ ap (λ k. with_more s (commands_spelled None (numbered_lines k rest))) place
 
 -- ---- from lines to what is read
 
@@ -47,14 +47,14 @@ reads_script lines s is =
     ∙ ap (λ (commands : List Command). Ok (record { rule = s.rule; replicas = s.replicas; commands = commands })) (append-nil s.commands)
 
 refuses_line : (n : ℕ) (line : List ℕ) (more : List (List ℕ)) → is_spoken (words line) ≡ true → opening_spelled (words line) ≡ None → command_spelled (words line) ≡ None →
-    commands_spelled None (numbered n (line ∷ more)) ≡ Err n
+    commands_spelled None (numbered_lines n (line ∷ more)) ≡ Err n
 refuses_line n line more says opens spells = rw (says, opens, spells) refl
 
 refuses_block : (n : ℕ) (opening name : List ℕ) (inside : List (List ℕ)) → opening_spelled (words opening) ≡ Some name → HaveNoEnd inside →
-    commands_spelled None (numbered n (opening ∷ inside)) ≡ Err n
+    commands_spelled None (numbered_lines n (opening ∷ inside)) ≡ Err n
 refuses_block n opening name inside is none =
     opens_one n opening inside name is
-    ∙ ap (λ (ls : List (List ℕ)). commands_spelled (Some (record { line = n; name = name; text = [] })) (numbered (n + 1) ls)) (sym (append-nil inside))
+    ∙ ap (λ (ls : List (List ℕ)). commands_spelled (Some (record { line = n; name = name; text = [] })) (numbered_lines (n + 1) ls)) (sym (append-nil inside))
     ∙ block_goes_on inside [] (n + 1) n name [] none
 
 refuses : {lines : List (List ℕ)} {number : ℕ} → HaveFaultAt lines number → read_of (length lines + 1) lines ≡ Err number
@@ -86,9 +86,9 @@ fault_back number (accepted {lines = lines} s is) read =
     let told : read_of (length lines + 1) lines ≡ Ok s = reads_script lines s is in
     absurd (cc)
 
-head_back : {lines : List (List ℕ)} (number : ℕ) → HeadSorted lines → head_spelled (length lines + 1) (numbered 1 lines) ≡ Err number → HaveHeadFaultAt lines number
+head_back : {lines : List (List ℕ)} (number : ℕ) → HeadSorted lines → head_spelled (length lines + 1) (numbered_lines 1 lines) ≡ Err number → HaveHeadFaultAt lines number
 head_back number (wrong {lines = lines} other fault) read =
-    let told : head_spelled (length lines + 1) (numbered 1 lines) ≡ Err other = head_refused fault in
+    let told : head_spelled (length lines + 1) (numbered_lines 1 lines) ≡ Err other = head_refused fault in
     let same : other ≡ number = cc in
     subst (HaveHeadFaultAt lines) same fault
 head_back number (right front between line behind rule replicas named all is) read =

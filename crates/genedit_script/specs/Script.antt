@@ -134,13 +134,13 @@ pub record NumberedLine : Type 0 where
   pub text : List ℕ
 
 -- lines, numbered from a number on
-abbrev pub numbered : ℕ → List (List ℕ) → List NumberedLine
-numbered n [] = []
-numbered n (line ∷ lines) = record { number = n; text = line } ∷ numbered (n + 1) lines
+abbrev pub numbered_lines : ℕ → List (List ℕ) → List NumberedLine
+numbered_lines n [] = []
+numbered_lines n (line ∷ lines) = record { number = n; text = line } ∷ numbered_lines (n + 1) lines
 
 -- the lines of a text, numbered from a number on
 abbrev pub lines_from : ℕ → List ℕ → List NumberedLine
-lines_from n text = numbered n (lines text)
+lines_from n text = numbered_lines n (lines text)
 
 abbrev pub opens_comment : List ℕ → Bool
 opens_comment [] = false
@@ -159,7 +159,7 @@ past_skipped (line ∷ lines) = if is_spoken (words line.text) then line ∷ lin
 -- ---- commands, one after another
 
 -- a pattern's block so far: the number of its `pattern` line, its name, and its lines
-pub record Block : Type 0 where
+pub record PatternBlock : Type 0 where
   pub line : ℕ
   pub name : List ℕ
   pub text : List ℕ
@@ -169,7 +169,7 @@ abbrev pub onto : Command → Result (List Command) ℕ → Result (List Command
 onto command commands = commands >>= λ commands. Ok (command ∷ commands)
 
 -- the commands of some lines, which begin in a block or in none; a block goes on to the first line that is `end`
-abbrev pub commands_spelled : Option Block → List NumberedLine → Result (List Command) ℕ
+abbrev pub commands_spelled : Option PatternBlock → List NumberedLine → Result (List Command) ℕ
 commands_spelled None [] = Ok []
 commands_spelled (Some block) [] = Err block.line
 commands_spelled (Some block) (line ∷ lines) =

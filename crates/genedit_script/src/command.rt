@@ -2,6 +2,7 @@
 
 ghost use Rattle.std.specs.Prelude.{◌≡◌, IfOk};
 
+use lists::ListOf;
 use replica_core::Event;
 use std::alloc::{AllocError, Global};
 use std::marker::Model;
@@ -62,29 +63,4 @@ impl PatternName {
 }
 
 /// The RLE text between `pattern NAME` and `end`, each line with one LF behind it.
-#[derive(Debug, Drop)]
-pub struct PatternText {
-    bytes: Vec<u8>,
-}
-
-impl Model for PatternText {
-    ghost use Rattle.std.specs.Prelude.{List, ℕ};
-
-    ghost Value = { List ℕ };
-
-    ghost view = { λ t. t.bytes.items };
-}
-
-impl PatternText {
-    pub(crate) fn of_vec(bytes: Vec<u8>) -> PatternText
-        ensures { result ≡ bytes.items }
-    {
-        PatternText { bytes }
-    }
-
-    pub fn as_bytes(&self) -> &[u8]
-        ensures { result.now ≡ self.now }
-    {
-        &self.bytes
-    }
-}
+pub type PatternText = ListOf<u8>;

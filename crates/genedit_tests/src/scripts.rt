@@ -53,7 +53,7 @@ fn command_told(alloc: Global, command: &Command) -> Result<String, AllocError> 
         Command::Does(event) => event_told(alloc, event),
         Command::Names(name, text) => {
             let name = String::from_utf8_lossy(alloc, name.as_bytes())?;
-            let text = String::from_utf8_lossy(alloc, text.as_bytes())?;
+            let text = String::from_utf8_lossy(alloc, text.as_slice())?;
             format!(in alloc; "pattern {name}\n{text}end")
         }
         Command::Copies(paste) => paste_told(alloc, "copy", paste),

@@ -8,12 +8,12 @@ use Rattle.std.proofs.lemmas.List.Folds.{list_all-append}
 use Rattle.std.proofs.lemmas.Bool.{ne_eqb, eqb-true, eqb-false}
 use Rattle.std.proofs.lemmas.Bool.Decides.{nat_tests}
 use Rattle.multistate_rle.specs.declared.pattern.PatternCell.{PatternCell}
-use Rattle.multistate_rle.specs.declared.line.Line.TheVariants.{Start, Inside}
+use Rattle.multistate_rle.specs.declared.line.LineProgress.TheVariants.{Start, Inside}
 use Rattle.multistate_rle.specs.Bytes.{is_decimal_digit, is_space_or_tab, ends_line}
 use Rattle.multistate_rle.specs.Letters.{letters_of, letters_text, plain}
-use Rattle.multistate_rle.specs.Tokens.{Token, Cells, Rows, run, cells_in_row, drawn, IsCanonical, count_of, skip, with_run, tokens_from, IsTokensOf}
-use Rattle.multistate_rle.specs.Reading.{Pen, bytes_of, start, fault_of, moved, cells_of, AreFine, bare, lines_of, pattern_of}
-use Rattle.multistate_rle.specs.Writing.{count_text, spelling, token_text, filled, body}
+use Rattle.multistate_rle.specs.Tokens.{Token, Cells, Rows, run, cells_in_row, cells_drawn, AreCanonical, count_of, skip, with_run, tokens_from, IsTokensOf}
+use Rattle.multistate_rle.specs.Reading.{Pen, bytes_of, start, fault_of, pen_after, cells_of, AreFine, bare, lines_of, pattern_of}
+use Rattle.multistate_rle.specs.Writing.{count_text, spelling, token_text, wrapped, body}
 use Rattle.multistate_rle.proofs.LetterLaws.{written_letters}
 use Rattle.multistate_rle.specs.Spelling.{IsCount, IsTag, IsSpelling}
 use Rattle.multistate_rle.specs.Laws.{ReadsBodiesBack}
@@ -91,26 +91,26 @@ rows_fine pen n some near =
     rw (b, c) refl
 
 -- a run's end is near where the cells of the tokens from it on are
-live_near : (n s : ℕ) (rest : List Token) (c r : ℕ) → s ≢ 0 → 1 ≤ n → list_all inside (drawn (Cells n s ∷ rest) c r) ≡ true → c + n ≤ 4294967296
+live_near : (n s : ℕ) (rest : List Token) (c r : ℕ) → s ≢ 0 → 1 ≤ n → list_all inside (cells_drawn (Cells n s ∷ rest) c r) ≡ true → c + n ≤ 4294967296
 live_near zero s rest c r alive some h = absurd (omega arith)
 live_near (suc n) s rest c r alive some h =
-    let split : list_all inside (cells_in_row (suc n) s c r ++ drawn rest (c + suc n) r) ≡ true =
-    ap (λ cells. list_all inside (cells ++ drawn rest (c + suc n) r)) (sym (if_dead s [] (cells_in_row (suc n) s c r) alive)) ∙ h in
-    let parts = and_parts (list_all inside (cells_in_row (suc n) s c r)) (list_all inside (drawn rest (c + suc n) r)) (sym (list_all-append inside (cells_in_row (suc n) s c r) (drawn rest (c + suc n) r)) ∙ split) in
+    let split : list_all inside (cells_in_row (suc n) s c r ++ cells_drawn rest (c + suc n) r) ≡ true =
+    ap (λ cells. list_all inside (cells ++ cells_drawn rest (c + suc n) r)) (sym (if_dead s [] (cells_in_row (suc n) s c r) alive)) ∙ h in
+    let parts = and_parts (list_all inside (cells_in_row (suc n) s c r)) (list_all inside (cells_drawn rest (c + suc n) r)) (sym (list_all-append inside (cells_in_row (suc n) s c r) (cells_drawn rest (c + suc n) r)) ∙ split) in
     row_last n s c r parts.0
 
-dead_near : (n : ℕ) (rest : List Token) (c r : ℕ) → IsCanonical (Cells n 0 ∷ rest) → list_all inside (drawn rest (c + n) r) ≡ true → c + n ≤ 4294967296
+dead_near : (n : ℕ) (rest : List Token) (c r : ℕ) → AreCanonical (Cells n 0 ∷ rest) → list_all inside (cells_drawn rest (c + n) r) ≡ true → c + n ≤ 4294967296
 dead_near n [] c r h all = absurd (h.1 refl)
 dead_near n (Cells m t ∷ rest) c r h all =
     let near = live_near m t rest (c + n) r (λ dead. h.1 (sym dead)) (counted m t rest h.2) all in
     omega (arith, near)
 dead_near n (Rows m ∷ rest) c r h all = absurd (h.1 refl)
 
-run_near : (dead : Bool) (n s : ℕ) (rest : List Token) (c r : ℕ) → (s == 0) ≡ dead → IsCanonical (Cells n s ∷ rest) → list_all inside (drawn (Cells n s ∷ rest) c r) ≡ true → list_all inside (drawn rest (c + n) r) ≡ true → c + n ≤ 4294967296
-run_near true n s rest c r e h all later = dead_near n rest c r (subst (λ u. IsCanonical (Cells n u ∷ rest)) (eqb-true s 0 e) h) later
+run_near : (dead : Bool) (n s : ℕ) (rest : List Token) (c r : ℕ) → (s == 0) ≡ dead → AreCanonical (Cells n s ∷ rest) → list_all inside (cells_drawn (Cells n s ∷ rest) c r) ≡ true → list_all inside (cells_drawn rest (c + n) r) ≡ true → c + n ≤ 4294967296
+run_near true n s rest c r e h all later = dead_near n rest c r (subst (λ u. AreCanonical (Cells n u ∷ rest)) (eqb-true s 0 e) h) later
 run_near false n s rest c r e h all later = live_near n s rest c r (eqb-false s 0 e) (counted n s rest h) all
 
-rows_near : (n : ℕ) (rest : List Token) (r : ℕ) → IsCanonical (Rows n ∷ rest) → list_all inside (drawn rest 0 (r + n)) ≡ true → r + n ≤ 4294967295
+rows_near : (n : ℕ) (rest : List Token) (r : ℕ) → AreCanonical (Rows n ∷ rest) → list_all inside (cells_drawn rest 0 (r + n)) ≡ true → r + n ≤ 4294967295
 rows_near n [] r h all = absurd h.1
 rows_near n (Cells m t ∷ rest) r h all =
     let first : DrawsFirst (Cells m t ∷ rest) 0 (r + n) = some_first (t == 0) m t rest 0 (r + n) refl h.2 in
@@ -119,25 +119,25 @@ rows_near n (Cells m t ∷ rest) r h all =
     grind (arith, nat_tests, sides.1, first.row)
 rows_near n (Rows m ∷ rest) r h all = absurd h.1
 
-rows_counted : (n : ℕ) (rest : List Token) → IsCanonical (Rows n ∷ rest) → 1 ≤ n
+rows_counted : (n : ℕ) (rest : List Token) → AreCanonical (Rows n ∷ rest) → 1 ≤ n
 rows_counted n [] h = h.0
 rows_counted n (b ∷ rest) h = h.0
 
-pub all_fine : (tokens : List Token) (pen : Pen) → IsCanonical tokens → AllStates 255 tokens → list_all inside (drawn tokens pen.column pen.row) ≡ true →
-    pen.cells + length (drawn tokens pen.column pen.row) ≤ 1048576 → AreFine pen tokens
+pub all_fine : (tokens : List Token) (pen : Pen) → AreCanonical tokens → AllStates 255 tokens → list_all inside (cells_drawn tokens pen.column pen.row) ≡ true →
+    pen.cells + length (cells_drawn tokens pen.column pen.row) ≤ 1048576 → AreFine pen tokens
 unfolding AllStates
 all_fine [] pen canonical states near few = tt
 all_fine (Cells n s ∷ rest) pen canonical states near few =
-    let parts = and_parts (list_all inside (run n s pen.column pen.row)) (list_all inside (drawn rest (pen.column + n) pen.row))
-    (sym (list_all-append inside (run n s pen.column pen.row) (drawn rest (pen.column + n) pen.row)) ∙ near) in
-    let count : length (drawn (Cells n s ∷ rest) pen.column pen.row) ≡ cells_of (Cells n s) + length (drawn rest (pen.column + n) pen.row) =
-    length-append (run n s pen.column pen.row) (drawn rest (pen.column + n) pen.row) ∙ ap (λ k. k + length (drawn rest (pen.column + n) pen.row)) (length_run n s pen.column pen.row) in (
+    let parts = and_parts (list_all inside (run n s pen.column pen.row)) (list_all inside (cells_drawn rest (pen.column + n) pen.row))
+    (sym (list_all-append inside (run n s pen.column pen.row) (cells_drawn rest (pen.column + n) pen.row)) ∙ near) in
+    let count : length (cells_drawn (Cells n s ∷ rest) pen.column pen.row) ≡ cells_of (Cells n s) + length (cells_drawn rest (pen.column + n) pen.row) =
+    length-append (run n s pen.column pen.row) (cells_drawn rest (pen.column + n) pen.row) ∙ ap (λ k. k + length (cells_drawn rest (pen.column + n) pen.row)) (length_run n s pen.column pen.row) in (
       run_fine pen n s states.0 (counted n s rest canonical) (run_near (s == 0) n s rest pen.column pen.row refl canonical near parts.1) (omega (arith, count, few)),
-      all_fine rest (moved (Cells n s) pen) (rest_canonical (Cells n s) rest canonical) states.1 parts.1 (omega (arith, count, few)),
+      all_fine rest (pen_after (Cells n s) pen) (rest_canonical (Cells n s) rest canonical) states.1 parts.1 (omega (arith, count, few)),
     )
 all_fine (Rows n ∷ rest) pen canonical states near few = (
   rows_fine pen n (rows_counted n rest canonical) (rows_near n rest pen.row canonical near),
-  all_fine rest (moved (Rows n) pen) (rest_canonical (Rows n) rest canonical) states near few,
+  all_fine rest (pen_after (Rows n) pen) (rest_canonical (Rows n) rest canonical) states near few,
 )
 
 -- ---- what is written spells the tokens
@@ -188,7 +188,7 @@ tokens_spelt two (Cells n s ∷ tokens) pen fine states = (
     (
       tag_spelt two n s states.0,
       (
-        tokens_spelt two tokens (moved (Cells n s) pen) fine.1 states.1,
+        tokens_spelt two tokens (pen_after (Cells n s) pen) fine.1 states.1,
         append_assoc (count_text n) (letters_text (letters_of two s)) (joined (map (token_text two) tokens)),
       ),
     ),
@@ -203,7 +203,7 @@ tokens_spelt two (Rows n ∷ tokens) pen fine states = (
     (
       refl,
       (
-        tokens_spelt two tokens (moved (Rows n) pen) fine.1 states,
+        tokens_spelt two tokens (pen_after (Rows n) pen) fine.1 states,
         append_assoc (count_text n) (codes "$") (joined (map (token_text two) tokens)),
       ),
     ),
@@ -266,11 +266,11 @@ filled_if : (fits : Bool) (piece rest more bytes : List ℕ) → list_all is_sol
 filled_if true piece rest more bytes all left right = leaves_piece piece rest bytes all left
 filled_if false piece rest more bytes all left right = leaves_end (piece ++ more) (piece ++ bytes) (leaves_piece piece more bytes all right)
 
-filled_leaves : (pieces : List (List ℕ)) (used : ℕ) → AllSolid pieces → Leaves (filled used pieces) (joined pieces)
+filled_leaves : (pieces : List (List ℕ)) (used : ℕ) → AllSolid pieces → Leaves (wrapped used pieces) (joined pieces)
 unfolding joined AllSolid
 filled_leaves [] used all = leaves_end [] [] leaves_none
 filled_leaves (piece ∷ pieces) used all =
-    filled_if (nat_le (used + length piece) 70) piece (filled (used + length piece) pieces) (filled (length piece) pieces) (joined pieces) all.0
+    filled_if (nat_le (used + length piece) 70) piece (wrapped (used + length piece) pieces) (wrapped (length piece) pieces) (joined pieces) all.0
     (filled_leaves pieces (used + length piece) all.1) (filled_leaves pieces (length piece) all.1)
 
 -- ---- tokens are solid
@@ -330,7 +330,7 @@ solid_mark = refl
 all_solid : (two : Bool) (tokens : List Token) (pen : Pen) → AreFine pen tokens → AllSolid (map (token_text two) tokens ++ spelling 1 (plain 33) ∷ [])
 unfolding AllSolid
 all_solid two [] pen fine = (solid_mark, tt)
-all_solid two (token ∷ tokens) pen fine = (solid_token two pen token fine.0, all_solid two tokens (moved token pen) fine.1)
+all_solid two (token ∷ tokens) pen fine = (solid_token two pen token fine.0, all_solid two tokens (pen_after token pen) fine.1)
 
 joined_last : (pieces : List (List ℕ)) (last : List ℕ) → joined (pieces ++ last ∷ []) ≡ joined pieces ++ last
 unfolding joined
@@ -356,8 +356,8 @@ unfolding most_state
 reads_bodies_back end origin sides n two cells sorted alive within few states =
     let tokens = tokens_from 0 0 cells in
     let is : IsTokensOf tokens cells = has_tokens cells sorted alive in
-    let near : list_all inside (drawn tokens 0 0) ≡ true = ap (list_all inside) is.draws ∙ within in
-    let count : length (drawn tokens 0 0) ≡ length cells = ap length is.draws in
+    let near : list_all inside (cells_drawn tokens 0 0) ≡ true = ap (list_all inside) is.draws ∙ within in
+    let count : length (cells_drawn tokens 0 0) ≡ length cells = ap length is.draws in
     let fine : AreFine start tokens = all_fine tokens start is.canonical (states_below two tokens (all_states (most_state two) cells 0 0 states)) near (omega (arith, count, few)) in
     reads_spellings end origin sides (lines_of (enumerate_from n (body two tokens))) tokens (joined (map (token_text two) tokens)) (33 ∷ [])
     (body_left two tokens start n fine) (tokens_spelt two tokens start fine (all_states (most_state two) cells 0 0 states)) (inl refl) fine

@@ -19,7 +19,7 @@ use Rattle.multistate_rle.proofs.TextBackLaws.{text_back}
 use Rattle.multistate_rle.specs.declared.cell.Cell.{Cell}
 use Rattle.multistate_rle.specs.Cells.{is_sorted, are_nonzero, are_states_below}
 use Rattle.multistate_rle.specs.Pattern.{precedes, are_sorted, are_alive, are_within}
-use Rattle.multistate_rle.specs.Bounds.{least, greatest, span_of, box_of, seen_from, in_box}
+use Rattle.multistate_rle.specs.Bounds.{least_coordinate, greatest_coordinate, span_of, bounds_of, seen_from, in_box}
 use Rattle.multistate_rle.proofs.PatternLaws.{and_parts}
 
 -- each cell's coordinate lies between the two
@@ -39,15 +39,15 @@ max_left a b = omega (arith, ints, int_max_is a b)
 max_right : (a b : ℤ) → b ≤ℤ int_max a b
 max_right a b = omega (arith, ints, int_max_is a b)
 
-least_first : (f : Cell → ℤ) (a : ℤ) (cells : List Cell) → least f a cells ≤ℤ a
+least_first : (f : Cell → ℤ) (a : ℤ) (cells : List Cell) → least_coordinate f a cells ≤ℤ a
 least_first f a [] = omega (arith, ints)
 least_first f a (c ∷ cells) = let next = least_first f (int_min a (f c)) cells in let left = min_left a (f c) in omega (arith, ints, next, left)
 
-greatest_first : (f : Cell → ℤ) (a : ℤ) (cells : List Cell) → a ≤ℤ greatest f a cells
+greatest_first : (f : Cell → ℤ) (a : ℤ) (cells : List Cell) → a ≤ℤ greatest_coordinate f a cells
 greatest_first f a [] = omega (arith, ints)
 greatest_first f a (c ∷ cells) = let next = greatest_first f (int_max a (f c)) cells in let left = max_left a (f c) in omega (arith, ints, next, left)
 
-between : (f : Cell → ℤ) (a b low high : ℤ) (cells : List Cell) → low ≤ℤ least f a cells → greatest f b cells ≤ℤ high → AllBetween f low high cells
+between : (f : Cell → ℤ) (a b low high : ℤ) (cells : List Cell) → low ≤ℤ least_coordinate f a cells → greatest_coordinate f b cells ≤ℤ high → AllBetween f low high cells
 unfolding AllBetween
 between f a b low high [] le ge = tt
 between f a b low high (c ∷ cells) le ge =
@@ -57,12 +57,12 @@ between f a b low high (c ∷ cells) le ge =
     let more = max_right b (f c) in
     (omega (arith, ints, le, first, right), (omega (arith, ints, ge, last, more), between f (int_min a (f c)) (int_max b (f c)) low high cells le ge))
 
-round : (f : Cell → ℤ) (c : Cell) (cells : List Cell) → AllBetween f (least f (f c) cells) (greatest f (f c) cells) (c ∷ cells)
+round : (f : Cell → ℤ) (c : Cell) (cells : List Cell) → AllBetween f (least_coordinate f (f c) cells) (greatest_coordinate f (f c) cells) (c ∷ cells)
 unfolding AllBetween
 round f c cells =
     let low = least_first f (f c) cells in
     let high = greatest_first f (f c) cells in
-    (low, (high, between f (f c) (f c) (least f (f c) cells) (greatest f (f c) cells) cells (omega (arith, ints)) (omega (arith, ints))))
+    (low, (high, between f (f c) (f c) (least_coordinate f (f c) cells) (greatest_coordinate f (f c) cells) cells (omega (arith, ints)) (omega (arith, ints))))
 
 -- ---- in the box
 
@@ -173,14 +173,14 @@ rule_ends r is =
 
 pub reads_back : ReadsBack
 reads_back r g [] rule small fx fy sorted alive below few wide high =
-    text_back (text_of r) g (box_of []) (r.states == 2) [] fx fy small (omega arith) (omega arith) (rule_ends r rule) refl refl refl (omega arith) refl
+    text_back (text_of r) g (bounds_of []) (r.states == 2) [] fx fy small (omega arith) (omega arith) (rule_ends r rule) refl refl refl (omega arith) refl
 reads_back r g (c ∷ cells) rule small fx fy sorted alive below few wide high =
     let all : List Cell = c ∷ cells in
-    let b = box_of (c ∷ cells) in
+    let b = bounds_of (c ∷ cells) in
     let columns = round (λ d. d.x) c cells in
     let rows = round (λ d. d.y) c cells in
-    let far = greatest (λ d. d.x) c.x cells in
-    let low = greatest (λ d. d.y) c.y cells in
+    let far = greatest_coordinate (λ d. d.x) c.x cells in
+    let low = greatest_coordinate (λ d. d.y) c.y cells in
     text_back (text_of r) g b (r.states == 2) (in_box b (c ∷ cells)) fx fy small (omega (arith, wide)) (omega (arith, high)) (rule_ends r rule)
     (seen_sorted b.x b.y far low (c ∷ cells) columns rows sorted) (seen_alive b.x b.y (c ∷ cells) alive)
     (seen_within b.x b.y far low (c ∷ cells) columns rows)

@@ -8,7 +8,7 @@ use Rattle.multistate_rle.specs.declared.fault.RleFault.TheVariants.{Header}
 use Rattle.multistate_rle.specs.HeaderLine.{HasNoHeader}
 use Rattle.multistate_rle.specs.Pattern.{RlePattern}
 use Rattle.multistate_rle.specs.Position.{origin_from, no_items}
-use Rattle.multistate_rle.specs.Tokens.{drawn}
+use Rattle.multistate_rle.specs.Tokens.{cells_drawn}
 use Rattle.multistate_rle.specs.Reading.{parsed, start, fresh, tokens_of, lines_of, pattern_of}
 use Rattle.multistate_rle.specs.Spelling.{with_lines, first_origin, bare_from}
 use Rattle.multistate_rle.specs.Faulty.{pen_behind}
@@ -36,7 +36,7 @@ fault_read text fault is =
     ap (λ marks. tokens_of len marks fresh start) is.bytes_are
     ∙ spelt_then len is.tokens is.spelt is.faulty start fault is.spelling is.fine (fault_told len is.faulty (pen_behind start is.tokens) fault is.fault_is) in
     parts_read text is.front is.sides is.place is.body is.parts
-    ∙ ap (λ read. (read >>= λ tokens. Ok (drawn tokens 0 0)) >>= λ cells. Ok (pattern_of origin is.sides cells)) told
+    ∙ ap (λ read. (read >>= λ tokens. Ok (cells_drawn tokens 0 0)) >>= λ cells. Ok (pattern_of origin is.sides cells)) told
 
 wrong_read : (text : List ℕ) (fault : RleFault) → IsWrong text fault → parsed text ≡ Err fault
 wrong_read text fault (inl is) = (refuses_without_header text).0 is.0 ∙ ap (λ f. Err f) (sym is.1)
@@ -77,7 +77,7 @@ SpellsOne text = ((p : RlePattern) × SpellsPattern text p) ⊎ ((fault : RleFau
 
 body_spells : (text : List ℕ) (in_text : InParts text) → Decided (length text) (bare_from in_text.place in_text.body) start → SpellsOne text
 body_spells text is (inl reads) =
-    let p = pattern_of (unwrap_or (first_origin None is.front) (origin_from no_items)) is.sides (drawn reads.tokens 0 0) in
+    let p = pattern_of (unwrap_or (first_origin None is.front) (origin_from no_items)) is.sides (cells_drawn reads.tokens 0 0) in
     inl (
       p,
       record {

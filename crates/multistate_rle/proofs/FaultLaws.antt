@@ -8,7 +8,7 @@ use Rattle.multistate_rle.specs.declared.fault.RleFault.TheVariants.{Tag}
 use Rattle.multistate_rle.specs.Role as role
 use Rattle.multistate_rle.specs.Bytes.{is_decimal_digit}
 use Rattle.multistate_rle.specs.Tokens.{Token, Cells, Rows, count_of}
-use Rattle.multistate_rle.specs.Reading.{Mark, BegunValue, Pen, fresh, with_digit, with_prefix, moved, fault_of, followed, is_prefix_byte, is_letter, role_of, tokens_of, bytes_of, AreFine}
+use Rattle.multistate_rle.specs.Reading.{Mark, BegunValue, Pen, fresh, with_digit, with_prefix, pen_after, fault_of, followed, is_prefix_byte, is_letter, role_of, tokens_of, bytes_of, AreFine}
 use Rattle.multistate_rle.specs.Spelling.{IsCount, IsTag, IsSpelling}
 use Rattle.multistate_rle.specs.Faulty.{pen_behind, first_place, may_stand, MeetsStray, lacks_letter, LacksLetter, DrawsIll, BeginsFaulty}
 use Rattle.multistate_rle.proofs.PatternLaws.{and_parts}
@@ -56,19 +56,19 @@ digits_by end (m ∷ digits) rest b pen all none =
 
 -- the byte that ends a token, by what it is
 state_ends : (end : ℕ) (m : Mark) (rest : List Mark) (b : BegunValue) (pen : Pen) (n s : ℕ) → role_of b.prefix m.1 ≡ role.State s → unwrap_or b.count 1 ≡ n →
-    tokens_of end (m ∷ rest) b pen ≡ followed (fault_of (unwrap_or b.place m.0) pen (Cells n s)) (Cells n s) (tokens_of end rest fresh (moved (Cells n s) pen))
+    tokens_of end (m ∷ rest) b pen ≡ followed (fault_of (unwrap_or b.place m.0) pen (Cells n s)) (Cells n s) (tokens_of end rest fresh (pen_after (Cells n s) pen))
 state_ends end m rest b pen n s is count =
     step_is end m rest b pen (role.State s) is
-    ∙ ap (λ k. followed (fault_of (unwrap_or b.place m.0) pen (Cells k s)) (Cells k s) (tokens_of end rest fresh (moved (Cells k s) pen))) count
+    ∙ ap (λ k. followed (fault_of (unwrap_or b.place m.0) pen (Cells k s)) (Cells k s) (tokens_of end rest fresh (pen_after (Cells k s) pen))) count
 
 row_ends : (end : ℕ) (m : Mark) (rest : List Mark) (b : BegunValue) (pen : Pen) (n : ℕ) → role_of b.prefix m.1 ≡ role.RowEnd → unwrap_or b.count 1 ≡ n →
-    tokens_of end (m ∷ rest) b pen ≡ followed (fault_of (unwrap_or b.place m.0) pen (Rows n)) (Rows n) (tokens_of end rest fresh (moved (Rows n) pen))
+    tokens_of end (m ∷ rest) b pen ≡ followed (fault_of (unwrap_or b.place m.0) pen (Rows n)) (Rows n) (tokens_of end rest fresh (pen_after (Rows n) pen))
 row_ends end m rest b pen n is count =
     step_is end m rest b pen role.RowEnd is
-    ∙ ap (λ k. followed (fault_of (unwrap_or b.place m.0) pen (Rows k)) (Rows k) (tokens_of end rest fresh (moved (Rows k) pen))) count
+    ∙ ap (λ k. followed (fault_of (unwrap_or b.place m.0) pen (Rows k)) (Rows k) (tokens_of end rest fresh (pen_after (Rows k) pen))) count
 
 tag_by : (end : ℕ) (token : Token) (tag rest : List Mark) (b : BegunValue) (pen : Pen) → IsTag token (bytes_of tag) → b.prefix ≡ None → unwrap_or b.count 1 ≡ count_of token →
-    tokens_of end (tag ++ rest) b pen ≡ followed (fault_of (unwrap_or b.place (first_place 0 tag)) pen token) token (tokens_of end rest fresh (moved token pen))
+    tokens_of end (tag ++ rest) b pen ≡ followed (fault_of (unwrap_or b.place (first_place 0 tag)) pen token) token (tokens_of end rest fresh (pen_after token pen))
 tag_by end (Cells n s) [] rest b pen is none count = absurd is
 tag_by end (Cells n s) (m ∷ []) rest b pen is none count = state_ends end m rest b pen n s (ap (λ p. role_of p m.1) none ∙ byte_role m.1 s is) count
 tag_by end (Cells n s) (m ∷ l ∷ []) rest b pen is none count =
@@ -94,7 +94,7 @@ tag_has_bytes (Rows n) (m ∷ tag) is none = absurd (cc)
 
 -- A token that is spelt is read as that token, unless it is faulty.
 pub token_read : (end : ℕ) (token : Token) (digits tag rest : List Mark) (pen : Pen) → IsCount (count_of token) (bytes_of digits) → IsTag token (bytes_of tag) →
-    tokens_of end (digits ++ (tag ++ rest)) fresh pen ≡ followed (fault_of (first_place 0 (digits ++ (tag ++ rest))) pen token) token (tokens_of end rest fresh (moved token pen))
+    tokens_of end (digits ++ (tag ++ rest)) fresh pen ≡ followed (fault_of (first_place 0 (digits ++ (tag ++ rest))) pen token) token (tokens_of end rest fresh (pen_after token pen))
 token_read end token digits tag rest pen is_count is_tag =
     let b = begun_by fresh digits in
     let count : unwrap_or b.count 1 ≡ count_of token = ap (λ o. unwrap_or o 1) (count_by fresh digits) ∙ count_is (count_of token) (bytes_of digits) is_count in
@@ -102,7 +102,7 @@ token_read end token digits tag rest pen is_count is_tag =
     elim (first_of_both digits tag rest 0) [ inl same ↦ same | inr none ↦ absurd (tag_has_bytes token tag is_tag none) ] in
     digits_by end digits (tag ++ rest) fresh pen (count_digits (count_of token) (bytes_of digits) is_count) refl
     ∙ tag_by end token tag rest b pen is_tag (no_prefix_by fresh digits) count
-    ∙ ap (λ k. followed (fault_of k pen token) token (tokens_of end rest fresh (moved token pen))) (place_by digits (first_place 0 tag) ∙ place)
+    ∙ ap (λ k. followed (fault_of k pen token) token (tokens_of end rest fresh (pen_after token pen))) (place_by digits (first_place 0 tag) ∙ place)
 
 -- ---- faulty tokens
 
@@ -153,7 +153,7 @@ lacking_told end marks pen fault is =
 
 ill_told : (end : ℕ) (marks : List Mark) (pen : Pen) (fault : RleFault) → DrawsIll pen marks fault → tokens_of end marks fresh pen ≡ Err fault
 ill_told end marks pen fault is =
-    let rest = tokens_of end is.rest fresh (moved is.token pen) in
+    let rest = tokens_of end is.rest fresh (pen_after is.token pen) in
     ap (λ ms. tokens_of end ms fresh pen) is.marks_are
     ∙ token_read end is.token is.digits is.tag is.rest pen is.count_is is.tag_is
     ∙ ap (λ f. followed f is.token rest) (ap (λ ms. fault_of (first_place 0 ms) pen is.token) (sym is.marks_are) ∙ is.fault_is)
@@ -203,4 +203,4 @@ spelt_then end (token ∷ tokens) spelt rest pen fault is fine told =
     ∙ append_assoc first.left (second.left ++ second.right) rest ∙ ap (λ ms. first.left ++ ms) (append_assoc second.left second.right rest) in
     ap (λ ms. tokens_of end ms fresh pen) parts
     ∙ token_read end token first.left second.left (second.right ++ rest) pen count tag
-    ∙ (λ i. followed (fine_at (first_place 0 (first.left ++ (second.left ++ (second.right ++ rest)))) pen token fine.0 i) token (spelt_then end tokens second.right rest (moved token pen) fault more fine.1 told i))
+    ∙ (λ i. followed (fine_at (first_place 0 (first.left ++ (second.left ++ (second.right ++ rest)))) pen token fine.0 i) token (spelt_then end tokens second.right rest (pen_after token pen) fault more fine.1 told i))

@@ -8,8 +8,8 @@ use borrow.Author.Tests.{eqb-true}
 use Rattle.multistate_rle.specs.Letters.{LettersValue}
 use Rattle.multistate_rle.specs.Letters.{letters_text}
 use Rattle.std.proofs.lemmas.Bool.Decides.{nat_tests}
-use Rattle.multistate_rle.specs.declared.lines.Lines.{Lines}
-use Rattle.multistate_rle.specs.declared.lines.Pen.{Pen}
+use Rattle.multistate_rle.specs.declared.lines.LineWriter.{LineWriter}
+use Rattle.multistate_rle.specs.declared.lines.WritingPen.{WritingPen}
 use Rattle.multistate_rle.specs.declared.lines.Run.{Run}
 use Rattle.multistate_rle.specs.declared.pattern.PatternCell.{PatternCell}
 use Rattle.multistate_rle.specs.Tokens.{Token, Cells, Rows, with_run, tokens_from, gap, skip}
@@ -18,8 +18,8 @@ use Rattle.multistate_rle.specs.declared.cell.Cell.{Cell}
 use Rattle.multistate_rle.specs.Bounds.{BoundsValue}
 use Rattle.multistate_rle.specs.Bounds.{seen_from}
 use Rattle.multistate_rle.specs.Cells.{are_nonzero}
-use Rattle.multistate_rle.specs.Writing.{token_text, filled, count_text, spelling}
-use Rattle.multistate_rle.specs.Filling.{run_tokens, tokens_with, extends, extends_run, Writes, WritesCell, text_with, no_pen}
+use Rattle.multistate_rle.specs.Writing.{token_text, wrapped, count_text, spelling}
+use Rattle.multistate_rle.specs.Filling.{run_tokens, tokens_with, extends, extends_run, WritesPieces, WritesCell, text_with, no_pen}
 
 -- ---- runs
 
@@ -62,14 +62,14 @@ gap_ends : (same_row : Bool) (k d column n s t : ℕ) (tokens : List Token) → 
 gap_ends true k d column n s t tokens alive differ = skip_ends n s k (with_run 1 t tokens) alive (λ none. run_ends n s t tokens (differ refl none))
 gap_ends false k d column n s t tokens alive differ = refl
 
-differs : (pen : Pen) (cell : PatternCell) (r : Run) → extends_run pen cell r ≡ None → (cell.row == pen.row) ≡ true → cell.column - pen.column ≡ 0 → r.state ≢ cell.state
+differs : (pen : WritingPen) (cell : PatternCell) (r : Run) → extends_run pen cell r ≡ None → (cell.row == pen.row) ≡ true → cell.column - pen.column ≡ 0 → r.state ≢ cell.state
 differs pen cell r none same_row no_gap same =
     let near : nat_le cell.column pen.column ≡ true = grind (arith, nat_tests) in
     let alike : (r.state == cell.state) ≡ true = eq-eqb r.state cell.state same in
     let some : extends_run pen cell r ≡ Some r = rw (same_row, near, alike) refl in
     absurd (cc)
 
-parted_at : (run : Option Run) (pen : Pen) (cell : PatternCell) (tokens : List Token) → IfSome run (λ r. r.state ≢ 0) →
+parted_at : (run : Option Run) (pen : WritingPen) (cell : PatternCell) (tokens : List Token) → IfSome run (λ r. r.state ≢ 0) →
     ((r : Run) → run ≡ Some r → extends_run pen cell r ≡ None) →
     run_tokens run (gap pen.column pen.row cell ++ with_run 1 cell.state tokens)
     ≡ run_tokens run [] ++ (gap pen.column pen.row cell ++ with_run 1 cell.state tokens)
@@ -79,7 +79,7 @@ parted_at (Some r) pen cell tokens alive none =
     (differs pen cell r (none r refl))
 
 -- A cell that goes on no run comes behind what was not written, and the gap.
-pub parted : (pen : Pen) (cell : PatternCell) (cells : List PatternCell) → IfSome pen.run (λ r. r.state ≢ 0) → extends pen cell ≡ None →
+pub parted : (pen : WritingPen) (cell : PatternCell) (cells : List PatternCell) → IfSome pen.run (λ r. r.state ≢ 0) → extends pen cell ≡ None →
     tokens_with pen (cell ∷ cells)
     ≡ run_tokens pen.run [] ++ (gap pen.column pen.row cell ++ with_run 1 cell.state (tokens_from (cell.column + 1) cell.row cells))
 parted pen cell cells alive none =
@@ -97,12 +97,12 @@ no_gap : (same_row : Bool) (k : ℕ) (rest : List Token) → same_row ≡ true �
 no_gap same_row k rest same none = rw (same, none) refl
 
 -- a cell that goes on a run is of its state, and stands right behind it
-pub record GoesOn (pen : Pen) (cell : PatternCell) (r : Run) : Type 0 where
+pub record GoesOn (pen : WritingPen) (cell : PatternCell) (r : Run) : Type 0 where
   pub run : pen.run ≡ Some r
   pub state : r.state ≡ cell.state
   pub tokens : (cells : List PatternCell) → tokens_with pen (cell ∷ cells) ≡ with_run (r.count + 1) r.state (tokens_from (cell.column + 1) cell.row cells)
 
-goes_on : (run : Option Run) (pen : Pen) (cell : PatternCell) (r : Run) → pen.run ≡ run →
+goes_on : (run : Option Run) (pen : WritingPen) (cell : PatternCell) (r : Run) → pen.run ≡ run →
     elim run [ None ↦ None | Some q ↦ extends_run pen cell q ] ≡ Some r → GoesOn pen cell r
 goes_on None pen cell r is some = absurd (cc)
 goes_on (Some q) pen cell r is some =
@@ -119,13 +119,13 @@ goes_on (Some q) pen cell r is some =
           ∙ run_grows r.count r.state (tokens_from (cell.column + 1) cell.row cells);
     }
 
-pub extended : (pen : Pen) (cell : PatternCell) (r : Run) → extends pen cell ≡ Some r → GoesOn pen cell r
+pub extended : (pen : WritingPen) (cell : PatternCell) (r : Run) → extends pen cell ≡ Some r → GoesOn pen cell r
 extended pen cell r some = goes_on pen.run pen cell r refl some
 
 -- ---- pieces that are written one behind the other
 
-pub writes_both : (two : Bool) (old mid new : Lines) (run gaps more tokens : List Token) →
-    Writes old (map (token_text two) run) mid → Writes mid (map (token_text two) gaps) new → tokens ≡ run ++ (gaps ++ more) →
+pub writes_both : (two : Bool) (old mid new : LineWriter) (run gaps more tokens : List Token) →
+    WritesPieces old (map (token_text two) run) mid → WritesPieces mid (map (token_text two) gaps) new → tokens ≡ run ++ (gaps ++ more) →
     (rest : List (List ℕ)) → text_with new (map (token_text two) more ++ rest) ≡ text_with old (map (token_text two) tokens ++ rest)
 writes_both two old mid new run gaps more tokens first second is rest =
     second.text (map (token_text two) more ++ rest)
@@ -139,7 +139,7 @@ alive_run (Some r) held = held.0
 -- ---- all cells
 
 -- what is written, with the cells still to come behind it
-pub record Written (old : Lines) (bounds : BoundsValue) (cells : List Cell) (passed : ℕ) (pen : Pen) (new : Lines) : Type 0 where
+pub record Written (old : LineWriter) (bounds : BoundsValue) (cells : List Cell) (passed : ℕ) (pen : WritingPen) (new : LineWriter) : Type 0 where
   pub text : (rest : List (List ℕ)) →
       text_with new (map (token_text old.two_states) (tokens_with pen (map (seen_from bounds.x bounds.y) (drop passed cells))) ++ rest)
       ≡ text_with old (map (token_text old.two_states) (tokens_with no_pen (map (seen_from bounds.x bounds.y) cells)) ++ rest)
@@ -154,7 +154,7 @@ run_more : (run : Option Run) (m n : ℕ) → m ≤ n → IfSome run (λ r. (r.s
 run_more None m n le held = held
 run_more (Some r) m n le held = (held.0, omega (arith, held.1))
 
-pub cell_written : (old mid new : Lines) (bounds : BoundsValue) (cells : List Cell) (i : ℕ) (d : Cell) (pen next : Pen) (cell : PatternCell) →
+pub cell_written : (old mid new : LineWriter) (bounds : BoundsValue) (cells : List Cell) (i : ℕ) (d : Cell) (pen next : WritingPen) (cell : PatternCell) →
     i < length cells → cell ≡ seen_from bounds.x bounds.y (get_or cells i d) →
     Written old bounds cells i pen mid → WritesCell mid pen cell next new → Written old bounds cells (i + 1) next new
 cell_written old mid new bounds cells i d pen next cell within is so_far step =
@@ -175,9 +175,9 @@ on_ok : {A E : Type 0} (r : Result A E) (P Q : Type 0) → (P → Q) → OnOk r 
 on_ok (Ok x) P Q f held = f held
 on_ok (Err e) P Q f held = held
 
-pub all_written : {A E : Type 0} (r : Result A E) (old mid new : Lines) (bounds : BoundsValue) (cells : List Cell) (i : ℕ) (pen : Pen) →
-    length cells ≤ i → Written old bounds cells i pen mid → OnOk r (Writes mid (map (token_text mid.two_states) (run_tokens pen.run [])) new) →
-    OnOk r (Writes old (map (token_text old.two_states) (tokens_with no_pen (map (seen_from bounds.x bounds.y) cells))) new)
+pub all_written : {A E : Type 0} (r : Result A E) (old mid new : LineWriter) (bounds : BoundsValue) (cells : List Cell) (i : ℕ) (pen : WritingPen) →
+    length cells ≤ i → Written old bounds cells i pen mid → OnOk r (WritesPieces mid (map (token_text mid.two_states) (run_tokens pen.run [])) new) →
+    OnOk r (WritesPieces old (map (token_text old.two_states) (tokens_with no_pen (map (seen_from bounds.x bounds.y) cells))) new)
 all_written r old mid new bounds cells i pen past so_far =
     on_ok r _ _ (λ last. record {
       text = λ rest.
@@ -188,11 +188,11 @@ all_written r old mid new bounds cells i pen past so_far =
       two_states = last.two_states ∙ so_far.two_states;
     })
 
-pub body_written : (text : List ℕ) (two : Bool) (pieces : List (List ℕ)) (mark : List ℕ) (first mid last : Lines) →
-    first.text.items ≡ text → first.used ≡ 0 → Writes first pieces mid → Writes mid (mark ∷ []) last →
-    last.text.items ++ codes "\n" ≡ text ++ filled 0 (pieces ++ mark ∷ [])
+pub body_written : (text : List ℕ) (two : Bool) (pieces : List (List ℕ)) (mark : List ℕ) (first mid last : LineWriter) →
+    first.text.items ≡ text → first.used ≡ 0 → WritesPieces first pieces mid → WritesPieces mid (mark ∷ []) last →
+    last.text.items ++ codes "\n" ≡ text ++ wrapped 0 (pieces ++ mark ∷ [])
 body_written text two pieces mark first mid last is none cells end =
-    end.text [] ∙ cells.text (mark ∷ []) ∙ (λ i. is i ++ filled (none i) (pieces ++ mark ∷ []))
+    end.text [] ∙ cells.text (mark ∷ []) ∙ (λ i. is i ++ wrapped (none i) (pieces ++ mark ∷ []))
 
 -- a cell of a list without dead ones
 pub alive_at : (cells : List Cell) (i : ℕ) (d : Cell) → i < length cells → are_nonzero cells ≡ true → (get_or cells i d).state ≢ 0
@@ -208,13 +208,13 @@ pub short_count : (count : ℕ) → count ≤ 9 → (count == 1) ≡ false → c
 short_count count short more = rw (more, decimal_digit count (omega arith)) refl
 
 on_its_line : (fits : Bool) (items piece : List ℕ) (used len : ℕ) (rest : List (List ℕ)) →
-    ((if fits then items else items ++ codes "\n") ++ piece) ++ filled ((if fits then used else 0) + len) rest
-    ≡ items ++ (if fits then piece ++ filled (used + len) rest else codes "\n" ++ piece ++ filled len rest)
-on_its_line true items piece used len rest = append_assoc items piece (filled (used + len) rest)
+    ((if fits then items else items ++ codes "\n") ++ piece) ++ wrapped ((if fits then used else 0) + len) rest
+    ≡ items ++ (if fits then piece ++ wrapped (used + len) rest else codes "\n" ++ piece ++ wrapped len rest)
+on_its_line true items piece used len rest = append_assoc items piece (wrapped (used + len) rest)
 on_its_line false items piece used len rest =
     let none : 0 + len ≡ len = omega arith in
-    append_assoc (items ++ codes "\n") piece (filled (0 + len) rest) ∙ append_assoc items (codes "\n") (piece ++ filled (0 + len) rest)
-    ∙ ap (λ k. items ++ (codes "\n" ++ (piece ++ filled k rest))) none
+    append_assoc (items ++ codes "\n") piece (wrapped (0 + len) rest) ∙ append_assoc items (codes "\n") (piece ++ wrapped (0 + len) rest)
+    ∙ ap (λ k. items ++ (codes "\n" ++ (piece ++ wrapped k rest))) none
 
 -- one digit and the letters
 pub short_longer : (count : ℕ) (letters : LettersValue) → count ≤ 9 → (count == 1) ≡ false → length (spelling count letters) ≡ 1 + length (letters_text letters)
@@ -222,13 +222,13 @@ short_longer count letters short more =
     length-append (count_text count) (letters_text letters) ∙ ap (λ (digits : List ℕ). length digits + length (letters_text letters)) (short_count count short more)
 
 -- a piece is written where there is room for it, or on the next line
-pub piece_written : (old new : Lines) (piece : List ℕ) (len : ℕ) → length piece ≡ len →
+pub piece_written : (old new : LineWriter) (piece : List ℕ) (len : ℕ) → length piece ≡ len →
     new.text.items ≡ (if nat_le (old.used + len) 70 then old.text.items else old.text.items ++ codes "\n") ++ piece →
-    new.used ≡ (if nat_le (old.used + len) 70 then old.used else 0) + len → new.two_states ≡ old.two_states → Writes old (piece ∷ []) new
+    new.used ≡ (if nat_le (old.used + len) 70 then old.used else 0) + len → new.two_states ≡ old.two_states → WritesPieces old (piece ∷ []) new
 piece_written old new piece len long text used two_states = record {
   text = λ rest.
-      (λ i. text i ++ filled (used i) rest)
+      (λ i. text i ++ wrapped (used i) rest)
       ∙ on_its_line (nat_le (old.used + len) 70) old.text.items piece old.used len rest
-      ∙ ap (λ k. old.text.items ++ (if nat_le (old.used + k) 70 then piece ++ filled (old.used + k) rest else codes "\n" ++ piece ++ filled k rest)) (sym long);
+      ∙ ap (λ k. old.text.items ++ (if nat_le (old.used + k) 70 then piece ++ wrapped (old.used + k) rest else codes "\n" ++ piece ++ wrapped k rest)) (sym long);
   two_states = two_states;
 }

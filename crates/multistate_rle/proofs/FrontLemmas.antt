@@ -8,7 +8,7 @@ use Rattle.multistate_rle.specs.declared.fault.RleFault.TheVariants.{Header, Mem
 use Rattle.multistate_rle.specs.declared.pattern.PatternCell.{PatternCell}
 use Rattle.multistate_rle.specs.HeaderLine.{HasNoHeader}
 use Rattle.multistate_rle.specs.declared.reading.Front.{Front}
-use Rattle.multistate_rle.specs.declared.tokens.Reader.{Reader}
+use Rattle.multistate_rle.specs.declared.tokens.TokenReader.{TokenReader}
 use Rattle.multistate_rle.specs.Pattern.{RlePattern, IsPattern}
 use Rattle.multistate_rle.specs.Reading.{parsed, lines_of, bare, body_read, cells_read, pattern_of, width_of, height_of}
 use Rattle.multistate_rle.proofs.HeaderlessLaws.{cells_never, body_never, refuses_without_header}
@@ -24,9 +24,9 @@ IsFrontOf text front =
     × (front.height ≤ 4294967295)
 
 -- what the tokens behind it draw
-abbrev pub IsDrawn : List ℕ → Front → Reader → Type 0
+abbrev pub IsDrawn : List ℕ → Front → TokenReader → Type 0
 IsDrawn text front drawn =
-    AnswersAs (λ (reader : Reader) meant. reader.cells.items ≡ meant) (λ fault. fault ≡ Memory) (Ok drawn)
+    AnswersAs (λ (reader : TokenReader) meant. reader.cells.items ≡ meant) (λ fault. fault ≡ Memory) (Ok drawn)
     (cells_read (length text) (bare (lines_of (enumerate_from front.body (drop front.body text)))))
 
 -- a text with a header is not refused as one without
@@ -36,14 +36,14 @@ has_header text front is none =
     (sym is.0 ∙ (refuses_without_header text).0 none)
 
 never_wanted : (fault : RleFault) (meant : Result (List PatternCell) RleFault) → (meant ≡ Err Header → ⊥) →
-    AnswersAs (λ (reader : Reader) meant. reader.cells.items ≡ meant) (λ fault. fault ≡ Memory) (Err fault) meant → fault ≡ Header → ⊥
+    AnswersAs (λ (reader : TokenReader) meant. reader.cells.items ≡ meant) (λ fault. fault ≡ Memory) (Err fault) meant → fault ≡ Header → ⊥
 never_wanted fault (Ok cells) never answers is = absurd (cc)
 never_wanted fault (Err meant) never (inl want) is = absurd (cc)
 never_wanted fault (Err meant) never (inr same) is = never (ap (λ f. Err f) (sym same ∙ is))
 
 abbrev pub IsRefused : List ℕ → RleFault → Front → Type 0
 IsRefused text fault front =
-    AnswersAs (λ (reader : Reader) meant. reader.cells.items ≡ meant) (λ fault. fault ≡ Memory) (Err fault)
+    AnswersAs (λ (reader : TokenReader) meant. reader.cells.items ≡ meant) (λ fault. fault ≡ Memory) (Err fault)
     (cells_read (length text) (bare (lines_of (enumerate_from front.body (drop front.body text)))))
     → fault ≡ Header → ⊥
 
@@ -53,23 +53,23 @@ other_fault text fault front answers is =
     let marks = bare (lines_of (enumerate_from front.body (drop front.body text))) in
     never_wanted fault (cells_read (length text) marks) (cells_never (length text) marks) answers is
 
-abbrev pub pattern_read : Front → Reader → ℕ → ℕ → RlePattern
+abbrev pub pattern_read : Front → TokenReader → ℕ → ℕ → RlePattern
 pattern_read front drawn width height =
     record { width = width; height = height; pos = front.origin.pos; generation = front.origin.generation; cells = drawn.cells.items }
 
 -- the pattern of a front and of what is drawn is one, and is the text's
-abbrev pub ReadsPattern : List ℕ → Reader → ℕ → ℕ → Front → Type 0
+abbrev pub ReadsPattern : List ℕ → TokenReader → ℕ → ℕ → Front → Type 0
 ReadsPattern text drawn width height front =
     width ≡ max front.width drawn.width → height ≡ max front.height drawn.height → IsDrawn text front drawn →
     IsPattern (pattern_read front drawn width height) × (parsed text ≡ Ok (pattern_read front drawn width height))
 
-pub reads_pattern : (text : List ℕ) (drawn : Reader) (width height : ℕ) (front : Front) → drawn.width ≡ width_of 0 drawn.cells.items → drawn.height ≡ height_of 0 drawn.cells.items →
+pub reads_pattern : (text : List ℕ) (drawn : TokenReader) (width height : ℕ) (front : Front) → drawn.width ≡ width_of 0 drawn.cells.items → drawn.height ≡ height_of 0 drawn.cells.items →
     IsFrontOf text front → ReadsPattern text drawn width height front
 reads_pattern text drawn width height front wide high is width_most height_most draws =
     let w = width_is width front.width drawn.width drawn.cells.items width_most wide in
     let h = height_is height front.height drawn.height drawn.cells.items height_most high in
     let marks = bare (lines_of (enumerate_from front.body (drop front.body text))) in
-    let read = answered_is (λ (reader : Reader). reader.cells.items) drawn (cells_read (length text) marks) draws in
+    let read = answered_is (λ (reader : TokenReader). reader.cells.items) drawn (cells_read (length text) marks) draws in
     let same : pattern_of front.origin (front.width, front.height) drawn.cells.items ≡ pattern_read front drawn width height =
     (λ i. record { width = sym w i; height = sym h i; pos = front.origin.pos; generation = front.origin.generation; cells = drawn.cells.items }) in (
       subst (λ (p : RlePattern). IsPattern p) same (read_pattern (length text) front.origin (front.width, front.height) marks drawn.cells.items is.1 is.2 read),

@@ -7,9 +7,9 @@ use Rattle.std.specs.Fmt.{signed_decimal}
 use Rattle.std.proofs.lemmas.Fmt.{decimal_is_IsNumeral}
 use Rattle.std.proofs.lemmas.Bool.{ne_eqb}
 use Rattle.std.proofs.lemmas.Bool.Decides.{nat_tests}
-use Rattle.multistate_rle.specs.Bytes.{is_decimal_digit, is_space_or_tab, ends_line, past, ◌>=>◌, text_behind, decimal_number}
+use Rattle.multistate_rle.specs.Bytes.{is_decimal_digit, is_space_or_tab, ends_line, past_prefix, ◌>=>◌, text_behind, decimal_number}
 use Rattle.std.proofs.lemmas.List.Folds.{list_all-append}
-use Rattle.multistate_rle.specs.Header.{most_side, behind_symbol, number_in_front, side_spelled, may_end_with, header_of}
+use Rattle.multistate_rle.specs.Header.{most_pattern_side, behind_symbol, number_in_front, side_spelled, may_end_with, header_of}
 use Rattle.multistate_rle.specs.Position.{words, signed_number, is_comma, position_in, generation_in, one_item_more, items_in, no_items, origin_from, origin_in_words, origin_in, item_by}
 use Rattle.multistate_rle.specs.Laws.{IsSignedWord}
 use Rattle.multistate_rle.proofs.SplitLemmas.{split_at, later_parts, has_bytes, has_some}
@@ -76,18 +76,18 @@ signed_back (negsuc n) fits = ap (option_map (λ n. neg_ℤ (pos n))) (number_ba
 
 -- ---- the header
 
-blank_past : (n : ℕ) (ds rest : List ℕ) → IsPrinted n ds → past is_space_or_tab (32 ∷ (ds ++ rest)) ≡ ds ++ rest
+blank_past : (n : ℕ) (ds rest : List ℕ) → IsPrinted n ds → past_prefix is_space_or_tab (32 ∷ (ds ++ rest)) ≡ ds ++ rest
 blank_past n [] rest is = absurd (let some = is.some in omega arith)
 blank_past n (c ∷ ds) rest is =
     let parts = and_parts (is_decimal_digit c) (list_all is_decimal_digit ds) is.digits in
     rw (digit_is_no c parts.0 32 (omega arith), digit_is_no c parts.0 9 (omega arith)) refl
 
-number_front : (n : ℕ) (ds rest : List ℕ) → IsPrinted n ds → n ≤ most_side → number_in_front (ds ++ 44 ∷ rest) ≡ Some (n, 44 ∷ rest)
+number_front : (n : ℕ) (ds rest : List ℕ) → IsPrinted n ds → n ≤ most_pattern_side → number_in_front (ds ++ 44 ∷ rest) ≡ Some (n, 44 ∷ rest)
 number_front n ds rest is le =
-    (λ i. option_map (λ m. (m, past_is is_decimal_digit ds 44 rest is.digits refl i)) (decimal_number most_side (front_is is_decimal_digit ds 44 rest is.digits refl i)))
-    ∙ ap (option_map (λ m. (m, 44 ∷ rest))) (number_back most_side n ds is le)
+    (λ i. option_map (λ m. (m, past_is is_decimal_digit ds 44 rest is.digits refl i)) (decimal_number most_pattern_side (front_is is_decimal_digit ds 44 rest is.digits refl i)))
+    ∙ ap (option_map (λ m. (m, 44 ∷ rest))) (number_back most_pattern_side n ds is le)
 
-pub header_back : (w h : ℕ) (rule : List ℕ) → w ≤ most_side → h ≤ most_side →
+pub header_back : (w h : ℕ) (rule : List ℕ) → w ≤ most_pattern_side → h ≤ most_pattern_side →
     header_of (codes "x = " ++ (decimal w ++ (codes ", y = " ++ (decimal h ++ (codes ", rule = " ++ rule))))) ≡ Some (w, h)
 header_back w h rule wide high =
     let first = printed w (omega arith) in
@@ -98,8 +98,8 @@ header_back w h rule wide high =
     let right : side_spelled 121 (codes " y = " ++ (decimal h ++ (codes ", rule = " ++ rule))) ≡ Some (h, codes ", rule = " ++ rule) =
     ap number_in_front (blank_past h (decimal h) (codes ", rule = " ++ rule) second)
     ∙ number_front h (decimal h) (codes " rule = " ++ rule) second high in
-    ap (λ o. o >=> λ w. behind_symbol 44 w.1 >=> λ rest. side_spelled 121 rest >=> λ h. (if may_end_with (past is_space_or_tab h.1) then Some (w.0, h.0) else None)) left
-    ∙ ap (λ o. o >=> λ h. (if may_end_with (past is_space_or_tab h.1) then Some (w, h.0) else None)) right
+    ap (λ o. o >=> λ w. behind_symbol 44 w.1 >=> λ rest. side_spelled 121 rest >=> λ h. (if may_end_with (past_prefix is_space_or_tab h.1) then Some (w.0, h.0) else None)) left
+    ∙ ap (λ o. o >=> λ h. (if may_end_with (past_prefix is_space_or_tab h.1) then Some (w, h.0) else None)) right
 
 -- ---- bytes that a line is made of
 

@@ -6,14 +6,14 @@ use Rattle.std.proofs.lemmas.List.Splits.{slice_split-cons_yes, slice_split-cons
 use Rattle.generations_rule.specs.Refusal.{when, first_of, ◌>>=◌}
 use Rattle.multistate_rle.specs.declared.fault.RleFault.{RleFault}
 use Rattle.multistate_rle.specs.declared.fault.RleFault.TheVariants.{Header, Tag, Count, State, TooMany}
-use Rattle.multistate_rle.specs.Role.{Role}
+use Rattle.multistate_rle.specs.Role.{RoleValue}
 use Rattle.multistate_rle.specs.Role as role
 use Rattle.multistate_rle.specs.Bytes.{is_space_or_tab, ends_line}
 use Rattle.multistate_rle.specs.Header.{header_of}
 use Rattle.multistate_rle.specs.HeaderLine.{text_lines, may_precede, first_header}
 use Rattle.multistate_rle.specs.Position.{OriginValue, origin_in, origin_from, no_items}
-use Rattle.multistate_rle.specs.Tokens.{Token, Cells, Rows, drawn}
-use Rattle.multistate_rle.specs.Reading.{Mark, BegunValue, Pen, start, fresh, with_digit, with_prefix, moved, cells_of, fault_of, ended, followed, role_of, tokens_of, bytes_of, bare, lines_of, begins_comment, or_else, pattern_of, cells_read, body_read, header_read, lines_read}
+use Rattle.multistate_rle.specs.Tokens.{Token, Cells, Rows, cells_drawn}
+use Rattle.multistate_rle.specs.Reading.{Mark, BegunValue, Pen, start, fresh, with_digit, with_prefix, pen_after, cells_of, fault_of, tokens_ended, followed, role_of, tokens_of, bytes_of, bare, lines_of, begins_comment, or_else, pattern_of, cells_read, body_read, header_read, lines_read}
 use Rattle.multistate_rle.specs.Laws.{RefusesWithoutHeader}
 use Rattle.multistate_rle.proofs.ReadLemmas.{by_role, step_is}
 
@@ -39,21 +39,21 @@ followed_never (Some fault) token rest first later is = first (cc)
 followed_never None token (Ok tokens) first later is = absurd (cc)
 followed_never None token (Err fault) first later is = later (cc)
 
-ended_never : (place : ℕ) (prefix : Option ℕ) (b : BegunValue) → b.prefix ≡ prefix → ended place b ≡ Err Header → ⊥
-ended_never place None b is read = let e : ended place b ≡ Ok [] = rw is refl in absurd (cc)
-ended_never place (Some k) b is read = let e : ended place b ≡ Err (Tag place) = rw is refl in absurd (cc)
+ended_never : (place : ℕ) (prefix : Option ℕ) (b : BegunValue) → b.prefix ≡ prefix → tokens_ended place b ≡ Err Header → ⊥
+ended_never place None b is read = let e : tokens_ended place b ≡ Ok [] = rw is refl in absurd (cc)
+ended_never place (Some k) b is read = let e : tokens_ended place b ≡ Err (Tag place) = rw is refl in absurd (cc)
 
-role_never : (end : ℕ) (m : Mark) (marks : List Mark) (b : BegunValue) (pen : Pen) (r : Role) →
+role_never : (end : ℕ) (m : Mark) (marks : List Mark) (b : BegunValue) (pen : Pen) (r : RoleValue) →
     ((b : BegunValue) (pen : Pen) → tokens_of end marks b pen ≡ Err Header → ⊥) → by_role end m marks b pen r ≡ Err Header → ⊥
 role_never end m marks b pen role.EndMark never is = ended_never m.0 b.prefix b refl is
 role_never end m marks b pen (role.Digit d) never is = never (with_digit m.0 d b) pen is
 role_never end m marks b pen (role.Prefix k) never is = never (with_prefix m.0 k b) pen is
 role_never end m marks b pen (role.State s) never is =
     let token = Cells (unwrap_or b.count 1) s in
-    followed_never _ token (tokens_of end marks fresh (moved token pen)) (fault_never (unwrap_or b.place m.0) pen token) (never fresh (moved token pen)) is
+    followed_never _ token (tokens_of end marks fresh (pen_after token pen)) (fault_never (unwrap_or b.place m.0) pen token) (never fresh (pen_after token pen)) is
 role_never end m marks b pen role.RowEnd never is =
     let token = Rows (unwrap_or b.count 1) in
-    followed_never _ token (tokens_of end marks fresh (moved token pen)) (fault_never (unwrap_or b.place m.0) pen token) (never fresh (moved token pen)) is
+    followed_never _ token (tokens_of end marks fresh (pen_after token pen)) (fault_never (unwrap_or b.place m.0) pen token) (never fresh (pen_after token pen)) is
 role_never end m marks b pen role.Stray never is = absurd (cc)
 
 tokens_never : (end : ℕ) (marks : List Mark) (b : BegunValue) (pen : Pen) → tokens_of end marks b pen ≡ Err Header → ⊥
@@ -61,7 +61,7 @@ tokens_never end [] b pen is = ended_never end b.prefix b refl is
 tokens_never end (m ∷ marks) b pen is =
     role_never end m marks b pen (role_of b.prefix m.1) (λ b pen rest. tokens_never end marks b pen rest) (sym (step_is end m marks b pen (role_of b.prefix m.1) refl) ∙ is)
 
-drawn_never : (read : Result (List Token) RleFault) → (read ≡ Err Header → ⊥) → (read >>= λ tokens. Ok (drawn tokens 0 0)) ≡ Err Header → ⊥
+drawn_never : (read : Result (List Token) RleFault) → (read ≡ Err Header → ⊥) → (read >>= λ tokens. Ok (cells_drawn tokens 0 0)) ≡ Err Header → ⊥
 drawn_never (Ok tokens) never is = absurd (cc)
 drawn_never (Err fault) never is = never (cc)
 

@@ -8,8 +8,8 @@ use Rattle.std.proofs.lemmas.List.Folds.{length-prefix_len}
 use Rattle.multistate_rle.specs.declared.fault.RleFault.{RleFault}
 use Rattle.multistate_rle.specs.declared.fault.RleFault.TheVariants.{Header}
 use Rattle.multistate_rle.specs.Position.{OriginValue}
-use Rattle.multistate_rle.specs.declared.line.Line.{Line}
-use Rattle.multistate_rle.specs.declared.line.Line.TheVariants.{Start, Inside, Comment}
+use Rattle.multistate_rle.specs.declared.line.LineProgress.{LineProgress}
+use Rattle.multistate_rle.specs.declared.line.LineProgress.TheVariants.{Start, Inside, Comment}
 use Rattle.multistate_rle.specs.Bytes.{is_space_or_tab, ends_line}
 use Rattle.multistate_rle.specs.Header.{header_of}
 use Rattle.multistate_rle.specs.Position.{origin_in, origin_from, no_items}
@@ -136,15 +136,15 @@ nothing_left end origin text start past = ap (λ rest. lines_read end origin (li
 
 -- ---- the bytes that are left
 
-pub left_nothing : (line : Line) → left line [] ≡ []
+pub left_nothing : (line : LineProgress) → left line [] ≡ []
 unfolding left
 left_nothing line = refl
 
-pub left_drops : (line now : Line) (m : Mark) (marks : List Mark) → now ≡ line_after line m.1 → is_dropped now m.1 ≡ true → left line (m ∷ marks) ≡ left now marks
+pub left_drops : (line now : LineProgress) (m : Mark) (marks : List Mark) → now ≡ line_after line m.1 → is_dropped now m.1 ≡ true → left line (m ∷ marks) ≡ left now marks
 unfolding left
 left_drops line now m marks is drops = ap (λ l. if is_dropped l m.1 then left l marks else m ∷ left l marks) (sym is) ∙ ap (λ b. if b then left now marks else m ∷ left now marks) drops
 
-pub left_keeps : (line now : Line) (m : Mark) (marks : List Mark) → now ≡ line_after line m.1 → is_dropped now m.1 ≡ false → left line (m ∷ marks) ≡ m ∷ left now marks
+pub left_keeps : (line now : LineProgress) (m : Mark) (marks : List Mark) → now ≡ line_after line m.1 → is_dropped now m.1 ≡ false → left line (m ∷ marks) ≡ m ∷ left now marks
 unfolding left
 left_keeps line now m marks is keeps = ap (λ l. if is_dropped l m.1 then left l marks else m ∷ left l marks) (sym is) ∙ ap (λ b. if b then left now marks else m ∷ left now marks) keeps
 
@@ -190,7 +190,7 @@ or-true : (b : Bool) → (b || true) ≡ true
 or-true true = refl
 or-true false = refl
 
-after_end : (line : Line) (c : ℕ) → ends_line c ≡ true → Start ≡ line_after line c
+after_end : (line : LineProgress) (c : ℕ) → ends_line c ≡ true → Start ≡ line_after line c
 after_end line c e = rw e refl
 
 drops_end : (c : ℕ) → ends_line c ≡ true → is_dropped Start c ≡ true
@@ -200,7 +200,7 @@ left_end : (m : Mark) (marks : List Mark) → ends_line m.1 ≡ true → IsLeft 
 unfolding inside beyond
 left_end m marks e so_far =
     let lines : lines_of (m ∷ marks) ≡ [] ∷ lines_of marks = slice_split-cons_yes (λ (m : Mark). ends_line m.1) m marks e in
-    let next : (line : Line) → left line (m ∷ marks) ≡ bare (lines_of marks) =
+    let next : (line : LineProgress) → left line (m ∷ marks) ≡ bare (lines_of marks) =
     λ line. left_drops line Start m marks (after_end line m.1 e) (drops_end m.1 e) ∙ so_far.start in
     record {
       start = next Start ∙ sym (ap bare lines);
@@ -208,12 +208,12 @@ left_end m marks e so_far =
       comment = next Comment ∙ sym (ap beyond lines);
     }
 
-counts_by : (line : Line) (m : Mark) (marks : List Mark) (blank : Bool) → ends_line m.1 ≡ false → Inside ≡ line_after line m.1 → is_space_or_tab m.1 ≡ blank →
+counts_by : (line : LineProgress) (m : Mark) (marks : List Mark) (blank : Bool) → ends_line m.1 ≡ false → Inside ≡ line_after line m.1 → is_space_or_tab m.1 ≡ blank →
     left line (m ∷ marks) ≡ (if blank then left Inside marks else m ∷ left Inside marks)
 counts_by line m marks true e after b = left_drops line Inside m marks after (rw b refl)
 counts_by line m marks false e after b = left_keeps line Inside m marks after (rw (b, e) refl)
 
-left_counts : (line : Line) (m : Mark) (marks : List Mark) → ends_line m.1 ≡ false → Inside ≡ line_after line m.1 → IsLeft marks →
+left_counts : (line : LineProgress) (m : Mark) (marks : List Mark) → ends_line m.1 ≡ false → Inside ≡ line_after line m.1 → IsLeft marks →
     left line (m ∷ marks) ≡ inside (onto_first m (lines_of marks))
 left_counts line m marks e after so_far =
     counts_by line m marks (is_space_or_tab m.1) e after refl

@@ -8,12 +8,12 @@ use Rattle.std.proofs.lemmas.Int.Digits.{digits_value_more}
 use Rattle.std.proofs.lemmas.Str.Parse.{digits_value-take-le}
 use Rattle.std.proofs.lemmas.List.Folds.{list_all_at, list_all_more}
 use Rattle.std.proofs.lemmas.Bool.Decides.{nat_tests}
-use Rattle.multistate_rle.specs.Bytes.{is_decimal_digit, decimal_number, at_most}
+use Rattle.multistate_rle.specs.Bytes.{is_decimal_digit, decimal_number, limited}
 
-pub past_most : (most n : ℕ) → at_most most n ≡ None → most < n
+pub past_most : (most n : ℕ) → limited most n ≡ None → most < n
 past_most most n none = grind (arith, nat_tests)
 
-pub within_most : (most n m : ℕ) → at_most most n ≡ Some m → (m ≡ n) × (n ≤ most)
+pub within_most : (most n m : ℕ) → limited most n ≡ Some m → (m ≡ n) × (n ≤ most)
 within_most most n m some = (grind (arith, nat_tests), grind (arith, nat_tests))
 
 choice : (b : Bool) (o : Option ℕ) → o ≡ None → cond b o None ≡ None
@@ -25,7 +25,7 @@ pub too_great : (most : ℕ) (ds : List ℕ) (i : ℕ) → most < digits_value 1
 too_great most [] i h = refl
 too_great most (c ∷ ds) i h =
     let more : nat_le (digits_value 10 (c ∷ ds)) most ≡ false = grind (arith, nat_tests, digits_value-take-le 10 (c ∷ ds) i (omega arith)) in
-    choice (list_all is_decimal_digit (c ∷ ds)) (at_most most (digits_value 10 (c ∷ ds))) (rw more refl)
+    choice (list_all is_decimal_digit (c ∷ ds)) (limited most (digits_value 10 (c ∷ ds))) (rw more refl)
 
 -- a text with another byte is no number
 pub no_digit : (most : ℕ) (ds : List ℕ) (i : ℕ) → i < length ds → is_decimal_digit (get_or ds i 0) ≡ false → decimal_number most ds ≡ None

@@ -10,8 +10,8 @@ use Rattle.multistate_rle.specs.HeaderLine.{text_lines, may_precede, first_heade
 use Rattle.multistate_rle.specs.Position.{OriginValue, origin_in, origin_from, no_items}
 use Rattle.multistate_rle.specs.Pattern.{RlePattern}
 use Rattle.multistate_rle.specs.Reading.{parsed, body_read, lines_of, lines_read, begins_comment, or_else}
-use Rattle.multistate_rle.specs.Spelling.{IsLine, IsFront, with_lines, first_origin}
-use Rattle.multistate_rle.specs.Parts.{EndsLine, HasParts}
+use Rattle.multistate_rle.specs.Spelling.{IsLine, AreFrontLines, with_lines, first_origin}
+use Rattle.multistate_rle.specs.Parts.{EndsLine, HasFrontAndBody}
 use Rattle.multistate_rle.proofs.SplitLemmas.{split_at, later_parts}
 use Rattle.multistate_rle.proofs.HeadLaws.{front_is, past_is, front_all, past_all}
 use Rattle.multistate_rle.proofs.LineLemmas.{line_step, line_read, header_is_read}
@@ -30,7 +30,7 @@ front_len (line ∷ front) rest = omega (arith, front_len front rest, length-app
 -- ---- a text in its parts
 
 -- the lines in front, with the place of what stands behind them
-front_placed : (len : ℕ) (origin : Option OriginValue) (n : ℕ) (front : List (List ℕ × ℕ)) (rest : List ℕ) (meant : Option OriginValue → Result RlePattern RleFault) → IsFront front →
+front_placed : (len : ℕ) (origin : Option OriginValue) (n : ℕ) (front : List (List ℕ × ℕ)) (rest : List ℕ) (meant : Option OriginValue → Result RlePattern RleFault) → AreFrontLines front →
     ((found : Option OriginValue) → lines_read len found (lines_of (enumerate_from (n + length (with_lines front [])) rest)) ≡ meant found) →
     lines_read len origin (lines_of (enumerate_from n (with_lines front rest))) ≡ meant (first_origin origin front)
 front_placed len origin n [] rest meant is behind = ap (λ k. lines_read len origin (lines_of (enumerate_from k rest))) (omega arith) ∙ behind origin
@@ -61,7 +61,7 @@ header_first len found k header (end ∷ rest) sides is_header is ends =
     ∙ header_is_read len found header (k + position_or_len ends_line (header ++ end ∷ rest) + 1) rest sides (no_comment header sides (begins_comment header) refl is) (no_blank header sides (list_all is_space_or_tab header) refl is) is
     ∙ ap (λ n. body_read len (unwrap_or found (origin_from no_items)) sides (lines_of (enumerate_from (k + n + 1) rest))) (line_len header end rest is_header ends)
 
-pub parts_read : (text : List ℕ) (front : List (List ℕ × ℕ)) (sides : ℕ × ℕ) (place : ℕ) (body : List ℕ) → HasParts text front sides place body →
+pub parts_read : (text : List ℕ) (front : List (List ℕ × ℕ)) (sides : ℕ × ℕ) (place : ℕ) (body : List ℕ) → HasFrontAndBody text front sides place body →
     parsed text ≡ body_read (length text) (unwrap_or (first_origin None front) (origin_from no_items)) sides (lines_of (enumerate_from place body))
 parts_read text front sides place body is =
     let whole = with_lines front (is.header ++ is.behind) in
@@ -123,7 +123,7 @@ pub record InParts (text : List ℕ) : Type 0 where
   pub sides : ℕ × ℕ
   pub place : ℕ
   pub body : List ℕ
-  pub parts : HasParts text front sides place body
+  pub parts : HasFrontAndBody text front sides place body
 
 header_found : (text line behind : List ℕ) (header : Option (ℕ × ℕ)) (lines : List (List ℕ)) → text ≡ line ++ behind → IsLine line → EndsLine behind → text_lines text ≡ line ∷ lines → may_precede line ≡ false → header_of line ≡ header →
     HasNoHeader text ⊎ InParts text

@@ -11,14 +11,14 @@ use Rattle.generations_rule.specs.Refusal.{when, first_of, ◌>>=◌}
 use Rattle.multistate_rle.specs.declared.fault.RleFault.{RleFault}
 use Rattle.multistate_rle.specs.declared.fault.RleFault.TheVariants.{State, Count, TooMany}
 use Rattle.multistate_rle.specs.declared.fault.RleFault.TheVariants.{Tag}
-use Rattle.multistate_rle.specs.Role.{Role}
+use Rattle.multistate_rle.specs.Role.{RoleValue}
 use Rattle.multistate_rle.specs.Role as role
 use Rattle.multistate_rle.specs.Reading.{BegunValue}
 use Rattle.multistate_rle.specs.Position.{OriginValue}
-use Rattle.multistate_rle.specs.Reading.{Mark, Pen, start, fresh, moved, fault_of, cells_of, AreFine, followed, ended, tokens_of, role_of, with_digit, with_prefix, cells_read, pattern_of, width_of, height_of}
+use Rattle.multistate_rle.specs.Reading.{Mark, Pen, start, fresh, pen_after, fault_of, cells_of, AreFine, followed, tokens_ended, tokens_of, role_of, with_digit, with_prefix, cells_read, pattern_of, width_of, height_of}
 use Rattle.multistate_rle.proofs.ReadLemmas.{by_role, step_is}
 use Rattle.multistate_rle.proofs.StepLemmas.{length_run}
-use Rattle.multistate_rle.specs.Tokens.{Token, Cells, Rows, run, cells_in_row, drawn}
+use Rattle.multistate_rle.specs.Tokens.{Token, Cells, Rows, run, cells_in_row, cells_drawn}
 
 -- ---- cells from a place on
 
@@ -111,11 +111,11 @@ inside_plane k r column row =
     let b : nat_lt r 4294967296 ≡ true = grind (arith, nat_tests) in
     rw (a, b) refl
 
-pub drawn_from : (tokens : List Token) (pen : Pen) → AreFine pen tokens → AreFrom pen.column pen.row (drawn tokens pen.column pen.row)
+pub drawn_from : (tokens : List Token) (pen : Pen) → AreFine pen tokens → AreFrom pen.column pen.row (cells_drawn tokens pen.column pen.row)
 drawn_from [] pen fine = tt
-drawn_from (Cells n s ∷ tokens) pen fine = run_if_from (s == 0) n s pen.column pen.row _ (drawn_from tokens (moved (Cells n s) pen) fine.1)
+drawn_from (Cells n s ∷ tokens) pen fine = run_if_from (s == 0) n s pen.column pen.row _ (drawn_from tokens (pen_after (Cells n s) pen) fine.1)
 drawn_from (Rows n ∷ tokens) pen fine =
-    from_below pen.column pen.row (pen.row + n) _ (let rows = fine_rows 0 pen n fine.0 in omega (arith, rows.some)) (drawn_from tokens (moved (Rows n) pen) fine.1)
+    from_below pen.column pen.row (pen.row + n) _ (let rows = fine_rows 0 pen n fine.0 in omega (arith, rows.some)) (drawn_from tokens (pen_after (Rows n) pen) fine.1)
 
 -- ---- each cell of a run
 
@@ -132,31 +132,31 @@ run_all test n s c r false e holds = row_all test n s c r (holds (λ dead. let t
 joined_all : (test : PatternCell → Bool) (xs ys : List PatternCell) → list_all test xs ≡ true → list_all test ys ≡ true → list_all test (xs ++ ys) ≡ true
 joined_all test xs ys left right = list_all-append test xs ys ∙ rw (left, right) refl
 
-pub drawn_alive : (tokens : List Token) (column row : ℕ) → are_alive (drawn tokens column row) ≡ true
+pub drawn_alive : (tokens : List Token) (column row : ℕ) → are_alive (cells_drawn tokens column row) ≡ true
 drawn_alive [] column row = refl
 drawn_alive (Cells n s ∷ tokens) column row =
-    joined_all (λ cell. not (cell.state == 0)) (run n s column row) (drawn tokens (column + n) row)
+    joined_all (λ cell. not (cell.state == 0)) (run n s column row) (cells_drawn tokens (column + n) row)
     (run_all (λ cell. not (cell.state == 0)) n s column row (s == 0) refl (λ alive k low high. rw (ne_eqb s 0 alive) refl))
     (drawn_alive tokens (column + n) row)
 drawn_alive (Rows n ∷ tokens) column row = drawn_alive tokens 0 (row + n)
 
 -- the bounds of all columns and rows
-pub drawn_within : (tokens : List Token) (pen : Pen) → pen.row ≤ 4294967295 → AreFine pen tokens → are_within 4294967296 4294967296 (drawn tokens pen.column pen.row) ≡ true
+pub drawn_within : (tokens : List Token) (pen : Pen) → pen.row ≤ 4294967295 → AreFine pen tokens → are_within 4294967296 4294967296 (cells_drawn tokens pen.column pen.row) ≡ true
 drawn_within [] pen low fine = refl
 drawn_within (Cells n s ∷ tokens) pen low fine =
     let far : pen.column + n ≤ 4294967296 = (fine_run 0 pen n s fine.0).near in
-    joined_all (λ cell. nat_lt cell.column 4294967296 && nat_lt cell.row 4294967296) (run n s pen.column pen.row) (drawn tokens (pen.column + n) pen.row)
+    joined_all (λ cell. nat_lt cell.column 4294967296 && nat_lt cell.row 4294967296) (run n s pen.column pen.row) (cells_drawn tokens (pen.column + n) pen.row)
     (run_all (λ cell. nat_lt cell.column 4294967296 && nat_lt cell.row 4294967296) n s pen.column pen.row (s == 0) refl
     (λ alive k above below. inside_plane k pen.row (omega arith) (omega arith)))
-    (drawn_within tokens (moved (Cells n s) pen) low fine.1)
-drawn_within (Rows n ∷ tokens) pen low fine = drawn_within tokens (moved (Rows n) pen) ((fine_rows 0 pen n fine.0).near) fine.1
+    (drawn_within tokens (pen_after (Cells n s) pen) low fine.1)
+drawn_within (Rows n ∷ tokens) pen low fine = drawn_within tokens (pen_after (Rows n) pen) ((fine_rows 0 pen n fine.0).near) fine.1
 
-pub drawn_few : (tokens : List Token) (pen : Pen) → pen.cells ≤ 1048576 → AreFine pen tokens → pen.cells + length (drawn tokens pen.column pen.row) ≤ 1048576
+pub drawn_few : (tokens : List Token) (pen : Pen) → pen.cells ≤ 1048576 → AreFine pen tokens → pen.cells + length (cells_drawn tokens pen.column pen.row) ≤ 1048576
 drawn_few [] pen few fine = omega arith
 drawn_few (Cells n s ∷ tokens) pen few fine =
-    let more = drawn_few tokens (moved (Cells n s) pen) ((fine_run 0 pen n s fine.0).few) fine.1 in
-    omega (arith, more, length-append (run n s pen.column pen.row) (drawn tokens (pen.column + n) pen.row), length_run n s pen.column pen.row)
-drawn_few (Rows n ∷ tokens) pen few fine = drawn_few tokens (moved (Rows n) pen) few fine.1
+    let more = drawn_few tokens (pen_after (Cells n s) pen) ((fine_run 0 pen n s fine.0).few) fine.1 in
+    omega (arith, more, length-append (run n s pen.column pen.row) (cells_drawn tokens (pen.column + n) pen.row), length_run n s pen.column pen.row)
+drawn_few (Rows n ∷ tokens) pen few fine = drawn_few tokens (pen_after (Rows n) pen) few fine.1
 
 -- ---- what is read has no fault
 
@@ -168,7 +168,7 @@ fine_anywhere place pen (Rows n) none =
     rw (none_of_one (n == 0 || nat_lt (2 ^ 32 - 1) (pen.row + n)) (Count place) none) refl
 
 followed_fine : (fault : Option RleFault) (place : ℕ) (pen : Pen) (token : Token) (rest : Result (List Token) RleFault) (tokens : List Token) → fault_of place pen token ≡ fault →
-    ((more : List Token) → rest ≡ Ok more → AreFine (moved token pen) more) → followed fault token rest ≡ Ok tokens → AreFine pen tokens
+    ((more : List Token) → rest ≡ Ok more → AreFine (pen_after token pen) more) → followed fault token rest ≡ Ok tokens → AreFine pen tokens
 followed_fine (Some fault) place pen token rest tokens is fine read = absurd (cc)
 followed_fine None place pen token (Err fault) tokens is fine read = absurd (cc)
 followed_fine None place pen token (Ok more) [] is fine read = absurd (cc)
@@ -178,21 +178,21 @@ followed_fine None place pen token (Ok more) (first ∷ tokens) is fine read =
     let good : AreFine pen (token ∷ more) = (fine_anywhere place pen token is, fine more refl) in
     subst (λ ts. AreFine pen ts) (λ i. same_first i ∷ same_more i) good
 
-ended_fine : (prefix : Option ℕ) (place : ℕ) (b : BegunValue) (pen : Pen) (tokens : List Token) → b.prefix ≡ prefix → ended place b ≡ Ok tokens → AreFine pen tokens
+ended_fine : (prefix : Option ℕ) (place : ℕ) (b : BegunValue) (pen : Pen) (tokens : List Token) → b.prefix ≡ prefix → tokens_ended place b ≡ Ok tokens → AreFine pen tokens
 ended_fine None place b pen [] is read = tt
-ended_fine None place b pen (token ∷ tokens) is read = let e : ended place b ≡ Ok [] = rw is refl in absurd (cc)
-ended_fine (Some k) place b pen tokens is read = let e : ended place b ≡ Err (Tag place) = rw is refl in absurd (cc)
+ended_fine None place b pen (token ∷ tokens) is read = let e : tokens_ended place b ≡ Ok [] = rw is refl in absurd (cc)
+ended_fine (Some k) place b pen tokens is read = let e : tokens_ended place b ≡ Err (Tag place) = rw is refl in absurd (cc)
 
-role_fine : (end : ℕ) (m : Mark) (marks : List Mark) (b : BegunValue) (pen : Pen) (r : Role) (tokens : List Token) →
+role_fine : (end : ℕ) (m : Mark) (marks : List Mark) (b : BegunValue) (pen : Pen) (r : RoleValue) (tokens : List Token) →
     ((b : BegunValue) (pen : Pen) (tokens : List Token) → tokens_of end marks b pen ≡ Ok tokens → AreFine pen tokens) →
     by_role end m marks b pen r ≡ Ok tokens → AreFine pen tokens
 role_fine end m marks b pen role.EndMark tokens fine read = ended_fine b.prefix m.0 b pen tokens refl read
 role_fine end m marks b pen (role.Digit d) tokens fine read = fine (with_digit m.0 d b) pen tokens read
 role_fine end m marks b pen (role.Prefix k) tokens fine read = fine (with_prefix m.0 k b) pen tokens read
 role_fine end m marks b pen (role.State s) tokens fine read =
-    followed_fine _ (unwrap_or b.place m.0) pen (Cells (unwrap_or b.count 1) s) _ tokens refl (λ more rest. fine fresh (moved (Cells (unwrap_or b.count 1) s) pen) more rest) read
+    followed_fine _ (unwrap_or b.place m.0) pen (Cells (unwrap_or b.count 1) s) _ tokens refl (λ more rest. fine fresh (pen_after (Cells (unwrap_or b.count 1) s) pen) more rest) read
 role_fine end m marks b pen role.RowEnd tokens fine read =
-    followed_fine _ (unwrap_or b.place m.0) pen (Rows (unwrap_or b.count 1)) _ tokens refl (λ more rest. fine fresh (moved (Rows (unwrap_or b.count 1)) pen) more rest) read
+    followed_fine _ (unwrap_or b.place m.0) pen (Rows (unwrap_or b.count 1)) _ tokens refl (λ more rest. fine fresh (pen_after (Rows (unwrap_or b.count 1)) pen) more rest) read
 role_fine end m marks b pen role.Stray tokens fine read = absurd (cc)
 
 pub read_fine : (end : ℕ) (marks : List Mark) (b : BegunValue) (pen : Pen) (tokens : List Token) → tokens_of end marks b pen ≡ Ok tokens → AreFine pen tokens
@@ -245,10 +245,10 @@ each_all p q (cell ∷ cells) all =
 
 -- what tokens without faults draw, in the box of a header, is a pattern
 drawn_pattern : (origin : OriginValue) (sides : ℕ × ℕ) (tokens : List Token) → sides.0 ≤ 4294967295 → sides.1 ≤ 4294967295 → AreFine start tokens →
-    IsPattern (pattern_of origin sides (drawn tokens 0 0))
+    IsPattern (pattern_of origin sides (cells_drawn tokens 0 0))
 unfolding reach
 drawn_pattern origin sides tokens w h fine =
-    let cells = drawn tokens 0 0 in
+    let cells = cells_drawn tokens 0 0 in
     let bounds = each_all (λ cell. nat_lt cell.column 4294967296) (λ cell. nat_lt cell.row 4294967296) cells (drawn_within tokens start (omega arith) fine) in
     record {
       alive = drawn_alive tokens 0 0;
@@ -262,9 +262,9 @@ drawn_pattern origin sides tokens w h fine =
     }
 
 read_pattern_at : (origin : OriginValue) (sides : ℕ × ℕ) (cells : List PatternCell) (read : Result (List Token) RleFault) → sides.0 ≤ 4294967295 → sides.1 ≤ 4294967295 →
-    ((tokens : List Token) → read ≡ Ok tokens → AreFine start tokens) → (read >>= λ tokens. Ok (drawn tokens 0 0)) ≡ Ok cells → IsPattern (pattern_of origin sides cells)
+    ((tokens : List Token) → read ≡ Ok tokens → AreFine start tokens) → (read >>= λ tokens. Ok (cells_drawn tokens 0 0)) ≡ Ok cells → IsPattern (pattern_of origin sides cells)
 read_pattern_at origin sides cells (Ok tokens) w h fine is =
-    let same : drawn tokens 0 0 ≡ cells = cc in
+    let same : cells_drawn tokens 0 0 ≡ cells = cc in
     subst (λ xs. IsPattern (pattern_of origin sides xs)) same (drawn_pattern origin sides tokens w h (fine tokens refl))
 read_pattern_at origin sides cells (Err fault) w h fine is = absurd (cc)
 

@@ -5,11 +5,11 @@ use Rattle.std.proofs.lemmas.Bool.Decides.{nat_tests}
 use Rattle.generations_rule.specs.Refusal.{when, first_of}
 use Rattle.multistate_rle.specs.declared.fault.RleFault.{RleFault}
 use Rattle.multistate_rle.specs.declared.fault.RleFault.TheVariants.{State, Count, Tag}
-use Rattle.multistate_rle.specs.Role.{Role}
+use Rattle.multistate_rle.specs.Role.{RoleValue}
 use Rattle.multistate_rle.specs.Role as role
 use Rattle.multistate_rle.specs.Reading.{BegunValue}
 use Rattle.multistate_rle.specs.Tokens.{Token, Cells, Rows}
-use Rattle.multistate_rle.specs.Reading.{Mark, Pen, role_of, fresh, with_digit, with_prefix, ended, fault_of, followed, moved, tokens_of}
+use Rattle.multistate_rle.specs.Reading.{Mark, Pen, role_of, fresh, with_digit, with_prefix, tokens_ended, fault_of, followed, pen_after, tokens_of}
 use Rattle.multistate_rle.specs.Begun.{capped}
 
 -- ---- a count above the limit is as faulty as the limit
@@ -52,15 +52,15 @@ small_or_great None = inl refl
 small_or_great (Some n) = elim (total_le n 4294967297) [ inl h ↦ inl (omega arith) | inr h ↦ inr (omega arith, omega arith) ]
 
 same_cells : (end place s : ℕ) (marks : List Mark) (pen : Pen) (m n : ℕ) → (m ≡ n) ⊎ ((4294967297 ≤ m) × (4294967297 ≤ n)) →
-    followed (fault_of place pen (Cells m s)) (Cells m s) (tokens_of end marks fresh (moved (Cells m s) pen))
-    ≡ followed (fault_of place pen (Cells n s)) (Cells n s) (tokens_of end marks fresh (moved (Cells n s) pen))
-same_cells end place s marks pen m n (inl same) = ap (λ k. followed (fault_of place pen (Cells k s)) (Cells k s) (tokens_of end marks fresh (moved (Cells k s) pen))) same
+    followed (fault_of place pen (Cells m s)) (Cells m s) (tokens_of end marks fresh (pen_after (Cells m s) pen))
+    ≡ followed (fault_of place pen (Cells n s)) (Cells n s) (tokens_of end marks fresh (pen_after (Cells n s) pen))
+same_cells end place s marks pen m n (inl same) = ap (λ k. followed (fault_of place pen (Cells k s)) (Cells k s) (tokens_of end marks fresh (pen_after (Cells k s) pen))) same
 same_cells end place s marks pen m n (inr great) = too_far place m s pen _ great.0 ∙ sym (too_far place n s pen _ great.1)
 
 same_rows : (end place : ℕ) (marks : List Mark) (pen : Pen) (m n : ℕ) → (m ≡ n) ⊎ ((4294967297 ≤ m) × (4294967297 ≤ n)) →
-    followed (fault_of place pen (Rows m)) (Rows m) (tokens_of end marks fresh (moved (Rows m) pen))
-    ≡ followed (fault_of place pen (Rows n)) (Rows n) (tokens_of end marks fresh (moved (Rows n) pen))
-same_rows end place marks pen m n (inl same) = ap (λ k. followed (fault_of place pen (Rows k)) (Rows k) (tokens_of end marks fresh (moved (Rows k) pen))) same
+    followed (fault_of place pen (Rows m)) (Rows m) (tokens_of end marks fresh (pen_after (Rows m) pen))
+    ≡ followed (fault_of place pen (Rows n)) (Rows n) (tokens_of end marks fresh (pen_after (Rows n) pen))
+same_rows end place marks pen m n (inl same) = ap (λ k. followed (fault_of place pen (Rows k)) (Rows k) (tokens_of end marks fresh (pen_after (Rows k) pen))) same
 same_rows end place marks pen m n (inr great) = too_low place m pen _ great.0 ∙ sym (too_low place n pen _ great.1)
 
 min_digit : (count : Option ℕ) (d : ℕ) → min (10 * unwrap_or (option_map (λ n. min n 4294967297) count) 0 + d) 4294967297 ≡ min (10 * unwrap_or count 0 + d) 4294967297
@@ -71,21 +71,21 @@ digit_capped : (place d : ℕ) (b : BegunValue) → capped (with_digit place d (
 digit_capped place d b = λ i. record b { place = Some (unwrap_or b.place place); count = Some (min_digit b.count d i) }
 
 -- what is read from a byte on, by what the byte is
-abbrev pub by_role : ℕ → Mark → List Mark → BegunValue → Pen → Role → Result (List Token) RleFault
-by_role end m marks b pen role.EndMark = ended m.0 b
+abbrev pub by_role : ℕ → Mark → List Mark → BegunValue → Pen → RoleValue → Result (List Token) RleFault
+by_role end m marks b pen role.EndMark = tokens_ended m.0 b
 by_role end m marks b pen (role.Digit d) = tokens_of end marks (with_digit m.0 d b) pen
 by_role end m marks b pen (role.Prefix k) = tokens_of end marks (with_prefix m.0 k b) pen
 by_role end m marks b pen (role.State s) =
-    followed (fault_of (unwrap_or b.place m.0) pen (Cells (unwrap_or b.count 1) s)) (Cells (unwrap_or b.count 1) s) (tokens_of end marks fresh (moved (Cells (unwrap_or b.count 1) s) pen))
+    followed (fault_of (unwrap_or b.place m.0) pen (Cells (unwrap_or b.count 1) s)) (Cells (unwrap_or b.count 1) s) (tokens_of end marks fresh (pen_after (Cells (unwrap_or b.count 1) s) pen))
 by_role end m marks b pen role.RowEnd =
-    followed (fault_of (unwrap_or b.place m.0) pen (Rows (unwrap_or b.count 1))) (Rows (unwrap_or b.count 1)) (tokens_of end marks fresh (moved (Rows (unwrap_or b.count 1)) pen))
+    followed (fault_of (unwrap_or b.place m.0) pen (Rows (unwrap_or b.count 1))) (Rows (unwrap_or b.count 1)) (tokens_of end marks fresh (pen_after (Rows (unwrap_or b.count 1)) pen))
 by_role end m marks b pen role.Stray = Err (Tag m.0)
 
-pub step_is : (end : ℕ) (m : Mark) (marks : List Mark) (b : BegunValue) (pen : Pen) (r : Role) → role_of b.prefix m.1 ≡ r →
+pub step_is : (end : ℕ) (m : Mark) (marks : List Mark) (b : BegunValue) (pen : Pen) (r : RoleValue) → role_of b.prefix m.1 ≡ r →
     tokens_of end (m ∷ marks) b pen ≡ by_role end m marks b pen r
 step_is end m marks b pen r e = ap (by_role end m marks b pen) e
 
-same_by : (end : ℕ) (m : Mark) (marks : List Mark) (b : BegunValue) (pen : Pen) (r : Role) →
+same_by : (end : ℕ) (m : Mark) (marks : List Mark) (b : BegunValue) (pen : Pen) (r : RoleValue) →
     ((b : BegunValue) → tokens_of end marks (capped b) pen ≡ tokens_of end marks b pen) →
     by_role end m marks (capped b) pen r ≡ by_role end m marks b pen r
 same_by end m marks b pen role.EndMark rest = refl
@@ -97,7 +97,7 @@ same_by end m marks b pen role.RowEnd rest = same_rows end (unwrap_or b.place m.
 same_by end m marks b pen role.Stray rest = refl
 
 -- one byte, where the bytes that follow are read the same
-same_step : (end : ℕ) (m : Mark) (marks : List Mark) (b : BegunValue) (pen : Pen) (r : Role) → role_of b.prefix m.1 ≡ r →
+same_step : (end : ℕ) (m : Mark) (marks : List Mark) (b : BegunValue) (pen : Pen) (r : RoleValue) → role_of b.prefix m.1 ≡ r →
     ((b : BegunValue) → tokens_of end marks (capped b) pen ≡ tokens_of end marks b pen) →
     tokens_of end (m ∷ marks) (capped b) pen ≡ tokens_of end (m ∷ marks) b pen
 same_step end m marks b pen r e rest =

@@ -12,7 +12,7 @@ use Rattle.multistate_rle.specs.declared.fault.RleFault.TheVariants.{Tag}
 use Rattle.multistate_rle.specs.Bytes.{is_decimal_digit}
 use Rattle.multistate_rle.specs.Letters.{IsLetter, IsPrefixed}
 use Rattle.multistate_rle.specs.Tokens.{Token, Cells, Rows, count_of}
-use Rattle.multistate_rle.specs.Reading.{Mark, Pen, fresh, moved, fault_of, followed, is_prefix_byte, is_letter, tokens_of, bytes_of, AreFine}
+use Rattle.multistate_rle.specs.Reading.{Mark, Pen, fresh, pen_after, fault_of, followed, is_prefix_byte, is_letter, tokens_of, bytes_of, AreFine}
 use Rattle.multistate_rle.specs.Spelling.{IsCount, IsTag, IsSpelling, EndsTokens}
 use Rattle.multistate_rle.specs.Faulty.{pen_behind, first_place, lacks_letter, BeginsFaulty}
 use Rattle.multistate_rle.proofs.PatternLaws.{and_parts, fine_anywhere}
@@ -88,7 +88,7 @@ regrouped : {A : Type 0} (a b c d : List A) → a ++ (b ++ (c ++ d)) ≡ (a ++ (
 regrouped a b c d = sym (append_assoc a (b ++ c) d ∙ ap (λ x. a ++ x) (append_assoc b c d))
 
 token_then : (end : ℕ) (token : Token) (digits tag rest : List Mark) (pen : Pen) (found : Option RleFault) → IsCount (count_of token) (bytes_of digits) → IsTag token (bytes_of tag) →
-    fault_of (first_place 0 (digits ++ (tag ++ rest))) pen token ≡ found → Decided end rest (moved token pen) → Decided end (digits ++ (tag ++ rest)) pen
+    fault_of (first_place 0 (digits ++ (tag ++ rest))) pen token ≡ found → Decided end rest (pen_after token pen) → Decided end (digits ++ (tag ++ rest)) pen
 token_then end token digits tag rest pen (Some fault) count tag_is ill later =
     fails_here end (digits ++ (tag ++ rest)) pen fault (inr (inr (record { token = token; digits = digits; tag = tag; rest = rest; marks_are = refl; count_is = count; tag_is = tag_is; fault_is = ill })))
 token_then end token digits tag rest pen None count tag_is none (inl later) = inl (record {
@@ -128,13 +128,13 @@ run_then : (end s : ℕ) (digits tag rest : List Mark) (pen : Pen) → list_all 
     ((pen : Pen) → Decided end rest pen) → Decided end (digits ++ (tag ++ rest)) pen
 run_then end s digits tag rest pen all tag_is later =
     let token = Cells (counted (bytes_of digits)) s in
-    token_then end token digits tag rest pen (fault_of (first_place 0 (digits ++ (tag ++ rest))) pen token) (counts (bytes_of digits) all) tag_is refl (later (moved token pen))
+    token_then end token digits tag rest pen (fault_of (first_place 0 (digits ++ (tag ++ rest))) pen token) (counts (bytes_of digits) all) tag_is refl (later (pen_after token pen))
 
 rows_then : (end : ℕ) (digits : List Mark) (m : Mark) (rest : List Mark) (pen : Pen) → list_all is_decimal_digit (bytes_of digits) ≡ true → m.1 ≡ 36 →
     ((pen : Pen) → Decided end rest pen) → Decided end (digits ++ m ∷ rest) pen
 rows_then end digits m rest pen all is later =
     let token = Rows (counted (bytes_of digits)) in
-    token_then end token digits (m ∷ []) rest pen (fault_of (first_place 0 (digits ++ m ∷ rest)) pen token) (counts (bytes_of digits) all) (ap (λ c. c ∷ []) is) refl (later (moved token pen))
+    token_then end token digits (m ∷ []) rest pen (fault_of (first_place 0 (digits ++ m ∷ rest)) pen token) (counts (bytes_of digits) all) (ap (λ c. c ∷ []) is) refl (later (pen_after token pen))
 
 -- ---- byte by byte
 

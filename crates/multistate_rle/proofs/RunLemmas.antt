@@ -6,16 +6,16 @@ use Rattle.std.proofs.lemmas.Bool.{ne_eqb}
 use Rattle.std.proofs.lemmas.Bool.Decides.{nat_tests}
 use Rattle.generations_rule.specs.Refusal.{◌>>=◌}
 use Rattle.multistate_rle.specs.declared.fault.RleFault.{RleFault}
-use Rattle.multistate_rle.specs.declared.line.Line.TheVariants.{Inside}
+use Rattle.multistate_rle.specs.declared.line.LineProgress.TheVariants.{Inside}
 use Rattle.multistate_rle.specs.Role as role
 use Rattle.multistate_rle.specs.Reading.{BegunValue}
-use Rattle.multistate_rle.specs.declared.tokens.Reader.{Reader}
+use Rattle.multistate_rle.specs.declared.tokens.TokenReader.{TokenReader}
 use Rattle.multistate_rle.specs.Bytes.{is_decimal_digit}
 use Rattle.multistate_rle.specs.Lines.{left, left_from}
-use Rattle.multistate_rle.specs.Tokens.{Token, Cells, drawn, run}
-use Rattle.multistate_rle.specs.Reading.{Pen, role_of, is_prefix_byte, fresh, with_digit, with_prefix, fault_of, followed, moved, tokens_of}
+use Rattle.multistate_rle.specs.Tokens.{Token, Cells, cells_drawn, run}
+use Rattle.multistate_rle.specs.Reading.{Pen, role_of, is_prefix_byte, fresh, with_digit, with_prefix, fault_of, followed, pen_after, tokens_of}
 use Rattle.multistate_rle.specs.Begun.{capped}
-use Rattle.multistate_rle.specs.Steps.{pen_of, cells_with, Begins, IsFront, Draws}
+use Rattle.multistate_rle.specs.Steps.{pen_of, cells_with, Begins, IsTokenFront, ReadsToken}
 use Rattle.multistate_rle.proofs.LineLemmas.{left_keeps}
 use Rattle.multistate_rle.proofs.BodyLemmas.{byte_at}
 use Rattle.multistate_rle.proofs.PatternLaws.{and_parts}
@@ -68,7 +68,7 @@ count_goes_on text start place byte count longer so_far within is digit value =
 
 -- the digits of a token, read up to a place
 pub counted : (text : List ℕ) (start place next count : ℕ) → Begins text start fresh place (record { place = Some start; count = Some count; prefix = None }) → place ≡ next →
-    IsFront text start next count None
+    IsTokenFront text start next count None
 counted text start place next count so_far at = record {
   begun = record { place = Some start; count = Some count; prefix = None };
   begins = subst (λ k. Begins text start fresh k (record { place = Some start; count = Some count; prefix = None })) at so_far;
@@ -78,7 +78,7 @@ counted text start place next count so_far at = record {
 }
 
 -- a token of which nothing is read
-pub uncounted : (text : List ℕ) (start : ℕ) → start ≤ length text → IsFront text start start 1 None
+pub uncounted : (text : List ℕ) (start : ℕ) → start ≤ length text → IsTokenFront text start start 1 None
 uncounted text start within = record {
   begun = fresh;
   begins = nothing_begun text start fresh within refl;
@@ -105,8 +105,8 @@ prefix_begun text start place byte b new so_far none within is prefix kept =
     }
 
 -- a prefix behind a count
-pub prefixed : (text : List ℕ) (start place byte count : ℕ) → IsFront text start place count None → place < length text → get_or text place 0 ≡ byte → is_prefix_byte byte ≡ true →
-    IsFront text start (place + 1) count (Some (byte - 111))
+pub prefixed : (text : List ℕ) (start place byte count : ℕ) → IsTokenFront text start place count None → place < length text → get_or text place 0 ≡ byte → is_prefix_byte byte ≡ true →
+    IsTokenFront text start (place + 1) count (Some (byte - 111))
 prefixed text start place byte count front within is prefix = record {
   begun = with_prefix place (byte - 111) front.begun;
   begins = prefix_begun text start place byte front.begun _ front.begins front.prefix_is within is prefix refl;
@@ -144,45 +144,45 @@ state_above prefix c s is = elim (le_or_lt c 35) [
 ]
 
 -- what is read of the marks behind a run, with the run in front
-with_run_in_front : (n s : ℕ) (old new : Reader) (read : Result (List Token) RleFault) → Draws (Cells n s) old new → new.column ≡ old.column + n → new.row ≡ old.row →
-    (read >>= λ tokens. Ok (new.cells.items ++ drawn tokens new.column new.row))
-    ≡ ((read >>= λ tokens. Ok (Cells n s ∷ tokens)) >>= λ tokens. Ok (old.cells.items ++ drawn tokens old.column old.row))
+with_run_in_front : (n s : ℕ) (old new : TokenReader) (read : Result (List Token) RleFault) → ReadsToken (Cells n s) old new → new.column ≡ old.column + n → new.row ≡ old.row →
+    (read >>= λ tokens. Ok (new.cells.items ++ cells_drawn tokens new.column new.row))
+    ≡ ((read >>= λ tokens. Ok (Cells n s ∷ tokens)) >>= λ tokens. Ok (old.cells.items ++ cells_drawn tokens old.column old.row))
 with_run_in_front n s old new (Err fault) draws column row = refl
 with_run_in_front n s old new (Ok tokens) draws column row =
     let cells : new.cells.items ≡ old.cells.items ++ run n s old.column old.row = draws.cells ∙ ap (λ cells. old.cells.items ++ cells) (append-nil (run n s old.column old.row)) in
-    (λ i. Ok (cells i ++ drawn tokens (column i) (row i)))
-    ∙ ap (λ cells. Ok cells) (append_assoc old.cells.items (run n s old.column old.row) (drawn tokens (old.column + n) old.row))
+    (λ i. Ok (cells i ++ cells_drawn tokens (column i) (row i)))
+    ∙ ap (λ cells. Ok cells) (append_assoc old.cells.items (run n s old.column old.row) (cells_drawn tokens (old.column + n) old.row))
 
-pub run_is_read : (end : ℕ) (text : List ℕ) (start place byte n s : ℕ) (prefix : Option ℕ) (old new : Reader) → IsFront text start place n prefix → old.begun ≡ fresh → place < length text → get_or text place 0 ≡ byte →
-    role_of prefix byte ≡ role.State s → fault_of start (pen_of old) (Cells n s) ≡ None → Draws (Cells n s) old new →
+pub run_is_read : (end : ℕ) (text : List ℕ) (start place byte n s : ℕ) (prefix : Option ℕ) (old new : TokenReader) → IsTokenFront text start place n prefix → old.begun ≡ fresh → place < length text → get_or text place 0 ≡ byte →
+    role_of prefix byte ≡ role.State s → fault_of start (pen_of old) (Cells n s) ≡ None → ReadsToken (Cells n s) old new →
     cells_with end (left_from text (place + 1)) new ≡ cells_with end (left_from text start) old
 run_is_read end text start place byte n s prefix old new front none within is acts fine draws =
     let marks = left_from text (place + 1) in
     let b = front.begun in
     let ends : role_of b.prefix byte ≡ role.State s = ap (λ k. role_of k byte) front.prefix_is ∙ acts in
-    (λ i. tokens_of end marks (draws.begun i) (draws.pen i) >>= λ tokens. Ok (new.cells.items ++ drawn tokens new.column new.row))
-    ∙ with_run_in_front n s old new (tokens_of end marks fresh (moved (Cells n s) (pen_of old))) draws (ap (λ (p : Pen). p.column) draws.pen) (ap (λ (p : Pen). p.row) draws.pen)
-    ∙ ap (λ read. read >>= λ tokens. Ok (old.cells.items ++ drawn tokens old.column old.row))
+    (λ i. tokens_of end marks (draws.begun i) (draws.pen i) >>= λ tokens. Ok (new.cells.items ++ cells_drawn tokens new.column new.row))
+    ∙ with_run_in_front n s old new (tokens_of end marks fresh (pen_after (Cells n s) (pen_of old))) draws (ap (λ (p : Pen). p.column) draws.pen) (ap (λ (p : Pen). p.row) draws.pen)
+    ∙ ap (λ read. read >>= λ tokens. Ok (old.cells.items ++ cells_drawn tokens old.column old.row))
     (sym (step_is end (place, byte) marks b (pen_of old) (role.State s) ends
-    ∙ ap (λ k. followed (fault_of (unwrap_or b.place place) (pen_of old) (Cells k s)) (Cells k s) (tokens_of end marks fresh (moved (Cells k s) (pen_of old)))) front.count_is
-    ∙ ap (λ k. followed (fault_of k (pen_of old) (Cells n s)) (Cells n s) (tokens_of end marks fresh (moved (Cells n s) (pen_of old)))) front.place_is
-    ∙ ap (λ f. followed f (Cells n s) (tokens_of end marks fresh (moved (Cells n s) (pen_of old)))) fine)
+    ∙ ap (λ k. followed (fault_of (unwrap_or b.place place) (pen_of old) (Cells k s)) (Cells k s) (tokens_of end marks fresh (pen_after (Cells k s) (pen_of old)))) front.count_is
+    ∙ ap (λ k. followed (fault_of k (pen_of old) (Cells n s)) (Cells n s) (tokens_of end marks fresh (pen_after (Cells n s) (pen_of old)))) front.place_is
+    ∙ ap (λ f. followed f (Cells n s) (tokens_of end marks fresh (pen_after (Cells n s) (pen_of old)))) fine)
     ∙ ap (λ ms. tokens_of end ms b (pen_of old)) (sym (byte_stays text place byte within is (state_above prefix byte s acts)))
     ∙ front.begins.same end (pen_of old)
     ∙ ap (λ b. tokens_of end (left_from text start) b (pen_of old)) (sym none))
 
-pub run_is_faulty : (end : ℕ) (text : List ℕ) (start place byte n s : ℕ) (prefix : Option ℕ) (old : Reader) (fault : RleFault) → IsFront text start place n prefix → old.begun ≡ fresh → place < length text → get_or text place 0 ≡ byte →
+pub run_is_faulty : (end : ℕ) (text : List ℕ) (start place byte n s : ℕ) (prefix : Option ℕ) (old : TokenReader) (fault : RleFault) → IsTokenFront text start place n prefix → old.begun ≡ fresh → place < length text → get_or text place 0 ≡ byte →
     role_of prefix byte ≡ role.State s → fault_of start (pen_of old) (Cells n s) ≡ Some fault →
     Err fault ≡ cells_with end (left_from text start) old
 run_is_faulty end text start place byte n s prefix old fault front none within is acts faulty =
     let marks = left_from text (place + 1) in
     let b = front.begun in
     let ends : role_of b.prefix byte ≡ role.State s = ap (λ k. role_of k byte) front.prefix_is ∙ acts in
-    ap (λ read. read >>= λ tokens. Ok (old.cells.items ++ drawn tokens old.column old.row))
+    ap (λ read. read >>= λ tokens. Ok (old.cells.items ++ cells_drawn tokens old.column old.row))
     (sym (step_is end (place, byte) marks b (pen_of old) (role.State s) ends
-    ∙ ap (λ k. followed (fault_of (unwrap_or b.place place) (pen_of old) (Cells k s)) (Cells k s) (tokens_of end marks fresh (moved (Cells k s) (pen_of old)))) front.count_is
-    ∙ ap (λ k. followed (fault_of k (pen_of old) (Cells n s)) (Cells n s) (tokens_of end marks fresh (moved (Cells n s) (pen_of old)))) front.place_is
-    ∙ ap (λ f. followed f (Cells n s) (tokens_of end marks fresh (moved (Cells n s) (pen_of old)))) faulty)
+    ∙ ap (λ k. followed (fault_of (unwrap_or b.place place) (pen_of old) (Cells k s)) (Cells k s) (tokens_of end marks fresh (pen_after (Cells k s) (pen_of old)))) front.count_is
+    ∙ ap (λ k. followed (fault_of k (pen_of old) (Cells n s)) (Cells n s) (tokens_of end marks fresh (pen_after (Cells n s) (pen_of old)))) front.place_is
+    ∙ ap (λ f. followed f (Cells n s) (tokens_of end marks fresh (pen_after (Cells n s) (pen_of old)))) faulty)
     ∙ ap (λ ms. tokens_of end ms b (pen_of old)) (sym (byte_stays text place byte within is (state_above prefix byte s acts)))
     ∙ front.begins.same end (pen_of old)
     ∙ ap (λ b. tokens_of end (left_from text start) b (pen_of old)) (sym none))

@@ -12,8 +12,8 @@ use Rattle.multistate_rle.specs.Role as role
 use Rattle.multistate_rle.specs.Reading.{BegunValue}
 use Rattle.multistate_rle.specs.Bytes.{is_decimal_digit}
 use Rattle.multistate_rle.specs.Letters.{IsPlain, IsLetter}
-use Rattle.multistate_rle.specs.Tokens.{Token, Cells, Rows, drawn, count_of}
-use Rattle.multistate_rle.specs.Reading.{Mark, Pen, bytes_of, bare_role, role_of, start, fresh, with_digit, with_prefix, fault_of, followed, moved, cells_of, ended, tokens_of, AreFine, bare, pattern_of}
+use Rattle.multistate_rle.specs.Tokens.{Token, Cells, Rows, cells_drawn, count_of}
+use Rattle.multistate_rle.specs.Reading.{Mark, Pen, bytes_of, bare_role, role_of, start, fresh, with_digit, with_prefix, fault_of, followed, pen_after, cells_of, tokens_ended, tokens_of, AreFine, bare, pattern_of}
 use Rattle.multistate_rle.specs.Spelling.{IsCount, IsTag, IsSpelling, EndsTokens}
 use Rattle.multistate_rle.specs.Laws.{ReadsSpellings}
 use Rattle.multistate_rle.proofs.NumberLemmas.{digit_is}
@@ -119,21 +119,21 @@ fine_at place pen (Rows n) none = rw (none_of_one (n == 0 || nat_lt (2 ^ 32 - 1)
 
 -- the byte that ends a run of a state
 run_ends : (end : ℕ) (m : Mark) (marks : List Mark) (b : BegunValue) (pen : Pen) (n s : ℕ) (tokens : List Token) → role_of b.prefix m.1 ≡ role.State s → unwrap_or b.count 1 ≡ n →
-    fault_of 0 pen (Cells n s) ≡ None → tokens_of end marks fresh (moved (Cells n s) pen) ≡ Ok tokens → tokens_of end (m ∷ marks) b pen ≡ Ok (Cells n s ∷ tokens)
+    fault_of 0 pen (Cells n s) ≡ None → tokens_of end marks fresh (pen_after (Cells n s) pen) ≡ Ok tokens → tokens_of end (m ∷ marks) b pen ≡ Ok (Cells n s ∷ tokens)
 run_ends end m marks b pen n s tokens is count fine rest =
     step_is end m marks b pen (role.State s) is
-    ∙ ap (λ k. followed (fault_of (unwrap_or b.place m.0) pen (Cells k s)) (Cells k s) (tokens_of end marks fresh (moved (Cells k s) pen))) count
+    ∙ ap (λ k. followed (fault_of (unwrap_or b.place m.0) pen (Cells k s)) (Cells k s) (tokens_of end marks fresh (pen_after (Cells k s) pen))) count
     ∙ (λ i. followed (fine_at (unwrap_or b.place m.0) pen (Cells n s) fine i) (Cells n s) (rest i))
 
 rows_end : (end : ℕ) (m : Mark) (marks : List Mark) (b : BegunValue) (pen : Pen) (n : ℕ) (tokens : List Token) → role_of b.prefix m.1 ≡ role.RowEnd → unwrap_or b.count 1 ≡ n →
-    fault_of 0 pen (Rows n) ≡ None → tokens_of end marks fresh (moved (Rows n) pen) ≡ Ok tokens → tokens_of end (m ∷ marks) b pen ≡ Ok (Rows n ∷ tokens)
+    fault_of 0 pen (Rows n) ≡ None → tokens_of end marks fresh (pen_after (Rows n) pen) ≡ Ok tokens → tokens_of end (m ∷ marks) b pen ≡ Ok (Rows n ∷ tokens)
 rows_end end m marks b pen n tokens is count fine rest =
     step_is end m marks b pen role.RowEnd is
-    ∙ ap (λ k. followed (fault_of (unwrap_or b.place m.0) pen (Rows k)) (Rows k) (tokens_of end marks fresh (moved (Rows k) pen))) count
+    ∙ ap (λ k. followed (fault_of (unwrap_or b.place m.0) pen (Rows k)) (Rows k) (tokens_of end marks fresh (pen_after (Rows k) pen))) count
     ∙ (λ i. followed (fine_at (unwrap_or b.place m.0) pen (Rows n) fine i) (Rows n) (rest i))
 
 one_byte : (end c n s : ℕ) (more : List ℕ) (marks : List Mark) (b : BegunValue) (pen : Pen) (tokens : List Token) → bytes_of marks ≡ c ∷ more → b.prefix ≡ None → role_of None c ≡ role.State s → unwrap_or b.count 1 ≡ n →
-    fault_of 0 pen (Cells n s) ≡ None → ((later : List Mark) → bytes_of later ≡ more → tokens_of end later fresh (moved (Cells n s) pen) ≡ Ok tokens) → tokens_of end marks b pen ≡ Ok (Cells n s ∷ tokens)
+    fault_of 0 pen (Cells n s) ≡ None → ((later : List Mark) → bytes_of later ≡ more → tokens_of end later fresh (pen_after (Cells n s) pen) ≡ Ok tokens) → tokens_of end marks b pen ≡ Ok (Cells n s ∷ tokens)
 one_byte end c n s more [] b pen tokens bytes none is count fine rest = absurd (cc)
 one_byte end c n s more (m ∷ marks) b pen tokens bytes none is count fine rest =
     let byte : m.1 ≡ c = cc in
@@ -142,7 +142,7 @@ one_byte end c n s more (m ∷ marks) b pen tokens bytes none is count fine rest
 
 two_bytes : (end c d k n s : ℕ) (more : List ℕ) (marks : List Mark) (b : BegunValue) (pen : Pen) (tokens : List Token) → bytes_of marks ≡ c ∷ d ∷ more → b.prefix ≡ None →
     role_of None c ≡ role.Prefix k → role_of (Some k) d ≡ role.State s → unwrap_or b.count 1 ≡ n →
-    fault_of 0 pen (Cells n s) ≡ None → ((later : List Mark) → bytes_of later ≡ more → tokens_of end later fresh (moved (Cells n s) pen) ≡ Ok tokens) → tokens_of end marks b pen ≡ Ok (Cells n s ∷ tokens)
+    fault_of 0 pen (Cells n s) ≡ None → ((later : List Mark) → bytes_of later ≡ more → tokens_of end later fresh (pen_after (Cells n s) pen) ≡ Ok tokens) → tokens_of end marks b pen ≡ Ok (Cells n s ∷ tokens)
 two_bytes end c d k n s more [] b pen tokens bytes none prefix is count fine rest = absurd (cc)
 two_bytes end c d k n s more (m ∷ []) b pen tokens bytes none prefix is count fine rest = absurd (cc)
 two_bytes end c d k n s more (m ∷ l ∷ marks) b pen tokens bytes none prefix is count fine rest =
@@ -153,7 +153,7 @@ two_bytes end c d k n s more (m ∷ l ∷ marks) b pen tokens bytes none prefix 
     ∙ run_ends end l marks (with_prefix m.0 k b) pen n s tokens (ap (role_of (Some k)) last ∙ is) count fine (rest marks behind)
 
 row_byte : (end n : ℕ) (more : List ℕ) (marks : List Mark) (b : BegunValue) (pen : Pen) (tokens : List Token) → bytes_of marks ≡ 36 ∷ more → b.prefix ≡ None → unwrap_or b.count 1 ≡ n →
-    fault_of 0 pen (Rows n) ≡ None → ((later : List Mark) → bytes_of later ≡ more → tokens_of end later fresh (moved (Rows n) pen) ≡ Ok tokens) → tokens_of end marks b pen ≡ Ok (Rows n ∷ tokens)
+    fault_of 0 pen (Rows n) ≡ None → ((later : List Mark) → bytes_of later ≡ more → tokens_of end later fresh (pen_after (Rows n) pen) ≡ Ok tokens) → tokens_of end marks b pen ≡ Ok (Rows n ∷ tokens)
 row_byte end n more [] b pen tokens bytes none count fine rest = absurd (cc)
 row_byte end n more (m ∷ marks) b pen tokens bytes none count fine rest =
     let byte : m.1 ≡ 36 = cc in
@@ -171,7 +171,7 @@ byte_role c s (inr is) =
 
 tag_read : (end : ℕ) (token : Token) (tag more : List ℕ) (marks : List Mark) (b : BegunValue) (pen : Pen) (tokens : List Token) → IsTag token tag →
     bytes_of marks ≡ tag ++ more → b.prefix ≡ None → unwrap_or b.count 1 ≡ count_of token →
-    fault_of 0 pen token ≡ None → ((later : List Mark) → bytes_of later ≡ more → tokens_of end later fresh (moved token pen) ≡ Ok tokens) → tokens_of end marks b pen ≡ Ok (token ∷ tokens)
+    fault_of 0 pen token ≡ None → ((later : List Mark) → bytes_of later ≡ more → tokens_of end later fresh (pen_after token pen) ≡ Ok tokens) → tokens_of end marks b pen ≡ Ok (token ∷ tokens)
 tag_read end (Cells n s) [] more marks b pen tokens is bytes none count fine rest = absurd is
 tag_read end (Cells n s) (c ∷ []) more marks b pen tokens is bytes none count fine rest =
     one_byte end c n s more marks b pen tokens bytes none (byte_role c s is) count fine rest
@@ -185,7 +185,7 @@ tag_read end (Rows n) tag more marks b pen tokens is bytes none count fine rest 
 -- ---- whole spellings
 
 -- the end of a text behind digits without a tag
-pub well_ended : (place : ℕ) (b : BegunValue) → b.prefix ≡ None → ended place b ≡ Ok []
+pub well_ended : (place : ℕ) (b : BegunValue) → b.prefix ≡ None → tokens_ended place b ≡ Ok []
 well_ended place b none = rw none refl
 
 ends_read : (end : ℕ) (tail : List ℕ) (marks : List Mark) (b : BegunValue) (pen : Pen) → bytes_of marks ≡ tail → b.prefix ≡ None → EndsTokens tail → tokens_of end marks b pen ≡ Ok []
@@ -212,8 +212,8 @@ spelling_read end (token ∷ tokens) spelt tail marks pen bytes is ends fine =
     let count : unwrap_or read.begun.count 1 ≡ count_of token = ap (λ o. unwrap_or o 1) read.count_read ∙ count_is (count_of token) digits is.3.0 in
     read.same
     ∙ tag_read end token tag (more ++ tail) read.later read.begun pen tokens is.3.1.0 read.bytes read.no_prefix count fine.0
-    (λ later behind. spelling_read end tokens more tail later (moved token pen) behind is.3.1.1.0 ends fine.1)
+    (λ later behind. spelling_read end tokens more tail later (pen_after token pen) behind is.3.1.1.0 ends fine.1)
 
 pub reads_spellings : ReadsSpellings
 reads_spellings end origin sides lines tokens spelt tail bytes is ends fine =
-    ap (λ read. (read >>= λ tokens. Ok (drawn tokens 0 0)) >>= λ cells. Ok (pattern_of origin sides cells)) (spelling_read end tokens spelt tail (bare lines) start bytes is ends fine)
+    ap (λ read. (read >>= λ tokens. Ok (cells_drawn tokens 0 0)) >>= λ cells. Ok (pattern_of origin sides cells)) (spelling_read end tokens spelt tail (bare lines) start bytes is ends fine)

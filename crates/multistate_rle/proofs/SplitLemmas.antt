@@ -5,7 +5,7 @@ use Rattle.std.specs.List.{slice_split, onto_first, position_or_len, prefix_len}
 use Rattle.std.specs.Str.{bytes_eq}
 use Rattle.std.proofs.lemmas.Bool.{ne_eqb}
 use Rattle.multistate_rle.specs.Position.{ItemsValue}
-use Rattle.multistate_rle.specs.Bytes.{is_space_or_tab, past, ◌>=>◌}
+use Rattle.multistate_rle.specs.Bytes.{is_space_or_tab, past_prefix, ◌>=>◌}
 use Rattle.multistate_rle.specs.Position.{words, origin_in_words, origin_from, items_in, no_items, one_item_more}
 
 -- the parts behind the first one, from where that ends
@@ -50,20 +50,20 @@ unfolding later_parts
 later_words [] = refl
 later_words (x ∷ xs) = later_words_step x xs (is_space_or_tab x) refl (later_words xs)
 
-trimmed_step : (x : ℕ) (xs : List ℕ) (b : Bool) → is_space_or_tab x ≡ b → words (past is_space_or_tab xs) ≡ words xs → words (past is_space_or_tab (x ∷ xs)) ≡ words (x ∷ xs)
+trimmed_step : (x : ℕ) (xs : List ℕ) (b : Bool) → is_space_or_tab x ≡ b → words (past_prefix is_space_or_tab xs) ≡ words xs → words (past_prefix is_space_or_tab (x ∷ xs)) ≡ words (x ∷ xs)
 trimmed_step x xs true e rest = rw (e, one-add) rest
 trimmed_step x xs false e rest = rw (e, e) refl
 
 -- blanks in front make no difference
-pub words_trimmed : (xs : List ℕ) → words (past is_space_or_tab xs) ≡ words xs
+pub words_trimmed : (xs : List ℕ) → words (past_prefix is_space_or_tab xs) ≡ words xs
 words_trimmed [] = refl
 words_trimmed (x ∷ xs) = trimmed_step x xs (is_space_or_tab x) refl (words_trimmed xs)
 
-trimmed_again : (x : ℕ) (xs : List ℕ) (b : Bool) → is_space_or_tab x ≡ b → past is_space_or_tab (past is_space_or_tab xs) ≡ past is_space_or_tab xs → past is_space_or_tab (past is_space_or_tab (x ∷ xs)) ≡ past is_space_or_tab (x ∷ xs)
+trimmed_again : (x : ℕ) (xs : List ℕ) (b : Bool) → is_space_or_tab x ≡ b → past_prefix is_space_or_tab (past_prefix is_space_or_tab xs) ≡ past_prefix is_space_or_tab xs → past_prefix is_space_or_tab (past_prefix is_space_or_tab (x ∷ xs)) ≡ past_prefix is_space_or_tab (x ∷ xs)
 trimmed_again x xs true e rest = rw (e, one-add) rest
 trimmed_again x xs false e rest = rw (e, e) refl
 
-pub trimmed_twice : (xs : List ℕ) → past is_space_or_tab (past is_space_or_tab xs) ≡ past is_space_or_tab xs
+pub trimmed_twice : (xs : List ℕ) → past_prefix is_space_or_tab (past_prefix is_space_or_tab xs) ≡ past_prefix is_space_or_tab xs
 trimmed_twice [] = refl
 trimmed_twice (x ∷ xs) = trimmed_again x xs (is_space_or_tab x) refl (trimmed_twice xs)
 
@@ -72,7 +72,7 @@ pub record NextWord (rest : List ℕ) : Type 0 where
   pub some : 1 ≤ position_or_len is_space_or_tab rest
   pub words_are : words rest ≡ take (position_or_len is_space_or_tab rest) rest ∷ words (drop (position_or_len is_space_or_tab rest) rest)
 
-next_at : (x : ℕ) (xs : List ℕ) (b : Bool) → is_space_or_tab x ≡ b → past is_space_or_tab (x ∷ xs) ≡ x ∷ xs → NextWord (x ∷ xs)
+next_at : (x : ℕ) (xs : List ℕ) (b : Bool) → is_space_or_tab x ≡ b → past_prefix is_space_or_tab (x ∷ xs) ≡ x ∷ xs → NextWord (x ∷ xs)
 next_at x xs true e trimmed =
     let shorter : drop (prefix_len is_space_or_tab xs) xs ≡ x ∷ xs = rw (e, one-add) at trimmed in
     absurd (omega (arith, ap length shorter, length-drop (prefix_len is_space_or_tab xs) xs))
@@ -87,13 +87,13 @@ next_at x xs false e trimmed =
           ∙ ap (λ later. take (position_or_len is_space_or_tab (x ∷ xs)) (x ∷ xs) ∷ later) (later_words (x ∷ xs));
     }
 
-pub next_word : (rest : List ℕ) → 0 < length rest → past is_space_or_tab rest ≡ rest → NextWord rest
+pub next_word : (rest : List ℕ) → 0 < length rest → past_prefix is_space_or_tab rest ≡ rest → NextWord rest
 next_word [] some trimmed = absurd (omega arith)
 next_word (x ∷ xs) some trimmed = next_at x xs (is_space_or_tab x) refl trimmed
 
 -- ---- the line of an origin
 
-origin_words_at : (rest : List ℕ) → past is_space_or_tab rest ≡ rest → origin_in_words (words rest)
+origin_words_at : (rest : List ℕ) → past_prefix is_space_or_tab rest ≡ rest → origin_in_words (words rest)
     ≡ (if bytes_eq (take (position_or_len is_space_or_tab rest) rest) (codes "#CXRLE")
     then option_map origin_from (items_in no_items (words (drop (position_or_len is_space_or_tab rest) rest))) else None)
 origin_words_at [] trimmed = refl
@@ -102,19 +102,19 @@ origin_words_at (x ∷ xs) trimmed =
     ap origin_in_words next.words_are
 
 pub origin_words : (line : List ℕ) → origin_in_words (words line)
-    ≡ (if bytes_eq (take (position_or_len is_space_or_tab (past is_space_or_tab line)) (past is_space_or_tab line)) (codes "#CXRLE")
-    then option_map origin_from (items_in no_items (words (drop (position_or_len is_space_or_tab (past is_space_or_tab line)) (past is_space_or_tab line)))) else None)
-origin_words line = ap origin_in_words (sym (words_trimmed line)) ∙ origin_words_at (past is_space_or_tab line) (trimmed_twice line)
+    ≡ (if bytes_eq (take (position_or_len is_space_or_tab (past_prefix is_space_or_tab line)) (past_prefix is_space_or_tab line)) (codes "#CXRLE")
+    then option_map origin_from (items_in no_items (words (drop (position_or_len is_space_or_tab (past_prefix is_space_or_tab line)) (past_prefix is_space_or_tab line)))) else None)
+origin_words line = ap origin_in_words (sym (words_trimmed line)) ∙ origin_words_at (past_prefix is_space_or_tab line) (trimmed_twice line)
 
 -- one item more
 pub items_step : (rest : List ℕ) (items : ItemsValue) → NextWord rest →
-    items_in items (words rest) ≡ one_item_more (take (position_or_len is_space_or_tab rest) rest) items >=> λ more. items_in more (words (past is_space_or_tab (drop (position_or_len is_space_or_tab rest) rest)))
+    items_in items (words rest) ≡ one_item_more (take (position_or_len is_space_or_tab rest) rest) items >=> λ more. items_in more (words (past_prefix is_space_or_tab (drop (position_or_len is_space_or_tab rest) rest)))
 items_step rest items next =
     ap (items_in items) next.words_are
     ∙ ap (λ later. one_item_more (take (position_or_len is_space_or_tab rest) rest) items >=> λ more. items_in more later) (sym (words_trimmed (drop (position_or_len is_space_or_tab rest) rest)))
 
 -- the same, with names for the parts
-pub origin_is : (line rest word behind mark : List ℕ) (n : ℕ) (same : Bool) → rest ≡ past is_space_or_tab line → n ≡ position_or_len is_space_or_tab rest → word ≡ take n rest → behind ≡ drop n rest →
+pub origin_is : (line rest word behind mark : List ℕ) (n : ℕ) (same : Bool) → rest ≡ past_prefix is_space_or_tab line → n ≡ position_or_len is_space_or_tab rest → word ≡ take n rest → behind ≡ drop n rest →
     mark ≡ codes "#CXRLE" → same ≡ bytes_eq word mark →
     origin_in_words (words line) ≡ (if same then option_map origin_from (items_in no_items (words behind)) else None)
 origin_is line rest word behind mark n same rest_is n_is word_is behind_is mark_is same_is =

@@ -5,11 +5,11 @@ use Rattle.std.proofs.lemmas.Bool.{ne_eqb, eqb-true, eqb-false}
 use Rattle.std.proofs.lemmas.Bool.Decides.{nat_tests}
 use Rattle.multistate_rle.specs.declared.pattern.PatternCell.{PatternCell}
 use Rattle.multistate_rle.specs.Pattern.{precedes, are_sorted, are_alive}
-use Rattle.multistate_rle.specs.Tokens.{Token, Cells, Rows, cells_in_row, drawn, IsCanonical, skip, gap, with_run, tokens_from}
+use Rattle.multistate_rle.specs.Tokens.{Token, Cells, Rows, cells_in_row, cells_drawn, AreCanonical, skip, gap, with_run, tokens_from}
 use Rattle.generations_rule.specs.RuleText.{text_of}
-use Rattle.multistate_rle.specs.Bounds.{box_of, in_box}
+use Rattle.multistate_rle.specs.Bounds.{bounds_of, in_box}
 use Rattle.multistate_rle.specs.Writing.{head_lines, body}
-use Rattle.multistate_rle.specs.Laws.{HasTokens, HasOneTokenList, HasOneText}
+use Rattle.multistate_rle.specs.Laws.{HasTokens, HasOneTokenList, CellsHaveOneText}
 use Rattle.multistate_rle.proofs.PatternLaws.{IsFrom, AreFrom, and_parts}
 
 same_eqb : (s : ℕ) → (s == s) ≡ true
@@ -21,7 +21,7 @@ cell column row state = record { column = column; row = row; state = state }
 -- ---- what the list of the cells draws
 
 with_one_at : (same : Bool) (s m t : ℕ) (tokens : List Token) (c r : ℕ) → s ≢ 0 → (s == t) ≡ same →
-    drawn (with_run 1 s (Cells m t ∷ tokens)) c r ≡ cell c r s ∷ drawn (Cells m t ∷ tokens) (c + 1) r
+    cells_drawn (with_run 1 s (Cells m t ∷ tokens)) c r ≡ cell c r s ∷ cells_drawn (Cells m t ∷ tokens) (c + 1) r
 unfolding cell
 with_one_at true s m t tokens c r alive e =
     let is : s ≡ t = eqb-true s t e in
@@ -30,35 +30,35 @@ with_one_at true s m t tokens c r alive e =
     rw (e, ne_eqb t 0 other, one-add, further, is) refl
 with_one_at false s m t tokens c r alive e = rw (e, ne_eqb s 0 alive) refl
 
-with_one : (s : ℕ) (tokens : List Token) (c r : ℕ) → s ≢ 0 → drawn (with_run 1 s tokens) c r ≡ cell c r s ∷ drawn tokens (c + 1) r
+with_one : (s : ℕ) (tokens : List Token) (c r : ℕ) → s ≢ 0 → cells_drawn (with_run 1 s tokens) c r ≡ cell c r s ∷ cells_drawn tokens (c + 1) r
 unfolding cell
 with_one s [] c r alive = rw (ne_eqb s 0 alive) refl
 with_one s (Cells m t ∷ tokens) c r alive = with_one_at (s == t) s m t tokens c r alive refl
 with_one s (Rows m ∷ tokens) c r alive = rw (ne_eqb s 0 alive) refl
 
-skips : (k : ℕ) (tokens : List Token) (c r : ℕ) → drawn (skip k ++ tokens) c r ≡ drawn tokens (c + k) r
-skips zero tokens c r = let same : c ≡ c + 0 = omega arith in ap (λ n. drawn tokens n r) same
+skips : (k : ℕ) (tokens : List Token) (c r : ℕ) → cells_drawn (skip k ++ tokens) c r ≡ cells_drawn tokens (c + k) r
+skips zero tokens c r = let same : c ≡ c + 0 = omega arith in ap (λ n. cells_drawn tokens n r) same
 skips (suc k) tokens c r = refl
 
 gap_at : (same : Bool) (x : PatternCell) (tokens : List Token) (c r : ℕ) → (x.row == r) ≡ same → IsFrom c r x →
-    drawn ((if same then skip (x.column - c) else Rows (x.row - r) ∷ skip x.column) ++ tokens) c r ≡ drawn tokens x.column x.row
+    cells_drawn ((if same then skip (x.column - c) else Rows (x.row - r) ∷ skip x.column) ++ tokens) c r ≡ cells_drawn tokens x.column x.row
 gap_at true x tokens c r e (inl below) = absurd (let is : x.row ≡ r = eqb-true x.row r e in omega arith)
 gap_at true x tokens c r e (inr same) =
     let column : c + (x.column - c) ≡ x.column = omega (arith, same.1) in
-    skips (x.column - c) tokens c r ∙ (λ i. drawn tokens (column i) (sym same.0 i))
+    skips (x.column - c) tokens c r ∙ (λ i. cells_drawn tokens (column i) (sym same.0 i))
 gap_at false x tokens c r e (inl below) =
     let column : 0 + x.column ≡ x.column = omega arith in
     let row : r + (x.row - r) ≡ x.row = omega arith in
-    skips x.column tokens 0 (r + (x.row - r)) ∙ (λ i. drawn tokens (column i) (row i))
+    skips x.column tokens 0 (r + (x.row - r)) ∙ (λ i. cells_drawn tokens (column i) (row i))
 gap_at false x tokens c r e (inr same) = absurd (eqb-false x.row r e same.0)
 
-gap_draws : (x : PatternCell) (tokens : List Token) (c r : ℕ) → IsFrom c r x → drawn (gap c r x ++ tokens) c r ≡ drawn tokens x.column x.row
+gap_draws : (x : PatternCell) (tokens : List Token) (c r : ℕ) → IsFrom c r x → cells_drawn (gap c r x ++ tokens) c r ≡ cells_drawn tokens x.column x.row
 gap_draws x tokens c r from = gap_at (x.row == r) x tokens c r refl from
 
 not_dead : (s : ℕ) → not (s == 0) ≡ true → s ≢ 0
 not_dead s e dead = let is : not (s == 0) ≡ false = rw dead refl in absurd (cc)
 
-all_drawn : (cells : List PatternCell) (c r : ℕ) → AreFrom c r cells → are_alive cells ≡ true → drawn (tokens_from c r cells) c r ≡ cells
+all_drawn : (cells : List PatternCell) (c r : ℕ) → AreFrom c r cells → are_alive cells ≡ true → cells_drawn (tokens_from c r cells) c r ≡ cells
 unfolding cell
 all_drawn [] c r from alive = refl
 all_drawn (x ∷ cells) c r from alive =
@@ -69,16 +69,16 @@ all_drawn (x ∷ cells) c r from alive =
 
 -- ---- the list of the cells is canonical
 
-recounted : (m n t : ℕ) (tokens : List Token) → 1 ≤ n → IsCanonical (Cells m t ∷ tokens) → IsCanonical (Cells n t ∷ tokens)
+recounted : (m n t : ℕ) (tokens : List Token) → 1 ≤ n → AreCanonical (Cells m t ∷ tokens) → AreCanonical (Cells n t ∷ tokens)
 recounted m n t [] some h = (some, h.1)
 recounted m n t (Cells k u ∷ tokens) some h = (some, h.1, h.2)
 recounted m n t (Rows k ∷ tokens) some h = (some, h.1, h.2)
 
-one_canonical_at : (same : Bool) (s m t : ℕ) (tokens : List Token) → (s == t) ≡ same → IsCanonical (Cells m t ∷ tokens) → IsCanonical (with_run 1 s (Cells m t ∷ tokens))
+one_canonical_at : (same : Bool) (s m t : ℕ) (tokens : List Token) → (s == t) ≡ same → AreCanonical (Cells m t ∷ tokens) → AreCanonical (with_run 1 s (Cells m t ∷ tokens))
 one_canonical_at true s m t tokens e h = rw e (recounted m (1 + m) t tokens (omega arith) h)
 one_canonical_at false s m t tokens e h = rw e (omega arith, eqb-false s t e, h)
 
-one_canonical : (s : ℕ) (tokens : List Token) → s ≢ 0 → IsCanonical tokens → IsCanonical (with_run 1 s tokens)
+one_canonical : (s : ℕ) (tokens : List Token) → s ≢ 0 → AreCanonical tokens → AreCanonical (with_run 1 s tokens)
 one_canonical s [] alive h = (omega arith, alive)
 one_canonical s (Cells m t ∷ tokens) alive h = one_canonical_at (s == t) s m t tokens refl h
 one_canonical s (Rows m ∷ tokens) alive h = (omega arith, alive, h)
@@ -98,22 +98,22 @@ one_begins s [] = record { count = 1; rest = []; is = refl }
 one_begins s (Cells m t ∷ tokens) = one_begins_at (s == t) s m t tokens refl
 one_begins s (Rows m ∷ tokens) = record { count = 1; rest = Rows m ∷ tokens; is = refl }
 
-skip_canonical : (k s : ℕ) (tokens : List Token) → s ≢ 0 → BeginsWith s tokens → IsCanonical tokens → IsCanonical (skip k ++ tokens)
+skip_canonical : (k s : ℕ) (tokens : List Token) → s ≢ 0 → BeginsWith s tokens → AreCanonical tokens → AreCanonical (skip k ++ tokens)
 skip_canonical zero s tokens alive begins h = h
 skip_canonical (suc k) s tokens alive begins h =
-    subst (λ ts. IsCanonical (Cells (suc k) 0 ∷ ts)) (sym begins.is) (omega arith, λ dead. alive (sym dead), subst (λ ts. IsCanonical ts) begins.is h)
+    subst (λ ts. AreCanonical (Cells (suc k) 0 ∷ ts)) (sym begins.is) (omega arith, λ dead. alive (sym dead), subst (λ ts. AreCanonical ts) begins.is h)
 
-rows_canonical : (d k s : ℕ) (tokens : List Token) → 1 ≤ d → s ≢ 0 → BeginsWith s tokens → IsCanonical tokens → IsCanonical (Rows d ∷ (skip k ++ tokens))
-rows_canonical d zero s tokens some alive begins h = subst (λ ts. IsCanonical (Rows d ∷ ts)) (sym begins.is) (some, tt, subst (λ ts. IsCanonical ts) begins.is h)
+rows_canonical : (d k s : ℕ) (tokens : List Token) → 1 ≤ d → s ≢ 0 → BeginsWith s tokens → AreCanonical tokens → AreCanonical (Rows d ∷ (skip k ++ tokens))
+rows_canonical d zero s tokens some alive begins h = subst (λ ts. AreCanonical (Rows d ∷ ts)) (sym begins.is) (some, tt, subst (λ ts. AreCanonical ts) begins.is h)
 rows_canonical d (suc k) s tokens some alive begins h = (some, tt, skip_canonical (suc k) s tokens alive begins h)
 
-gap_canonical_at : (same : Bool) (x : PatternCell) (tokens : List Token) (c r : ℕ) → (x.row == r) ≡ same → IsFrom c r x → x.state ≢ 0 → BeginsWith x.state tokens → IsCanonical tokens →
-    IsCanonical ((if same then skip (x.column - c) else Rows (x.row - r) ∷ skip x.column) ++ tokens)
+gap_canonical_at : (same : Bool) (x : PatternCell) (tokens : List Token) (c r : ℕ) → (x.row == r) ≡ same → IsFrom c r x → x.state ≢ 0 → BeginsWith x.state tokens → AreCanonical tokens →
+    AreCanonical ((if same then skip (x.column - c) else Rows (x.row - r) ∷ skip x.column) ++ tokens)
 gap_canonical_at true x tokens c r e from alive begins h = skip_canonical (x.column - c) x.state tokens alive begins h
 gap_canonical_at false x tokens c r e (inl below) alive begins h = rows_canonical (x.row - r) x.column x.state tokens (omega arith) alive begins h
 gap_canonical_at false x tokens c r e (inr same) alive begins h = absurd (eqb-false x.row r e same.0)
 
-all_canonical : (cells : List PatternCell) (c r : ℕ) → AreFrom c r cells → are_alive cells ≡ true → IsCanonical (tokens_from c r cells)
+all_canonical : (cells : List PatternCell) (c r : ℕ) → AreFrom c r cells → are_alive cells ≡ true → AreCanonical (tokens_from c r cells)
 all_canonical [] c r from alive = tt
 all_canonical (x ∷ cells) c r from alive =
     let parts = and_parts (not (x.state == 0)) (are_alive cells) alive in
@@ -186,16 +186,16 @@ row_tokens (suc n) s c r cells =
 pub if_dead : (s : ℕ) (xs ys : List PatternCell) → s ≢ 0 → (if s == 0 then xs else ys) ≡ ys
 if_dead s xs ys alive = rw (ne_eqb s 0 alive) refl
 
-pub counted : (n s : ℕ) (rest : List Token) → IsCanonical (Cells n s ∷ rest) → 1 ≤ n
+pub counted : (n s : ℕ) (rest : List Token) → AreCanonical (Cells n s ∷ rest) → 1 ≤ n
 counted n s [] h = h.0
 counted n s (b ∷ rest) h = h.0
 
-run_stays : (n s : ℕ) (rest : List Token) → IsCanonical (Cells n s ∷ rest) → with_run n s rest ≡ Cells n s ∷ rest
+run_stays : (n s : ℕ) (rest : List Token) → AreCanonical (Cells n s ∷ rest) → with_run n s rest ≡ Cells n s ∷ rest
 run_stays n s [] h = refl
 run_stays n s (Cells m t ∷ rest) h = rw (ne_eqb s t h.1) refl
 run_stays n s (Rows m ∷ rest) h = refl
 
-pub rest_canonical : (a : Token) (rest : List Token) → IsCanonical (a ∷ rest) → IsCanonical rest
+pub rest_canonical : (a : Token) (rest : List Token) → AreCanonical (a ∷ rest) → AreCanonical rest
 rest_canonical a [] h = tt
 rest_canonical a (b ∷ rest) h = h.2
 
@@ -203,26 +203,26 @@ rest_canonical a (b ∷ rest) h = h.2
 pub record DrawsFirst (tokens : List Token) (c r : ℕ) : Type 0 where
   pub first : PatternCell
   pub later : List PatternCell
-  pub is : drawn tokens c r ≡ first ∷ later
+  pub is : cells_drawn tokens c r ≡ first ∷ later
   pub row : first.row ≡ r
 
 live_first : (m t : ℕ) (rest : List Token) (c r : ℕ) → t ≢ 0 → 1 ≤ m → DrawsFirst (Cells m t ∷ rest) c r
 unfolding cell
 live_first zero t rest c r alive some = absurd (omega arith)
 live_first (suc m) t rest c r alive some =
-    record { first = cell c r t; later = cells_in_row m t (c + 1) r ++ drawn rest (c + suc m) r; is = rw (ne_eqb t 0 alive) refl; row = refl }
+    record { first = cell c r t; later = cells_in_row m t (c + 1) r ++ cells_drawn rest (c + suc m) r; is = rw (ne_eqb t 0 alive) refl; row = refl }
 
-dead_first : (m : ℕ) (rest : List Token) (c r : ℕ) → IsCanonical (Cells m 0 ∷ rest) → DrawsFirst (Cells m 0 ∷ rest) c r
+dead_first : (m : ℕ) (rest : List Token) (c r : ℕ) → AreCanonical (Cells m 0 ∷ rest) → DrawsFirst (Cells m 0 ∷ rest) c r
 dead_first m [] c r h = absurd (h.1 refl)
 dead_first m (Cells n t ∷ rest) c r h =
     let next : DrawsFirst (Cells n t ∷ rest) (c + m) r = live_first n t rest (c + m) r (λ dead. h.1 (sym dead)) (counted n t rest h.2) in
     record { first = next.first; later = next.later; is = next.is; row = next.row }
 dead_first m (Rows n ∷ rest) c r h = absurd (h.1 refl)
 
-pub some_first : (dead : Bool) (m t : ℕ) (rest : List Token) (c r : ℕ) → (t == 0) ≡ dead → IsCanonical (Cells m t ∷ rest) → DrawsFirst (Cells m t ∷ rest) c r
+pub some_first : (dead : Bool) (m t : ℕ) (rest : List Token) (c r : ℕ) → (t == 0) ≡ dead → AreCanonical (Cells m t ∷ rest) → DrawsFirst (Cells m t ∷ rest) c r
 some_first true m t rest c r e h =
     let is : t ≡ 0 = eqb-true t 0 e in
-    subst (λ u. DrawsFirst (Cells m u ∷ rest) c r) (sym is) (dead_first m rest c r (subst (λ u. IsCanonical (Cells m u ∷ rest)) is h))
+    subst (λ u. DrawsFirst (Cells m u ∷ rest) c r) (sym is) (dead_first m rest c r (subst (λ u. AreCanonical (Cells m u ∷ rest)) is h))
 some_first false m t rest c r e h = live_first m t rest c r (eqb-false t 0 e) (counted m t rest h)
 
 -- tokens that draw first at a place behind the row's beginning
@@ -239,8 +239,8 @@ gap_same : (n c r t : ℕ) → gap c r (cell (c + n) r t) ≡ skip n
 unfolding cell
 gap_same n c r t = let column : c + n - c ≡ n = omega arith in rw (same_eqb r, column) refl
 
-rows_same : (n : ℕ) (rest : List Token) (c r : ℕ) → 1 ≤ n → DrawsFirst rest 0 (r + n) → tokens_from 0 (r + n) (drawn rest 0 (r + n)) ≡ rest →
-    tokens_from c r (drawn rest 0 (r + n)) ≡ Rows n ∷ rest
+rows_same : (n : ℕ) (rest : List Token) (c r : ℕ) → 1 ≤ n → DrawsFirst rest 0 (r + n) → tokens_from 0 (r + n) (cells_drawn rest 0 (r + n)) ≡ rest →
+    tokens_from c r (cells_drawn rest 0 (r + n)) ≡ Rows n ∷ rest
 rows_same n rest c r some first same =
     let x = first.first in
     let own : tokens_from 0 (r + n) (x ∷ first.later) ≡ skip x.column ++ tokens_from x.column x.row (x ∷ first.later) =
@@ -250,49 +250,49 @@ rows_same n rest c r some first same =
     ∙ ap (λ g. g ++ tokens_from x.column x.row (x ∷ first.later)) (gap_row x c r n some first.row)
     ∙ ap (λ ts. Rows n ∷ ts) (sym own ∙ ap (tokens_from 0 (r + n)) (sym first.is) ∙ same)
 
-dead_same : (n m t : ℕ) (rest : List Token) (c r : ℕ) → 1 ≤ n → 1 ≤ m → t ≢ 0 → tokens_from (c + n) r (drawn (Cells m t ∷ rest) (c + n) r) ≡ Cells m t ∷ rest →
-    tokens_from c r (drawn (Cells m t ∷ rest) (c + n) r) ≡ Cells n 0 ∷ Cells m t ∷ rest
+dead_same : (n m t : ℕ) (rest : List Token) (c r : ℕ) → 1 ≤ n → 1 ≤ m → t ≢ 0 → tokens_from (c + n) r (cells_drawn (Cells m t ∷ rest) (c + n) r) ≡ Cells m t ∷ rest →
+    tokens_from c r (cells_drawn (Cells m t ∷ rest) (c + n) r) ≡ Cells n 0 ∷ Cells m t ∷ rest
 unfolding cell
 dead_same zero m t rest c r one some alive same = absurd (omega arith)
 dead_same (suc n) zero t rest c r one some alive same = absurd (omega arith)
 dead_same (suc n) (suc m) t rest c r one some alive same =
-    let later = cells_in_row m t (c + suc n + 1) r ++ drawn rest (c + suc n + suc m) r in
-    let is : drawn (Cells (suc m) t ∷ rest) (c + suc n) r ≡ cell (c + suc n) r t ∷ later = rw (ne_eqb t 0 alive) refl in
+    let later = cells_in_row m t (c + suc n + 1) r ++ cells_drawn rest (c + suc n + suc m) r in
+    let is : cells_drawn (Cells (suc m) t ∷ rest) (c + suc n) r ≡ cell (c + suc n) r t ∷ later = rw (ne_eqb t 0 alive) refl in
     ap (tokens_from c r) is
     ∙ regap c r (cell (c + suc n) r t) later
     ∙ ap (λ g. g ++ tokens_from (c + suc n) r (cell (c + suc n) r t ∷ later)) (gap_same (suc n) c r t)
     ∙ ap (λ ts. Cells (suc n) 0 ∷ ts) (ap (tokens_from (c + suc n) r) (sym is) ∙ same)
 
-live_same : (n s : ℕ) (rest : List Token) (c r : ℕ) → s ≢ 0 → IsCanonical (Cells n s ∷ rest) → 1 ≤ n → tokens_from (c + n) r (drawn rest (c + n) r) ≡ rest →
-    tokens_from c r (drawn (Cells n s ∷ rest) c r) ≡ Cells n s ∷ rest
+live_same : (n s : ℕ) (rest : List Token) (c r : ℕ) → s ≢ 0 → AreCanonical (Cells n s ∷ rest) → 1 ≤ n → tokens_from (c + n) r (cells_drawn rest (c + n) r) ≡ rest →
+    tokens_from c r (cells_drawn (Cells n s ∷ rest) c r) ≡ Cells n s ∷ rest
 live_same zero s rest c r alive h some same = absurd (omega arith)
 live_same (suc n) s rest c r alive h some same =
-    ap (λ cells. tokens_from c r (cells ++ drawn rest (c + suc n) r)) (if_dead s [] (cells_in_row (suc n) s c r) alive)
-    ∙ row_tokens n s c r (drawn rest (c + suc n) r)
+    ap (λ cells. tokens_from c r (cells ++ cells_drawn rest (c + suc n) r)) (if_dead s [] (cells_in_row (suc n) s c r) alive)
+    ∙ row_tokens n s c r (cells_drawn rest (c + suc n) r)
     ∙ ap (with_run (suc n) s) same
     ∙ run_stays (suc n) s rest h
 
-dead_rest : (n : ℕ) (rest : List Token) (c r : ℕ) → IsCanonical (Cells n 0 ∷ rest) → tokens_from (c + n) r (drawn rest (c + n) r) ≡ rest →
-    tokens_from c r (drawn rest (c + n) r) ≡ Cells n 0 ∷ rest
+dead_rest : (n : ℕ) (rest : List Token) (c r : ℕ) → AreCanonical (Cells n 0 ∷ rest) → tokens_from (c + n) r (cells_drawn rest (c + n) r) ≡ rest →
+    tokens_from c r (cells_drawn rest (c + n) r) ≡ Cells n 0 ∷ rest
 dead_rest n [] c r h same = absurd (h.1 refl)
 dead_rest n (Cells m t ∷ rest) c r h same = dead_same n m t rest c r h.0 (counted m t rest h.2) (λ dead. h.1 (sym dead)) same
 dead_rest n (Rows m ∷ rest) c r h same = absurd (h.1 refl)
 
-run_same : (dead : Bool) (n s : ℕ) (rest : List Token) (c r : ℕ) → (s == 0) ≡ dead → IsCanonical (Cells n s ∷ rest) → tokens_from (c + n) r (drawn rest (c + n) r) ≡ rest →
-    tokens_from c r (drawn (Cells n s ∷ rest) c r) ≡ Cells n s ∷ rest
+run_same : (dead : Bool) (n s : ℕ) (rest : List Token) (c r : ℕ) → (s == 0) ≡ dead → AreCanonical (Cells n s ∷ rest) → tokens_from (c + n) r (cells_drawn rest (c + n) r) ≡ rest →
+    tokens_from c r (cells_drawn (Cells n s ∷ rest) c r) ≡ Cells n s ∷ rest
 run_same true n s rest c r e h same =
     let is : s ≡ 0 = eqb-true s 0 e in
-    subst (λ u. tokens_from c r (drawn (Cells n u ∷ rest) c r) ≡ Cells n u ∷ rest) (sym is)
-    (dead_rest n rest c r (subst (λ u. IsCanonical (Cells n u ∷ rest)) is h) same)
+    subst (λ u. tokens_from c r (cells_drawn (Cells n u ∷ rest) c r) ≡ Cells n u ∷ rest) (sym is)
+    (dead_rest n rest c r (subst (λ u. AreCanonical (Cells n u ∷ rest)) is h) same)
 run_same false n s rest c r e h same = live_same n s rest c r (eqb-false s 0 e) h (counted n s rest h) same
 
-rows_rest : (n : ℕ) (rest : List Token) (c r : ℕ) → IsCanonical (Rows n ∷ rest) → tokens_from 0 (r + n) (drawn rest 0 (r + n)) ≡ rest →
-    tokens_from c r (drawn rest 0 (r + n)) ≡ Rows n ∷ rest
+rows_rest : (n : ℕ) (rest : List Token) (c r : ℕ) → AreCanonical (Rows n ∷ rest) → tokens_from 0 (r + n) (cells_drawn rest 0 (r + n)) ≡ rest →
+    tokens_from c r (cells_drawn rest 0 (r + n)) ≡ Rows n ∷ rest
 rows_rest n [] c r h same = absurd h.1
 rows_rest n (Cells m t ∷ rest) c r h same = rows_same n (Cells m t ∷ rest) c r h.0 (some_first (t == 0) m t rest 0 (r + n) refl h.2) same
 rows_rest n (Rows m ∷ rest) c r h same = absurd h.1
 
-same_tokens : (tokens : List Token) (c r : ℕ) → IsCanonical tokens → tokens_from c r (drawn tokens c r) ≡ tokens
+same_tokens : (tokens : List Token) (c r : ℕ) → AreCanonical tokens → tokens_from c r (cells_drawn tokens c r) ≡ tokens
 same_tokens [] c r h = refl
 same_tokens (Cells n s ∷ rest) c r h = run_same (s == 0) n s rest c r refl h (same_tokens rest (c + n) r (rest_canonical (Cells n s) rest h))
 same_tokens (Rows n ∷ rest) c r h = rows_rest n rest c r h (same_tokens rest 0 (r + n) (rest_canonical (Rows n) rest h))
@@ -300,6 +300,6 @@ same_tokens (Rows n ∷ rest) c r h = rows_rest n rest c r h (same_tokens rest 0
 pub has_one_token_list : HasOneTokenList
 has_one_token_list cells tokens is = sym (same_tokens tokens 0 0 is.canonical) ∙ ap (tokens_from 0 0) is.draws
 
-pub has_one_text : HasOneText
+pub has_one_text : CellsHaveOneText
 has_one_text r g cells text is =
-    is.spelt ∙ ap (λ tokens. head_lines (text_of r) g (box_of cells) ++ body (r.states == 2) tokens) (has_one_token_list (in_box (box_of cells) cells) is.tokens is.of_cells)
+    is.spelt ∙ ap (λ tokens. head_lines (text_of r) g (bounds_of cells) ++ body (r.states == 2) tokens) (has_one_token_list (in_box (bounds_of cells) cells) is.tokens is.of_cells)

@@ -4,17 +4,17 @@ use Rattle.std.specs.Prelude.{Option, Some, None, Ok, Result, unwrap_or, not, �
 use Rattle.std.specs.List.{list_all, enumerate_from, position_or_len}
 use Rattle.std.proofs.lemmas.Bool.{eqb-true}
 use Rattle.multistate_rle.specs.Position.{OriginValue}
-use Rattle.multistate_rle.specs.declared.line.Line.{Line}
-use Rattle.multistate_rle.specs.declared.line.Line.TheVariants.{Start}
+use Rattle.multistate_rle.specs.declared.line.LineProgress.{LineProgress}
+use Rattle.multistate_rle.specs.declared.line.LineProgress.TheVariants.{Start}
 use Rattle.multistate_rle.specs.declared.fault.RleFault.{RleFault}
-use Rattle.multistate_rle.specs.Bytes.{is_space_or_tab, ends_line, past, text_behind, ◌>=>◌}
+use Rattle.multistate_rle.specs.Bytes.{is_space_or_tab, ends_line, past_prefix, text_behind, ◌>=>◌}
 use Rattle.multistate_rle.specs.Header.{header_of, behind_symbol, side_spelled, number_in_front, may_end_with}
 use Rattle.multistate_rle.specs.Position.{origin_in, origin_from, no_items}
 use Rattle.multistate_rle.specs.Pattern.{RlePattern}
-use Rattle.multistate_rle.specs.Tokens.{drawn}
+use Rattle.multistate_rle.specs.Tokens.{cells_drawn}
 use Rattle.multistate_rle.specs.Lines.{line_after, is_dropped}
 use Rattle.multistate_rle.specs.Reading.{bytes_of, bare, pattern_of, lines_of, lines_read, begins_comment, or_else}
-use Rattle.multistate_rle.specs.Spelling.{IsLine, IsFront, with_lines, first_origin, bare_text}
+use Rattle.multistate_rle.specs.Spelling.{IsLine, AreFrontLines, with_lines, first_origin, bare_text}
 use Rattle.multistate_rle.specs.Laws.{ReadsTexts}
 use Rattle.multistate_rle.proofs.LineLemmas.{line_step, line_read, comment_read, blank_read, header_is_read, left_is_bare}
 use Rattle.multistate_rle.specs.Lines.{left}
@@ -37,7 +37,7 @@ front_line len origin line next rest true blank c b either = comment_read len or
 front_line len origin line next rest false true c b either = blank_read len origin line next rest c b
 front_line len origin line next rest false false c b either = absurd (cc)
 
-front_read : (len : ℕ) (origin : Option OriginValue) (n : ℕ) (front : List (List ℕ × ℕ)) (rest : List ℕ) (meant : Option OriginValue → Result RlePattern RleFault) → IsFront front →
+front_read : (len : ℕ) (origin : Option OriginValue) (n : ℕ) (front : List (List ℕ × ℕ)) (rest : List ℕ) (meant : Option OriginValue → Result RlePattern RleFault) → AreFrontLines front →
     ((k : ℕ) (found : Option OriginValue) → lines_read len found (lines_of (enumerate_from k rest)) ≡ meant found) →
     lines_read len origin (lines_of (enumerate_from n (with_lines front rest))) ≡ meant (first_origin origin front)
 front_read len origin n [] rest meant is text_behind = text_behind n origin
@@ -59,19 +59,19 @@ pub no_blank : (header : List ℕ) (sides : ℕ × ℕ) (blank : Bool) → list_
 no_blank header sides false b is = refl
 no_blank header sides true b is =
     let none : header_of header ≡ None =
-    ap (λ rest. (text_behind 120 rest >=> λ rest. behind_symbol 61 rest >=> λ rest. number_in_front (past is_space_or_tab rest)) >=> λ w. behind_symbol 44 w.1 >=> λ rest. side_spelled 121 rest >=> λ h. (if may_end_with (past is_space_or_tab h.1) then Some (w.0, h.0) else None)) (past_all is_space_or_tab header b) in
+    ap (λ rest. (text_behind 120 rest >=> λ rest. behind_symbol 61 rest >=> λ rest. number_in_front (past_prefix is_space_or_tab rest)) >=> λ w. behind_symbol 44 w.1 >=> λ rest. side_spelled 121 rest >=> λ h. (if may_end_with (past_prefix is_space_or_tab h.1) then Some (w.0, h.0) else None)) (past_all is_space_or_tab header b) in
     absurd (cc)
 
 -- ---- the bytes that are left, wherever the text begins
 
-same_left_step : (line : Line) (m n c : ℕ) (xs : List ℕ) (drops : Bool) → is_dropped (line_after line c) c ≡ drops →
+same_left_step : (line : LineProgress) (m n c : ℕ) (xs : List ℕ) (drops : Bool) → is_dropped (line_after line c) c ≡ drops →
     bytes_of (left (line_after line c) (enumerate_from (m + 1) xs)) ≡ bytes_of (left (line_after line c) (enumerate_from (n + 1) xs)) →
     bytes_of (left line (enumerate_from m (c ∷ xs))) ≡ bytes_of (left line (enumerate_from n (c ∷ xs)))
 unfolding left
 same_left_step line m n c xs true d same = rw d same
 same_left_step line m n c xs false d same = rw d (ap (λ ys. c ∷ ys) same)
 
-same_left : (line : Line) (m n : ℕ) (xs : List ℕ) → bytes_of (left line (enumerate_from m xs)) ≡ bytes_of (left line (enumerate_from n xs))
+same_left : (line : LineProgress) (m n : ℕ) (xs : List ℕ) → bytes_of (left line (enumerate_from m xs)) ≡ bytes_of (left line (enumerate_from n xs))
 unfolding left
 same_left line m n [] = refl
 same_left line m n (c ∷ xs) = same_left_step line m n c xs (is_dropped (line_after line c) c) refl (same_left (line_after line c) (m + 1) (n + 1) xs)
@@ -83,7 +83,7 @@ bare_anywhere n text =
 pub reads_texts : ReadsTexts
 reads_texts front header end sides text tokens spelt tail is_front is_header is ends bytes spells stops fine =
     let len = length (with_lines front (header ++ end ∷ text)) in
-    front_read len None 0 front (header ++ end ∷ text) (λ found. Ok (pattern_of (unwrap_or found (origin_from no_items)) sides (drawn tokens 0 0))) is_front
+    front_read len None 0 front (header ++ end ∷ text) (λ found. Ok (pattern_of (unwrap_or found (origin_from no_items)) sides (cells_drawn tokens 0 0))) is_front
     (λ k found.
     let next = k + position_or_len ends_line (header ++ end ∷ text) + 1 in
     line_first len found k header end text is_header ends

@@ -15,20 +15,20 @@ pub record BoundsValue : Type 0 where
 abbrev pub span_of : ℤ → ℤ → ℕ
 span_of from to = nat_abs (to -ℤ from) + 1
 
-abbrev pub least : (Cell → ℤ) → ℤ → List Cell → ℤ
-least f first cells = fold (λ n d. int_min n (f d)) first cells
+abbrev pub least_coordinate : (Cell → ℤ) → ℤ → List Cell → ℤ
+least_coordinate f first cells = fold (λ n d. int_min n (f d)) first cells
 
-abbrev pub greatest : (Cell → ℤ) → ℤ → List Cell → ℤ
-greatest f first cells = fold (λ n d. int_max n (f d)) first cells
+abbrev pub greatest_coordinate : (Cell → ℤ) → ℤ → List Cell → ℤ
+greatest_coordinate f first cells = fold (λ n d. int_max n (f d)) first cells
 
 -- the least box that holds all cells; all is 0 where there is none
-abbrev pub box_of : List Cell → BoundsValue
-box_of [] = record { x = pos 0; y = pos 0; width = 0; height = 0 }
-box_of (c ∷ cells) = record {
-  x = least (λ d. d.x) c.x cells;
-  y = least (λ d. d.y) c.y cells;
-  width = span_of (least (λ d. d.x) c.x cells) (greatest (λ d. d.x) c.x cells);
-  height = span_of (least (λ d. d.y) c.y cells) (greatest (λ d. d.y) c.y cells);
+abbrev pub bounds_of : List Cell → BoundsValue
+bounds_of [] = record { x = pos 0; y = pos 0; width = 0; height = 0 }
+bounds_of (c ∷ cells) = record {
+  x = least_coordinate (λ d. d.x) c.x cells;
+  y = least_coordinate (λ d. d.y) c.y cells;
+  width = span_of (least_coordinate (λ d. d.x) c.x cells) (greatest_coordinate (λ d. d.x) c.x cells);
+  height = span_of (least_coordinate (λ d. d.y) c.y cells) (greatest_coordinate (λ d. d.y) c.y cells);
 }
 
 -- a cell as seen from a corner

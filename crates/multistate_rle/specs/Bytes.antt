@@ -20,8 +20,8 @@ abbrev pub front : (ℕ → Bool) → List ℕ → List ℕ
 front test xs = take (prefix_len test xs) xs
 
 -- what follows that part
-abbrev pub past : (ℕ → Bool) → List ℕ → List ℕ
-past test xs = drop (prefix_len test xs) xs
+abbrev pub past_prefix : (ℕ → Bool) → List ℕ → List ℕ
+past_prefix test xs = drop (prefix_len test xs) xs
 
 -- the next reading of what was read, if it was
 infixl 10 ◌>=>◌
@@ -39,10 +39,10 @@ abbrev pub behind_all : List ℕ → List ℕ → Option (List ℕ)
 behind_all cs text = if bytes_eq (take (length cs) text) cs then Some (drop (length cs) text) else None
 
 -- a number, if it is at most so much
-abbrev pub at_most : ℕ → ℕ → Option ℕ
-at_most most n = if nat_le n most then Some n else None
+abbrev pub limited : ℕ → ℕ → Option ℕ
+limited most n = if nat_le n most then Some n else None
 
 -- a decimal number of at most so much, with any zeros in front, and nothing else
 abbrev pub decimal_number : ℕ → List ℕ → Option ℕ
 decimal_number most [] = None
-decimal_number most (c ∷ digits) = if list_all is_decimal_digit (c ∷ digits) then at_most most (digits_value 10 (c ∷ digits)) else None
+decimal_number most (c ∷ digits) = if list_all is_decimal_digit (c ∷ digits) then limited most (digits_value 10 (c ∷ digits)) else None

@@ -5,13 +5,13 @@ use Rattle.multistate_rle.specs.declared.fault.RleFault.{RleFault}
 use Rattle.multistate_rle.specs.declared.fault.RleFault.TheVariants.{Tag}
 use Rattle.multistate_rle.specs.Bytes.{is_decimal_digit}
 use Rattle.multistate_rle.specs.Tokens.{Token, count_of}
-use Rattle.multistate_rle.specs.Reading.{Mark, Pen, bytes_of, is_prefix_byte, is_letter, moved, fault_of}
+use Rattle.multistate_rle.specs.Reading.{Mark, Pen, bytes_of, is_prefix_byte, is_letter, pen_after, fault_of}
 use Rattle.multistate_rle.specs.Spelling.{IsCount, IsTag}
 
 -- where a pen stands behind tokens
 abbrev pub pen_behind : Pen → List Token → Pen
 pen_behind pen [] = pen
-pen_behind pen (token ∷ tokens) = pen_behind (moved token pen) tokens
+pen_behind pen (token ∷ tokens) = pen_behind (pen_after token pen) tokens
 
 -- the place of the first of some bytes, or the text's end where there are none
 abbrev pub first_place : ℕ → List Mark → ℕ

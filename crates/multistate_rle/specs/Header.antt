@@ -1,22 +1,22 @@
 -- The header line: `x = w, y = h`, blanks round every part, then nothing, or a comma and any text.
 use Rattle.std.specs.Prelude.{ℕ, Bool, true, List, [], ◌∷◌, ◌==◌, if◌then◌else◌, Option, Some, None, option_map}
-use Rattle.multistate_rle.specs.Bytes.{is_decimal_digit, is_space_or_tab, front, past, ◌>=>◌, text_behind, decimal_number}
+use Rattle.multistate_rle.specs.Bytes.{is_decimal_digit, is_space_or_tab, front, past_prefix, ◌>=>◌, text_behind, decimal_number}
 
 -- the greatest side that a header can name
-abbrev pub most_side : ℕ
-most_side = 4294967295
+abbrev pub most_pattern_side : ℕ
+most_pattern_side = 4294967295
 
 -- what stands behind a byte, blanks before it passed over
 abbrev pub behind_symbol : ℕ → List ℕ → Option (List ℕ)
-behind_symbol c line = text_behind c (past is_space_or_tab line)
+behind_symbol c line = text_behind c (past_prefix is_space_or_tab line)
 
 -- the number in front, and what stands behind it
 abbrev pub number_in_front : List ℕ → Option (ℕ × List ℕ)
-number_in_front line = option_map (λ n. (n, past is_decimal_digit line)) (decimal_number most_side (front is_decimal_digit line))
+number_in_front line = option_map (λ n. (n, past_prefix is_decimal_digit line)) (decimal_number most_pattern_side (front is_decimal_digit line))
 
 -- a side: a letter, `=`, and a number
 abbrev pub side_spelled : ℕ → List ℕ → Option (ℕ × List ℕ)
-side_spelled letter line = behind_symbol letter line >=> λ rest. behind_symbol 61 rest >=> λ rest. number_in_front (past is_space_or_tab rest)
+side_spelled letter line = behind_symbol letter line >=> λ rest. behind_symbol 61 rest >=> λ rest. number_in_front (past_prefix is_space_or_tab rest)
 
 -- nothing, or a comma and any text
 abbrev pub may_end_with : List ℕ → Bool
@@ -27,4 +27,4 @@ may_end_with (c ∷ rest) = c == 44
 abbrev pub header_of : List ℕ → Option (ℕ × ℕ)
 header_of line =
     side_spelled 120 line >=> λ w. behind_symbol 44 w.1 >=> λ rest. side_spelled 121 rest >=> λ h.
-    (if may_end_with (past is_space_or_tab h.1) then Some (w.0, h.0) else None)
+    (if may_end_with (past_prefix is_space_or_tab h.1) then Some (w.0, h.0) else None)

@@ -4,7 +4,7 @@ use Rattle.generations_rule.specs.Rule.{GenerationsRule, IsRule}
 use Rattle.multistate_rle.specs.declared.pattern.PatternCell.{PatternCell}
 use Rattle.multistate_rle.specs.declared.cell.Cell.{Cell}
 use Rattle.multistate_rle.specs.Cells.{is_sorted, are_nonzero, are_states_below}
-use Rattle.multistate_rle.specs.Bounds.{BoundsValue, box_of, in_box}
+use Rattle.multistate_rle.specs.Bounds.{BoundsValue, bounds_of, in_box}
 use Rattle.multistate_rle.specs.Pattern.{RlePattern, are_sorted, are_alive, are_within}
 use Rattle.std.specs.List.{list_all, enumerate_from}
 use Rattle.multistate_rle.specs.Bytes.{ends_line}
@@ -14,9 +14,9 @@ use Rattle.multistate_rle.specs.HeaderLine.{HasNoHeader}
 use Rattle.multistate_rle.specs.declared.fault.RleFault.{RleFault}
 use Rattle.multistate_rle.specs.declared.fault.RleFault.TheVariants.{Header}
 use Rattle.multistate_rle.specs.Letters.{letters_of, letters_text, IsStateTag}
-use Rattle.multistate_rle.specs.Tokens.{Token, IsTokensOf, drawn, tokens_from}
+use Rattle.multistate_rle.specs.Tokens.{Token, IsTokensOf, cells_drawn, tokens_from}
 use Rattle.multistate_rle.specs.Reading.{parsed, Mark, bytes_of, bare, start, AreFine, body_read, pattern_of, lines_of}
-use Rattle.multistate_rle.specs.Spelling.{IsSpelling, EndsTokens, IsLine, IsFront, with_lines, first_origin, bare_from, bare_text}
+use Rattle.multistate_rle.specs.Spelling.{IsSpelling, EndsTokens, IsLine, AreFrontLines, with_lines, first_origin, bare_from, bare_text}
 use Rattle.multistate_rle.specs.Faulty.{pen_behind, BeginsFaulty}
 use Rattle.multistate_rle.specs.Parts.{SpellsPattern, IsWrong}
 use Rattle.multistate_rle.specs.Writing.{text_of_cells, IsRleText, head_lines, body}
@@ -30,8 +30,8 @@ abbrev pub HasOneTokenList : Type 0
 HasOneTokenList = (cells : List PatternCell) (tokens : List Token) → IsTokensOf tokens cells → tokens ≡ tokens_from 0 0 cells
 
 -- so the text of cells is the only one that their canonical tokens spell
-abbrev pub HasOneText : Type 0
-HasOneText = (r : GenerationsRule) (g : ℕ) (cells : List Cell) (text : List ℕ) → IsRleText r g cells text → text ≡ text_of_cells r g cells
+abbrev pub CellsHaveOneText : Type 0
+CellsHaveOneText = (r : GenerationsRule) (g : ℕ) (cells : List Cell) (text : List ℕ) → IsRleText r g cells text → text ≡ text_of_cells r g cells
 
 -- the letters that are written of a state are letters of that state, and there are no others
 abbrev pub HasLetters : Type 0
@@ -45,22 +45,22 @@ HasLetters = (s : ℕ) (tag : List ℕ) → s ≤ 255 →
 abbrev pub ReadsSpellings : Type 0
 ReadsSpellings = (end : ℕ) (origin : OriginValue) (sides : ℕ × ℕ) (lines : List (List Mark)) (tokens : List Token) (spelt tail : List ℕ) →
     bytes_of (bare lines) ≡ spelt ++ tail → IsSpelling tokens spelt → EndsTokens tail → AreFine start tokens →
-    body_read end origin sides lines ≡ Ok (pattern_of origin sides (drawn tokens 0 0))
+    body_read end origin sides lines ≡ Ok (pattern_of origin sides (cells_drawn tokens 0 0))
 
 -- A whole text: comments and blank lines, a header, and a text that without comment lines, line ends and blanks spells
 -- tokens that are not faulty. It is read as what the tokens draw, with the first origin that a comment names.
 abbrev pub ReadsTexts : Type 0
 ReadsTexts = (front : List (List ℕ × ℕ)) (header : List ℕ) (end : ℕ) (sides : ℕ × ℕ) (text : List ℕ) (tokens : List Token) (spelt tail : List ℕ) →
-    IsFront front → IsLine header → header_of header ≡ Some sides → ends_line end ≡ true →
+    AreFrontLines front → IsLine header → header_of header ≡ Some sides → ends_line end ≡ true →
     bare_text text ≡ spelt ++ tail → IsSpelling tokens spelt → EndsTokens tail → AreFine start tokens →
     parsed (with_lines front (header ++ end ∷ text))
-    ≡ Ok (pattern_of (unwrap_or (first_origin None front) (origin_from no_items)) sides (drawn tokens 0 0))
+    ≡ Ok (pattern_of (unwrap_or (first_origin None front) (origin_from no_items)) sides (cells_drawn tokens 0 0))
 
 -- A whole text: comments and blank lines, a header, and a text that without comment lines, line ends and blanks spells
 -- tokens that are not faulty, behind which a faulty one stands, and anything. It is refused for that token.
 abbrev pub RefusesFaults : Type 0
 RefusesFaults = (front : List (List ℕ × ℕ)) (header : List ℕ) (end : ℕ) (sides : ℕ × ℕ) (text : List ℕ) (tokens : List Token) (spelt faulty : List Mark) (fault : RleFault) →
-    IsFront front → IsLine header → header_of header ≡ Some sides → ends_line end ≡ true →
+    AreFrontLines front → IsLine header → header_of header ≡ Some sides → ends_line end ≡ true →
     bare_from (length (with_lines front header) + 1) text ≡ spelt ++ faulty → IsSpelling tokens (bytes_of spelt) → AreFine start tokens →
     BeginsFaulty (length (with_lines front (header ++ end ∷ text))) (pen_behind start tokens) faulty fault →
     parsed (with_lines front (header ++ end ∷ text)) ≡ Err fault
@@ -104,14 +104,14 @@ ReadsBoxesBack = (rule : List ℕ) (g : ℕ) (b : BoundsValue) (two : Bool) (cel
 -- 2^32, is read again: the same cells less the position, the same box, position and generation.
 abbrev pub ReadsBack : Type 0
 ReadsBack = (r : GenerationsRule) (g : ℕ) (cells : List Cell) → IsRule r → g < 2 ^ 64 →
-    IsSignedWord (box_of cells).x → IsSignedWord (box_of cells).y →
+    IsSignedWord (bounds_of cells).x → IsSignedWord (bounds_of cells).y →
     is_sorted cells ≡ true → are_nonzero cells ≡ true → are_states_below r.states cells ≡ true → length cells ≤ 2 ^ 20 →
-    (box_of cells).width < 2 ^ 32 → (box_of cells).height < 2 ^ 32 →
+    (bounds_of cells).width < 2 ^ 32 → (bounds_of cells).height < 2 ^ 32 →
     parsed (text_of_cells r g cells)
     ≡ Ok (record {
-      width = (box_of cells).width;
-      height = (box_of cells).height;
-      pos = ((box_of cells).x, (box_of cells).y);
+      width = (bounds_of cells).width;
+      height = (bounds_of cells).height;
+      pos = ((bounds_of cells).x, (bounds_of cells).y);
       generation = g;
-      cells = in_box (box_of cells) cells;
+      cells = in_box (bounds_of cells) cells;
     })

@@ -7,9 +7,9 @@ use Rattle.multistate_rle.specs.Header.{header_of}
 use Rattle.multistate_rle.specs.HeaderLine.{HasNoHeader}
 use Rattle.multistate_rle.specs.Pattern.{RlePattern}
 use Rattle.multistate_rle.specs.Position.{origin_from, no_items}
-use Rattle.multistate_rle.specs.Tokens.{Token, drawn}
+use Rattle.multistate_rle.specs.Tokens.{Token, cells_drawn}
 use Rattle.multistate_rle.specs.Reading.{Mark, bytes_of, start, AreFine, pattern_of}
-use Rattle.multistate_rle.specs.Spelling.{IsSpelling, EndsTokens, IsLine, IsFront, with_lines, first_origin, bare_from, bare_text}
+use Rattle.multistate_rle.specs.Spelling.{IsSpelling, EndsTokens, IsLine, AreFrontLines, with_lines, first_origin, bare_from, bare_text}
 use Rattle.multistate_rle.specs.Faulty.{pen_behind, BeginsFaulty}
 
 -- nothing, or a line's end and anything
@@ -19,11 +19,11 @@ EndsLine (c ∷ rest) = ends_line c ≡ true
 
 -- A text in its parts: comments and blank lines, a header that names the sides, and behind the header's line end, from a
 -- place on, a body. Where the text ends with its header, the body is empty.
-pub record HasParts (text : List ℕ) (front : List (List ℕ × ℕ)) (sides : ℕ × ℕ) (place : ℕ) (body : List ℕ) : Type 0 where
+pub record HasFrontAndBody (text : List ℕ) (front : List (List ℕ × ℕ)) (sides : ℕ × ℕ) (place : ℕ) (body : List ℕ) : Type 0 where
   pub header : List ℕ
   pub behind : List ℕ
   pub text_is : text ≡ with_lines front (header ++ behind)
-  pub front_is : IsFront front
+  pub front_is : AreFrontLines front
   pub line_is : IsLine header
   pub header_is : header_of header ≡ Some sides
   pub behind_is : EndsLine behind
@@ -40,12 +40,12 @@ pub record SpellsPattern (text : List ℕ) (p : RlePattern) : Type 0 where
   pub tokens : List Token
   pub spelt : List ℕ
   pub tail : List ℕ
-  pub parts : HasParts text front sides place body
+  pub parts : HasFrontAndBody text front sides place body
   pub bytes_are : bare_text body ≡ spelt ++ tail
   pub spelling : IsSpelling tokens spelt
   pub tail_is : EndsTokens tail
   pub fine : AreFine start tokens
-  pub pattern_is : p ≡ pattern_of (unwrap_or (first_origin None front) (origin_from no_items)) sides (drawn tokens 0 0)
+  pub pattern_is : p ≡ pattern_of (unwrap_or (first_origin None front) (origin_from no_items)) sides (cells_drawn tokens 0 0)
 
 -- A text spells a fault: its body, without comment lines, line ends and blanks, spells tokens that are not faulty, and
 -- then a faulty one stands, with anything behind it.
@@ -57,7 +57,7 @@ pub record SpellsFault (text : List ℕ) (fault : RleFault) : Type 0 where
   pub tokens : List Token
   pub spelt : List Mark
   pub faulty : List Mark
-  pub parts : HasParts text front sides place body
+  pub parts : HasFrontAndBody text front sides place body
   pub bytes_are : bare_from place body ≡ spelt ++ faulty
   pub spelling : IsSpelling tokens (bytes_of spelt)
   pub fine : AreFine start tokens

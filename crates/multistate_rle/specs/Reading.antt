@@ -6,10 +6,10 @@ use Rattle.generations_rule.specs.Refusal.{when, first_of, ◌>>=◌}
 use Rattle.multistate_rle.specs.declared.pattern.PatternCell.{PatternCell}
 use Rattle.multistate_rle.specs.declared.fault.RleFault.{RleFault}
 use Rattle.multistate_rle.specs.declared.fault.RleFault.TheVariants.{Header, Tag, Count, State, TooMany}
-use Rattle.multistate_rle.specs.Role.{Role}
+use Rattle.multistate_rle.specs.Role.{RoleValue}
 use Rattle.multistate_rle.specs.Role as role
 use Rattle.multistate_rle.specs.Bytes.{is_decimal_digit, is_space_or_tab, ends_line}
-use Rattle.multistate_rle.specs.Tokens.{Token, Cells, Rows, drawn}
+use Rattle.multistate_rle.specs.Tokens.{Token, Cells, Rows, cells_drawn}
 use Rattle.multistate_rle.specs.Pattern.{RlePattern}
 use Rattle.multistate_rle.specs.Header.{header_of}
 use Rattle.multistate_rle.specs.Position.{OriginValue, origin_from, no_items, origin_in}
@@ -29,7 +29,7 @@ abbrev pub is_letter : ℕ → Bool
 is_letter c = nat_le 65 c && nat_le c 88
 
 -- what a byte is where no prefix stands before it; the letters and the end mark aside
-abbrev pub bare_role : ℕ → Role
+abbrev pub bare_role : ℕ → RoleValue
 bare_role c =
     if is_decimal_digit c then role.Digit (c - 48)
     else (if is_prefix_byte c then role.Prefix (c - 111)
@@ -38,7 +38,7 @@ bare_role c =
     else (if c == 36 then role.RowEnd else role.Stray))))
 
 -- What a byte is in a row of tokens, behind a prefix (1 for `p` to 10 for `y`) or none.
-abbrev pub role_of : Option ℕ → ℕ → Role
+abbrev pub role_of : Option ℕ → ℕ → RoleValue
 role_of prefix c =
     if c == 33 then role.EndMark
     else (if is_letter c then role.State (24 * unwrap_or prefix 0 + (c - 64))
@@ -63,8 +63,8 @@ abbrev pub with_prefix : ℕ → ℕ → BegunValue → BegunValue
 with_prefix place k b = record b { place = Some (unwrap_or b.place place); prefix = Some k }
 
 -- the end of the tokens, at a place: no prefix may stand alone
-abbrev pub ended : ℕ → BegunValue → Result (List Token) RleFault
-ended place b = elim b.prefix [ None ↦ Ok [] | Some k ↦ Err (Tag place) ]
+abbrev pub tokens_ended : ℕ → BegunValue → Result (List Token) RleFault
+tokens_ended place b = elim b.prefix [ None ↦ Ok [] | Some k ↦ Err (Tag place) ]
 
 -- where the next token draws, and how many nonzero cells were drawn before it
 pub record Pen : Type 0 where
@@ -79,9 +79,9 @@ abbrev pub cells_of : Token → ℕ
 cells_of (Cells n s) = if s == 0 then 0 else n
 cells_of (Rows n) = 0
 
-abbrev pub moved : Token → Pen → Pen
-moved (Cells n s) pen = record { column = pen.column + n; row = pen.row; cells = pen.cells + cells_of (Cells n s) }
-moved (Rows n) pen = record { column = 0; row = pen.row + n; cells = pen.cells }
+abbrev pub pen_after : Token → Pen → Pen
+pen_after (Cells n s) pen = record { column = pen.column + n; row = pen.row; cells = pen.cells + cells_of (Cells n s) }
+pen_after (Rows n) pen = record { column = 0; row = pen.row + n; cells = pen.cells }
 
 -- What is wrong with a token at a place: there is no such state; the count is 0 or leads too far; there are more
 -- than 2^20 nonzero cells. The first of these is answered.
@@ -96,7 +96,7 @@ fault_of place pen (Rows n) = when (n == 0 || nat_lt (2 ^ 32 - 1) (pen.row + n))
 -- no token is faulty
 abbrev pub AreFine : Pen → List Token → Type 0
 AreFine pen [] = ⊤
-AreFine pen (token ∷ tokens) = (fault_of 0 pen token ≡ None) × AreFine (moved token pen) tokens
+AreFine pen (token ∷ tokens) = (fault_of 0 pen token ≡ None) × AreFine (pen_after token pen) tokens
 
 -- a token, unless it is faulty, and what was read behind it
 abbrev pub followed : Option RleFault → Token → Result (List Token) RleFault → Result (List Token) RleFault
@@ -105,16 +105,16 @@ followed None token rest = rest >>= λ tokens. Ok (token ∷ tokens)
 
 -- The tokens in order, up to the end mark or the end of the text. The first fault is answered.
 abbrev pub tokens_of : ℕ → List Mark → BegunValue → Pen → Result (List Token) RleFault
-tokens_of end [] b pen = ended end b
+tokens_of end [] b pen = tokens_ended end b
 tokens_of end (m ∷ marks) b pen =
     let place = unwrap_or b.place m.0 in
     let count = unwrap_or b.count 1 in
     elim (role_of b.prefix m.1) [
-      | role.EndMark ↦ ended m.0 b
+      | role.EndMark ↦ tokens_ended m.0 b
       | role.Digit d ↦ tokens_of end marks (with_digit m.0 d b) pen
       | role.Prefix k ↦ tokens_of end marks (with_prefix m.0 k b) pen
-      | role.State s ↦ followed (fault_of place pen (Cells count s)) (Cells count s) (tokens_of end marks fresh (moved (Cells count s) pen))
-      | role.RowEnd ↦ followed (fault_of place pen (Rows count)) (Rows count) (tokens_of end marks fresh (moved (Rows count) pen))
+      | role.State s ↦ followed (fault_of place pen (Cells count s)) (Cells count s) (tokens_of end marks fresh (pen_after (Cells count s) pen))
+      | role.RowEnd ↦ followed (fault_of place pen (Rows count)) (Rows count) (tokens_of end marks fresh (pen_after (Rows count) pen))
       | role.Stray ↦ Err (Tag m.0)
     ]
 
@@ -159,7 +159,7 @@ or_else None y = y
 
 -- the cells that the tokens of some bytes draw, or the first fault
 abbrev pub cells_read : ℕ → List Mark → Result (List PatternCell) RleFault
-cells_read end marks = tokens_of end marks fresh start >>= λ tokens. Ok (drawn tokens 0 0)
+cells_read end marks = tokens_of end marks fresh start >>= λ tokens. Ok (cells_drawn tokens 0 0)
 
 -- the lines behind a header
 abbrev pub body_read : ℕ → OriginValue → ℕ × ℕ → List (List Mark) → Result RlePattern RleFault

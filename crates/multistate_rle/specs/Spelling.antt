@@ -34,10 +34,10 @@ abbrev pub IsLine : List ℕ → Type 0
 IsLine line = list_all (λ c. not (ends_line c)) line ≡ true
 
 -- lines in front of a header, each with the byte that ends it: comments and blank lines
-abbrev pub IsFront : List (List ℕ × ℕ) → Type 0
-IsFront [] = ⊤
-IsFront (line ∷ lines) =
-    IsLine line.0 × ((ends_line line.1 ≡ true) × (((begins_comment line.0 || list_all is_space_or_tab line.0) ≡ true) × IsFront lines))
+abbrev pub AreFrontLines : List (List ℕ × ℕ) → Type 0
+AreFrontLines [] = ⊤
+AreFrontLines (line ∷ lines) =
+    IsLine line.0 × ((ends_line line.1 ≡ true) × (((begins_comment line.0 || list_all is_space_or_tab line.0) ≡ true) × AreFrontLines lines))
 
 -- lines and their ends, and the text behind them
 abbrev pub with_lines : List (List ℕ × ℕ) → List ℕ → List ℕ

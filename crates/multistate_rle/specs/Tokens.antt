@@ -18,10 +18,10 @@ run n s column row = if s == 0 then [] else cells_in_row n s column row
 
 -- The nonzero cells that tokens draw from a place on: a run puts its state on the next columns, and
 -- row ends go down, to column 0.
-abbrev pub drawn : List Token → ℕ → ℕ → List PatternCell
-drawn [] column row = []
-drawn (Cells n s ∷ tokens) column row = run n s column row ++ drawn tokens (column + n) row
-drawn (Rows n ∷ tokens) column row = drawn tokens 0 (row + n)
+abbrev pub cells_drawn : List Token → ℕ → ℕ → List PatternCell
+cells_drawn [] column row = []
+cells_drawn (Cells n s ∷ tokens) column row = run n s column row ++ cells_drawn tokens (column + n) row
+cells_drawn (Rows n ∷ tokens) column row = cells_drawn tokens 0 (row + n)
 
 -- ---- the canonical list
 
@@ -41,15 +41,15 @@ abbrev pub MayEnd : Token → Type 0
 MayEnd (Cells n s) = s ≢ 0
 MayEnd (Rows n) = ⊥
 
-abbrev pub IsCanonical : List Token → Type 0
-IsCanonical [] = ⊤
-IsCanonical (a ∷ []) = (1 ≤ count_of a) × MayEnd a
-IsCanonical (a ∷ b ∷ tokens) = (1 ≤ count_of a) × MayFollow a b × IsCanonical (b ∷ tokens)
+abbrev pub AreCanonical : List Token → Type 0
+AreCanonical [] = ⊤
+AreCanonical (a ∷ []) = (1 ≤ count_of a) × MayEnd a
+AreCanonical (a ∷ b ∷ tokens) = (1 ≤ count_of a) × MayFollow a b × AreCanonical (b ∷ tokens)
 
 -- the one canonical list that draws these cells
 pub record IsTokensOf (tokens : List Token) (cells : List PatternCell) : Type 0 where
-  pub canonical : IsCanonical tokens
-  pub draws : drawn tokens 0 0 ≡ cells
+  pub canonical : AreCanonical tokens
+  pub draws : cells_drawn tokens 0 0 ≡ cells
 
 -- ---- the canonical list, made from the cells
 

@@ -2,7 +2,7 @@
 
 ghost use Rattle.std.specs.Prelude.{◌≡◌, ◌∷◌, []};
 ghost use Rattle.std.specs.Int.{int_min, int_max};
-ghost use Rattle.multistate_rle.specs.Bounds.{box_of, span_of};
+ghost use Rattle.multistate_rle.specs.Bounds.{bounds_of, span_of};
 
 use crate::cell::Cell;
 use std::marker::Model;
@@ -28,7 +28,7 @@ impl Model for Bounds {
 }
 
 pub fn bounds_of(cells: &[Cell]) -> Bounds
-    ensures { result ≡ box_of cells.now }
+    ensures { result ≡ bounds_of cells.now }
 {
     match cells.split_first() {
         Some((first, rest)) => bounds_round(first, rest),
@@ -37,7 +37,7 @@ pub fn bounds_of(cells: &[Cell]) -> Bounds
 }
 
 fn bounds_round(first: &Cell, rest: &[Cell]) -> Bounds
-    ensures { result ≡ box_of (first.now ∷ rest.now) }
+    ensures { result ≡ bounds_of (first.now ∷ rest.now) }
 {
     let mut reach = Reach::at(*first);
     for cell in rest {
@@ -47,7 +47,7 @@ fn bounds_round(first: &Cell, rest: &[Cell]) -> Bounds
 }
 
 fn no_bounds() -> Bounds
-    ensures { result ≡ box_of [] }
+    ensures { result ≡ bounds_of [] }
 {
     Bounds {
         x: 0,

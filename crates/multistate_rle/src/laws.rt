@@ -1,6 +1,6 @@
 //! What the definitions obey, for all cells and texts: the contracts of functions that do nothing.
 
-ghost use Rattle.multistate_rle.specs.Laws.{HasTokens, HasOneTokenList, HasOneText, HasLetters, ReadsSpellings, ReadsTexts, RefusesFaults, RefusesWithoutHeader, ReadsExactly, RefusesExactly, ReadsBodiesBack, ReadsBoxesBack, ReadsBack};
+ghost use Rattle.multistate_rle.specs.Laws.{HasTokens, HasOneTokenList, CellsHaveOneText, HasLetters, ReadsSpellings, ReadsTexts, RefusesFaults, RefusesWithoutHeader, ReadsExactly, RefusesExactly, ReadsBodiesBack, ReadsBoxesBack, ReadsBack};
 
 /// A finite set of nonzero cells, as its sorted list, has a canonical token list, and only one; so
 /// a rule, a generation and cells have only one text. The letters of a state in it are those of
@@ -8,7 +8,7 @@ ghost use Rattle.multistate_rle.specs.Laws.{HasTokens, HasOneTokenList, HasOneTe
 pub fn token_laws()
     ensures tokens { HasTokens }
     ensures only { HasOneTokenList }
-    ensures text { HasOneText }
+    ensures text { CellsHaveOneText }
     ensures letters { HasLetters }
 {}
 

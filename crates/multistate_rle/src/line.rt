@@ -6,7 +6,7 @@ use crate::scan;
 
 /// How far a line is read.
 #[derive(Clone, Copy, Debug, PartialEq, Eq)]
-pub enum Line {
+pub enum LineProgress {
     /// At its first byte.
     Start,
     /// Behind that, in a line that counts.
@@ -15,20 +15,20 @@ pub enum Line {
     Comment,
 }
 
-impl Line {
+impl LineProgress {
     ghost use Rattle.multistate_rle.specs.Lines.{line_after, is_dropped};
 
     /// How far it is read after one byte more.
-    pub fn after(self, byte: u8) -> Line
+    pub fn after(self, byte: u8) -> LineProgress
         ensures { result ≡ line_after self byte }
     {
         if scan::is_line_end(byte) {
-            return Line::Start;
+            return LineProgress::Start;
         }
         match self {
-            Line::Start if byte == b'#' => Line::Comment,
-            Line::Comment => Line::Comment,
-            _ => Line::Inside,
+            LineProgress::Start if byte == b'#' => LineProgress::Comment,
+            LineProgress::Comment => LineProgress::Comment,
+            _ => LineProgress::Inside,
         }
     }
 
@@ -37,8 +37,9 @@ impl Line {
         ensures { result ≡ is_dropped self byte }
     {
         match self {
-            Line::Comment => true,
-            Line::Start | Line::Inside => scan::is_blank(byte) || scan::is_line_end(byte),
+            LineProgress::Comment => true,
+            LineProgress::Start | LineProgress::Inside => scan::is_blank(byte)
+                || scan::is_line_end(byte),
         }
     }
 }

@@ -2,7 +2,7 @@
 
 ghost use Rattle.multistate_rle.specs.declared.lines.TheConstants.{LINE_LIMIT};
 ghost use Rattle.std.specs.Prelude.{◌≡◌, ◌≢◌, ◌≤◌, ◌<◌, ◌^◌, ◌∷◌, ◌++◌, [], OnOk, IfOk, map, length, codes, vec_len, vec_capacity, ◌+◌, ◌==◌};
-ghost use Rattle.multistate_rle.specs.Writing.{count_text, spelling, token_text, filled};
+ghost use Rattle.multistate_rle.specs.Writing.{count_text, spelling, token_text, wrapped};
 ghost use Rattle.multistate_rle.specs.Letters.{letters_text};
 ghost use Rattle.multistate_rle.specs.Tokens.{Cells, Rows, gap, tokens_from, skip};
 
@@ -26,20 +26,20 @@ pub struct Run {
 
 /// Where the next cell may stand, and the run that ends there.
 #[derive(Clone, Copy, Debug, PartialEq, Eq)]
-pub struct Pen {
+pub struct WritingPen {
     pub column: u64,
     pub row: u64,
     pub run: Option<Run>,
 }
 
-impl Pen {
+impl WritingPen {
     ghost use Rattle.std.specs.Prelude.{◌≡◌};
     ghost use Rattle.multistate_rle.specs.Filling.{no_pen, extends};
 
-    pub fn new() -> Pen
+    pub fn new() -> WritingPen
         ensures { result ≡ no_pen }
     {
-        Pen {
+        WritingPen {
             column: 0,
             row: 0,
             run: None,
@@ -64,25 +64,25 @@ impl Pen {
 
 /// A text, and how many bytes stand on its last line.
 #[derive(Drop)]
-pub struct Lines {
+pub struct LineWriter {
     pub text: Vec<u8>,
     pub used: usize,
     pub two_states: bool,
     ghost short: { used ≤ LINE_LIMIT },
 }
 
-impl Lines {
+impl LineWriter {
     ghost use Rattle.std.specs.Prelude.{◌≡◌, ◌≢◌, ◌≤◌, ◌∷◌, ◌++◌, [], OnOk, IfOk, map, length, codes, if◌then◌else◌, nat_le, vec_len, vec_capacity, ◌+◌};
     ghost use Rattle.multistate_rle.specs.Writing.{spelling, token_text};
     ghost use Rattle.multistate_rle.specs.Letters.{letters_text};
     ghost use Rattle.multistate_rle.specs.Tokens.{Cells, Rows, gap, skip};
-    ghost use Rattle.multistate_rle.specs.Filling.{Writes, no_pen, run_tokens, IsPen, WritesCell, extends};
+    ghost use Rattle.multistate_rle.specs.Filling.{WritesPieces, no_pen, run_tokens, IsPen, WritesCell, extends};
 
     /// The next line of a text whose lines are ended.
-    pub fn after(text: Vec<u8>, two_states: bool) -> Lines
+    pub fn after(text: Vec<u8>, two_states: bool) -> LineWriter
         ensures { (result.text.items ≡ text.items) × (result.used ≡ 0) × (result.two_states ≡ two_states) }
     {
-        Lines {
+        LineWriter {
             text,
             used: 0,
             two_states,
@@ -91,7 +91,7 @@ impl Lines {
 
     /// A count, left out where it is 1, and a tag: on this line if there is room, else on the next.
     pub fn put(&mut self, count: u64, letters: Letters) -> Result<(), AllocError>
-        ensures { OnOk result (Writes self.old (spelling count letters ∷ []) self.new) }
+        ensures { OnOk result (WritesPieces self.old (spelling count letters ∷ []) self.new) }
     {
         if count < 10 {
             self.put_short(count as u8, letters)
@@ -103,7 +103,7 @@ impl Lines {
     /// A count of one digit, as nearly all have, and a tag.
     fn put_short(&mut self, count: u8, letters: Letters) -> Result<(), AllocError>
         requires { count ≤ 9 }
-        ensures { OnOk result (Writes self.old (spelling count letters ∷ []) self.new) }
+        ensures { OnOk result (WritesPieces self.old (spelling count letters ∷ []) self.new) }
     {
         let len = digits(count) + letters.len();
         self.make_room(len)?;
@@ -132,7 +132,7 @@ impl Lines {
     #[inline(never)]
     fn put_long(&mut self, count: u64, letters: Letters) -> Result<(), AllocError>
         requires { 10 ≤ count }
-        ensures { OnOk result (Writes self.old (spelling count letters ∷ []) self.new) }
+        ensures { OnOk result (WritesPieces self.old (spelling count letters ∷ []) self.new) }
     {
         self.put_piece(Buffer::new().format(count).as_bytes(), letters)
     }
@@ -140,7 +140,7 @@ impl Lines {
     /// The digits of a count, and a tag.
     fn put_piece(&mut self, digits: &[u8], letters: Letters) -> Result<(), AllocError>
         requires { length digits.now ≤ 20 }
-        ensures { OnOk result (Writes self.old ((digits.now ++ letters_text letters) ∷ []) self.new) }
+        ensures { OnOk result (WritesPieces self.old ((digits.now ++ letters_text letters) ∷ []) self.new) }
     {
         let len = digits.len() + letters.len();
         self.make_room(len)?;
@@ -151,20 +151,20 @@ impl Lines {
     }
 
     fn put_cells(&mut self, count: u64, state: u8) -> Result<(), AllocError>
-        ensures { OnOk result (Writes self.old (map (token_text self.old.two_states) (Cells count state ∷ [])) self.new) }
+        ensures { OnOk result (WritesPieces self.old (map (token_text self.old.two_states) (Cells count state ∷ [])) self.new) }
     {
         self.put(count, Letters::of_state(self.two_states, state))
     }
 
     fn put_rows(&mut self, count: u64) -> Result<(), AllocError>
-        ensures { OnOk result (Writes self.old (map (token_text self.old.two_states) (Rows count ∷ [])) self.new) }
+        ensures { OnOk result (WritesPieces self.old (map (token_text self.old.two_states) (Rows count ∷ [])) self.new) }
     {
         self.put(count, Letters::plain(b'$'))
     }
 
     /// A run, if there is one.
     pub fn put_run(&mut self, run: Option<Run>) -> Result<(), AllocError>
-        ensures { OnOk result (Writes self.old (map (token_text self.old.two_states) (run_tokens run [])) self.new) }
+        ensures { OnOk result (WritesPieces self.old (map (token_text self.old.two_states) (run_tokens run [])) self.new) }
     {
         match run {
             Some(run) => self.put_cells(run.count, run.state),
@@ -173,7 +173,7 @@ impl Lines {
     }
 
     fn put_dead(&mut self, count: u64) -> Result<(), AllocError>
-        ensures { OnOk result (Writes self.old (map (token_text self.old.two_states) (skip count)) self.new) }
+        ensures { OnOk result (WritesPieces self.old (map (token_text self.old.two_states) (skip count)) self.new) }
     {
         if count == 0 {
             Ok(())
@@ -183,8 +183,8 @@ impl Lines {
     }
 
     /// The row ends and the dead columns between a pen and a cell.
-    fn put_gap(&mut self, pen: Pen, cell: PatternCell) -> Result<(), AllocError>
-        ensures { OnOk result (Writes self.old (map (token_text self.old.two_states) (gap pen.column pen.row cell)) self.new) }
+    fn put_gap(&mut self, pen: WritingPen, cell: PatternCell) -> Result<(), AllocError>
+        ensures { OnOk result (WritesPieces self.old (map (token_text self.old.two_states) (gap pen.column pen.row cell)) self.new) }
     {
         let column = u64::from(cell.column);
         let row = u64::from(cell.row);
@@ -196,7 +196,7 @@ impl Lines {
     }
 
     /// One cell more: what cannot grow any further is written, and the cell's own run begins.
-    pub fn put_cell(&mut self, pen: Pen, cell: PatternCell) -> Result<Pen, AllocError>
+    pub fn put_cell(&mut self, pen: WritingPen, cell: PatternCell) -> Result<WritingPen, AllocError>
         requires pen { IsPen pen }
         requires cell { cell.state ≢ 0 }
         ensures { IfOk result (λ next. WritesCell self.old pen cell next self.new) }
@@ -215,7 +215,7 @@ impl Lines {
                 }
             }
         };
-        Ok(Pen {
+        Ok(WritingPen {
             column: u64::from(cell.column) + 1,
             row: u64::from(cell.row),
             run: Some(run),
@@ -226,7 +226,7 @@ impl Lines {
     pub fn ended(self) -> Result<Vec<u8>, AllocError>
         ensures { IfOk result (λ text. text.items ≡ self.text.items ++ codes "\n") }
     {
-        let Lines { mut text, .. } = self;
+        let LineWriter { mut text, .. } = self;
         text.push(b'\n')?;
         Ok(text)
     }

@@ -1,8 +1,22 @@
 //! Decimal numbers.
 
-ghost use Rattle.std.specs.Prelude.{◌≡◌, ◌+◌, ◌*◌};
-ghost use Rattle.multistate_rle.specs.Bytes.{decimal_number, at_most};
+ghost use Rattle.std.specs.Prelude.{◌≡◌, ◌+◌, ◌*◌, ◌≤◌, min};
+ghost use Rattle.multistate_rle.specs.Bytes.{decimal_number, limited};
 ghost use Rattle.multistate_rle.specs.Position.{signed_number};
+ghost use Rattle.multistate_rle.specs.declared.numbers.TheConstants.{COUNT_LIMIT};
+
+/// More columns, and more rows, than there are: a count above it is as faulty as this one.
+pub const COUNT_LIMIT: u64 = 4_294_967_297;
+
+/// A count with one digit more, which stays at `COUNT_LIMIT` once it is there.
+#[inline]
+pub fn longer_count(count: u64, digit: u8) -> u64
+    requires count { count ≤ COUNT_LIMIT }
+    requires digit { digit ≤ 9 }
+    ensures { result ≡ min (10 * count + digit) COUNT_LIMIT }
+{
+    (10 * count + u64::from(digit)).min(COUNT_LIMIT)
+}
 
 /// A decimal number of at most so much, with any zeros in front, and nothing else.
 pub fn number(most: u64, digits: &[u8]) -> Option<u64>
@@ -39,7 +53,7 @@ pub fn signed(word: &[u8]) -> Option<i32>
 
 /// The number with one digit more, if it is at most so much.
 fn with_digit(most: u64, number: u64, digit: u8) -> Option<u64>
-    ensures { result ≡ at_most most (number * 10 + digit) }
+    ensures { result ≡ limited most (number * 10 + digit) }
 {
     let longer = number.checked_mul(10)?.checked_add(u64::from(digit))?;
     if longer <= most { Some(longer) } else { None }

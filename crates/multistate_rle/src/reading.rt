@@ -10,11 +10,11 @@ ghost use Rattle.multistate_rle.specs.Steps.{ReadsOn};
 
 use crate::fault::RleFault;
 use crate::header::header;
-use crate::line::Line;
+use crate::line::LineProgress;
 use crate::origin::{self, Items, Origin};
 use crate::pattern::Pattern;
 use crate::scan;
-use crate::tokens::{Reader, Step};
+use crate::tokens::{Onward, TokenReader};
 use std::alloc::Global;
 
 /// The pattern that a text in Golly's multi-state RLE spells, or what is wrong with the text; the
@@ -94,12 +94,12 @@ fn is_comment(line: &[u8]) -> bool
 }
 
 /// What the tokens draw, which begin at this place of the text.
-fn body(alloc: Global, text: &[u8], start: usize) -> Result<Reader, RleFault>
+fn body(alloc: Global, text: &[u8], start: usize) -> Result<TokenReader, RleFault>
     ensures { AnswersAs (λ reader meant. reader.cells.items ≡ meant) (λ fault. fault ≡ RleFault.Memory) result
         (cells_read (length text.now) (bare (lines_of (enumerate_from start (drop start text.now))))) }
 {
-    let mut reader = Reader::new(alloc);
-    let mut line = Line::Start;
+    let mut reader = TokenReader::new(alloc);
+    let mut line = LineProgress::Start;
     let mut place = start;
     while place < text.len() {
         let next = past_runs(&mut reader, line, text, place)?;
@@ -114,8 +114,8 @@ fn body(alloc: Global, text: &[u8], start: usize) -> Result<Reader, RleFault>
             continue;
         }
         match reader.read(place as u64, byte) {
-            Ok(Step::Goes) => place += 1,
-            Ok(Step::Ends) => return Ok(reader),
+            Ok(Onward::Goes) => place += 1,
+            Ok(Onward::Ends) => return Ok(reader),
             Err(fault) => return Err(fault),
         }
     }
@@ -127,12 +127,17 @@ fn body(alloc: Global, text: &[u8], start: usize) -> Result<Reader, RleFault>
 
 /// Reads the runs whose bytes stand together, if one begins at this place, and tells the place behind
 /// them; else this place.
-fn past_runs(reader: &mut Reader, line: Line, text: &[u8], place: usize) -> Result<usize, RleFault>
+fn past_runs(
+    reader: &mut TokenReader,
+    line: LineProgress,
+    text: &[u8],
+    place: usize,
+) -> Result<usize, RleFault>
     requires { place ≤ length text.now }
     ensures { ReadsOn line text.now place reader.old result reader.new }
 {
     match line {
-        Line::Inside if reader.is_between() => reader.read_runs(text, place),
+        LineProgress::Inside if reader.is_between() => reader.read_runs(text, place),
         _ => Ok(place),
     }
 }

@@ -2,7 +2,7 @@
 
 ghost use Rattle.std.specs.Prelude.{◌≡◌, ◌≤◌, length, option_map};
 ghost use Rattle.std.specs.List.{prefix_len, list_all, position_or_len};
-ghost use Rattle.multistate_rle.specs.Bytes.{is_decimal_digit, is_space_or_tab, ends_line, text_behind, past};
+ghost use Rattle.multistate_rle.specs.Bytes.{is_decimal_digit, is_space_or_tab, ends_line, text_behind, past_prefix};
 
 /// A space or a tab.
 pub fn is_blank(byte: u8) -> bool
@@ -27,7 +27,7 @@ pub fn digits_in_front(text: &[u8]) -> usize
 
 /// The text without the blanks in front of it.
 pub fn without_blanks(text: &[u8]) -> &[u8]
-    ensures rest { result.now ≡ past is_space_or_tab text.now }
+    ensures rest { result.now ≡ past_prefix is_space_or_tab text.now }
     ensures within { length result.now ≤ length text.now }
 {
     &text[blanks_in_front(text)..]

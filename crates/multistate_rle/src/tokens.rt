@@ -4,18 +4,16 @@ ghost use Rattle.std.specs.Prelude.{◌≡◌, ◌≢◌, ◌+◌, ◌*◌, ◌�
 ghost use Rattle.multistate_rle.specs.Reading.{fresh, with_digit, with_prefix, fault_of, width_of, height_of};
 ghost use Rattle.std.specs.Prelude.{[]};
 ghost use Rattle.multistate_rle.specs.Begun.{capped};
-ghost use Rattle.multistate_rle.specs.declared.tokens.TheConstants.{COUNT_LIMIT};
+ghost use Rattle.multistate_rle.specs.declared.numbers.TheConstants.{COUNT_LIMIT};
 ghost use Rattle.multistate_rle.specs.Tokens.{Cells, Rows, run, cells_in_row};
 
 use crate::ahead::token_at;
 use crate::fault::RleFault;
+use crate::numbers::{COUNT_LIMIT, longer_count};
 use crate::pattern::PatternCell;
 use crate::role::Role;
 use std::alloc::{AllocError, Global};
 use std::marker::Model;
-
-/// More columns, and more rows, than there are: a count above it is as faulty as this one.
-pub const COUNT_LIMIT: u64 = 4_294_967_297;
 
 const MOST_CELLS: u64 = 1 << 20;
 
@@ -54,10 +52,9 @@ impl Begun {
         requires digit { digit ≤ 9 }
         ensures { result ≡ capped (with_digit place digit self) }
     {
-        let count = 10 * self.count.unwrap_or(0) + u64::from(digit);
         Begun {
             place: Some(self.place.unwrap_or(place)),
-            count: Some(count.min(COUNT_LIMIT)),
+            count: Some(longer_count(self.count.unwrap_or(0), digit)),
             prefix: self.prefix,
         }
     }
@@ -75,7 +72,7 @@ impl Begun {
 
 /// Whether tokens may follow a byte.
 #[derive(Clone, Copy, Debug, PartialEq, Eq)]
-pub enum Step {
+pub enum Onward {
     Goes,
     Ends,
 }
@@ -83,7 +80,7 @@ pub enum Step {
 /// What was drawn so far and the sides that it needs, where the next token draws, and what is read of
 /// it.
 #[derive(Drop)]
-pub struct Reader {
+pub struct TokenReader {
     pub column: u64,
     pub row: u64,
     pub cells: Vec<PatternCell>,
@@ -98,17 +95,17 @@ pub struct Reader {
     ghost high: { height ≡ height_of 0 cells.items },
 }
 
-impl Reader {
-    ghost use Rattle.multistate_rle.specs.declared.line.Line.TheVariants.{Inside};
+impl TokenReader {
+    ghost use Rattle.multistate_rle.specs.declared.line.LineProgress.TheVariants.{Inside};
     ghost use Rattle.multistate_rle.specs.Steps.{pen_of, Reads, ReadsOn, EndsAt, Puts};
     ghost use Rattle.std.specs.Prelude.{◌≡◌, ◌+◌, ◌*◌, ◌≤◌, ◌<◌, ◌^◌, ◌++◌, ◌⊎◌, Some, None, [], length, OnOk, IfErr, IfOk, OnErr, IsTrue, unwrap_or};
     ghost use Rattle.multistate_rle.specs.Reading.{fresh, fault_of};
     ghost use Rattle.multistate_rle.specs.Tokens.{Cells, Rows};
 
-    pub fn new(alloc: Global) -> Reader
+    pub fn new(alloc: Global) -> TokenReader
         ensures { (result.column ≡ 0) × (result.row ≡ 0) × (result.cells.items ≡ []) × (result.begun ≡ fresh) }
     {
-        Reader {
+        TokenReader {
             column: 0,
             row: 0,
             cells: Vec::new(alloc),
@@ -119,13 +116,13 @@ impl Reader {
     }
 
     /// Goes on by one byte, neither a blank nor a line's end nor in a comment.
-    pub fn read(&mut self, place: u64, byte: u8) -> Result<Step, RleFault>
+    pub fn read(&mut self, place: u64, byte: u8) -> Result<Onward, RleFault>
         ensures { Reads self.old (place, byte) result self.new }
     {
         match Role::of(self.begun.prefix, byte) {
             Role::EndMark => {
                 self.end(place)?;
-                return Ok(Step::Ends);
+                return Ok(Onward::Ends);
             }
             Role::Digit(digit) => self.begun = self.begun.with_digit(place, digit),
             Role::Prefix(prefix) => self.begun = self.begun.with_prefix(place, prefix),
@@ -133,7 +130,7 @@ impl Reader {
             Role::RowEnd => self.put_rows(place)?,
             Role::Stray => return Err(RleFault::Tag(place)),
         }
-        Ok(Step::Goes)
+        Ok(Onward::Goes)
     }
 
     /// Reads the runs whose bytes stand together from this place of a line on, one behind the other, and

@@ -1,7 +1,7 @@
 //! The words of a line.
 
 ghost use Rattle.std.specs.Prelude.{◌≡◌, ◌<◌, [], ◌∷◌, ◌++◌, length, MatchOption, IfSome};
-ghost use Rattle.multistate_rle.specs.Bytes.{is_space_or_tab, past};
+ghost use Rattle.multistate_rle.specs.Bytes.{is_space_or_tab, past_prefix};
 ghost use Rattle.multistate_rle.specs.Position.{words};
 
 use crate::scan;
@@ -10,7 +10,7 @@ use crate::scan;
 /// parted by spaces and tabs.
 pub fn split_word(line: &[u8]) -> Option<(&[u8], &[u8])>
     ensures word { MatchOption result (words line.now ≡ []) (λ p. words line.now ≡ p.0.now ∷ words p.1.now) }
-    ensures whole { IfSome result (λ p. p.0.now ++ p.1.now ≡ past is_space_or_tab line.now) }
+    ensures whole { IfSome result (λ p. p.0.now ++ p.1.now ≡ past_prefix is_space_or_tab line.now) }
     ensures shorter { IfSome result (λ p. length p.1.now < length line.now) }
 {
     let rest = scan::without_blanks(line);

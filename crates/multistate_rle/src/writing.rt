@@ -5,12 +5,12 @@ ghost use Rattle.multistate_rle.specs.Cells.{is_sorted, are_nonzero, are_states_
 ghost use Rattle.multistate_rle.specs.Writing.{text_of_cells, head_lines, body, token_text};
 ghost use Rattle.multistate_rle.specs.Bounds.{seen_from, in_box};
 ghost use Rattle.multistate_rle.specs.Tokens.{tokens_from};
-ghost use Rattle.multistate_rle.specs.Filling.{Writes};
+ghost use Rattle.multistate_rle.specs.Filling.{WritesPieces};
 
 use crate::bounds::{Bounds, bounds_of};
 use crate::cell::Cell;
 use crate::letters::Letters;
-use crate::lines::{Lines, Pen};
+use crate::lines::{LineWriter, WritingPen};
 use crate::pattern::PatternCell;
 use generations_rule::Rule;
 use itoa::Buffer;
@@ -69,17 +69,17 @@ fn with_body(
     requires { are_nonzero cells.now ≡ true }
     ensures { IfOk result (λ whole. whole.items ≡ text.items ++ body two_states (tokens_from 0 0 (in_box bounds.now cells.now))) }
 {
-    let mut lines = Lines::after(text, two_states);
+    let mut lines = LineWriter::after(text, two_states);
     put_cells(&mut lines, bounds, cells)?;
     lines.put(1, Letters::plain(b'!'))?;
     lines.ended()
 }
 
-fn put_cells(lines: &mut Lines, bounds: &Bounds, cells: &[Cell]) -> Result<(), AllocError>
+fn put_cells(lines: &mut LineWriter, bounds: &Bounds, cells: &[Cell]) -> Result<(), AllocError>
     requires { are_nonzero cells.now ≡ true }
-    ensures { OnOk result (Writes lines.old (map (token_text lines.old.two_states) (tokens_from 0 0 (in_box bounds.now cells.now))) lines.new) }
+    ensures { OnOk result (WritesPieces lines.old (map (token_text lines.old.two_states) (tokens_from 0 0 (in_box bounds.now cells.now))) lines.new) }
 {
-    let mut pen = Pen::new();
+    let mut pen = WritingPen::new();
     for cell in cells {
         pen = lines.put_cell(pen, seen(bounds, cell))?;
     }

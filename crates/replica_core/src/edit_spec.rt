@@ -1,10 +1,8 @@
 //! What is to be drawn.
 
-ghost use Rattle.std.specs.Prelude.{◌≡◌};
-
 use edit_stamps::Rect;
+use lists::ListOf;
 use multistate_rle::{Cell, Pattern};
-use std::marker::Model;
 
 /// What is to be drawn.
 #[derive(Debug, Drop)]
@@ -19,38 +17,5 @@ pub enum EditSpec {
     Clear(Rect),
 }
 
-/// A list of cells. It is made from a `Vec` and gives it back without taking memory.
-#[derive(Debug, Drop)]
-pub struct CellList {
-    cells: Vec<Cell>,
-}
-
-impl Model for CellList {
-    ghost use Rattle.std.specs.Prelude.{List};
-    ghost use Rattle.multistate_rle.specs.declared.cell.Cell.{Cell};
-
-    ghost Value = { List Cell };
-
-    ghost view = { λ l. l.cells.items };
-}
-
-impl CellList {
-    pub fn of_vec(cells: Vec<Cell>) -> CellList
-        ensures { result ≡ cells.items }
-    {
-        CellList { cells }
-    }
-
-    pub fn as_slice(&self) -> &[Cell]
-        ensures { result.now ≡ self.now }
-    {
-        &self.cells
-    }
-
-    pub fn into_vec(self) -> Vec<Cell>
-        ensures { result.items ≡ self }
-    {
-        let CellList { cells } = self;
-        cells
-    }
-}
+/// The cells of a draw, in any order.
+pub type CellList = ListOf<Cell>;

@@ -16,7 +16,7 @@ use Rattle.edit_stamps.proofs.PlaceOrder.{one_place, same_itself}
 use Rattle.edit_stamps.proofs.WriteLaws.{is_lattice, left_of, right_of, stamps_rise, stamp_of_greater, greater-unwritten, unwritten-greater}
 use Rattle.stamped_map.specs.declared.plane.Coordinate.{Coordinate}
 use Rattle.edit_stamps.specs.declared.rect.Rect.{Rect}
-use Rattle.stamped_map.specs.Plane.{place_at, strip, IsJoinable, IsPlane}
+use Rattle.stamped_map.specs.Plane.{place_of_coordinate, strip, IsJoinable, IsPlane}
 use Rattle.edit_stamps.specs.Edit.{written}
 
 -- ---- the greatest stamp
@@ -105,10 +105,10 @@ cell_of cells i = get_or cells i (record { x = pos 0; y = pos 0; state = 0 })
 -- the first of the cells that are left
 pub first_written : (stamp : ℕ) (cells : List Cell) (i : ℕ) (at : Coordinate) → i < length cells →
     at ≡ record { y = (cell_of cells i).y; x = (cell_of cells i).x } →
-    AreSame (written stamp (drop i cells)) (joined (only (place_at at) (record { stamp = stamp; state = (cell_of cells i).state })) (written stamp (drop (i + 1) cells)))
+    AreSame (written stamp (drop i cells)) (joined (only (place_of_coordinate at) (record { stamp = stamp; state = (cell_of cells i).state })) (written stamp (drop (i + 1) cells)))
 first_written stamp cells i at within is c =
     ap (λ rest. written stamp rest c) (drop-cons cells i (record { x = pos 0; y = pos 0; state = 0 }) within)
-    ∙ (λ j. greater (only (place_at (sym is j)) (record { stamp = stamp; state = (cell_of cells i).state }) c) (written stamp (drop (sym (add-one i) j) cells) c))
+    ∙ (λ j. greater (only (place_of_coordinate (sym is j)) (record { stamp = stamp; state = (cell_of cells i).state }) c) (written stamp (drop (sym (add-one i) j) cells) c))
 
 chosen : (a b : Bool) (w : Write) → (if a || b then w else unwritten) ≡ greater (if a then w else unwritten) (if b then w else unwritten)
 chosen true true w = sym (is_lattice.idempotent w)
@@ -163,13 +163,13 @@ no_row x y w c = grind (arith, ints)
 pub first_blank : (stamp : ℕ) (row : Rect) (i : ℕ) (at : Coordinate) → i < row.width → row.height ≡ 1 →
     at ≡ record { y = row.y; x = row.x +ℤ pos i } →
     AreSame (blank stamp (strip (row.x +ℤ pos i) row.y (row.width - i) 1))
-    (joined (only (place_at at) (record { stamp = stamp; state = 0 })) (blank stamp (strip (row.x +ℤ pos (i + 1)) row.y (row.width - (i + 1)) 1)))
+    (joined (only (place_of_coordinate at) (record { stamp = stamp; state = 0 })) (blank stamp (strip (row.x +ℤ pos (i + 1)) row.y (row.width - (i + 1)) 1)))
 first_blank stamp row i at within one is c =
     let zero : Write = record { stamp = stamp; state = 0 } in
     let rest : Bool = is_in (strip (row.x +ℤ pos (i + 1)) row.y (row.width - (i + 1)) 1) c in
     ap (λ b. if b then zero else unwritten) (first_column row.x row.y row.width i c within)
     ∙ chosen (is_place (record { x = row.x +ℤ pos i; y = row.y }) c) rest zero
-    ∙ ap (λ q. greater (only (place_at q) zero c) (if rest then zero else unwritten)) (sym is)
+    ∙ ap (λ q. greater (only (place_of_coordinate q) zero c) (if rest then zero else unwritten)) (sym is)
 
 -- the first row of what is left of an area
 pub first_blank_row : (stamp : ℕ) (area row : Rect) (i : ℕ) → i < area.height → row ≡ strip area.x (area.y +ℤ pos i) area.width 1 →
@@ -207,9 +207,9 @@ on_err (Err e) p = p
 
 -- each column of a row that lies in the plane
 pub column_inside : (row : Rect) (i : ℕ) (at : Coordinate) → is_area_in_plane row ≡ true → i < row.width → row.height ≡ 1 →
-    at ≡ record { y = row.y; x = row.x +ℤ pos i } → is_in_plane (place_at at) ≡ true
+    at ≡ record { y = row.y; x = row.x +ℤ pos i } → is_in_plane (place_of_coordinate at) ≡ true
 column_inside row i at area within one is =
-    ap (λ q. is_in_plane (place_at q)) is ∙ inside_of row.x row.y row.width row.height i area within where
+    ap (λ q. is_in_plane (place_of_coordinate q)) is ∙ inside_of row.x row.y row.width row.height i area within where
       inside_of : (x y : ℤ) (w h j : ℕ) → is_area_in_plane (strip x y w h) ≡ true → j < w → is_in_plane (record { x = x +ℤ pos j; y = y }) ≡ true
       inside_of x y w h j fits below = grind (arith, ints)
 

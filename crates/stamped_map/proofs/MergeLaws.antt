@@ -13,7 +13,7 @@ use Rattle.edit_stamps.specs.Write.{at_most, greater, unwritten, Writes, AreSame
 use Rattle.edit_stamps.proofs.PlaceOrder.{one_place}
 use Rattle.edit_stamps.proofs.WriteLaws.{is_total, is_lattice, greater-unwritten, unwritten-greater, stamp_of_greater, stamps_rise, left_of, right_of}
 use Rattle.stamped_map.specs.declared.plane.Coordinate.{Coordinate}
-use Rattle.stamped_map.specs.Plane.{map_of_entries, plane_of, place_at, IsPlane}
+use Rattle.stamped_map.specs.Plane.{map_of_entries, plane_of, place_of_coordinate, IsPlane}
 use Rattle.stamped_map.specs.Merge.{coordinate_cmp, from_place, wins_over}
 use Rattle.stamped_map.proofs.ReadLemmas.{found, write_at-entries}
 use Rattle.stamped_map.proofs.JoinLemmas.{absorbed, swapped, key_is_place, coordinate}
@@ -31,22 +31,22 @@ keeps v w h = is_lattice.commutative v w ∙ absorbed w v h
 -- the entries that win over the ones that are still held
 abbrev pub winning_from : List (Coordinate × Write) → List (Coordinate × Write) → List (Coordinate × Write)
 winning_from held [] = []
-winning_from held (e ∷ sent) = cond (wins_over held e) (e ∷ winning_from (from_place (place_at e.0) held) sent) (winning_from (from_place (place_at e.0) held) sent)
+winning_from held (e ∷ sent) = cond (wins_over held e) (e ∷ winning_from (from_place (place_of_coordinate e.0) held) sent) (winning_from (from_place (place_of_coordinate e.0) held) sent)
 
 -- at each entry's coordinate the same is read of both
 abbrev ReadAlike : List (Coordinate × Write) → List (Coordinate × Write) → List (Coordinate × Write) → Type 0
 ReadAlike held own [] = Unit {0}
-ReadAlike held own (e ∷ sent) = (write_at (map_of_entries held) (place_at e.0) ≡ write_at (map_of_entries own) (place_at e.0)) × ReadAlike held own sent
+ReadAlike held own (e ∷ sent) = (write_at (map_of_entries held) (place_of_coordinate e.0) ≡ write_at (map_of_entries own) (place_of_coordinate e.0)) × ReadAlike held own sent
 
 alike_itself : (own sent : List (Coordinate × Write)) → ReadAlike own own sent
 alike_itself own [] = tt
 alike_itself own (e ∷ sent) = (refl, alike_itself own sent)
 
 alike_ahead : (k : Coordinate) (held own sent : List (Coordinate × Write)) → AllByRecursion (λ x. coordinate_cmp k x ≡ Less) (keys_of sent) →
-    ReadAlike held own sent → ReadAlike (from_place (place_at k) held) own sent
+    ReadAlike held own sent → ReadAlike (from_place (place_of_coordinate k) held) own sent
 alike_ahead k held own [] later alike = tt
 alike_ahead k held own (e ∷ sent) later alike = (
-  read_ahead held (place_at k) (place_at e.0) (less_before k e.0 later.0) ∙ alike.0,
+  read_ahead held (place_of_coordinate k) (place_of_coordinate e.0) (less_before k e.0 later.0) ∙ alike.0,
   alike_ahead k held own sent later.1 alike.1,
 )
 
@@ -55,8 +55,8 @@ winning_alike : (held own sent : List (Coordinate × Write)) → IsStrictlySorte
 unfolding IsStrictlySortedBy
 winning_alike held own [] sorted alike = refl
 winning_alike held own (e ∷ sent) sorted alike =
-    let rest : winning_from (from_place (place_at e.0) held) sent ≡ filter (wins_over own) sent =
-    winning_alike (from_place (place_at e.0) held) own sent sorted.1 (alike_ahead e.0 held own sent sorted.0 alike.1) in
+    let rest : winning_from (from_place (place_of_coordinate e.0) held) sent ≡ filter (wins_over own) sent =
+    winning_alike (from_place (place_of_coordinate e.0) held) own sent sorted.1 (alike_ahead e.0 held own sent sorted.0 alike.1) in
     let same : wins_over held e ≡ wins_over own e = ap (λ w. not (at_most e.1 w)) alike.0 in
     λ i. cond (same i) (e ∷ rest i) (rest i)
 
@@ -93,13 +93,13 @@ all_found (e ∷ entries) sorted = (rw (same_key e.0) refl, found_behind e entri
 -- each entry has the write of a map at its coordinate
 abbrev pub AreOf : Writes → List (Coordinate × Write) → Type 0
 AreOf p [] = Unit {0}
-AreOf p (e ∷ entries) = (e.1 ≡ p (place_at e.0)) × AreOf p entries
+AreOf p (e ∷ entries) = (e.1 ≡ p (place_of_coordinate e.0)) × AreOf p entries
 
 are_of_first : (p : Writes) (entries more : List (Coordinate × Write)) → AreOf p (entries ++ more) → AreOf p entries
 are_of_first p [] more all = tt
 are_of_first p (e ∷ entries) more all = (all.0, are_of_first p entries more all.1)
 
-found_are_of : (p : Writes) (all entries : List (Coordinate × Write)) → ((q : Coordinate) (w : Write) → found all q ≡ Some w → w ≡ p (place_at q)) →
+found_are_of : (p : Writes) (all entries : List (Coordinate × Write)) → ((q : Coordinate) (w : Write) → found all q ≡ Some w → w ≡ p (place_of_coordinate q)) →
     AllFound all entries → AreOf p entries
 found_are_of p all [] each found_all = tt
 found_are_of p all (e ∷ entries) each found_all = (each e.0 e.1 found_all.0, found_are_of p all entries each found_all.1)
@@ -109,29 +109,29 @@ winning_are_joined : (own all sent : List (Coordinate × Write)) → AllFound al
     AreOf (joined (write_at (map_of_entries own)) (write_at (map_of_entries all))) (filter (wins_over own) sent)
 winning_are_joined own all [] found_all = tt
 winning_are_joined own all (e ∷ sent) found_all =
-    let held : Write = write_at (map_of_entries own) (place_at e.0) in
+    let held : Write = write_at (map_of_entries own) (place_of_coordinate e.0) in
     let rest = winning_are_joined own all sent found_all.1 in
     elim (cases_Bool (at_most e.1 held)) [
       | inl t ↦ rw t rest
       | inr f ↦
-          let read : write_at (map_of_entries all) (place_at e.0) ≡ e.1 =
+          let read : write_at (map_of_entries all) (place_of_coordinate e.0) ≡ e.1 =
           write_at-entries all e.0 ∙ ap (λ o. unwrap_or o unwritten) found_all.0 in
-          let own_is : e.1 ≡ greater held (write_at (map_of_entries all) (place_at e.0)) =
+          let own_is : e.1 ≡ greater held (write_at (map_of_entries all) (place_of_coordinate e.0)) =
           sym (absorbed held e.1 (swapped e.1 held f)) ∙ ap (greater held) (sym read) in
           rw f (own_is, rest)
     ]
 
 -- where no entry wins, what was sent is at most what is held
 none_wins : (own sent : List (Coordinate × Write)) (q : Coordinate) → is_some (found (filter (wins_over own) sent) q) ≡ false →
-    at_most (unwrap_or (found sent q) unwritten) (write_at (map_of_entries own) (place_at q)) ≡ true
-none_wins own [] q none = is_total.least (write_at (map_of_entries own) (place_at q))
+    at_most (unwrap_or (found sent q) unwritten) (write_at (map_of_entries own) (place_of_coordinate q)) ≡ true
+none_wins own [] q none = is_total.least (write_at (map_of_entries own) (place_of_coordinate q))
 none_wins own (e ∷ sent) q none = elim (cases_Bool (is_eq (coordinate_cmp q e.0))) [
-  | inl here ↦ elim (cases_Bool (at_most e.1 (write_at (map_of_entries own) (place_at e.0)))) [
-    | inl t ↦ rw here (subst (λ c. at_most e.1 (write_at (map_of_entries own) c) ≡ true) (sym (one_place (place_at q) (place_at e.0) (sym (key_is_place q e.0) ∙ here))) t)
+  | inl here ↦ elim (cases_Bool (at_most e.1 (write_at (map_of_entries own) (place_of_coordinate e.0)))) [
+    | inl t ↦ rw here (subst (λ c. at_most e.1 (write_at (map_of_entries own) c) ≡ true) (sym (one_place (place_of_coordinate q) (place_of_coordinate e.0) (sym (key_is_place q e.0) ∙ here))) t)
     | inr f ↦ absurd (let some : is_some (found (filter (wins_over own) (e ∷ sent)) q) ≡ true = rw (f, here) refl in cc)
   ]
   | inr there ↦
-      let rest : is_some (found (filter (wins_over own) sent) q) ≡ false = elim (cases_Bool (at_most e.1 (write_at (map_of_entries own) (place_at e.0)))) [
+      let rest : is_some (found (filter (wins_over own) sent) q) ≡ false = elim (cases_Bool (at_most e.1 (write_at (map_of_entries own) (place_of_coordinate e.0)))) [
         | inl t ↦ rw t at none
         | inr f ↦ rw (f, there) at none
       ] in
@@ -149,20 +149,20 @@ both false w = refl
 
 -- entries of a map that are inserted give the map's write where there is one
 inserted : (p : Writes) (f : Coordinate → Option Write) (entries : List (Coordinate × Write)) (q : Coordinate) → AreOf p entries →
-    update_all (eq_by_cmp coordinate_cmp) f entries q ≡ cond (is_some (found entries q)) (Some (p (place_at q))) (f q)
+    update_all (eq_by_cmp coordinate_cmp) f entries q ≡ cond (is_some (found entries q)) (Some (p (place_of_coordinate q))) (f q)
 inserted p f [] q all = refl
 inserted p f (e ∷ entries) q all =
     let g : Coordinate → Option Write = λ k. cond (eq_by_cmp coordinate_cmp e.0 k) (Some e.1) (f k) in
-    let rest : update_all (eq_by_cmp coordinate_cmp) g entries q ≡ cond (is_some (found entries q)) (Some (p (place_at q))) (g q) = inserted p g entries q all.1 in
+    let rest : update_all (eq_by_cmp coordinate_cmp) g entries q ≡ cond (is_some (found entries q)) (Some (p (place_of_coordinate q))) (g q) = inserted p g entries q all.1 in
     elim (cases_Bool (is_eq (coordinate_cmp q e.0))) [
       | inl here ↦
-          let own : g q ≡ Some (p (place_at q)) =
-          ap (λ b. cond b (Some e.1) (f q)) (turned_test e.0 q ∙ here) ∙ ap Some (all.0 ∙ ap p (sym (one_place (place_at q) (place_at e.0) (sym (key_is_place q e.0) ∙ here)))) in
-          rest ∙ ap (cond (is_some (found entries q)) (Some (p (place_at q)))) own ∙ both (is_some (found entries q)) (p (place_at q))
-          ∙ ap (λ b. cond (is_some (cond b (Some e.1) (found entries q))) (Some (p (place_at q))) (f q)) (sym here)
+          let own : g q ≡ Some (p (place_of_coordinate q)) =
+          ap (λ b. cond b (Some e.1) (f q)) (turned_test e.0 q ∙ here) ∙ ap Some (all.0 ∙ ap p (sym (one_place (place_of_coordinate q) (place_of_coordinate e.0) (sym (key_is_place q e.0) ∙ here)))) in
+          rest ∙ ap (cond (is_some (found entries q)) (Some (p (place_of_coordinate q)))) own ∙ both (is_some (found entries q)) (p (place_of_coordinate q))
+          ∙ ap (λ b. cond (is_some (cond b (Some e.1) (found entries q))) (Some (p (place_of_coordinate q))) (f q)) (sym here)
       | inr there ↦
-          rest ∙ ap (λ b. cond (is_some (found entries q)) (Some (p (place_at q))) (cond b (Some e.1) (f q))) (turned_test e.0 q ∙ there)
-          ∙ ap (λ b. cond (is_some (cond b (Some e.1) (found entries q))) (Some (p (place_at q))) (f q)) (sym there)
+          rest ∙ ap (λ b. cond (is_some (found entries q)) (Some (p (place_of_coordinate q))) (cond b (Some e.1) (f q))) (turned_test e.0 q ∙ there)
+          ∙ ap (λ b. cond (is_some (cond b (Some e.1) (found entries q))) (Some (p (place_of_coordinate q))) (f q)) (sym there)
     ]
 
 -- ---- the winners, moved into a map
@@ -170,7 +170,7 @@ inserted p f (e ∷ entries) q all =
 -- the winners' map has what the join makes, at the coordinates of the entries that win
 pub record AreWinners (own sent winners : List (Coordinate × Write)) : Type 0 where
   pub found_at : (q : Coordinate) →
-      found winners q ≡ cond (is_some (found (filter (wins_over own) sent) q)) (Some (joined (write_at (map_of_entries own)) (write_at (map_of_entries sent)) (place_at q))) None
+      found winners q ≡ cond (is_some (found (filter (wins_over own) sent) q)) (Some (joined (write_at (map_of_entries own)) (write_at (map_of_entries sent)) (place_of_coordinate q))) None
   pub are_of : AreOf (joined (write_at (map_of_entries own)) (write_at (map_of_entries sent))) winners
 
 only_some : (b : Bool) (v w : Write) → cond b (Some v) None ≡ Some w → w ≡ v
@@ -182,13 +182,13 @@ pub are_winners : (own sent entries winners : List (Coordinate × Write)) → en
     ((q : Coordinate) → found winners q ≡ update_all (eq_by_cmp coordinate_cmp) (λ _. None) entries q) → AreWinners own sent winners
 are_winners own sent entries winners is sorted ordered made =
     let p : Writes = joined (write_at (map_of_entries own)) (write_at (map_of_entries sent)) in
-    let at : (q : Coordinate) → found winners q ≡ cond (is_some (found (filter (wins_over own) sent) q)) (Some (p (place_at q))) None = λ q.
+    let at : (q : Coordinate) → found winners q ≡ cond (is_some (found (filter (wins_over own) sent) q)) (Some (p (place_of_coordinate q))) None = λ q.
     made q ∙ ap (λ es. update_all (eq_by_cmp coordinate_cmp) (λ _. None) es q) is
     ∙ inserted p (λ _. None) (filter (wins_over own) sent) q (winning_are_joined own sent sent (all_found sent sorted)) in
     record {
       found_at = at;
       are_of = found_are_of p winners winners
-          (λ q w some. only_some (is_some (found (filter (wins_over own) sent) q)) (p (place_at q)) w (sym (at q) ∙ some))
+          (λ q w some. only_some (is_some (found (filter (wins_over own) sent) q)) (p (place_of_coordinate q)) w (sym (at q) ∙ some))
           (all_found winners ordered);
     }
 
@@ -253,10 +253,10 @@ greatest_of_entries : (g : ℕ) (p : Writes) (entries : List (Coordinate × Writ
     IsGreatestStamp (greatest_of g entries) (joined p (entries_written entries))
 greatest_of_entries g p [] greatest = greatest_same g p (joined p (λ _. unwritten)) greatest (λ c. greater-unwritten (p c))
 greatest_of_entries g p (e ∷ entries) greatest =
-    let first : Writes = joined p (only (place_at e.0) e.1) in
+    let first : Writes = joined p (only (place_of_coordinate e.0) e.1) in
     greatest_same (greatest_of (max g e.1.stamp) entries) (joined first (entries_written entries)) (joined p (entries_written (e ∷ entries)))
-    (greatest_of_entries (max g e.1.stamp) first entries (greatest_joined g p first (place_at e.0) e.1 greatest (λ c. refl)))
-    (λ c. sym (is_lattice.associative (p c) (only (place_at e.0) e.1 c) (entries_written entries c)))
+    (greatest_of_entries (max g e.1.stamp) first entries (greatest_joined g p first (place_of_coordinate e.0) e.1 greatest (λ c. refl)))
+    (λ c. sym (is_lattice.associative (p c) (only (place_of_coordinate e.0) e.1 c) (entries_written entries c)))
 
 nothing_greatest : IsGreatestStamp 0 (λ _. unwritten)
 nothing_greatest = record { above = λ c. omega arith; least = λ m bound. omega arith }

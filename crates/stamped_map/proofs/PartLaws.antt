@@ -17,7 +17,7 @@ use Rattle.edit_stamps.proofs.PlaceOrder.{one_place, same_itself}
 use Rattle.edit_stamps.proofs.SortedCells.{sorted_tail, listed_behind, listed_here, listed_there}
 use Rattle.edit_stamps.proofs.WriteLaws.{is_lattice, greater-unwritten}
 use Rattle.stamped_map.specs.declared.plane.Coordinate.{Coordinate}
-use Rattle.stamped_map.specs.Plane.{place_at, strip}
+use Rattle.stamped_map.specs.Plane.{place_of_coordinate, strip}
 use Rattle.edit_stamps.specs.PlaneMap.{blank, only, IsPartlyJoined}
 use Rattle.stamped_map.proofs.EditWrites.{written_is_listed}
 use Rattle.stamped_map.proofs.JoiningLaws.{cell_of}
@@ -76,10 +76,10 @@ listed_at (a ∷ cells) (suc i) sorted within =
 
 pub cell_part : (stamp : ℕ) (cells : List Cell) (i : ℕ) (at : Coordinate) → is_sorted cells ≡ true → i < length cells →
     at ≡ record { y = (cell_of cells i).y; x = (cell_of cells i).x } →
-    ArePartOf (only (place_at at) (record { stamp = stamp; state = (cell_of cells i).state })) (written stamp cells)
+    ArePartOf (only (place_of_coordinate at) (record { stamp = stamp; state = (cell_of cells i).state })) (written stamp cells)
 cell_part stamp cells i at sorted within is =
-    only_part (place_at at) (record { stamp = stamp; state = (cell_of cells i).state }) (written stamp cells)
-    (ap (λ q. written stamp cells (place_at q)) is ∙ written_is_listed stamp cells sorted (place_of (cell_of cells i))
+    only_part (place_of_coordinate at) (record { stamp = stamp; state = (cell_of cells i).state }) (written stamp cells)
+    (ap (λ q. written stamp cells (place_of_coordinate q)) is ∙ written_is_listed stamp cells sorted (place_of (cell_of cells i))
     ∙ ap (λ o. write_by stamp o false) (listed_at cells i sorted within))
 
 -- ---- areas
@@ -88,10 +88,10 @@ column_in : (x y : ℤ) (w h i : ℕ) → i < w → h ≡ 1 → is_in (strip x y
 column_in x y w h i within one = grind (arith, ints)
 
 pub column_part : (stamp : ℕ) (row : Rect) (i : ℕ) (at : Coordinate) → i < row.width → row.height ≡ 1 → at ≡ record { y = row.y; x = row.x +ℤ pos i } →
-    ArePartOf (only (place_at at) (record { stamp = stamp; state = 0 })) (blank stamp row)
+    ArePartOf (only (place_of_coordinate at) (record { stamp = stamp; state = 0 })) (blank stamp row)
 column_part stamp row i at within one is =
-    only_part (place_at at) (record { stamp = stamp; state = 0 }) (blank stamp row)
-    (ap (λ q. blank stamp row (place_at q)) is
+    only_part (place_of_coordinate at) (record { stamp = stamp; state = 0 }) (blank stamp row)
+    (ap (λ q. blank stamp row (place_of_coordinate q)) is
     ∙ ap (λ b. if b then record { stamp = stamp; state = 0 } else unwritten) (column_in row.x row.y row.width row.height i within one))
 
 row_in : (x y : ℤ) (w h i : ℕ) (c : Place) → i < h → is_in (strip x (y +ℤ pos i) w 1) c ≡ true → is_in (strip x y w h) c ≡ true

@@ -9,7 +9,7 @@ use Rattle.edit_stamps.specs.declared.write.Write.{Write}
 use Rattle.edit_stamps.specs.PlaneMap.{write_at}
 use Rattle.edit_stamps.specs.Write.{at_most}
 use Rattle.stamped_map.specs.declared.plane.Coordinate.{Coordinate}
-use Rattle.stamped_map.specs.Plane.{map_of_entries, place_at}
+use Rattle.stamped_map.specs.Plane.{map_of_entries, place_of_coordinate}
 
 -- the order of coordinates: by y, then by x
 abbrev pub coordinate_cmp : Coordinate → Coordinate → Ordering
@@ -28,13 +28,13 @@ pub record IsAhead (next : Option (Coordinate × Write)) (behind : List (Coordin
 -- the entries without the first ones that are before a place
 abbrev pub from_place : Place → List (Coordinate × Write) → List (Coordinate × Write)
 from_place at [] = []
-from_place at (e ∷ entries) = if is_before (place_at e.0) at then from_place at entries else e ∷ entries
+from_place at (e ∷ entries) = if is_before (place_of_coordinate e.0) at then from_place at entries else e ∷ entries
 
 -- the first entry is before a place
 abbrev pub is_next_before : Place → List (Coordinate × Write) → Bool
 is_next_before at [] = false
-is_next_before at (e ∷ entries) = is_before (place_at e.0) at
+is_next_before at (e ∷ entries) = is_before (place_of_coordinate e.0) at
 
 -- an entry wins over what entries have at its coordinate
 abbrev pub wins_over : List (Coordinate × Write) → Coordinate × Write → Bool
-wins_over own e = not (at_most e.1 (write_at (map_of_entries own) (place_at e.0)))
+wins_over own e = not (at_most e.1 (write_at (map_of_entries own) (place_of_coordinate e.0)))

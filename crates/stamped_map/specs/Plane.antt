@@ -7,12 +7,12 @@ use Rattle.stamped_map.specs.declared.plane.Coordinate.{Coordinate}
 use Rattle.edit_stamps.specs.PlaneMap.{HasStampedWrites, IsGreatestStamp, LiesInPlane, PlaneMap, PlaneValue, only, write_at}
 use Rattle.edit_stamps.specs.Stamp.{is_stamp}
 
-abbrev pub place_at : Coordinate → Place
-place_at at = record { x = at.x; y = at.y }
+abbrev pub place_of_coordinate : Coordinate → Place
+place_of_coordinate at = record { x = at.x; y = at.y }
 
 -- a patch of side 1 for each written coordinate
 abbrev pub map_of_entries : List (Coordinate × Write) → PlaneMap
-map_of_entries entries = map (λ e. record { corner = place_at e.0; side = 1; write = e.1 }) entries
+map_of_entries entries = map (λ e. record { corner = place_of_coordinate e.0; side = 1; write = e.1 }) entries
 
 -- what contracts see of a plane of entries
 abbrev pub plane_of : List (Coordinate × Write) → PlaneValue

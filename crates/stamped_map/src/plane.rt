@@ -11,7 +11,7 @@ ghost use Rattle.edit_stamps.specs.Stamp.{is_stamp};
 ghost use Rattle.edit_stamps.specs.Write.{unwritten, AreSame, joined};
 ghost use Rattle.edit_stamps.specs.Edit.{PlaneEdit, IsEdit, greatest, has_states_below, writes_of};
 ghost use Rattle.multistate_rle.specs.Cells.{are_states_below, is_sorted};
-ghost use Rattle.stamped_map.specs.Plane.{IsJoinable, map_of_entries, place_at, strip};
+ghost use Rattle.stamped_map.specs.Plane.{IsJoinable, map_of_entries, place_of_coordinate, strip};
 
 use edit_stamps::{Edit, Rect, Write};
 use multistate_rle::Cell;
@@ -229,8 +229,8 @@ impl Plane {
 
     /// Joins one write.
     fn join_write(&mut self, at: Coordinate, write: Write) -> Result<(), AllocError>
-        requires { IsJoinable (place_at at) write }
-        ensures ok { OnOk result (AreSame (map_of self.new) (joined (map_of self.old) (only (place_at at) write))) }
+        requires { IsJoinable (place_of_coordinate at) write }
+        ensures ok { OnOk result (AreSame (map_of self.new) (joined (map_of self.old) (only (place_of_coordinate at) write))) }
         ensures err { OnErr result (self.new ≡ self.old) }
         ensures states { KeepsStates (λ states. write.state < states) (map_of self.old) (map_of self.new) }
     {
@@ -247,7 +247,7 @@ fn join_into(
     write: Write,
 ) -> Result<(), AllocError>
     ensures ok { OnOk result (AreSame (write_at (map_of_entries writes.new.entries))
-        (joined (write_at (map_of_entries writes.old.entries)) (only (place_at at) write))) }
+        (joined (write_at (map_of_entries writes.old.entries)) (only (place_of_coordinate at) write))) }
     ensures err { OnErr result (writes.new.entries ≡ writes.old.entries) }
 {
     let held = writes.get(&at).copied().unwrap_or(Write::UNWRITTEN);

@@ -96,7 +96,7 @@ impl Pairs {
         let mut right = 0u64;
         for ((first, second), merged) in self.firsts.iter().zip(&self.seconds).zip(&self.merged) {
             for i in 0..64 {
-                if merged.get(i) == first.get(i).greater(second.get(i)) {
+                if merged.get(i) == first.get(i).max(second.get(i)) {
                     right = right.wrapping_add(1);
                 }
             }

@@ -2,7 +2,7 @@
 
 ghost use Rattle.std.specs.Prelude.{◌≡◌, ◌∷◌, [], false, drop, IfSome, IfNone};
 ghost use Rattle.edit_stamps.specs.PlaneMap.{write_at};
-ghost use Rattle.stamped_map.specs.Plane.{map_of_entries, place_at};
+ghost use Rattle.stamped_map.specs.Plane.{map_of_entries, place_of_coordinate};
 ghost use Rattle.stamped_map.specs.Merge.{from_place, is_next_before};
 
 use super::Coordinate;
@@ -43,8 +43,8 @@ impl<'a> Ahead<'a> {
 
     /// The write at a coordinate, the least write where there is none. Leaves the entries before it behind.
     pub fn write_at(&mut self, at: Coordinate) -> Write
-        ensures read { result ≡ write_at (map_of_entries self.old) (place_at at) }
-        ensures left { self.new ≡ from_place (place_at at) self.old }
+        ensures read { result ≡ write_at (map_of_entries self.old) (place_of_coordinate at) }
+        ensures left { self.new ≡ from_place (place_of_coordinate at) self.old }
     {
         while self.is_before(at) {
             self.advance();
@@ -54,7 +54,7 @@ impl<'a> Ahead<'a> {
 
     /// Whether the next entry is before a coordinate.
     fn is_before(&self, at: Coordinate) -> bool
-        ensures { result ≡ is_next_before (place_at at) self.now }
+        ensures { result ≡ is_next_before (place_of_coordinate at) self.now }
     {
         match self.next {
             Some((next, _)) => next < at,
@@ -64,8 +64,8 @@ impl<'a> Ahead<'a> {
 
     /// The write at a coordinate that no entry is before.
     fn next_write(&self, at: Coordinate) -> Write
-        requires { is_next_before (place_at at) self.now ≡ false }
-        ensures { result ≡ write_at (map_of_entries self.now) (place_at at) }
+        requires { is_next_before (place_of_coordinate at) self.now ≡ false }
+        ensures { result ≡ write_at (map_of_entries self.now) (place_of_coordinate at) }
     {
         match self.next {
             Some((next, write)) if next == at => write,

@@ -7,7 +7,7 @@ ghost use Rattle.std.specs.List.Sorted.{IsStrictlySortedBy};
 ghost use Rattle.std.specs.Map.{keys_of};
 ghost use Rattle.edit_stamps.specs.PlaneMap.{write_at, IsGreatestStamp, IsPartlyJoined};
 ghost use Rattle.edit_stamps.specs.Write.{AreSame, joined};
-ghost use Rattle.stamped_map.specs.Plane.{map_of_entries, place_at};
+ghost use Rattle.stamped_map.specs.Plane.{map_of_entries, place_of_coordinate};
 ghost use Rattle.stamped_map.specs.Merge.{coordinate_cmp, wins_over};
 
 use super::Coordinate;

@@ -10,11 +10,11 @@ loop-next-init c =
 
 pub loop-next-smaller : goal.loop-next-smaller
 loop-next-smaller c =
-    (way_goes_on c.args.edits.now c.args.edit.now c.index-edits-place.result c.loop-next.next c.in-Some.place c.requires c.loop-next.invariant c.in-Some.is c.index-edits-place.is (cc)).0
+    (way_goes_on c.args.edits.now c.args.edit.now c.index-edits-index.result c.loop-next.next c.in-Some.index c.requires c.loop-next.invariant c.in-Some.is c.index-edits-index.is (cc)).0
 
 pub loop-next-preserved : goal.loop-next-preserved
 loop-next-preserved c =
-    (way_goes_on c.args.edits.now c.args.edit.now c.index-edits-place.result c.loop-next.next c.in-Some.place c.requires c.loop-next.invariant c.in-Some.is c.index-edits-place.is (cc)).1
+    (way_goes_on c.args.edits.now c.args.edit.now c.index-edits-index.result c.loop-next.next c.in-Some.index c.requires c.loop-next.invariant c.in-Some.is c.index-edits-index.is (cc)).1
 
 pub returns : goal.returns
 returns c = sym (way_ends c.args.edits.now c.args.edit.now c.loop-next.next c.loop-next.invariant c.in_default.not-Some)

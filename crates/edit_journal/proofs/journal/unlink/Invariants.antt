@@ -4,8 +4,8 @@ use Rattle.std.specs.BTreeMap.{get}
 use Rattle.edit_journal.specs.Journal.{IsLinked}
 use Rattle.edit_journal.proofs.journal.unlink.Given as goal
 
-abbrev pub invariant-loop-place : goal.invariant-loop-place
-invariant-loop-place l = record {
-  above : l.from ≤ l.place;
-  linked : IsLinked l.edits l.earlier (get nat_cmp l.latest) l.place;
+abbrev pub invariant-loop-index : goal.invariant-loop-index
+invariant-loop-index l = record {
+  above : l.from ≤ l.index;
+  linked : IsLinked l.edits l.earlier (get nat_cmp l.latest) l.index;
 }

@@ -10,8 +10,8 @@ loop-place-init c = record {
 
 pub loop-place-preserved : goal.loop-place-preserved
 loop-place-preserved c = record {
-  begins = count_goes_on c.args.text.now c.args.start c.loop-place.place _ c.loop-place.count _ c.loop-place.invariant.begins c.loop-place-test.true refl (sym c.is_ascii_digit.ensures.value ∙ c.if-not-is_ascii_digit.false) (rw c.from.ensures at c.min-count.ensures);
-  count = rw c.min-count.ensures (omega arith);
+  begins = count_goes_on c.args.text.now c.args.start c.loop-place.place _ c.loop-place.count _ c.loop-place.invariant.begins c.loop-place-test.true refl (sym c.is_ascii_digit.ensures.value ∙ c.if-not-is_ascii_digit.false) c.longer_count-count.ensures;
+  count = rw c.longer_count-count.ensures (omega arith);
 }
 
 pub returns-clause-front : goal.returns-clause-front

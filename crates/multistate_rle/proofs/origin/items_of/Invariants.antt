@@ -1,13 +1,13 @@
 use Rattle.std.proofs.Common.{◌≡◌, List, ℕ, length}
 use Rattle.multistate_rle.specs.Position.{ItemsValue}
-use Rattle.multistate_rle.specs.Bytes.{is_space_or_tab, past}
+use Rattle.multistate_rle.specs.Bytes.{is_space_or_tab, past_prefix}
 use Rattle.multistate_rle.specs.Position.{words, items_in, no_items}
 use Rattle.multistate_rle.proofs.origin.items_of.Given as goal
 
 -- what was read, with the words still to come behind it
 pub record Read (line rest : List ℕ) (items : ItemsValue) : Type 0 where
   pub items_are : items_in items (words rest) ≡ items_in no_items (words line)
-  pub trimmed : past is_space_or_tab rest ≡ rest
+  pub trimmed : past_prefix is_space_or_tab rest ≡ rest
 
 abbrev pub invariant-loop-rest : goal.invariant-loop-rest
 invariant-loop-rest l = Read l.line l.rest l.items

@@ -2,7 +2,7 @@ use Rattle.std.proofs.Common.{◌∙◌, sym, inr, length, drop}
 use Rattle.std.proofs.Common.{◌+◌}
 use Rattle.std.specs.List.{enumerate_from}
 use Rattle.multistate_rle.specs.Lines.{left}
-use Rattle.multistate_rle.specs.declared.tokens.Reader.{Reader}
+use Rattle.multistate_rle.specs.declared.tokens.TokenReader.{TokenReader}
 use Rattle.multistate_rle.proofs.BodyLemmas.{begins, passes, meets, not_moved, ends_well, ends_ill, answered, refused, refused_by}
 use Rattle.multistate_rle.proofs.reading.body.Goals as goal
 
@@ -24,7 +24,7 @@ loop-place-preserved c =
 
 pub returns-in-Ok-Ends : goal.returns-in-Ok-Ends
 returns-in-Ok-Ends c =
-    answered (λ (reader : Reader). reader.cells.items) c.read.new.self _
+    answered (λ (reader : TokenReader). reader.cells.items) c.read.new.self _
     ((rw c.in-Ok-Ends.field-0-is at c.in-Ok-Ends.ensures) (length c.args.text.now) (left c.after-line.result (enumerate_from (c.loop-place.place + 1) (drop (c.loop-place.place + 1) c.args.text.now)))
     ∙ meets (length c.args.text.now) c.args.text.now c.loop-place.place c.loop-place.line c.after-line.result c.past_runs.new.reader c.loop-place-test.true c.after-line.ensures (sym c.if-drops.ensures)
     ∙ not_moved (length c.args.text.now) c.args.text.now c.loop-place.place c.in_ok-next.next c.loop-place.line c.loop-place.reader c.past_runs.new.reader c.in_ok-next.ensures c.if-next-place.false
@@ -32,7 +32,7 @@ returns-in-Ok-Ends c =
 
 pub returns-in-Err : goal.returns-in-Err
 returns-in-Err c =
-    refused (λ (reader : Reader). reader.cells.items) c.in-Err.fault _
+    refused (λ (reader : TokenReader). reader.cells.items) c.in-Err.fault _
     (refused_by c.in-Err.ensures (λ said. said (length c.args.text.now) (left c.after-line.result (enumerate_from (c.loop-place.place + 1) (drop (c.loop-place.place + 1) c.args.text.now)))
     ∙ meets (length c.args.text.now) c.args.text.now c.loop-place.place c.loop-place.line c.after-line.result c.past_runs.new.reader c.loop-place-test.true c.after-line.ensures (sym c.if-drops.ensures)
     ∙ not_moved (length c.args.text.now) c.args.text.now c.loop-place.place c.in_ok-next.next c.loop-place.line c.loop-place.reader c.past_runs.new.reader c.in_ok-next.ensures c.if-next-place.false
@@ -40,10 +40,10 @@ returns-in-Err c =
 
 pub returns-in-Ok : goal.returns-in-Ok
 returns-in-Ok c =
-    answered (λ (reader : Reader). reader.cells.items) c.loop-place.reader _
+    answered (λ (reader : TokenReader). reader.cells.items) c.loop-place.reader _
     (sym (ends_well (length c.args.text.now) c.args.text.now c.loop-place.place c.loop-place.line c.loop-place.reader c.loop-place-test.false c.in-Ok.ensures) ∙ c.loop-place.invariant)
 
 pub returns-in-Err-end : goal.returns-in-Err-end
 returns-in-Err-end c =
-    refused (λ (reader : Reader). reader.cells.items) c.in-Err-end.fault _
+    refused (λ (reader : TokenReader). reader.cells.items) c.in-Err-end.fault _
     (inr (sym (ends_ill (length c.args.text.now) c.args.text.now c.loop-place.place c.loop-place.line c.loop-place.reader c.in-Err-end.fault c.loop-place-test.false c.in-Err-end.ensures) ∙ c.loop-place.invariant))

@@ -4,7 +4,7 @@ use Rattle.std.specs.Prelude.{IsTrue}
 use Rattle.multistate_rle.specs.Cells.{are_states_below}
 use Rattle.stamped_map.proofs.StateLaws.{keeps_on, cell_below}
 use Rattle.edit_stamps.specs.PlaneMap.{map_of, PlaneValue, write_at, only, IsPartlyJoined}
-use Rattle.stamped_map.specs.Plane.{place_at}
+use Rattle.stamped_map.specs.Plane.{place_of_coordinate}
 use Rattle.edit_stamps.specs.Edit.{written}
 use Rattle.stamped_map.proofs.JoiningLaws.{joining_goes, joining_ends, on_err, first_written, cell_of}
 use Rattle.stamped_map.proofs.PartLaws.{partly_goes, partly_whole, cell_part}
@@ -18,7 +18,7 @@ returns-in_err-join_write-clause-err c =
 pub loop-cell-preserved : goal.loop-cell-preserved
 loop-cell-preserved c = (
   joining_goes (map_of c.args.self.now) (map_of c.loop-cell.self) (map_of c.join_write.new.self)
-      (only (place_at c.coordinate_of.result) (record { stamp = c.args.stamp; state = (cell_of c.args.cells.now c.loop-cell.cell-index).state }))
+      (only (place_of_coordinate c.coordinate_of.result) (record { stamp = c.args.stamp; state = (cell_of c.args.cells.now c.loop-cell.cell-index).state }))
       (written c.args.stamp (drop (c.loop-cell.cell-index + 1) c.args.cells.now))
       (written c.args.stamp (drop c.loop-cell.cell-index c.args.cells.now))
       (written c.args.stamp c.args.cells.now)
@@ -26,10 +26,10 @@ loop-cell-preserved c = (
       (first_written c.args.stamp c.args.cells.now c.loop-cell.cell-index c.coordinate_of.result c.loop-cell-test.true c.coordinate_of.ensures)
       c.in_ok-join_write.ensures.ok,
   partly_goes (map_of c.args.self.now) (map_of c.loop-cell.self) (map_of c.join_write.new.self)
-      (only (place_at c.coordinate_of.result) (record { stamp = c.args.stamp; state = (cell_of c.args.cells.now c.loop-cell.cell-index).state }))
+      (only (place_of_coordinate c.coordinate_of.result) (record { stamp = c.args.stamp; state = (cell_of c.args.cells.now c.loop-cell.cell-index).state }))
       (written c.args.stamp c.args.cells.now) c.loop-cell.invariant.1
       (cell_part c.args.stamp c.args.cells.now c.loop-cell.cell-index c.coordinate_of.result c.requires.sorted c.loop-cell-test.true c.coordinate_of.ensures)
-      (partly_whole (map_of c.loop-cell.self) (only (place_at c.coordinate_of.result) (record { stamp = c.args.stamp; state = (cell_of c.args.cells.now c.loop-cell.cell-index).state }))
+      (partly_whole (map_of c.loop-cell.self) (only (place_of_coordinate c.coordinate_of.result) (record { stamp = c.args.stamp; state = (cell_of c.args.cells.now c.loop-cell.cell-index).state }))
       (map_of c.join_write.new.self) c.in_ok-join_write.ensures.ok),
   keeps_on (λ n. IsTrue (are_states_below n c.args.cells.now)) (λ n. (cell_of c.args.cells.now c.loop-cell.cell-index).state < n)
       (map_of c.args.self.now) (map_of c.loop-cell.self) (map_of c.join_write.new.self)

@@ -1,7 +1,7 @@
 use Rattle.std.proofs.Common.{◌<◌, sym, refl, arith, length}
 use Rattle.multistate_rle.proofs.BodyLemmas.{refused_by}
 use Rattle.multistate_rle.proofs.RunLemmas.{run_is_read, run_is_faulty}
-use Rattle.multistate_rle.proofs.tokens.Reader.read_run.Goals as goal
+use Rattle.multistate_rle.proofs.tokens.TokenReader.read_run.Goals as goal
 
 pub returns-in-Ok-clause-reads : goal.returns-in-Ok-clause-reads
 returns-in-Ok-clause-reads c =

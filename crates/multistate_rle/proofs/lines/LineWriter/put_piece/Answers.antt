@@ -1,7 +1,7 @@
 use Rattle.std.proofs.Common.{◌≡◌, ◌∙◌, ◌+◌, ◌++◌, length, length-append, ap, sym, append_assoc}
 use Rattle.multistate_rle.specs.Letters.{letters_text}
 use Rattle.multistate_rle.proofs.FillLemmas.{piece_written}
-use Rattle.multistate_rle.proofs.lines.Lines.put_piece.Goals as goal
+use Rattle.multistate_rle.proofs.lines.LineWriter.put_piece.Goals as goal
 
 pub returns : goal.returns
 returns c =

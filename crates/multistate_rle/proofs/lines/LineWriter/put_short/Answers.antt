@@ -2,7 +2,7 @@ use Rattle.std.proofs.Common.{◌≡◌, ◌∙◌, ◌+◌, ◌++◌, length, l
 use Rattle.multistate_rle.specs.Letters.{letters_text}
 use Rattle.multistate_rle.specs.Writing.{spelling, count_text}
 use Rattle.multistate_rle.proofs.FillLemmas.{piece_written}
-use Rattle.multistate_rle.proofs.lines.Lines.put_short.Goals as goal
+use Rattle.multistate_rle.proofs.lines.LineWriter.put_short.Goals as goal
 
 pub push_short-requires-clause-room : goal.push_short-requires-clause-room
 push_short-requires-clause-room c =

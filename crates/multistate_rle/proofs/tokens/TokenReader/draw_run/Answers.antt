@@ -5,7 +5,7 @@ use Rattle.multistate_rle.specs.Steps.{pen_of}
 use Rattle.multistate_rle.proofs.StepLemmas.{draws_run, none_is}
 use Rattle.multistate_rle.proofs.PatternLaws.{fine_run}
 use Rattle.multistate_rle.proofs.SideLemmas.{width_with_run, height_with_run}
-use Rattle.multistate_rle.proofs.tokens.Reader.draw_run.Goals as goal
+use Rattle.multistate_rle.proofs.tokens.TokenReader.draw_run.Goals as goal
 
 pub returns : goal.returns
 returns c = (

@@ -1,9 +1,9 @@
 use Rattle.std.proofs.Common.{◌≡◌, ◌-◌, length}
 use Rattle.std.specs.Prelude.{Ok}
-use Rattle.multistate_rle.specs.declared.line.Line.TheVariants.{Inside}
+use Rattle.multistate_rle.specs.declared.line.LineProgress.TheVariants.{Inside}
 use Rattle.multistate_rle.specs.Reading.{fresh}
 use Rattle.multistate_rle.specs.Steps.{ReadsOn}
-use Rattle.multistate_rle.proofs.tokens.Reader.read_runs.Given as goal
+use Rattle.multistate_rle.proofs.tokens.TokenReader.read_runs.Given as goal
 
 abbrev pub invariant-loop-next : goal.invariant-loop-next
 invariant-loop-next l = record {
