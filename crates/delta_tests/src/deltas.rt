@@ -14,6 +14,12 @@ static ONE_CELL: [u8; 36] = [
     0, 0, 1, 0x40, 0, 0, 0, 0x40, 0, 0, 0, 1,
 ];
 
+/// The same of the last counter.
+static LAST_COUNTER: [u8; 36] = [
+    0x47, 0x4c, 0x57, 0x44, 1, 4, 0x2f, 0x32, 0x2f, 0x33, 0, 0, 0, 1, 0xff, 0xff, 0xff, 0xff, 0xff,
+    0xff, 0, 1, 0, 0, 0, 0, 1, 0x40, 0, 0, 0, 0x40, 0, 0, 0, 1,
+];
+
 pub fn brians_brain() -> Result<Rule, Fail> {
     Ok(Rule::parse(b"/2/3")?)
 }
@@ -53,6 +59,7 @@ fn told(alloc: Global, text: &[u8]) -> Result<Result<usize, ReadFault>, Fail> {
 #[test]
 fn a_text_is_read_whole(rt: HostRuntime) -> Result<(), Fail> {
     assert_eq!(rt; told(rt.alloc(), &ONE_CELL)?, Ok(1));
+    assert_eq!(rt; told(rt.alloc(), &LAST_COUNTER)?, Ok(1));
     assert_eq!(rt; told(rt.alloc(), &ONE_CELL[..35])?, Err(ReadFault::Short));
     assert_eq!(rt; told(rt.alloc(), &[])?, Err(ReadFault::Short));
     Ok(())
@@ -84,7 +91,7 @@ pub fn rewritten(alloc: Global, rule: &Rule, text: &[u8]) -> Result<Vec<u8>, All
 fn values_read(alloc: Global, rule: &Rule, place: usize) -> Result<u32, AllocError>
     requires { place < 36 }
 {
-    let mut text = ONE_CELL;
+    let mut text = LAST_COUNTER;
     let mut read = 0_u32;
     for value in 0..256_u16 {
         text[place] = value as u8;
@@ -98,10 +105,10 @@ fn values_read(alloc: Global, rule: &Rule, place: usize) -> Result<u32, AllocErr
     Ok(read)
 }
 
-/// The head and the numbers have one value each, the stamp's bytes all but 0 in the last of counter
-/// and replica, the coordinates' first bytes the lower half, and the state three.
+/// The head and the numbers have one value each, the stamp's bytes all but 0 in the replica's last,
+/// the coordinates' first bytes the lower half, and the state three.
 static VALUES_READ: [u32; 36] = [
-    1, 1, 1, 1, 1, 1, 1, 1, 1, 1, 1, 1, 1, 1, 256, 256, 256, 256, 256, 255, 256, 255, 1, 1, 1, 1,
+    1, 1, 1, 1, 1, 1, 1, 1, 1, 1, 1, 1, 1, 1, 256, 256, 256, 256, 256, 256, 256, 255, 1, 1, 1, 1,
     1, 128, 256, 256, 256, 128, 256, 256, 256, 3,
 ];
 

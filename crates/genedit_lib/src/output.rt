@@ -14,7 +14,11 @@ use replica_core::Reply;
 use std::alloc::{AllocError, Global};
 
 /// The lines, with the replies in their places.
-pub fn output(alloc: Global, lines: &[PlannedLine], replies: &[Reply]) -> Result<Vec<u8>, AllocError>
+pub fn output(
+    alloc: Global,
+    lines: &[PlannedLine],
+    replies: &[Reply],
+) -> Result<Vec<u8>, AllocError>
     ensures { IfOk result (λ out. out.items ≡ filled (map line_of lines.now) replies.now) }
 {
     let mut out = Vec::new(alloc);

@@ -34,7 +34,7 @@ pub fn row(alloc: Global, counter: u64) -> Result<Edit, EditFault> {
     )
 }
 
-fn is_row(edit: &Edit) -> bool {
+pub fn is_row(edit: &Edit) -> bool {
     edit.listed_cells() == [cell(0, 2), cell(1, 3), cell(2, 0)].as_slice()
 }
 

@@ -2,6 +2,7 @@
 //! answers as it is meant to. With any one allocation refused the lines have to be the same.
 #![tactic(auto)]
 
+mod deltas;
 mod edits;
 mod planes;
 mod replicas;
@@ -15,6 +16,7 @@ fn main(rt: HostRuntime) -> io::Result<()> {
     let alloc = rt.alloc();
     tell_texts(&rt, alloc)?;
     tell_edits(&rt, alloc)?;
+    tell_deltas(&rt, alloc)?;
     tell_planes(&rt, alloc)?;
     tell_replicas(&rt, alloc)?;
     tell_scripts(&rt, alloc)
@@ -35,6 +37,12 @@ fn tell_edits(rt: &impl Print, alloc: Global) -> io::Result<()> {
     tell(rt, "Edit::paste_copy", edits::pattern_is_copied(alloc))?;
     tell(rt, "Edit::paste_or", edits::pattern_is_ored(alloc))?;
     tell(rt, "Edit::copy", edits::edit_is_copied(alloc))
+}
+
+fn tell_deltas(rt: &impl Print, alloc: Global) -> io::Result<()> {
+    tell(rt, "write_delta", deltas::delta_is_written(alloc))?;
+    tell(rt, "read_delta", deltas::delta_is_read(alloc))?;
+    tell(rt, "read_delta of a fault", deltas::fault_is_told(alloc))
 }
 
 fn tell_planes(rt: &impl Print, alloc: Global) -> io::Result<()> {
