@@ -43,7 +43,7 @@ pub fn fault_of_or(rule: &Rule, pattern: &Pattern, at: Corner) -> Option<EditFau
     let cells = pattern.cells();
     if cells.is_empty() {
         Some(EditFault::Nothing)
-    } else if !are_in_plane(cells, at) {
+    } else if !land_in_plane(cells, at) {
         Some(EditFault::OutOfPlane)
     } else if !have_states_below(rule.states(), cells) {
         Some(EditFault::StateRange)
@@ -82,7 +82,7 @@ pub fn box_at(pattern: &Pattern, at: Corner) -> Rect
     }
 }
 
-fn are_in_plane(cells: &[PatternCell], at: Corner) -> bool
+fn land_in_plane(cells: &[PatternCell], at: Corner) -> bool
     ensures { result ≡ list_all (λ cell. is_coordinate_in_plane (at.x +ℤ pos cell.column) && is_coordinate_in_plane (at.y +ℤ pos cell.row)) cells.now }
 {
     cells.iter().all(|cell| lands_in_plane(at.x, cell.column) && lands_in_plane(at.y, cell.row))
