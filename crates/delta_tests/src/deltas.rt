@@ -9,7 +9,7 @@ use std::alloc::{AllocError, Global};
 use std::test::Fail;
 
 /// Under Brian's Brain, one edit of counter 1 and replica 1: state 1 at the origin.
-static ONE_CELL: [u8; 36] = [
+pub static ONE_CELL: [u8; 36] = [
     0x47, 0x4c, 0x57, 0x44, 1, 4, 0x2f, 0x32, 0x2f, 0x33, 0, 0, 0, 1, 0, 0, 0, 0, 0, 1, 0, 1, 0, 0,
     0, 0, 1, 0x40, 0, 0, 0, 0x40, 0, 0, 0, 1,
 ];
@@ -51,7 +51,7 @@ fn one_cell_is_written(rt: HostRuntime) -> Result<(), Fail> {
 }
 
 /// How many edits a text tells, or its first fault.
-fn told(alloc: Global, text: &[u8]) -> Result<Result<usize, ReadFault>, Fail> {
+pub fn told(alloc: Global, text: &[u8]) -> Result<Result<usize, ReadFault>, Fail> {
     let rule = brians_brain()?;
     Ok(read_delta(alloc, &rule, text).map(|edits| edits.as_slice().len()))
 }

@@ -5,3 +5,5 @@
 mod deltas;
 #[cfg(test)]
 mod random;
+#[cfg(test)]
+mod refusals;
