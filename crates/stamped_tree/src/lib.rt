@@ -1,0 +1,4 @@
+//! The plane as a quadtree of stamped writes.
+#![tactic(auto)]
+
+mod leaf_kind;
