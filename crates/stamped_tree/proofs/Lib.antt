@@ -1,1 +1,4 @@
 pub mod Bounds
+pub mod Parts
+pub mod Held
+pub mod Maps

@@ -1,1 +1,5 @@
 pub mod LeafKind
+pub mod Plane
+pub mod PlaneSquare
+pub mod Tree
+pub mod View

@@ -2,3 +2,10 @@
 #![tactic(auto)]
 
 mod leaf_kind;
+mod lookup;
+mod plane;
+mod square;
+
+pub use plane::Plane;
+pub use square::{Square, View};
+pub use square_store::{Part, StoreFault};

@@ -1,0 +1,185 @@
+//! The plane.
+
+ghost use Rattle.std.specs.Prelude.{◌≡◌, ◌^◌, ◌≤◌, ◌<◌, ◌-◌, ℕ, IsTrue, IfOk, OnErr, Err, false, length};
+ghost use Rattle.edit_stamps.specs.Plane.{is_in_plane};
+ghost use Rattle.edit_stamps.specs.PlaneMap.{HasStampedWrites, IsGreatestStamp, LiesInPlane, is_plane_write};
+ghost use Rattle.edit_stamps.specs.Write.{AreSame, unwritten};
+ghost use Rattle.generations_rule.specs.Place.{at_place};
+ghost use Rattle.leaf_merge_lanes.specs.Leaf.{write_of};
+ghost use Rattle.square_store.specs.Grid.{blank_grid};
+ghost use Rattle.square_store.specs.Seen.{IsBlankAt};
+ghost use Rattle.square_store.specs.Store.{IsAdded, IsFullFor, IsHeld, IsRoomFor};
+ghost use Rattle.stamped_tree.specs.LeafKind.{plane_grid};
+ghost use Rattle.stamped_tree.specs.Plane.{ArePlaneWrites, AreQuarterParts, DrawsPart, HasGrown, HasRoomForPart, IsFullForPart, IsPart, IsPartAdded, leaf_grid, map_of, quarters_grid};
+ghost use Rattle.stamped_tree.specs.View.{square_at};
+
+use crate::leaf_kind::PlaneLeaf;
+use crate::lookup;
+use crate::square::Square;
+use edit_stamps::Write;
+use leaf_merge_lanes::Leaf;
+use square_store::{Part, Store, StoreFault};
+use std::alloc::{AllocError, Global};
+use std::marker::Model;
+
+/// How many squares a plane may store if nothing else is said.
+const ROOM: u32 = 0x400_0000;
+
+/// The level of a leaf: it has 2^3 columns and rows.
+const LEAF_LEVEL: u32 = 3;
+
+/// How many levels the root is above a leaf, and how many columns it has.
+const ROOT_LEVEL: u32 = 28;
+
+const ROOT_SIDE: u32 = 0x8000_0000;
+
+/// A map from coordinates to writes: x and y from -2^30 to 2^30 - 1. It is stored as distinct squares,
+/// of which one is the root, of level 31: a square of level k has 2^k columns and rows.
+#[derive(Drop)]
+pub struct Plane {
+    store: Store<PlaneLeaf>,
+    root: Part,
+    alloc: Global,
+}
+
+impl Model for Plane {
+    ghost use Rattle.stamped_tree.specs.Plane.{StampedPlane, IsPlane};
+
+    ghost Value = { StampedPlane };
+
+    ghost view = { λ p. record { store = p.store; root = p.root } };
+
+    ghost invariant = { λ p. IsPlane (record { store = p.store; root = p.root }) };
+}
+
+impl Plane {
+    /// The plane where nothing was written, with room for 2^26 squares.
+    pub fn new(alloc: Global) -> Result<Plane, AllocError>
+        ensures map { IfOk result (λ plane. AreSame (map_of plane) (λ _. unwritten)) }
+        ensures nodes { IfOk result (λ plane. length plane.store.squares ≡ 1) }
+        ensures room { IfOk result (λ plane. plane.store.room ≡ 2 ^ 26) }
+    {
+        let plane = Plane::with_room(alloc, ROOM)?;
+        Ok(plane)
+    }
+
+    /// The plane where nothing was written, with room for so many squares.
+    pub fn with_room(alloc: Global, nodes: u32) -> Result<Plane, AllocError>
+        requires { 1 ≤ nodes }
+        ensures map { IfOk result (λ plane. AreSame (map_of plane) (λ _. unwritten)) }
+        ensures nodes { IfOk result (λ plane. length plane.store.squares ≡ 1) }
+        ensures room { IfOk result (λ plane. plane.store.room ≡ nodes) }
+    {
+        let mut store = Store::new(alloc, nodes);
+        let Ok(root) = store.add_blank(0) else {
+            return Err(AllocError);
+        };
+        Ok(Plane { store, root, alloc })
+    }
+
+    /// How many squares the plane stores. A blank counts once for each stamp, whatever its level, and
+    /// squares that are no longer in use count until `copy`.
+    pub fn nodes(&self) -> u32
+        ensures { result ≡ length self.now.store.squares }
+    {
+        let _ = &self.root;
+        self.store.len()
+    }
+
+    /// The write at a coordinate; the least write where nothing was written, and outside the plane.
+    pub fn get(&self, x: i32, y: i32) -> Write
+        ensures value { result ≡ map_of self.now (at_place x y) }
+        ensures stamped { HasStampedWrites (map_of self.now) }
+    {
+        let root = self.root;
+        let Some(column) = lookup::from_corner(x) else {
+            return Write::UNWRITTEN;
+        };
+        let Some(row) = lookup::from_corner(y) else {
+            return Write::UNWRITTEN;
+        };
+        lookup::write_in(&self.store, ROOT_LEVEL, ROOT_SIDE, root, column, row)
+    }
+
+    /// The greatest stamp of a write, 0 where there is none; in constant time.
+    pub fn greatest_stamp(&self) -> u64
+        ensures greatest { IsGreatestStamp result (map_of self.now) }
+        ensures inside { LiesInPlane (map_of self.now) }
+    {
+        self.store.summary(self.root).greatest
+    }
+
+    /// The square of level 31 that is the whole plane, its upper left corner at (-2^30, -2^30).
+    pub fn root(&self) -> Square<'_>
+        ensures square { result ≡ square_at self.now.store self.now.root }
+        ensures level { IsPart self.now.store 31 self.now.root }
+    {
+        Square::at(&self.store, self.root)
+    }
+
+    /// The square at a part that this plane made.
+    pub fn square(&self, part: Part) -> Square<'_>
+        requires { IsHeld self.now.store part }
+        ensures { result ≡ square_at self.now.store part }
+    {
+        let _ = &self.root;
+        Square::at(&self.store, part)
+    }
+
+    /// The blank of a stamp, of every level: state 0 at every place, written with the stamp; 0 where
+    /// nothing was written.
+    pub fn add_blank(&mut self, stamp: u64) -> Result<Part, StoreFault>
+        requires { IsTrue (is_plane_write (write_of stamp 0)) }
+        ensures draws { IfOk result (λ part. IsBlankAt plane_grid 8 self.new.store stamp part) }
+        ensures added { IfOk result (λ part. (k : ℕ) → IsAdded plane_grid 8 self.old.store self.new.store k (blank_grid stamp) part) }
+        ensures grows { HasGrown self.old self.new }
+        ensures err { OnErr result (self.new ≡ self.old) }
+        ensures full { result ≡ Err StoreFault.StoreFull → (k : ℕ) → IsFullFor plane_grid 8 self.old.store k (blank_grid stamp) }
+        ensures memory { result ≡ Err StoreFault.Memory → (k : ℕ) → IsRoomFor plane_grid 8 self.old.store k (blank_grid stamp) }
+    {
+        let _ = &self.root;
+        let part = self.store.add_blank(stamp)?;
+        Ok(part)
+    }
+
+    /// The square of a leaf, of level 3; the blank where the leaf is one.
+    pub fn add_leaf(&mut self, leaf: Leaf) -> Result<Part, StoreFault>
+        requires { ArePlaneWrites leaf }
+        ensures draws { IfOk result (λ part. DrawsPart self.new.store 3 (leaf_grid leaf) part) }
+        ensures added { IfOk result (λ part. IsPartAdded self.old.store self.new.store 3 (leaf_grid leaf) part) }
+        ensures grows { HasGrown self.old self.new }
+        ensures err { OnErr result (self.new ≡ self.old) }
+        ensures full { result ≡ Err StoreFault.StoreFull → IsFullForPart self.old.store 3 (leaf_grid leaf) }
+        ensures memory { result ≡ Err StoreFault.Memory → HasRoomForPart self.old.store 3 (leaf_grid leaf) }
+    {
+        let _ = &self.root;
+        let part = self.store.add_leaf(PlaneLeaf { leaf })?;
+        Ok(part)
+    }
+
+    /// The square of a level from 4 to 31, of four parts of the level below, NW, NE, SW, SE; the blank
+    /// where together they are one.
+    pub fn add_four(&mut self, level: u32, parts: [Part; 4]) -> Result<Part, StoreFault>
+        requires least { 4 ≤ level }
+        requires most { level ≤ 31 }
+        requires parts { AreQuarterParts self.old.store level parts }
+        ensures draws { IfOk result (λ part. DrawsPart self.new.store level (quarters_grid self.old.store level parts) part) }
+        ensures added { IfOk result (λ part. IsPartAdded self.old.store self.new.store level (quarters_grid self.old.store level parts) part) }
+        ensures grows { HasGrown self.old self.new }
+        ensures err { OnErr result (self.new ≡ self.old) }
+        ensures full { result ≡ Err StoreFault.StoreFull → IsFullForPart self.old.store level (quarters_grid self.old.store level parts) }
+        ensures memory { result ≡ Err StoreFault.Memory → HasRoomForPart self.old.store level (quarters_grid self.old.store level parts) }
+    {
+        let _ = &self.root;
+        let part = self.store.add_four(level - LEAF_LEVEL, parts)?;
+        Ok(part)
+    }
+
+    /// Makes a square of level 31 the root: the map becomes its writes.
+    pub fn set_root(&mut self, part: Part)
+        requires { IsPart self.old.store 31 part }
+        ensures { self.new ≡ record { store = self.old.store; root = part } }
+    {
+        self.root = part;
+    }
+}
