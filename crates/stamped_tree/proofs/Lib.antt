@@ -2,3 +2,5 @@ pub mod Bounds
 pub mod Parts
 pub mod Held
 pub mod Maps
+pub mod TreeLaws
+pub mod Shown

@@ -17,15 +17,15 @@ four_listed (a ∷ b ∷ c ∷ []) h p q r s = absurd (omega (arith, h))
 four_listed (a ∷ b ∷ c ∷ d ∷ []) h p q r s = refl
 four_listed (a ∷ b ∷ c ∷ d ∷ e ∷ rest) h p q r s = absurd (omega (arith, h))
 
-pub same_default : (xs : List ℕ) (i d : ℕ) → i < length xs → slice_index_or xs i d ≡ slice_index_or xs i 0
-same_default [] i d h = absurd (omega (arith, h))
-same_default (x ∷ xs) zero d h = refl
-same_default (x ∷ xs) (suc i) d h = same_default xs i d (omega (arith, h))
+pub same_default : {A : Type 0} (xs : List A) (i : ℕ) (d e : A) → i < length xs → slice_index_or xs i d ≡ slice_index_or xs i e
+same_default [] i d e h = absurd (omega (arith, h))
+same_default (x ∷ xs) zero d e h = refl
+same_default (x ∷ xs) (suc i) d e h = same_default xs i d e (omega (arith, h))
 
 -- squares stand at the parts
 module _ (s : Held PlaneLeaf) (k p : ℕ) (parts : List ℕ) (four : IsFourAt plane_grid 8 s k parts p) where
   pub part_stands : (i d : ℕ) → i < 4 → IsAt s (k - 1) (slice_index_or parts i d)
-  part_stands i d h = subst (λ q. IsAt s (k - 1) q) (sym (same_default parts i d (let l = four.four in omega (arith, h, l)))) (four.parts_stand i h)
+  part_stands i d h = subst (λ q. IsAt s (k - 1) q) (sym (same_default parts i d 0 (let l = four.four in omega (arith, h, l)))) (four.parts_stand i h)
 
   pub part_held : (i d : ℕ) → i < 4 → IsHeld s (slice_index_or parts i d)
   part_held i d h = at_within s (k - 1) (slice_index_or parts i d) (part_stands i d h)

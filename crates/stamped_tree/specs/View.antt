@@ -3,6 +3,7 @@ use Rattle.std.specs.Prelude.{◌≡◌, ℕ, [], ◌∷◌, ◌↔◌}
 use Rattle.edit_stamps.specs.Write.{AreSame}
 use Rattle.square_store.specs.Squares.{Held}
 use Rattle.square_store.specs.Seen.{IsBlankAt, IsLeafAt, IsFourAt}
+use Rattle.leaf_merge_lanes.specs.Leaf.{IsLeaf}
 use Rattle.stamped_tree.specs.declared.leaf_kind.PlaneLeaf.{PlaneLeaf}
 use Rattle.stamped_tree.specs.declared.square.View.{View}
 use Rattle.stamped_tree.specs.declared.square.View.TheVariants as view
@@ -27,13 +28,13 @@ pub record AreQuartersOf (q nw ne sw se : PlaneSquare) : Type 0 where
 -- the square is what the view shows
 abbrev pub IsView : PlaneSquare → View → Type 0
 IsView q (view.Blank t) = IsBlankAt plane_grid 8 q.store t q.part
-IsView q (view.Leaf l) = IsLeafAt plane_grid 8 q.store (record { leaf = l.now }) q.part
+IsView q (view.Leaf l) = IsLeaf l.now × IsLeafAt plane_grid 8 q.store (record { leaf = l.now }) q.part
 IsView q (view.Four nw ne sw se) = AreQuartersOf q nw ne sw se
 
 -- the views of the square at a part, and of all below it, show a tree
 abbrev pub ShowsTree : Held PlaneLeaf → ℕ → Tree → Type 0
 ShowsTree s p (Blank t) = IsBlankAt plane_grid 8 s t p
-ShowsTree s p (Leaf writes) = IsLeafAt plane_grid 8 s (record { leaf = writes }) p
+ShowsTree s p (Leaf writes) = IsLeaf writes × IsLeafAt plane_grid 8 s (record { leaf = writes }) p
 ShowsTree s p (Four nw ne sw se) =
     (k : ℕ) × ((a : ℕ) × ((b : ℕ) × ((c : ℕ) × ((d : ℕ) × IsFourAt plane_grid 8 s k (a ∷ b ∷ c ∷ d ∷ []) p × ShowsTree s a nw × ShowsTree s b ne × ShowsTree s c sw × ShowsTree s d se))))
 

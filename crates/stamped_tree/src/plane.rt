@@ -8,10 +8,11 @@ ghost use Rattle.generations_rule.specs.Place.{at_place};
 ghost use Rattle.leaf_merge_lanes.specs.Leaf.{write_of};
 ghost use Rattle.square_store.specs.Grid.{blank_grid};
 ghost use Rattle.square_store.specs.Seen.{IsBlankAt};
-ghost use Rattle.square_store.specs.Store.{IsAdded, IsFullFor, IsHeld, IsRoomFor};
+ghost use Rattle.square_store.specs.Store.{IsAdded, IsFullFor, IsHeld, IsOnePartEach, IsRoomFor};
 ghost use Rattle.stamped_tree.specs.LeafKind.{plane_grid};
-ghost use Rattle.stamped_tree.specs.Plane.{ArePlaneWrites, AreQuarterParts, DrawsPart, HasGrown, HasRoomForPart, IsFullForPart, IsPart, IsPartAdded, leaf_grid, map_of, quarters_grid};
-ghost use Rattle.stamped_tree.specs.View.{square_at};
+ghost use Rattle.stamped_tree.specs.Plane.{ArePlaneWrites, AreQuarterParts, DrawsPart, HasGrown, HasRoomForPart, IsFullForPart, IsPart, IsPartAdded, IsPlane, leaf_grid, map_of, quarters_grid};
+ghost use Rattle.stamped_tree.specs.Tree.{OneMap, OneTree};
+ghost use Rattle.stamped_tree.specs.View.{ShowSameWhereSame, ShowsItsTree, square_at};
 
 use crate::leaf_kind::PlaneLeaf;
 use crate::lookup;
@@ -181,5 +182,21 @@ impl Plane {
         ensures { self.new ≡ record { store = self.old.store; root = part } }
     {
         self.root = part;
+    }
+
+    /// What holds of every plane, and of any two. The views of a root show the one tree of the map, so
+    /// two planes whose maps read the same show the same views at every level, and others do not.
+    pub fn plane_laws(&self, other: &Plane)
+        ensures plane { IsPlane self.now }
+        ensures parts { IsOnePartEach plane_grid 8 self.now.store }
+        ensures shows { ShowsItsTree self.now }
+        ensures same { ShowSameWhereSame self.now other.now }
+        ensures one_tree { OneTree }
+        ensures one_map { OneMap }
+    {
+        let _ = &self.root;
+        let _ = &other.root;
+        self.store.store_laws();
+        other.store.store_laws();
     }
 }

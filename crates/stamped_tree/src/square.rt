@@ -64,7 +64,10 @@ impl<'a> Square<'a> {
     {
         match self.store.square(self.part) {
             store::Square::Blank(stamp) => View::Blank(stamp),
-            store::Square::Leaf(leaf) => View::Leaf(&leaf.leaf),
+            store::Square::Leaf(leaf) => {
+                let _first = leaf.leaf.get(0);
+                View::Leaf(&leaf.leaf)
+            }
             store::Square::Four { parts, .. } => View::Four {
                 nw: Square::at(self.store, parts[0]),
                 ne: Square::at(self.store, parts[1]),
