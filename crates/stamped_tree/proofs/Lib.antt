@@ -4,3 +4,4 @@ pub mod Held
 pub mod Maps
 pub mod TreeLaws
 pub mod Shown
+pub mod Copying

@@ -1,3 +1,4 @@
+pub mod Copy
 pub mod LeafKind
 pub mod Plane
 pub mod PlaneSquare

@@ -1,6 +1,7 @@
 //! The plane as a quadtree of stamped writes.
 #![tactic(auto)]
 
+mod copy;
 mod leaf_kind;
 mod lookup;
 mod plane;

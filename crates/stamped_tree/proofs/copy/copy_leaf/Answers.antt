@@ -1,0 +1,15 @@
+use Rattle.std.proofs.Common.{ap, sym, Err}
+use Rattle.stamped_tree.specs.LeafKind.{plane_grid}
+use Rattle.stamped_tree.proofs.Copying.{never_full, copies_noted, leaf_copied}
+use Rattle.stamped_tree.proofs.copy.copy_leaf.Goals as goal
+
+pub unreachable-requires : goal.unreachable-requires
+unreachable-requires c = never_full _ _ _ c.store_laws.ensures.store c.requires.copies 0 c.args.part (plane_grid c.args.leaf.now) c.requires.part.draws.stands (λ u v hu hv. sym (c.requires.part.draws.same u v hu hv))
+    (c.in-Err-StoreFull.ensures.full (ap (λ e. Err e) c.in-Err-StoreFull.field-0-is))
+
+pub returns-in_ok-note-in-Ok-clause-copies : goal.returns-in_ok-note-in-Ok-clause-copies
+returns-in_ok-note-in-Ok-clause-copies c = copies_noted _ _ _ c.store_laws.ensures.store c.requires.copies 0 c.args.part (plane_grid c.args.leaf.now) c.requires.part.draws.stands (λ u v hu hv. sym (c.requires.part.draws.same u v hu hv))
+    _ _ _ c.in-Ok.ensures.grows (leaf_copied _ _ c.args.leaf.now c.args.part _ c.requires.part c.in-Ok.ensures.draws) c.in_ok-note-in-Ok.ensures c.in-Ok.ensures.added
+
+pub returns-in_ok-note-in-Ok-clause-copy : goal.returns-in_ok-note-in-Ok-clause-copy
+returns-in_ok-note-in-Ok-clause-copy c = leaf_copied _ _ c.args.leaf.now c.args.part _ c.requires.part c.in-Ok.ensures.draws
