@@ -1,24 +1,23 @@
 -- Copies of squares: a store of the same room is never full of them.
 use Rattle.std.proofs.Common.{◌≡◌, ℕ, zero, suc, ◌+◌, ◌-◌, ◌<◌, ◌≤◌, Bool, true, false, List, [], ◌∷◌, length, inl, inr, refl, sym, ap, subst, ◌∙◌, arith}
 use Rattle.std.specs.Prelude.{slice_index_or, Option, None, Some, is_some, cond, ◌||◌, if◌then◌else◌, eqb}
-use Rattle.std.specs.List.{AllByRecursion, IsDistinct, list_any}
-use Rattle.std.specs.Map.{keys_of, lookup}
-use Rattle.std.specs.Cmp.{first_so}
+use Rattle.std.specs.List.{AllByRecursion, list_any}
+use Rattle.std.specs.Map.{keys_of}
 use Rattle.std.proofs.lemmas.Bool.{cases_lt}
 use Rattle.std.proofs.lemmas.Map.Entries.{length-keys_of}
 use Rattle.std.proofs.lemmas.Map.Keys.{IsDistinct-cons}
 use Rattle.std.proofs.lemmas.Map.Made.{is_some-lookup}
 use Rattle.std.proofs.lemmas.Map.Steps.{length-le_from_distinct_below}
-use Rattle.edit_stamps.specs.declared.write.Write.{Write}
-use Rattle.square_store.specs.Grid.{Grid, blank_grid, quartered, AreSameWithin}
+use Rattle.square_store.specs.Grid.{Grid, quartered, AreSameWithin}
 use Rattle.square_store.specs.Squares.{Held, side_at, IsAt, grid_at, four_grid, Draws}
-use Rattle.square_store.specs.Store.{IsStore, IsHeld, IsGrown, IsAdded, Stood, Added, IsAbsent, IsFullFor}
+use Rattle.square_store.specs.Store.{IsStore, IsGrown, IsAdded, Stood, Added, IsAbsent, IsFullFor}
 use Rattle.square_store.specs.Seen.{IsBlankAt, IsLeafAt, IsFourAt}
 use Rattle.square_store.proofs.Nodes.{nat_same}
 use Rattle.square_store.proofs.Places.{at_within}
 use Rattle.square_store.proofs.Quarters.{twice, quarter_nw, quarter_ne, quarter_sw, quarter_se}
 use Rattle.stamped_tree.specs.declared.leaf_kind.PlaneLeaf.{PlaneLeaf}
 use Rattle.stamped_tree.specs.LeafKind.{plane_grid, IsPlaneLeaf}
+use Rattle.stamped_tree.proofs.Parts.{same_default}
 use Rattle.stamped_tree.specs.Copy.{Copies, copy_of, IsCopy, AreCopies, AreAllCopies, IsNoted}
 
 -- a key that is not looked up is none of the keys
@@ -29,6 +28,7 @@ missing a (k ∷ keys) h = (left (eqb a k) (list_any (eqb a) keys) h, missing a 
     left : (x y : Bool) → (x || y) ≡ false → x ≡ false
     left true y h = h
     left false y h = refl
+
     right : (x y : Bool) → (x || y) ≡ false → y ≡ false
     right true y h = absurd (cc)
     right false y h = h
@@ -42,6 +42,23 @@ copy_later source old new a b grown copy = record {
   });
 }
 
+module _ (source target : Held PlaneLeaf) (copies : Copies) (are : AreCopies source target copies) where
+  key_below : (q : ℕ) → list_any (eqb q) (keys_of copies) ≡ true → q < length source.squares
+  key_below q h = go (copy_of copies q) refl
+    where
+      never : false ≡ true → ⊥
+      never z = cc
+
+      go : (x : Option ℕ) → copy_of copies q ≡ x → q < length source.squares
+      go None e = absurd (never (sym (ap is_some e) ∙ is_some-lookup (eqb q) copies ∙ h))
+      go (Some b) e = (are.each q b e).held
+
+  -- there are as many copies at most as the one store holds squares, and so in the other
+  pub no_more : length target.squares ≤ length source.squares
+  no_more =
+      let most = length-le_from_distinct_below (keys_of copies) (length source.squares) are.once key_below in
+      let few = are.few in omega (arith, few, most, length-keys_of copies)
+
 module _ (source target : Held PlaneLeaf) (copies : Copies) (is : IsStore plane_grid 8 IsPlaneLeaf source) (are : AreCopies source target copies) (k a : ℕ) (f : Grid) (at : IsAt source k a) (same : AreSameWithin (side_at 8 k) f (grid_at plane_grid 8 source k a)) where
   not_copied : IsAbsent plane_grid 8 target k f → copy_of copies a ≡ None
   not_copied absent = go (copy_of copies a) refl
@@ -49,15 +66,6 @@ module _ (source target : Held PlaneLeaf) (copies : Copies) (is : IsStore plane_
       go : (x : Option ℕ) → copy_of copies a ≡ x → copy_of copies a ≡ None
       go None e = e
       go (Some b) e = let drawn = (are.each a b e).draws k at in absurd (absent b (record { stands = drawn.stands; same = λ u v hu hv. drawn.same u v hu hv ∙ sym (same u v hu hv) }))
-
-  key_below : (q : ℕ) → list_any (eqb q) (keys_of copies) ≡ true → q < length source.squares
-  key_below q h = go (copy_of copies q) refl
-    where
-      never : false ≡ true → ⊥
-      never z = cc
-      go : (x : Option ℕ) → copy_of copies q ≡ x → q < length source.squares
-      go None e = absurd (never (sym (ap is_some e) ∙ is_some-lookup (eqb q) copies ∙ h))
-      go (Some b) e = (are.each q b e).held
 
   -- with one that was not copied there are at most as many as the one store holds
   one_more : copy_of copies a ≡ None → suc (length copies) ≤ length source.squares
@@ -69,7 +77,7 @@ module _ (source target : Held PlaneLeaf) (copies : Copies) (is : IsStore plane_
     where
       below : (q : ℕ) (x : Bool) → eqb q a ≡ x → (eqb q a || list_any (eqb q) (keys_of copies)) ≡ true → q < length source.squares
       below q true e h = subst (λ p. p < length source.squares) (sym (nat_same q a e)) (at_within source k a at)
-      below q false e h = key_below q (rw e at h)
+      below q false e h = key_below source target copies are q (rw e at h)
 
   pub never_full : IsFullFor plane_grid 8 target k f → ⊥
   never_full full =
@@ -92,6 +100,7 @@ module _ (source target : Held PlaneLeaf) (copies : Copies) (is : IsStore plane_
       where
         same_copy : {c : ℕ} → Some b ≡ Some c → b ≡ c
         same_copy z = cc
+
         go : (x : Bool) → eqb a q ≡ x → IsCopy source new q c
         go true t =
             let found : Some b ≡ Some c = sym (ap (λ x. cond x (Some b) (copy_of copies q)) t) ∙ sym (note.found q) ∙ e in
@@ -164,11 +173,15 @@ module _ (source target : Held PlaneLeaf) (k a : ℕ) (parts copied : List ℕ) 
   }
 
 -- four copies, made one after another
-pub all_copied : (source s1 s2 s3 s4 : Held PlaneLeaf) (parts : List ℕ) (a b c d : ℕ) → IsGrown plane_grid 8 s1 s2 → IsGrown plane_grid 8 s2 s3 → IsGrown plane_grid 8 s3 s4
-    → IsCopy source s1 (slice_index_or parts 0 0) a → IsCopy source s2 (slice_index_or parts 1 0) b → IsCopy source s3 (slice_index_or parts 2 0) c → IsCopy source s4 (slice_index_or parts 3 0) d
-    → AreAllCopies source s4 parts (a ∷ b ∷ c ∷ d ∷ [])
-all_copied source s1 s2 s3 s4 parts a b c d g1 g2 g3 ha hb hc hd zero h = copy_later source s3 s4 _ a g3 (copy_later source s2 s3 _ a g2 (copy_later source s1 s2 _ a g1 ha))
-all_copied source s1 s2 s3 s4 parts a b c d g1 g2 g3 ha hb hc hd (suc zero) h = copy_later source s3 s4 _ b g3 (copy_later source s2 s3 _ b g2 hb)
-all_copied source s1 s2 s3 s4 parts a b c d g1 g2 g3 ha hb hc hd (suc (suc zero)) h = copy_later source s3 s4 _ c g3 hc
-all_copied source s1 s2 s3 s4 parts a b c d g1 g2 g3 ha hb hc hd (suc (suc (suc zero))) h = hd
-all_copied source s1 s2 s3 s4 parts a b c d g1 g2 g3 ha hb hc hd (suc (suc (suc (suc i)))) h = absurd (omega (arith, h))
+module _ (source s1 s2 s3 s4 : Held PlaneLeaf) (parts : List ℕ) (long : length parts ≡ 4) (a b c d w x y z : ℕ)
+    (grown_b : IsGrown plane_grid 8 s1 s2) (grown_c : IsGrown plane_grid 8 s2 s3) (grown_d : IsGrown plane_grid 8 s3 s4)
+    (copy_a : IsCopy source s1 (slice_index_or parts 0 w) a) (copy_b : IsCopy source s2 (slice_index_or parts 1 x) b) (copy_c : IsCopy source s3 (slice_index_or parts 2 y) c) (copy_d : IsCopy source s4 (slice_index_or parts 3 z) d) where
+  of_default : (s : Held PlaneLeaf) (i e r : ℕ) → i < 4 → IsCopy source s (slice_index_or parts i e) r → IsCopy source s (slice_index_or parts i 0) r
+  of_default s i e r h copy = subst (λ q. IsCopy source s q r) (same_default parts i e 0 (omega (arith, h, long))) copy
+
+  pub all_copied : AreAllCopies source s4 parts (a ∷ b ∷ c ∷ d ∷ [])
+  all_copied zero h = copy_later source s3 s4 _ a grown_d (copy_later source s2 s3 _ a grown_c (copy_later source s1 s2 _ a grown_b (of_default s1 0 w a h copy_a)))
+  all_copied (suc zero) h = copy_later source s3 s4 _ b grown_d (copy_later source s2 s3 _ b grown_c (of_default s2 1 x b h copy_b))
+  all_copied (suc (suc zero)) h = copy_later source s3 s4 _ c grown_d (of_default s3 2 y c h copy_c)
+  all_copied (suc (suc (suc zero))) h = of_default s4 3 z d h copy_d
+  all_copied (suc (suc (suc (suc i)))) h = absurd (omega (arith, h))

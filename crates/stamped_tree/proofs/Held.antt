@@ -45,7 +45,7 @@ some_level s p h = elim ((slice_get_cases s.squares p).1) [
     level_of (Four m a b c d) e = (m, at_node s m p (Four m a b c d) e refl)
 
 -- what a square writes as one level it writes as any for which it stands
-any_level : (s : Held PlaneLeaf) (k p : ℕ) → IsAt s k p → HasPlaneWrites (side_at 8 k) (grid_at plane_grid 8 s k p) → (j : ℕ) → IsAt s j p → HasPlaneWrites (side_at 8 j) (grid_at plane_grid 8 s j p)
+pub any_level : (s : Held PlaneLeaf) (k p : ℕ) → IsAt s k p → HasPlaneWrites (side_at 8 k) (grid_at plane_grid 8 s k p) → (j : ℕ) → IsAt s j p → HasPlaneWrites (side_at 8 j) (grid_at plane_grid 8 s j p)
 any_level s k p h has j i u v hu hv = elim (levels s k j p h i) [
   | inl e ↦ (subst (λ m. HasPlaneWrites (side_at 8 m) (grid_at plane_grid 8 s m p)) e has) u v hu hv
   | inr b ↦ subst (λ (f : Grid). IsTrue (is_plane_write (f u v))) (sym (blank_writes plane_grid 8 s j p b.0 b.1))

@@ -5,3 +5,4 @@ pub mod Maps
 pub mod TreeLaws
 pub mod Shown
 pub mod Copying
+pub mod Cutting

@@ -1,5 +1,5 @@
 -- Copies of squares from one store into another.
-use Rattle.std.specs.Prelude.{◌≡◌, ◌⊎◌, ℕ, zero, suc, ◌+◌, ◌<◌, ◌≤◌, Bool, cond, slice_index_or, List, length, Option, None, Some, is_some, if◌then◌else◌, eqb}
+use Rattle.std.specs.Prelude.{◌≡◌, ◌⊎◌, ℕ, zero, suc, ◌+◌, ◌<◌, ◌≤◌, cond, slice_index_or, List, length, Option, Some, is_some, if◌then◌else◌, eqb}
 use Rattle.std.specs.List.{IsDistinct}
 use Rattle.std.specs.Map.{keys_of, lookup}
 use Rattle.square_store.specs.Grid.{AreSameWithin}
@@ -36,3 +36,27 @@ pub record IsNoted (old new : Copies) (a b : ℕ) : Type 0 where
 -- four parts of the one store are copies of four of the other
 abbrev pub AreAllCopies : (source target : Held PlaneLeaf) → List ℕ → List ℕ → Type 0
 AreAllCopies source target parts copied = (i : ℕ) → i < 4 → IsCopy source target (slice_index_or parts i 0) (slice_index_or copied i 0)
+
+-- ---- the squares that a square is cut into
+
+-- the square of level k at r is a quarter of that of level k + 1 at p, so many columns and rows from its corner
+pub record IsQuarterOf (s : Held PlaneLeaf) (k p r : ℕ) : Type 0 where
+  pub column : ℕ
+  pub row : ℕ
+  pub left : (column ≡ 0) ⊎ (column ≡ side_at 8 k)
+  pub upper : (row ≡ 0) ⊎ (row ≡ side_at 8 k)
+  pub stands : IsAt s k r
+  pub same : AreSameWithin (side_at 8 k) (grid_at plane_grid 8 s k r) (λ u v. grid_at plane_grid 8 s (suc k) p (column + u) (row + v))
+
+-- the square at q is the square of level k at p, or one of those that this is cut into, quarter by quarter
+unfoldable pub IsSquareIn : Held PlaneLeaf → ℕ → (p q : ℕ) → Type 0
+IsSquareIn s zero p q = q ≡ p
+IsSquareIn s (suc k) p q = (q ≡ p) ⊎ ((r : ℕ) × (IsQuarterOf s k p r × IsSquareIn s k r q))
+
+-- what a store holds more than before is the square at p
+abbrev pub AtMostOneMore : (old new : Held PlaneLeaf) → ℕ → Type 0
+AtMostOneMore old new p = (q : ℕ) → IsHeld new q → IsHeld old q ⊎ (q ≡ p)
+
+-- what a store holds more than before is the square of level k at p, and what this is cut into
+abbrev pub IsCutFrom : (old new : Held PlaneLeaf) → ℕ → ℕ → Type 0
+IsCutFrom old new k p = (q : ℕ) → IsHeld new q → IsHeld old q ⊎ IsSquareIn new k p q

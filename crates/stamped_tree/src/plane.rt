@@ -10,14 +10,16 @@ ghost use Rattle.square_store.specs.Grid.{blank_grid};
 ghost use Rattle.square_store.specs.Seen.{IsBlankAt};
 ghost use Rattle.square_store.specs.Store.{IsAdded, IsFullFor, IsHeld, IsOnePartEach, IsRoomFor};
 ghost use Rattle.stamped_tree.specs.LeafKind.{plane_grid};
-ghost use Rattle.stamped_tree.specs.Plane.{ArePlaneWrites, AreQuarterParts, DrawsPart, HasGrown, HasRoomForPart, IsFullForPart, IsPart, IsPartAdded, IsPlane, leaf_grid, map_of, quarters_grid};
+ghost use Rattle.stamped_tree.specs.Plane.{ArePlaneWrites, AreQuarterParts, DrawsPart, HasGrown, HasRoomForPart, IsFullForPart, IsPart, IsPartAdded, IsPlane, StoresRootAlone, leaf_grid, map_of, quarters_grid};
 ghost use Rattle.stamped_tree.specs.Tree.{OneMap, OneTree};
 ghost use Rattle.stamped_tree.specs.View.{ShowSameWhereSame, ShowsItsTree, square_at};
 
+use crate::copy::copy_square;
 use crate::leaf_kind::PlaneLeaf;
 use crate::lookup;
 use crate::square::Square;
 use edit_stamps::Write;
+use indexmap::IndexMap;
 use leaf_merge_lanes::Leaf;
 use square_store::{Part, Store, StoreFault};
 use std::alloc::{AllocError, Global};
@@ -182,6 +184,24 @@ impl Plane {
         ensures { self.new ≡ record { store = self.old.store; root = part } }
     {
         self.root = part;
+    }
+
+    /// The same map in a plane of the same room, which stores the root, and the squares that the root
+    /// is cut into, and no other.
+    pub fn copy(&self) -> Result<Plane, AllocError>
+        ensures map { IfOk result (λ plane. AreSame (map_of plane) (map_of self.now)) }
+        ensures room { IfOk result (λ plane. plane.store.room ≡ self.now.store.room) }
+        ensures squares { IfOk result StoresRootAlone }
+        ensures nodes { IfOk result (λ plane. length plane.store.squares ≤ length self.now.store.squares) }
+    {
+        let mut store = Store::new(self.alloc, self.store.room());
+        let mut copies = IndexMap::new(self.alloc);
+        let root = copy_square(&self.store, &mut store, &mut copies, ROOT_LEVEL, self.root)?;
+        Ok(Plane {
+            store,
+            root,
+            alloc: self.alloc,
+        })
     }
 
     /// What holds of every plane, and of any two. The views of a root show the one tree of the map, so

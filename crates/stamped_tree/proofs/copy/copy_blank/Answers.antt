@@ -1,6 +1,7 @@
 use Rattle.std.proofs.Common.{ap, sym, Err}
 use Rattle.square_store.specs.Grid.{blank_grid}
 use Rattle.stamped_tree.proofs.Copying.{never_full, copies_noted, blank_copied}
+use Rattle.stamped_tree.proofs.Cutting.{one_more_at_most}
 use Rattle.stamped_tree.proofs.copy.copy_blank.Goals as goal
 
 pub unreachable-requires : goal.unreachable-requires
@@ -13,3 +14,6 @@ returns-in_ok-note-in-Ok-clause-copies c = copies_noted _ _ _ c.store_laws.ensur
 
 pub returns-in_ok-note-in-Ok-clause-copy : goal.returns-in_ok-note-in-Ok-clause-copy
 returns-in_ok-note-in-Ok-clause-copy c = blank_copied _ _ c.args.stamp c.args.part _ c.requires.part c.in-Ok.ensures.draws
+
+pub returns-in_ok-note-in-Ok-clause-more : goal.returns-in_ok-note-in-Ok-clause-more
+returns-in_ok-note-in-Ok-clause-more c = one_more_at_most c.args.target.now _ 0 _ (blank_grid c.args.stamp) (c.in-Ok.ensures.added 0)

@@ -2,6 +2,7 @@ use Rattle.std.proofs.Common.{ap, Err, ◌-◌}
 use Rattle.square_store.specs.Squares.{four_grid}
 use Rattle.stamped_tree.specs.LeafKind.{plane_grid}
 use Rattle.stamped_tree.proofs.Copying.{never_full, copies_noted, four_same, four_copied}
+use Rattle.stamped_tree.proofs.Cutting.{one_more_at_most}
 use Rattle.stamped_tree.proofs.copy.copy_four.Goals as goal
 
 pub unreachable-requires : goal.unreachable-requires
@@ -14,3 +15,6 @@ returns-in_ok-note-in-Ok-clause-copies c = copies_noted _ _ _ c.store_laws.ensur
 
 pub returns-in_ok-note-in-Ok-clause-copy : goal.returns-in_ok-note-in-Ok-clause-copy
 returns-in_ok-note-in-Ok-clause-copy c = four_copied _ _ _ _ _ _ c.requires.part c.requires.copied _ _ c.in-Ok.ensures.draws
+
+pub returns-in_ok-note-in-Ok-clause-more : goal.returns-in_ok-note-in-Ok-clause-more
+returns-in_ok-note-in-Ok-clause-more c = one_more_at_most c.args.target.now _ c.args.level _ (four_grid plane_grid 8 c.args.target.now (c.args.level - 1) c.args.copied) c.in-Ok.ensures.added
