@@ -11,7 +11,7 @@ use Rattle.square_store.specs.Seen.{IsFourAt}
 use Rattle.square_store.proofs.Quarters.{twice, quarters_of}
 use Rattle.stamped_tree.specs.declared.leaf_kind.PlaneLeaf.{PlaneLeaf}
 use Rattle.stamped_tree.specs.LeafKind.{plane_grid}
-use Rattle.stamped_tree.specs.Copy.{IsCopy, AreAllCopies, IsQuarterOf, IsSquareIn, AtMostOneMore, IsCutFrom}
+use Rattle.stamped_tree.specs.Copy.{IsCopy, AreAllCopies, IsQuarterOf, IsPieceOf, AddsAtMost, AddsPiecesOf}
 use Rattle.stamped_tree.specs.Plane.{HasPlaneWrites, HoldPlaneWrites}
 use Rattle.square_store.specs.Store.{nothing_held}
 use Rattle.square_store.proofs.Places.{at_within}
@@ -22,19 +22,19 @@ use Rattle.stamped_tree.proofs.Parts.{part_stands}
 less : (k : ℕ) → suc k - 1 ≡ k
 less k = omega arith
 
-pub in_itself : (s : Held PlaneLeaf) (k p : ℕ) → IsSquareIn s k p p
-unfolding IsSquareIn
+pub in_itself : (s : Held PlaneLeaf) (k p : ℕ) → IsPieceOf s k p p
+unfolding IsPieceOf
 in_itself s zero p = refl
 in_itself s (suc k) p = inl refl
 
-in_quarter : (s : Held PlaneLeaf) (k p r q : ℕ) → 0 < k → IsQuarterOf s (k - 1) p r → IsSquareIn s (k - 1) r q → IsSquareIn s k p q
-unfolding IsSquareIn
+in_quarter : (s : Held PlaneLeaf) (k p r q : ℕ) → 0 < k → IsQuarterOf s (k - 1) p r → IsPieceOf s (k - 1) r q → IsPieceOf s k p q
+unfolding IsPieceOf
 in_quarter s zero p r q h quarter below = absurd (omega (arith, h))
-in_quarter s (suc k) p r q h quarter below = inr (r, (subst (λ j. IsQuarterOf s j p r) (less k) quarter, subst (λ j. IsSquareIn s j r q) (less k) below))
+in_quarter s (suc k) p r q h quarter below = inr (r, (subst (λ j. IsQuarterOf s j p r) (less k) quarter, subst (λ j. IsPieceOf s j r q) (less k) below))
 
 -- a store that grew has the squares that it had
-pub in_later : (old new : Held PlaneLeaf) → IsGrown plane_grid 8 old new → (k p q : ℕ) → IsAt old k p → IsSquareIn old k p q → IsSquareIn new k p q
-unfolding IsSquareIn
+pub in_later : (old new : Held PlaneLeaf) → IsGrown plane_grid 8 old new → (k p q : ℕ) → IsAt old k p → IsPieceOf old k p q → IsPieceOf new k p q
+unfolding IsPieceOf
 in_later old new grown zero p q at h = h
 in_later old new grown (suc k) p q at h = elim h [
   | inl e ↦ inl e
@@ -54,7 +54,7 @@ in_later old new grown (suc k) p q at h = elim h [
   ))
 ]
 
-pub one_more_at_most : (old new : Held PlaneLeaf) (k p : ℕ) (f : Grid) → IsAdded plane_grid 8 old new k f p → AtMostOneMore old new p
+pub one_more_at_most : (old new : Held PlaneLeaf) (k p : ℕ) (f : Grid) → IsAdded plane_grid 8 old new k f p → AddsAtMost old new p
 one_more_at_most old new k p f (Stood e) = λ q h. inl (subst (λ s. IsHeld s q) e h)
 one_more_at_most old new k p f (Added absent place more) = λ q h. elim (cases_lt q (length old.squares)) [
   | inl below ↦ inl below
@@ -117,10 +117,10 @@ module _ (source new : Held PlaneLeaf) (k a b : ℕ) (parts copied : List ℕ) (
       quarter_at 3 n n h (inr refl) (inr refl) each.se
   quarters_copied (suc (suc (suc (suc i)))) h = absurd (omega (arith, h))
 
-pub one_cut : (old new : Held PlaneLeaf) (k p : ℕ) → AtMostOneMore old new p → IsCutFrom old new k p
+pub one_cut : (old new : Held PlaneLeaf) (k p : ℕ) → AddsAtMost old new p → AddsPiecesOf old new k p
 one_cut old new k p one q held = elim (one q held) [
   | inl h ↦ inl h
-  | inr e ↦ inr (subst (λ r. IsSquareIn new k p r) (sym e) (in_itself new k p))
+  | inr e ↦ inr (subst (λ r. IsPieceOf new k p r) (sym e) (in_itself new k p))
 ]
 
 -- the squares that four copies added, one after another, and then their square
@@ -131,26 +131,26 @@ module _ (source s0 s1 s2 s3 s4 s5 : Held PlaneLeaf) (k part p : ℕ) (parts : L
   all_later : AreAllCopies source s5 parts (a ∷ b ∷ c ∷ d ∷ [])
   all_later i h = copy_later source s4 s5 _ _ grown (all_copied source s1 s2 s3 s4 parts four.four a b c d w x y z grown_b grown_c grown_d copy_a copy_b copy_c copy_d i h)
 
-  below : (i q : ℕ) → i < 4 → IsSquareIn s5 (k - 1) (slice_index_or (a ∷ b ∷ c ∷ d ∷ []) i 0) q → IsSquareIn s5 k p q
+  below : (i q : ℕ) → i < 4 → IsPieceOf s5 (k - 1) (slice_index_or (a ∷ b ∷ c ∷ d ∷ []) i 0) q → IsPieceOf s5 k p q
   below i q h = in_quarter s5 k p _ q four.positive (quarters_copied source s5 k part p parts (a ∷ b ∷ c ∷ d ∷ []) four copy all_later i h)
 
   -- a square in one that stood before
-  from_d : (r q : ℕ) → IsAt s4 (k - 1) r → IsSquareIn s4 (k - 1) r q → IsSquareIn s5 (k - 1) r q
+  from_d : (r q : ℕ) → IsAt s4 (k - 1) r → IsPieceOf s4 (k - 1) r q → IsPieceOf s5 (k - 1) r q
   from_d r q = in_later s4 s5 grown (k - 1) r q
 
-  from_c : (r q : ℕ) → IsAt s3 (k - 1) r → IsSquareIn s3 (k - 1) r q → IsSquareIn s5 (k - 1) r q
+  from_c : (r q : ℕ) → IsAt s3 (k - 1) r → IsPieceOf s3 (k - 1) r q → IsPieceOf s5 (k - 1) r q
   from_c r q at i = from_d r q (grown_d.stands (k - 1) r at) (in_later s3 s4 grown_d (k - 1) r q at i)
 
-  from_b : (r q : ℕ) → IsAt s2 (k - 1) r → IsSquareIn s2 (k - 1) r q → IsSquareIn s5 (k - 1) r q
+  from_b : (r q : ℕ) → IsAt s2 (k - 1) r → IsPieceOf s2 (k - 1) r q → IsPieceOf s5 (k - 1) r q
   from_b r q at i = from_c r q (grown_c.stands (k - 1) r at) (in_later s2 s3 grown_c (k - 1) r q at i)
 
-  from_a : (r q : ℕ) → IsAt s1 (k - 1) r → IsSquareIn s1 (k - 1) r q → IsSquareIn s5 (k - 1) r q
+  from_a : (r q : ℕ) → IsAt s1 (k - 1) r → IsPieceOf s1 (k - 1) r q → IsPieceOf s5 (k - 1) r q
   from_a r q at i = from_b r q (grown_b.stands (k - 1) r at) (in_later s1 s2 grown_b (k - 1) r q at i)
 
   copy_at : (s : Held PlaneLeaf) (i e r : ℕ) → i < 4 → IsCopy source s (slice_index_or parts i e) r → IsAt s (k - 1) r
   copy_at s i e r h copied = (copied.draws (k - 1) (part_stands source k part parts four i e h)).stands
 
-  pub all_cut : IsCutFrom s0 s1 (k - 1) a → IsCutFrom s1 s2 (k - 1) b → IsCutFrom s2 s3 (k - 1) c → IsCutFrom s3 s4 (k - 1) d → AtMostOneMore s4 s5 p → IsCutFrom s0 s5 k p
+  pub all_cut : AddsPiecesOf s0 s1 (k - 1) a → AddsPiecesOf s1 s2 (k - 1) b → AddsPiecesOf s2 s3 (k - 1) c → AddsPiecesOf s3 s4 (k - 1) d → AddsAtMost s4 s5 p → AddsPiecesOf s0 s5 k p
   all_cut cut_a cut_b cut_c cut_d one q held = elim (one_cut s4 s5 k p one q held) [
     | inr i ↦ inr i
     | inl h4 ↦ elim (cut_d q h4) [
@@ -180,8 +180,8 @@ part_has s k p r quarter has u v hu hv =
       | inr e ↦ omega (arith, e, l, twice 8 k)
     ]
 
-cut_has : (s : Held PlaneLeaf) (k p q : ℕ) → IsAt s k p → HasPlaneWrites (side_at 8 k) (grid_at plane_grid 8 s k p) → IsSquareIn s k p q → (j : ℕ) → IsAt s j q → HasPlaneWrites (side_at 8 j) (grid_at plane_grid 8 s j q)
-unfolding IsSquareIn
+cut_has : (s : Held PlaneLeaf) (k p q : ℕ) → IsAt s k p → HasPlaneWrites (side_at 8 k) (grid_at plane_grid 8 s k p) → IsPieceOf s k p q → (j : ℕ) → IsAt s j q → HasPlaneWrites (side_at 8 j) (grid_at plane_grid 8 s j q)
+unfolding IsPieceOf
 cut_has s zero p q at has e j h = any_level s 0 q (subst (λ r. IsAt s 0 r) (sym e) at) (subst (λ r. HasPlaneWrites (side_at 8 0) (grid_at plane_grid 8 s 0 r)) (sym e) has) j h
 cut_has s (suc k) p q at has i j h = elim i [
   | inl e ↦ any_level s (suc k) q (subst (λ r. IsAt s (suc k) r) (sym e) at) (subst (λ r. HasPlaneWrites (side_at 8 (suc k)) (grid_at plane_grid 8 s (suc k) r)) (sym e) has) j h
@@ -189,12 +189,12 @@ cut_has s (suc k) p q at has i j h = elim i [
 ]
 
 -- a store that was empty
-pub cut_alone : (room : ℕ) (s : Held PlaneLeaf) (k p : ℕ) → IsCutFrom (nothing_held room) s k p → (q : ℕ) → IsHeld s q → IsSquareIn s k p q
+pub cut_alone : (room : ℕ) (s : Held PlaneLeaf) (k p : ℕ) → AddsPiecesOf (nothing_held room) s k p → (q : ℕ) → IsHeld s q → IsPieceOf s k p q
 cut_alone room s k p cut q held = elim (cut q held) [
   | inl h ↦ absurd (omega (arith, h))
   | inr i ↦ i
 ]
 
 -- what the root's copy writes, the whole of a store writes that was empty
-pub cut_holds : (room : ℕ) (s : Held PlaneLeaf) (k p : ℕ) → IsAt s k p → HasPlaneWrites (side_at 8 k) (grid_at plane_grid 8 s k p) → IsCutFrom (nothing_held room) s k p → HoldPlaneWrites s
+pub cut_holds : (room : ℕ) (s : Held PlaneLeaf) (k p : ℕ) → IsAt s k p → HasPlaneWrites (side_at 8 k) (grid_at plane_grid 8 s k p) → AddsPiecesOf (nothing_held room) s k p → HoldPlaneWrites s
 cut_holds room s k p at has cut j q h = cut_has s k p q at has (cut_alone room s k p cut q (at_within s j q h)) j h

@@ -49,14 +49,14 @@ pub record IsQuarterOf (s : Held PlaneLeaf) (k p r : ℕ) : Type 0 where
   pub same : AreSameWithin (side_at 8 k) (grid_at plane_grid 8 s k r) (λ u v. grid_at plane_grid 8 s (suc k) p (column + u) (row + v))
 
 -- the square at q is the square of level k at p, or one of those that this is cut into, quarter by quarter
-unfoldable pub IsSquareIn : Held PlaneLeaf → ℕ → (p q : ℕ) → Type 0
-IsSquareIn s zero p q = q ≡ p
-IsSquareIn s (suc k) p q = (q ≡ p) ⊎ ((r : ℕ) × (IsQuarterOf s k p r × IsSquareIn s k r q))
+unfoldable pub IsPieceOf : Held PlaneLeaf → ℕ → (p q : ℕ) → Type 0
+IsPieceOf s zero p q = q ≡ p
+IsPieceOf s (suc k) p q = (q ≡ p) ⊎ ((r : ℕ) × (IsQuarterOf s k p r × IsPieceOf s k r q))
 
 -- what a store holds more than before is the square at p
-abbrev pub AtMostOneMore : (old new : Held PlaneLeaf) → ℕ → Type 0
-AtMostOneMore old new p = (q : ℕ) → IsHeld new q → IsHeld old q ⊎ (q ≡ p)
+abbrev pub AddsAtMost : (old new : Held PlaneLeaf) → ℕ → Type 0
+AddsAtMost old new p = (q : ℕ) → IsHeld new q → IsHeld old q ⊎ (q ≡ p)
 
 -- what a store holds more than before is the square of level k at p, and what this is cut into
-abbrev pub IsCutFrom : (old new : Held PlaneLeaf) → ℕ → ℕ → Type 0
-IsCutFrom old new k p = (q : ℕ) → IsHeld new q → IsHeld old q ⊎ IsSquareIn new k p q
+abbrev pub AddsPiecesOf : (old new : Held PlaneLeaf) → ℕ → ℕ → Type 0
+AddsPiecesOf old new k p = (q : ℕ) → IsHeld new q → IsHeld old q ⊎ IsPieceOf new k p q

@@ -11,7 +11,7 @@ use Rattle.square_store.specs.Store.{IsHeld, IsGrown, IsAdded, IsFullFor, IsRoom
 use Rattle.square_store.specs.Seen.{AreAt}
 use Rattle.stamped_tree.specs.declared.leaf_kind.PlaneLeaf.{PlaneLeaf}
 use Rattle.stamped_tree.specs.LeafKind.{plane_grid}
-use Rattle.stamped_tree.specs.Copy.{IsSquareIn}
+use Rattle.stamped_tree.specs.Copy.{IsPieceOf}
 
 -- what contracts see of a plane: the squares that it stores, with its room, and the part that is the whole plane
 pub record StampedPlane : Type 0 where
@@ -33,12 +33,12 @@ abbrev pub AreQuarterParts : Held PlaneLeaf → ℕ → List ℕ → Type 0
 AreQuarterParts s level parts = AreAt s (above_leaf level - 1) parts
 
 -- the writes of a leaf, by column and row
-abbrev pub leaf_grid : List Write → Grid
-leaf_grid writes = plane_grid (record { leaf = writes })
+abbrev pub grid_of_leaf : List Write → Grid
+grid_of_leaf writes = plane_grid (record { leaf = writes })
 
 -- the writes of the square of a level whose four parts these are: NW, NE, SW and SE
-abbrev pub quarters_grid : Held PlaneLeaf → ℕ → List ℕ → Grid
-quarters_grid s level parts = four_grid plane_grid 8 s (above_leaf level - 1) parts
+abbrev pub grid_of_parts : Held PlaneLeaf → ℕ → List ℕ → Grid
+grid_of_parts s level parts = four_grid plane_grid 8 s (above_leaf level - 1) parts
 
 -- a square of a level with the writes of f stands at a part
 abbrev pub DrawsPart : Held PlaneLeaf → ℕ → Grid → ℕ → Type 0
@@ -93,4 +93,4 @@ pub record HasGrown (old new : StampedPlane) : Type 0 where
 
 -- a plane stores the root, and the squares that the root is cut into, and no other
 abbrev pub StoresRootAlone : StampedPlane → Type 0
-StoresRootAlone p = (q : ℕ) → IsHeld p.store q → IsSquareIn p.store (above_leaf 31) p.root q
+StoresRootAlone p = (q : ℕ) → IsHeld p.store q → IsPieceOf p.store (above_leaf 31) p.root q

@@ -1,11 +1,12 @@
 -- The one tree of a map: blanks, leaves of 8 by 8 writes, and squares of four quarters.
-use Rattle.std.specs.Prelude.{◌≡◌, ℕ, zero, suc, ◌+◌, ◌*◌, ◌^◌, ◌<◌, pos, List, length, slice_index_or, IsTrue}
+use Rattle.std.specs.Prelude.{◌≡◌, ℕ, zero, suc, ◌+◌, ◌*◌, ◌<◌, pos, List, length, slice_index_or, IsTrue}
 use Rattle.generations_rule.specs.Place.{Place, moved, at_place}
 use Rattle.edit_stamps.specs.declared.write.Write.{Write}
 use Rattle.edit_stamps.specs.Write.{Writes}
 use Rattle.edit_stamps.specs.Plane.{least, is_in}
 use Rattle.edit_stamps.specs.PlaneMap.{square}
 use Rattle.leaf_merge_lanes.specs.Leaf.{write_of}
+use Rattle.square_store.specs.Squares.{side_at}
 
 pub data Tree : Type 0 where
   Blank : (stamp : ℕ) → Tree
@@ -14,7 +15,7 @@ pub data Tree : Type 0 where
 
 -- the side of a square so many levels above a leaf
 abbrev pub side : ℕ → ℕ
-side above = 8 * 2 ^ above
+side above = side_at 8 above
 
 -- the places of the square of a side at a corner
 abbrev pub IsInSquare : Place → ℕ → Place → Type 0

@@ -17,7 +17,7 @@ abbrev pub square_at : Held PlaneLeaf → ℕ → PlaneSquare
 square_at s part = record { store = s; part = part }
 
 -- four squares together are the square of a level at q
-pub record AreQuartersOf (q nw ne sw se : PlaneSquare) : Type 0 where
+pub record AreQuartersSeen (q nw ne sw se : PlaneSquare) : Type 0 where
   pub level : ℕ
   pub four : IsFourAt plane_grid 8 q.store level (nw.part ∷ ne.part ∷ sw.part ∷ se.part ∷ []) q.part
   pub nw_store : nw.store ≡ q.store
@@ -29,7 +29,7 @@ pub record AreQuartersOf (q nw ne sw se : PlaneSquare) : Type 0 where
 abbrev pub IsView : PlaneSquare → View → Type 0
 IsView q (view.Blank t) = IsBlankAt plane_grid 8 q.store t q.part
 IsView q (view.Leaf l) = IsLeaf l.now × IsLeafAt plane_grid 8 q.store (record { leaf = l.now }) q.part
-IsView q (view.Four nw ne sw se) = AreQuartersOf q nw ne sw se
+IsView q (view.Four nw ne sw se) = AreQuartersSeen q nw ne sw se
 
 -- the views of the square at a part, and of all below it, show a tree
 abbrev pub ShowsTree : Held PlaneLeaf → ℕ → Tree → Type 0

@@ -4,7 +4,7 @@ ghost use Rattle.std.specs.Prelude.{◌≡◌, ◌-◌, ◌<◌, OnOk, IfOk, IfS
 ghost use Rattle.square_store.specs.Seen.{IsBlankAt, IsFourAt, IsLeafAt};
 ghost use Rattle.square_store.specs.Squares.{IsAt};
 ghost use Rattle.square_store.specs.Store.{IsGrown};
-ghost use Rattle.stamped_tree.specs.Copy.{AreAllCopies, AreCopies, AtMostOneMore, IsCopy, IsCutFrom, IsNoted};
+ghost use Rattle.stamped_tree.specs.Copy.{AreAllCopies, AreCopies, AddsAtMost, IsCopy, AddsPiecesOf, IsNoted};
 ghost use Rattle.stamped_tree.specs.LeafKind.{plane_grid};
 
 use crate::leaf_kind::PlaneLeaf;
@@ -25,7 +25,7 @@ pub(crate) fn copy_square(
     ensures grows { IsGrown plane_grid 8 target.old target.new }
     ensures copies { OnOk result (AreCopies source.now target.new copies.new.entries) }
     ensures copy { IfOk result (IsCopy source.now target.new part) }
-    ensures cut { IfOk result (IsCutFrom target.old target.new level) }
+    ensures pieces { IfOk result (AddsPiecesOf target.old target.new level) }
 {
     if let Some(copy) = copies.get(&part) {
         return Ok(*copy);
@@ -70,7 +70,7 @@ fn copy_blank(
     ensures grows { IsGrown plane_grid 8 target.old target.new }
     ensures copies { OnOk result (AreCopies source.now target.new copies.new.entries) }
     ensures copy { IfOk result (IsCopy source.now target.new part) }
-    ensures more { IfOk result (AtMostOneMore target.old target.new) }
+    ensures added { IfOk result (AddsAtMost target.old target.new) }
 {
     source.store_laws();
     match target.add_blank(stamp) {
@@ -95,7 +95,7 @@ fn copy_leaf(
     ensures grows { IsGrown plane_grid 8 target.old target.new }
     ensures copies { OnOk result (AreCopies source.now target.new copies.new.entries) }
     ensures copy { IfOk result (IsCopy source.now target.new part) }
-    ensures more { IfOk result (AtMostOneMore target.old target.new) }
+    ensures added { IfOk result (AddsAtMost target.old target.new) }
 {
     source.store_laws();
     match target.add_leaf(*leaf) {
@@ -124,7 +124,7 @@ fn copy_four(
     ensures grows { IsGrown plane_grid 8 target.old target.new }
     ensures copies { OnOk result (AreCopies source.now target.new copies.new.entries) }
     ensures copy { IfOk result (IsCopy source.now target.new part) }
-    ensures more { IfOk result (AtMostOneMore target.old target.new) }
+    ensures added { IfOk result (AddsAtMost target.old target.new) }
 {
     source.store_laws();
     match target.add_four(level, copied) {

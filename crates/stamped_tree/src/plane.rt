@@ -8,9 +8,9 @@ ghost use Rattle.generations_rule.specs.Place.{at_place};
 ghost use Rattle.leaf_merge_lanes.specs.Leaf.{write_of};
 ghost use Rattle.square_store.specs.Grid.{blank_grid};
 ghost use Rattle.square_store.specs.Seen.{IsBlankAt};
-ghost use Rattle.square_store.specs.Store.{IsAdded, IsFullFor, IsHeld, IsOnePartEach, IsRoomFor};
-ghost use Rattle.stamped_tree.specs.LeafKind.{plane_grid};
-ghost use Rattle.stamped_tree.specs.Plane.{ArePlaneWrites, AreQuarterParts, DrawsPart, HasGrown, HasRoomForPart, IsFullForPart, IsPart, IsPartAdded, IsPlane, StoresRootAlone, leaf_grid, map_of, quarters_grid};
+ghost use Rattle.square_store.specs.Store.{IsAdded, IsFullFor, IsHeld, IsOnePartEach, IsRoomFor, IsStore};
+ghost use Rattle.stamped_tree.specs.LeafKind.{IsPlaneLeaf, plane_grid};
+ghost use Rattle.stamped_tree.specs.Plane.{ArePlaneWrites, AreQuarterParts, DrawsPart, HasGrown, HasRoomForPart, IsFullForPart, IsPart, IsPartAdded, IsPlane, StoresRootAlone, grid_of_leaf, map_of, grid_of_parts};
 ghost use Rattle.stamped_tree.specs.Tree.{OneMap, OneTree};
 ghost use Rattle.stamped_tree.specs.View.{ShowSameWhereSame, ShowsItsTree, square_at};
 
@@ -31,9 +31,10 @@ const ROOM: u32 = 0x400_0000;
 /// The level of a leaf: it has 2^3 columns and rows.
 const LEAF_LEVEL: u32 = 3;
 
-/// How many levels the root is above a leaf, and how many columns it has.
-const ROOT_LEVEL: u32 = 28;
+/// How many levels the root is above a leaf.
+const ROOT_ABOVE_LEAF: u32 = 28;
 
+/// How many columns the root has, and rows.
 const ROOT_SIDE: u32 = 0x8000_0000;
 
 /// A map from coordinates to writes: x and y from -2^30 to 2^30 - 1. It is stored as distinct squares,
@@ -62,8 +63,7 @@ impl Plane {
         ensures nodes { IfOk result (λ plane. length plane.store.squares ≡ 1) }
         ensures room { IfOk result (λ plane. plane.store.room ≡ 2 ^ 26) }
     {
-        let plane = Plane::with_room(alloc, ROOM)?;
-        Ok(plane)
+        Plane::with_room(alloc, ROOM)
     }
 
     /// The plane where nothing was written, with room for so many squares.
@@ -74,10 +74,11 @@ impl Plane {
         ensures room { IfOk result (λ plane. plane.store.room ≡ nodes) }
     {
         let mut store = Store::new(alloc, nodes);
-        let Ok(root) = store.add_blank(0) else {
-            return Err(AllocError);
-        };
-        Ok(Plane { store, root, alloc })
+        match store.add_blank(0) {
+            Ok(root) => Ok(Plane { store, root, alloc }),
+            Err(StoreFault::StoreFull) => unreachable!(),
+            Err(StoreFault::Memory) => Err(AllocError),
+        }
     }
 
     /// How many squares the plane stores. A blank counts once for each stamp, whatever its level, and
@@ -101,7 +102,7 @@ impl Plane {
         let Some(row) = lookup::from_corner(y) else {
             return Write::UNWRITTEN;
         };
-        lookup::write_in(&self.store, ROOT_LEVEL, ROOT_SIDE, root, column, row)
+        lookup::write_in(&self.store, ROOT_ABOVE_LEAF, ROOT_SIDE, root, column, row)
     }
 
     /// The greatest stamp of a write, 0 where there is none; in constant time.
@@ -148,12 +149,12 @@ impl Plane {
     /// The square of a leaf, of level 3; the blank where the leaf is one.
     pub fn add_leaf(&mut self, leaf: Leaf) -> Result<Part, StoreFault>
         requires { ArePlaneWrites leaf }
-        ensures draws { IfOk result (λ part. DrawsPart self.new.store 3 (leaf_grid leaf) part) }
-        ensures added { IfOk result (λ part. IsPartAdded self.old.store self.new.store 3 (leaf_grid leaf) part) }
+        ensures draws { IfOk result (λ part. DrawsPart self.new.store 3 (grid_of_leaf leaf) part) }
+        ensures added { IfOk result (λ part. IsPartAdded self.old.store self.new.store 3 (grid_of_leaf leaf) part) }
         ensures grows { HasGrown self.old self.new }
         ensures err { OnErr result (self.new ≡ self.old) }
-        ensures full { result ≡ Err StoreFault.StoreFull → IsFullForPart self.old.store 3 (leaf_grid leaf) }
-        ensures memory { result ≡ Err StoreFault.Memory → HasRoomForPart self.old.store 3 (leaf_grid leaf) }
+        ensures full { result ≡ Err StoreFault.StoreFull → IsFullForPart self.old.store 3 (grid_of_leaf leaf) }
+        ensures memory { result ≡ Err StoreFault.Memory → HasRoomForPart self.old.store 3 (grid_of_leaf leaf) }
     {
         let _ = &self.root;
         let part = self.store.add_leaf(PlaneLeaf { leaf })?;
@@ -166,12 +167,12 @@ impl Plane {
         requires least { 4 ≤ level }
         requires most { level ≤ 31 }
         requires parts { AreQuarterParts self.old.store level parts }
-        ensures draws { IfOk result (λ part. DrawsPart self.new.store level (quarters_grid self.old.store level parts) part) }
-        ensures added { IfOk result (λ part. IsPartAdded self.old.store self.new.store level (quarters_grid self.old.store level parts) part) }
+        ensures draws { IfOk result (λ part. DrawsPart self.new.store level (grid_of_parts self.old.store level parts) part) }
+        ensures added { IfOk result (λ part. IsPartAdded self.old.store self.new.store level (grid_of_parts self.old.store level parts) part) }
         ensures grows { HasGrown self.old self.new }
         ensures err { OnErr result (self.new ≡ self.old) }
-        ensures full { result ≡ Err StoreFault.StoreFull → IsFullForPart self.old.store level (quarters_grid self.old.store level parts) }
-        ensures memory { result ≡ Err StoreFault.Memory → HasRoomForPart self.old.store level (quarters_grid self.old.store level parts) }
+        ensures full { result ≡ Err StoreFault.StoreFull → IsFullForPart self.old.store level (grid_of_parts self.old.store level parts) }
+        ensures memory { result ≡ Err StoreFault.Memory → HasRoomForPart self.old.store level (grid_of_parts self.old.store level parts) }
     {
         let _ = &self.root;
         let part = self.store.add_four(level - LEAF_LEVEL, parts)?;
@@ -196,7 +197,13 @@ impl Plane {
     {
         let mut store = Store::new(self.alloc, self.store.room());
         let mut copies = IndexMap::new(self.alloc);
-        let root = copy_square(&self.store, &mut store, &mut copies, ROOT_LEVEL, self.root)?;
+        let root = copy_square(
+            &self.store,
+            &mut store,
+            &mut copies,
+            ROOT_ABOVE_LEAF,
+            self.root,
+        )?;
         Ok(Plane {
             store,
             root,
@@ -204,10 +211,12 @@ impl Plane {
         })
     }
 
-    /// What holds of every plane, and of any two. The views of a root show the one tree of the map, so
-    /// two planes whose maps read the same show the same views at every level, and others do not.
+    /// What holds of every plane, and of any two. Each square is stored once. The views of a root show
+    /// the one tree of the map, so two planes whose maps read the same show the same views at every
+    /// level, and two whose maps differ do not.
     pub fn plane_laws(&self, other: &Plane)
         ensures plane { IsPlane self.now }
+        ensures store { IsStore plane_grid 8 IsPlaneLeaf self.now.store }
         ensures parts { IsOnePartEach plane_grid 8 self.now.store }
         ensures shows { ShowsItsTree self.now }
         ensures same { ShowSameWhereSame self.now other.now }

@@ -2,7 +2,7 @@
 
 use crate::leaf_kind::PlaneLeaf;
 use leaf_merge_lanes::Leaf;
-use square_store::{self as store, Part, Store};
+use square_store::{Part, Store};
 use std::marker::Model;
 
 /// A square of a plane, by its part in the plane's store.
@@ -63,12 +63,12 @@ impl<'a> Square<'a> {
         ensures { IsView self.now result }
     {
         match self.store.square(self.part) {
-            store::Square::Blank(stamp) => View::Blank(stamp),
-            store::Square::Leaf(leaf) => {
+            square_store::Square::Blank(stamp) => View::Blank(stamp),
+            square_store::Square::Leaf(leaf) => {
                 let _first = leaf.leaf.get(0);
                 View::Leaf(&leaf.leaf)
             }
-            store::Square::Four { parts, .. } => View::Four {
+            square_store::Square::Four { parts, .. } => View::Four {
                 nw: Square::at(self.store, parts[0]),
                 ne: Square::at(self.store, parts[1]),
                 sw: Square::at(self.store, parts[2]),

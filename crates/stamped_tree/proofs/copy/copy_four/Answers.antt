@@ -16,5 +16,5 @@ returns-in_ok-note-in-Ok-clause-copies c = copies_noted _ _ _ c.store_laws.ensur
 pub returns-in_ok-note-in-Ok-clause-copy : goal.returns-in_ok-note-in-Ok-clause-copy
 returns-in_ok-note-in-Ok-clause-copy c = four_copied _ _ _ _ _ _ c.requires.part c.requires.copied _ _ c.in-Ok.ensures.draws
 
-pub returns-in_ok-note-in-Ok-clause-more : goal.returns-in_ok-note-in-Ok-clause-more
-returns-in_ok-note-in-Ok-clause-more c = one_more_at_most c.args.target.now _ c.args.level _ (four_grid plane_grid 8 c.args.target.now (c.args.level - 1) c.args.copied) c.in-Ok.ensures.added
+pub returns-in_ok-note-in-Ok-clause-added : goal.returns-in_ok-note-in-Ok-clause-added
+returns-in_ok-note-in-Ok-clause-added c = one_more_at_most c.args.target.now _ c.args.level _ (four_grid plane_grid 8 c.args.target.now (c.args.level - 1) c.args.copied) c.in-Ok.ensures.added

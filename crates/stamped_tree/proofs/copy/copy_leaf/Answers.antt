@@ -15,5 +15,5 @@ returns-in_ok-note-in-Ok-clause-copies c = copies_noted _ _ _ c.store_laws.ensur
 pub returns-in_ok-note-in-Ok-clause-copy : goal.returns-in_ok-note-in-Ok-clause-copy
 returns-in_ok-note-in-Ok-clause-copy c = leaf_copied _ _ c.args.leaf.now c.args.part _ c.requires.part c.in-Ok.ensures.draws
 
-pub returns-in_ok-note-in-Ok-clause-more : goal.returns-in_ok-note-in-Ok-clause-more
-returns-in_ok-note-in-Ok-clause-more c = one_more_at_most c.args.target.now _ 0 _ (plane_grid c.args.leaf.now) c.in-Ok.ensures.added
+pub returns-in_ok-note-in-Ok-clause-added : goal.returns-in_ok-note-in-Ok-clause-added
+returns-in_ok-note-in-Ok-clause-added c = one_more_at_most c.args.target.now _ 0 _ (plane_grid c.args.leaf.now) c.in-Ok.ensures.added

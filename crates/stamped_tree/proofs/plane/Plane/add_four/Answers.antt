@@ -1,5 +1,5 @@
 use Rattle.std.proofs.Common.{arith, ◌<◌}
-use Rattle.stamped_tree.specs.Plane.{above_leaf, quarters_grid, AreQuarterParts}
+use Rattle.stamped_tree.specs.Plane.{above_leaf, grid_of_parts, AreQuarterParts}
 use Rattle.stamped_tree.proofs.Held.{holds_added, four_has}
 use Rattle.stamped_tree.proofs.plane.Plane.add_four.Goals as goal
 
@@ -9,6 +9,6 @@ invariant_of-self-2 c =
     let parts : AreQuarterParts c.self.inside.store c.args.level c.args.parts = rw (← c.self.view_is) at c.requires.parts in
     record {
       root = c.in_ok-part.ensures.grows.stands 28 c.self.inside.root c.self.invariant.root;
-      writes = holds_added _ _ (above_leaf c.args.level) (quarters_grid c.self.inside.store c.args.level c.args.parts) _ c.self.invariant.writes c.in_ok-part.ensures.grows c.in_ok-part.ensures.draws
+      writes = holds_added _ _ (above_leaf c.args.level) (grid_of_parts c.self.inside.store c.args.level c.args.parts) _ c.self.invariant.writes c.in_ok-part.ensures.grows c.in_ok-part.ensures.draws
           (four_has c.self.inside.store c.self.invariant.writes (above_leaf c.args.level) above c.args.parts parts) c.in_ok-part.ensures.added;
     }

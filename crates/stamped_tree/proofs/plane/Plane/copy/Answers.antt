@@ -12,11 +12,11 @@ invariant_of-result c =
       root = drawn.stands;
       writes = cut_holds c.room.result _ 28 _ drawn.stands
           (λ u v hu hv. subst (λ (w : Write). IsTrue (is_plane_write w)) (sym (drawn.same u v hu hv)) (c.self.invariant.writes 28 c.self.inside.root c.self.invariant.root u v hu hv))
-          (rw c.new-store.ensures at c.in_ok-root.ensures.cut);
+          (rw c.new-store.ensures at c.in_ok-root.ensures.pieces);
     }
 
 pub returns-clause-squares : goal.returns-clause-squares
-returns-clause-squares c = cut_alone c.room.result _ 28 _ (rw c.new-store.ensures at c.in_ok-root.ensures.cut)
+returns-clause-squares c = cut_alone c.room.result _ 28 _ (rw c.new-store.ensures at c.in_ok-root.ensures.pieces)
 
 pub returns-clause-nodes : goal.returns-clause-nodes
 returns-clause-nodes c = rw (← c.self.view_is) (no_more _ _ _ c.in_ok-root.ensures.copies)
