@@ -6,3 +6,5 @@ pub mod TreeLaws
 pub mod Shown
 pub mod Copying
 pub mod Cutting
+pub mod Kept
+pub mod Drawing

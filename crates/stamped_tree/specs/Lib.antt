@@ -4,3 +4,6 @@ pub mod Plane
 pub mod PlaneSquare
 pub mod Tree
 pub mod View
+pub mod Area
+pub mod Drawing
+pub mod Filled

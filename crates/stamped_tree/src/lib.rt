@@ -2,6 +2,11 @@
 #![tactic(auto)]
 
 mod copy;
+mod area;
+mod cells;
+mod draw;
+mod filled;
+mod leaf_draw;
 mod leaf_kind;
 mod lookup;
 mod plane;
