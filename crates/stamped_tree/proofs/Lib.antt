@@ -8,3 +8,4 @@ pub mod Copying
 pub mod Cutting
 pub mod Kept
 pub mod Drawing
+pub mod OnPlaneLaws

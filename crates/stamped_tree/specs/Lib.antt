@@ -7,3 +7,4 @@ pub mod View
 pub mod Area
 pub mod Drawing
 pub mod Filled
+pub mod OnPlane

@@ -4,6 +4,7 @@ ghost use Rattle.std.specs.Prelude.{◌≡◌, ◌≤◌, ◌<◌, IfOk, IsTrue,
 ghost use Rattle.square_store.specs.Squares.{Draws};
 ghost use Rattle.square_store.specs.Store.{IsGrown};
 ghost use Rattle.edit_stamps.specs.Stamp.{is_stamp};
+ghost use Rattle.stamped_tree.specs.OnPlane.{plane_writes};
 ghost use Rattle.stamped_tree.specs.Plane.{HoldPlaneWrites};
 ghost use Rattle.stamped_tree.specs.Drawing.{edit_grid};
 ghost use Rattle.stamped_tree.specs.Filled.{AreFilled, IsFull};
@@ -14,8 +15,31 @@ use crate::cells::{CellQuarters, ListedCell, quartered_cells};
 use crate::filled::{AreaKey, filled, keep};
 use crate::leaf_draw::drawn_leaf;
 use crate::leaf_kind::PlaneLeaf;
+use crate::on_plane::{area_on_plane, cells_on_plane};
+use edit_stamps::Edit;
 use indexmap::IndexMap;
 use square_store::{Part, Store, StoreFault};
+use std::alloc::Global;
+
+/// The square of the whole plane that an edit draws. On the way down its cells are parted, so that a
+/// list of n cells costs at most n times the levels.
+pub(crate) fn draw_edit(
+    alloc: Global,
+    store: &mut Store<PlaneLeaf>,
+    edit: &Edit,
+) -> Result<Part, StoreFault>
+    ensures draws { IfOk result (Draws plane_grid 8 store.new 28 (plane_writes edit.now)) }
+    ensures grows { IsGrown plane_grid 8 store.old store.new }
+    ensures writes { HoldPlaneWrites store.old → HoldPlaneWrites store.new }
+    ensures full { result ≡ Err StoreFault.StoreFull → IsFull store.new }
+{
+    let stamp = edit.stamp().number();
+    let cells = cells_on_plane(alloc, edit.listed_cells())?;
+    let area = area_on_plane(edit.area());
+    let mut kept = IndexMap::new(alloc);
+    let part = draw(store, &mut kept, 28, stamp, area, cells)?;
+    Ok(part)
+}
 
 /// The square of a level with the listed states at the listed cells, state 0 elsewhere in the area,
 /// both written with a stamp, and unwritten elsewhere.

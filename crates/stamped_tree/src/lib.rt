@@ -9,6 +9,7 @@ mod filled;
 mod leaf_draw;
 mod leaf_kind;
 mod lookup;
+mod on_plane;
 mod plane;
 mod square;
 

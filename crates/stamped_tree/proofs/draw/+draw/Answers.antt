@@ -1,4 +1,4 @@
-use Rattle.std.proofs.Common.{◌≡◌, ℕ, inl, inr, List, [], ◌∷◌, ◌<◌, ◌-◌, sym, ap, subst, arith, refl, Err, rules}
+use Rattle.std.proofs.Common.{[], ◌∷◌, ◌<◌, ◌-◌, sym, ap, subst, arith, refl, Err, rules}
 use Rattle.std.specs.Prelude.{IsTrue}
 use Rattle.std.proofs.lemmas.Bool.Decides.{nat_tests}
 use Rattle.edit_stamps.specs.PlaneMap.{is_plane_write}

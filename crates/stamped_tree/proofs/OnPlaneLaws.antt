@@ -1,0 +1,73 @@
+-- An edit, by the columns and rows of the plane.
+use Rattle.std.proofs.Common.{◌≡◌, ℕ, ◌+◌, ◌<◌, ◌==◌, Bool, true, false, List, [], ◌∷◌, map, inl, inr, refl, arith, ℤ, pos, ◌+ℤ◌}
+use Rattle.std.specs.Prelude.{◌&&◌, IsTrue, IfSome, Option, None, Some, int_le, int_lt, nat_le, nat_lt}
+use Rattle.std.specs.List.{list_all}
+use Rattle.std.proofs.lemmas.Bool.{cases_Bool}
+use Rattle.std.proofs.lemmas.Int.{ints}
+use Rattle.std.proofs.lemmas.Bool.Decides.{nat_tests}
+use Rattle.generations_rule.specs.Place.{moved, is_place}
+use Rattle.multistate_rle.specs.Cells.{place_of}
+use Rattle.multistate_rle.specs.declared.cell.Cell.{Cell}
+use Rattle.edit_stamps.specs.declared.rect.Rect.{Rect}
+use Rattle.edit_stamps.specs.Edit.{PlaneEdit, IsEdit, listed, is_covered, fits_area}
+use Rattle.edit_stamps.specs.Plane.{least, is_in, is_in_plane, is_coordinate_in_plane, is_area_in_plane}
+use Rattle.square_store.specs.Grid.{AreSameWithin}
+use Rattle.stamped_tree.specs.declared.area.Area.{Area}
+use Rattle.stamped_tree.specs.declared.cells.ListedCell.{ListedCell}
+use Rattle.stamped_tree.specs.Area.{is_in_area}
+use Rattle.stamped_tree.specs.Drawing.{state_listed, edit_grid}
+use Rattle.stamped_tree.specs.OnPlane.{cell_on_plane, plane_writes}
+use Rattle.stamped_tree.specs.Plane.{from_edge}
+use Rattle.stamped_tree.specs.Tree.{plane_corner}
+
+-- ---- areas
+
+from_start : (x : ℤ) (u : ℕ) → is_coordinate_in_plane x ≡ true → int_le x (least +ℤ pos u) ≡ nat_le (from_edge x) u
+from_start x u h = grind (arith, ints, nat_tests, h)
+
+to_end : (x : ℤ) (n u : ℕ) → is_coordinate_in_plane x ≡ true → int_lt (least +ℤ pos u) (x +ℤ pos n) ≡ nat_lt u (from_edge x + n)
+to_end x n u h = grind (arith, ints, nat_tests, h)
+
+regrouped : (a b c d : Bool) → ((a && b) && (c && d)) ≡ (a && b && c && d)
+regrouped true b c d = grind arith
+regrouped false b c d = refl
+
+pub rect_columns : (r : Rect) (u v : ℕ) → is_area_in_plane r ≡ true
+    → is_in_area (record { left = from_edge r.x; right = from_edge r.x + r.width; top = from_edge r.y; bottom = from_edge r.y + r.height }) u v ≡ is_in r (moved plane_corner (pos u) (pos v))
+rect_columns r u v h =
+    let x : is_coordinate_in_plane r.x ≡ true = grind (arith, h) in
+    let y : is_coordinate_in_plane r.y ≡ true = grind (arith, h) in
+    rw (← from_start r.x u x, ← to_end r.x r.width u x, ← from_start r.y v y, ← to_end r.y r.height v y) (regrouped (int_le r.x (least +ℤ pos u)) (int_lt (least +ℤ pos u) (r.x +ℤ pos r.width)) (int_le r.y (least +ℤ pos v)) (int_lt (least +ℤ pos v) (r.y +ℤ pos r.height)))
+
+-- the area of an edit lies in the plane
+pub area_inside : (e : PlaneEdit) → IsEdit e → IfSome e.area (λ r. IsTrue (is_area_in_plane r))
+area_inside e is = go e.area is.area
+  where
+    go : (area : Option Rect) → IsTrue (fits_area area e.cells) → IfSome area (λ r. IsTrue (is_area_in_plane r))
+    go None h = tt
+    go (Some r) h = grind (arith, h)
+
+-- ---- cells
+
+here : (c : Cell) (u v : ℕ) → is_in_plane (place_of c) ≡ true → is_place (place_of c) (moved plane_corner (pos u) (pos v)) ≡ (from_edge c.x == u && from_edge c.y == v)
+here c u v h = grind (arith, ints, nat_tests, h)
+
+pub cells_listed : (cells : List Cell) (u v : ℕ) → list_all (λ cell. is_in_plane (place_of cell)) cells ≡ true → state_listed (map cell_on_plane cells) u v ≡ listed cells (moved plane_corner (pos u) (pos v))
+cells_listed [] u v h = refl
+cells_listed (c ∷ cells) u v h =
+    let first : is_in_plane (place_of c) ≡ true = grind (arith, h) in
+    let others : list_all (λ cell. is_in_plane (place_of cell)) cells ≡ true = grind (arith, h) in
+    let below = cells_listed cells u v others in
+    let same = here c u v first in
+    elim (cases_Bool (from_edge c.x == u && from_edge c.y == v)) [
+      | inl t ↦ rw (same, t) refl
+      | inr f ↦ rw (same, f) below
+    ]
+
+-- ---- the edit
+
+pub edit_on_plane : (e : PlaneEdit) (stamp : ℕ) (area : Option Rect) (a : Area) (cells : List Cell) (listed : List ListedCell) → IsEdit e → stamp ≡ e.stamp → area ≡ e.area → cells ≡ e.cells → listed ≡ map cell_on_plane cells
+    → ((u v : ℕ) → u < 2147483648 → v < 2147483648 → is_in_area a u v ≡ is_covered area (moved plane_corner (pos u) (pos v)))
+    → AreSameWithin 2147483648 (edit_grid stamp a listed) (plane_writes e)
+edit_on_plane e stamp area a cells listed is same_stamp same_area same_cells same_listed covered u v hu hv =
+    rw (same_listed, same_cells, cells_listed e.cells u v is.in_plane, covered u v hu hv, same_area, same_stamp) refl
