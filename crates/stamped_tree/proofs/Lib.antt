@@ -9,3 +9,5 @@ pub mod Cutting
 pub mod Kept
 pub mod Drawing
 pub mod OnPlaneLaws
+pub mod Gathering
+pub mod WalkLaws

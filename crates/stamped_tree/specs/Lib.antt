@@ -8,3 +8,4 @@ pub mod Area
 pub mod Drawing
 pub mod Filled
 pub mod OnPlane
+pub mod Walk

@@ -12,6 +12,7 @@ mod lookup;
 mod on_plane;
 mod plane;
 mod square;
+mod walk;
 
 pub use plane::Plane;
 pub use square::{Square, View};

@@ -1,0 +1,128 @@
+//! The cells of a square whose state is not 0.
+
+ghost use Rattle.std.specs.Prelude.{◌≡◌, ◌≢◌, ◌<◌, ◌≤◌, ◌+◌, ◌*◌, ℕ, map, IfOk, IsTrue, OnOk};
+ghost use Rattle.std.specs.List.{list_all};
+ghost use Rattle.std.specs.List.Sorted.{IsNonDecreasingBy, IsPermutation};
+ghost use Rattle.square_store.specs.Squares.{IsAt, grid_at, side_at};
+ghost use Rattle.stamped_tree.specs.LeafKind.{plane_grid};
+ghost use Rattle.stamped_tree.specs.Plane.{map_of};
+ghost use Rattle.stamped_tree.specs.Walk.{AreLiveCells, IsLiveCell, Gathers, cell_of_plane, is_on_plane, row_order};
+
+use crate::area::side_of;
+use crate::cells::ListedCell;
+use crate::leaf_kind::PlaneLeaf;
+use multistate_rle::Cell;
+use square_store::{Part, Square, Store};
+use std::alloc::{AllocError, Global};
+
+/// The least coordinate of the plane.
+const LEAST: i64 = -0x4000_0000;
+
+/// The cells of the plane whose root is at a part, sorted by `y`, then `x`. A blank is passed over,
+/// whatever its side; a square that stands in many places is gone through in each.
+pub(crate) fn live_cells(
+    alloc: Global,
+    store: &Store<PlaneLeaf>,
+    root: Part,
+) -> Result<Vec<Cell>, AllocError>
+    requires { IsAt store.now 28 root }
+    ensures { IfOk result (λ cells. AreLiveCells (map_of (record { store = store.now; root = root })) cells.items) }
+{
+    let mut found = Vec::new(alloc);
+    gather(store, 28, root, 0, 0, &mut found)?;
+    let sorted = sorted_by_rows(found)?;
+    let cells = plane_cells(alloc, &sorted)?;
+    Ok(cells)
+}
+
+/// Puts the cells of a square, whose corner is in a column and a row, last.
+fn gather(
+    store: &Store<PlaneLeaf>,
+    level: u32,
+    part: Part,
+    left: u32,
+    top: u32,
+    found: &mut Vec<ListedCell>,
+) -> Result<(), AllocError>
+    requires level { level ≤ 28 }
+    requires stands { IsAt store.now level part }
+    requires left { left + side_at 8 level ≤ 2147483648 }
+    requires top { top + side_at 8 level ≤ 2147483648 }
+    ensures { OnOk result (Gathers (IsLiveCell (side_at 8 level) (grid_at plane_grid 8 store.now level part) left top) found.old.items found.new.items) }
+{
+    match store.square(part) {
+        Square::Blank(_) => Ok(()),
+        Square::Leaf(leaf) => {
+            gather_leaf(leaf, left, top, found)?;
+            Ok(())
+        }
+        Square::Four { parts, .. } => {
+            let half = side_of(level - 1);
+            gather(store, level - 1, parts[0], left, top, found)?;
+            gather(store, level - 1, parts[1], left + half, top, found)?;
+            gather(store, level - 1, parts[2], left, top + half, found)?;
+            gather(store, level - 1, parts[3], left + half, top + half, found)?;
+            Ok(())
+        }
+    }
+}
+
+fn gather_leaf(
+    leaf: &PlaneLeaf,
+    left: u32,
+    top: u32,
+    found: &mut Vec<ListedCell>,
+) -> Result<(), AllocError>
+    requires left { left + 8 ≤ 2147483648 }
+    requires top { top + 8 ≤ 2147483648 }
+    ensures { OnOk result (Gathers (IsLiveCell 8 (plane_grid leaf.now) left top) found.old.items found.new.items) }
+{
+    for place in 0..64u32 {
+        let cell = ListedCell {
+            column: left + place % 8,
+            row: top + place / 8,
+            state: leaf.leaf.get(place as usize).state,
+        };
+        push_live(cell, found)?;
+    }
+    Ok(())
+}
+
+fn push_live(cell: ListedCell, found: &mut Vec<ListedCell>) -> Result<(), AllocError>
+    ensures { OnOk result (Gathers (λ c. (c ≡ cell) × (c.state ≢ 0)) found.old.items found.new.items) }
+{
+    if cell.state != 0 {
+        found.push(cell)?;
+    }
+    Ok(())
+}
+
+fn sorted_by_rows(mut cells: Vec<ListedCell>) -> Result<Vec<ListedCell>, AllocError>
+    ensures sorted { IfOk result (λ sorted. IsNonDecreasingBy row_order sorted.items) }
+    ensures cells { IfOk result (λ sorted. IsPermutation cells.items sorted.items) }
+{
+    cells.sort_by_key(|cell| u64::from(cell.row) * 0x8000_0000 + u64::from(cell.column))?;
+    Ok(cells)
+}
+
+fn plane_cells(alloc: Global, cells: &[ListedCell]) -> Result<Vec<Cell>, AllocError>
+    requires { IsTrue (list_all is_on_plane cells.now) }
+    ensures { IfOk result (λ placed. placed.items ≡ map cell_of_plane cells.now) }
+{
+    let mut placed = Vec::with_capacity(alloc, cells.len())?;
+    for cell in cells {
+        placed.push(plane_cell(cell))?;
+    }
+    Ok(placed)
+}
+
+fn plane_cell(cell: &ListedCell) -> Cell
+    requires { IsTrue (is_on_plane cell.now) }
+    ensures { result ≡ cell_of_plane cell.now }
+{
+    Cell {
+        x: (i64::from(cell.column) + LEAST) as i32,
+        y: (i64::from(cell.row) + LEAST) as i32,
+        state: cell.state,
+    }
+}
