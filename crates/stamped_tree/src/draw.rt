@@ -3,6 +3,8 @@
 ghost use Rattle.std.specs.Prelude.{◌≡◌, ◌≤◌, ◌<◌, IfOk, IsTrue, Err};
 ghost use Rattle.square_store.specs.Squares.{Draws};
 ghost use Rattle.square_store.specs.Store.{IsGrown};
+ghost use Rattle.edit_stamps.specs.Edit.{writes_of};
+ghost use Rattle.edit_stamps.specs.PlaneMap.{LiesInPlane};
 ghost use Rattle.edit_stamps.specs.Stamp.{is_stamp};
 ghost use Rattle.stamped_tree.specs.OnPlane.{plane_writes};
 ghost use Rattle.stamped_tree.specs.Plane.{HoldPlaneWrites};
@@ -29,6 +31,7 @@ pub(crate) fn draw_edit(
     edit: &Edit,
 ) -> Result<Part, StoreFault>
     ensures draws { IfOk result (Draws plane_grid 8 store.new 28 (plane_writes edit.now)) }
+    ensures inside { IfOk result (λ _. LiesInPlane (writes_of edit.now)) }
     ensures grows { IsGrown plane_grid 8 store.old store.new }
     ensures writes { HoldPlaneWrites store.old → HoldPlaneWrites store.new }
     ensures full { result ≡ Err StoreFault.StoreFull → IsFull store.new }

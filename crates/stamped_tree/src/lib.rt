@@ -1,9 +1,9 @@
 //! The plane as a quadtree of stamped writes.
 #![tactic(auto)]
 
-mod copy;
 mod area;
 mod cells;
+mod copy;
 mod draw;
 mod filled;
 mod leaf_draw;

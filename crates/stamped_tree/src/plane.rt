@@ -1,6 +1,7 @@
 //! The plane.
 
 ghost use Rattle.std.specs.Prelude.{◌≡◌, ◌^◌, ◌≤◌, ◌<◌, ◌-◌, ℕ, IsTrue, IfOk, OnErr, Err, false, length};
+ghost use Rattle.edit_stamps.specs.Edit.{writes_of};
 ghost use Rattle.edit_stamps.specs.Plane.{is_in_plane};
 ghost use Rattle.edit_stamps.specs.PlaneMap.{HasStampedWrites, IsGreatestStamp, LiesInPlane, is_plane_write};
 ghost use Rattle.edit_stamps.specs.Write.{AreSame, unwritten};
@@ -12,15 +13,19 @@ ghost use Rattle.square_store.specs.Store.{IsAdded, IsFullFor, IsHeld, IsOnePart
 ghost use Rattle.stamped_tree.specs.LeafKind.{IsPlaneLeaf, plane_grid};
 ghost use Rattle.stamped_tree.specs.Plane.{ArePlaneWrites, AreQuarterParts, DrawsPart, HasGrown, HasRoomForPart, IsFullForPart, IsPart, IsPartAdded, IsPlane, StoresRootAlone, grid_of_leaf, map_of, grid_of_parts};
 ghost use Rattle.stamped_tree.specs.Tree.{OneMap, OneTree};
+ghost use Rattle.stamped_tree.specs.Walk.{AreLiveCells};
 ghost use Rattle.stamped_tree.specs.View.{ShowSameWhereSame, ShowsItsTree, square_at};
 
 use crate::copy::copy_square;
+use crate::draw::draw_edit;
 use crate::leaf_kind::PlaneLeaf;
 use crate::lookup;
 use crate::square::Square;
-use edit_stamps::Write;
+use crate::walk::live_cells;
+use edit_stamps::{Edit, Write};
 use indexmap::IndexMap;
 use leaf_merge_lanes::Leaf;
+use multistate_rle::Cell;
 use square_store::{Part, Store, StoreFault};
 use std::alloc::{AllocError, Global};
 use std::marker::Model;
@@ -81,6 +86,19 @@ impl Plane {
         }
     }
 
+    /// The plane of what an edit writes, with room for 2^32 - 1 squares. Want of room is answered as want
+    /// of memory.
+    pub fn of_edit(alloc: Global, edit: &Edit) -> Result<Plane, AllocError>
+        ensures map { IfOk result (λ plane. AreSame (map_of plane) (writes_of edit.now)) }
+        ensures room { IfOk result (λ plane. plane.store.room ≡ 2 ^ 32 - 1) }
+    {
+        let mut store = Store::new(alloc, u32::MAX);
+        let Ok(root) = draw_edit(alloc, &mut store, edit) else {
+            return Err(AllocError);
+        };
+        Ok(Plane { store, root, alloc })
+    }
+
     /// How many squares the plane stores. A blank counts once for each stamp, whatever its level, and
     /// squares that are no longer in use count until `copy`.
     pub fn nodes(&self) -> u32
@@ -111,6 +129,14 @@ impl Plane {
         ensures inside { LiesInPlane (map_of self.now) }
     {
         self.store.summary(self.root).greatest
+    }
+
+    /// The cells whose state is not 0, sorted by `y`, then `x`.
+    pub fn walk(&self) -> Result<Vec<Cell>, AllocError>
+        ensures { IfOk result (λ cells. AreLiveCells (map_of self.now) cells.items) }
+    {
+        let cells = live_cells(self.alloc, &self.store, self.root)?;
+        Ok(cells)
     }
 
     /// The square of level 31 that is the whole plane, its upper left corner at (-2^30, -2^30).
