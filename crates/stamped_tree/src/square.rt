@@ -6,6 +6,7 @@ use square_store::{Part, Store};
 use std::marker::Model;
 
 /// A square of a plane, by its part in the plane's store.
+#[derive(Drop)]
 pub struct Square<'a> {
     store: &'a Store<PlaneLeaf>,
     part: Part,
@@ -23,6 +24,7 @@ impl<'a> Model for Square<'a> {
 }
 
 /// A square, one step deep.
+#[derive(Drop)]
 pub enum View<'a> {
     /// State 0 at every place, written with one stamp; stamp 0 where nothing was written. It is seen
     /// so at every level.
