@@ -7,3 +7,6 @@ pub mod Suits
 pub mod DeltaCodec
 pub mod DeltaLaws
 pub mod EditSteps
+pub mod FrameCodec
+pub mod FramePort
+pub mod StreamLaws

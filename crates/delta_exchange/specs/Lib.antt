@@ -1,6 +1,10 @@
 pub mod Fault
+pub mod FrameFault
 pub mod PlaceWord
 pub mod Spelling
 pub mod Reading
 pub mod Delta
+pub mod Frames
+pub mod FrameLaws
+pub mod Layout
 pub mod Rows

@@ -1,8 +1,16 @@
-//! What the texts of deltas obey: the contract of a function that does nothing.
+//! What the texts of deltas and frames obey: the contracts of functions that do nothing.
 
 ghost use Rattle.delta_exchange.specs.Delta.{HasOwnTexts};
+ghost use Rattle.delta_exchange.specs.FrameLaws.{HasOneCut, HasTaken};
 
 /// Different rules or lists of edits have different texts, and no text begins another.
 pub fn delta_laws()
     ensures { HasOwnTexts }
+{}
+
+/// The bodies of a stream of frames are those of its bytes, however these come in pieces: what was
+/// taken of it are the first of them. No frame's text begins another's.
+pub fn frame_laws()
+    ensures taken { HasTaken }
+    ensures cut { HasOneCut }
 {}

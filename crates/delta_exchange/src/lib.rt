@@ -9,10 +9,14 @@ mod cells;
 mod delta;
 mod edits;
 mod fault;
+mod frame_fault;
 mod head;
 mod laws;
 mod place;
+mod stream;
 
 pub use delta::{read_delta, write_delta};
 pub use fault::ReadFault;
-pub use laws::delta_laws;
+pub use frame_fault::FrameFault;
+pub use laws::{delta_laws, frame_laws};
+pub use stream::{Frames, frame};
