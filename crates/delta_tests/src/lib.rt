@@ -4,6 +4,8 @@
 #[cfg(test)]
 mod deltas;
 #[cfg(test)]
+mod frames;
+#[cfg(test)]
 mod random;
 #[cfg(test)]
 mod refusals;
