@@ -10,3 +10,4 @@ pub mod EditSteps
 pub mod FrameCodec
 pub mod FramePort
 pub mod StreamLaws
+pub mod TextLengths

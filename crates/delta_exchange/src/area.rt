@@ -1,6 +1,6 @@
 //! Areas of edits.
 
-ghost use Rattle.std.specs.Prelude.{◌≡◌, ◌++◌, OnOk, IfSome, IsTrue};
+ghost use Rattle.std.specs.Prelude.{◌≡◌, ◌++◌, length, OnOk, IfSome, IsTrue};
 ghost use Rattle.byte_codec.specs.Reading.{leaving, unrefused};
 ghost use Rattle.edit_stamps.specs.Plane.{is_area_in_plane};
 ghost use Rattle.delta_exchange.specs.PlaceWord.{coordinate_of};
@@ -42,6 +42,17 @@ fn push_sides(text: &mut Vec<u8>, area: Rect) -> Result<(), AllocError>
 {
     text.extend_from_slice(&area.width.to_be_bytes())?;
     text.extend_from_slice(&area.height.to_be_bytes())
+}
+
+/// How many bytes the text of an area has, or of none.
+#[tactic(auto, unfolding(crate::specs::Spelling::area_text, crate::specs::Spelling::rect_text, crate::specs::Spelling::place_text, crate::specs::Spelling::sides_text))]
+pub fn area_len(area: Option<Rect>) -> u8
+    ensures { result ≡ length (area_text area) }
+{
+    match area {
+        None => 1,
+        Some(_) => 17,
+    }
 }
 
 /// A flag, and where it is 1 an area.

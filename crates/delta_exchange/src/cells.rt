@@ -12,31 +12,32 @@ ghost use Rattle.delta_exchange.specs.Spelling.{cell_text};
 ghost use Rattle.delta_exchange.specs.Reading.{cell_at, cell_fault, cells_at, is_after, is_listable};
 
 use crate::fault::ReadFault;
-use crate::place::{coordinate, is_place_word, push_place};
+use crate::place::{coordinate, is_place_word, place_word};
 use byte_codec::Reader;
 use edit_stamps::{Cell, Rect};
 use std::alloc::{AllocError, Global};
 
 /// How many bytes a cell takes.
-const CELL_BYTES: usize = 9;
+pub const CELL_BYTES: usize = 9;
 
 pub fn push_cells(text: &mut Vec<u8>, cells: &[Cell]) -> Result<(), AllocError>
     requires { IsTrue (list_all (λ cell. is_in_plane (place_of cell)) cells.now) }
     ensures { OnOk result (text.new.items ≡ text.old.items ++ flat_map cell_text cells.now) }
 {
     for cell in cells {
-        push_cell(text, *cell)?;
+        text.extend_from_slice(&cell_bytes(*cell))?;
     }
     Ok(())
 }
 
-#[tactic(auto, unfolding(crate::specs::Spelling::cell_text))]
-fn push_cell(text: &mut Vec<u8>, cell: Cell) -> Result<(), AllocError>
+#[tactic(auto, unfolding(crate::specs::Spelling::cell_text, crate::specs::Spelling::place_text))]
+fn cell_bytes(cell: Cell) -> [u8; CELL_BYTES]
     requires { IsTrue (is_in_plane (place_of cell)) }
-    ensures { OnOk result (text.new.items ≡ text.old.items ++ cell_text cell) }
+    ensures { result ≡ cell_text cell }
 {
-    push_place(text, cell.x, cell.y)?;
-    text.extend_from_slice(&cell.state.to_be_bytes())
+    let x = place_word(cell.x).to_be_bytes();
+    let y = place_word(cell.y).to_be_bytes();
+    [x[0], x[1], x[2], x[3], y[0], y[1], y[2], y[3], cell.state]
 }
 
 /// The next cells, so many, under a rule of so many states. Memory is taken for no more cells than

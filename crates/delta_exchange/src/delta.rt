@@ -1,15 +1,15 @@
 //! Deltas: lists of edits under a rule.
 
-ghost use Rattle.std.specs.Prelude.{◌≡◌, ◌<◌, ◌^◌, length, IfOk, List, Ok};
+ghost use Rattle.std.specs.Prelude.{◌≡◌, ◌+◌, ◌-◌, ◌<◌, ◌^◌, min, length, flat_map, IfOk, List, Ok};
 ghost use Rattle.generations_rule.specs.Refusal.{Answers};
 ghost use Rattle.generations_rule.specs.Rule.{IsRule};
 ghost use Rattle.edit_stamps.specs.Edit.{PlaneEdit};
 ghost use Rattle.delta_exchange.specs.Fault.{IsWant};
-ghost use Rattle.delta_exchange.specs.Spelling.{delta_text};
+ghost use Rattle.delta_exchange.specs.Spelling.{delta_text, edit_text};
 ghost use Rattle.delta_exchange.specs.Reading.{delta_of};
 ghost use Rattle.delta_exchange.specs.Delta.{AreTellable};
 
-use crate::edits::{push_edit, read_edits};
+use crate::edits::{edit_len, push_edit, read_edits};
 use crate::fault::ReadFault;
 use crate::head::{head, read_head};
 use byte_codec::Reader;
@@ -20,17 +20,32 @@ use std::alloc::{AllocError, Global};
 /// What a delta begins with.
 const MAGIC: &[u8] = b"GLWD";
 
-/// The text of a delta: some edits under a rule, in their order.
+/// The text of a delta: some edits under a rule, in their order. It fails only for want of memory.
+/// That there are fewer than 2^32 edits, and that their states are below the rule's number of states,
+/// is the caller's condition; the second makes no difference to what is written, but a text without it
+/// is refused where it is read.
 pub fn write_delta(alloc: Global, rule: &Rule, edits: &[Edit]) -> Result<Vec<u8>, AllocError>
     requires { length edits.now < 2 ^ 32 }
     ensures { IfOk result (λ text. text.items ≡ delta_text rule.now edits.now) }
 {
     let mut text = head(alloc, MAGIC, rule)?;
+    text.reserve(edits_len(edits))?;
     text.extend_from_slice(&(edits.len() as u32).to_be_bytes())?;
     for edit in edits {
         push_edit(&mut text, edit)?;
     }
     Ok(text)
+}
+
+/// How many bytes the texts of edits have behind their number, if a machine's word can say it.
+fn edits_len(edits: &[Edit]) -> usize
+    ensures { result ≡ min (4 + length (flat_map edit_text edits.now)) (2 ^ 64 - 1) }
+{
+    let mut len: usize = 4;
+    for edit in edits {
+        len = len.saturating_add(edit_len(edit));
+    }
+    len
 }
 
 /// The edits of a text that is a delta under this rule, or its first fault from the left. Memory is

@@ -1,18 +1,21 @@
 //! Edits.
 
-ghost use Rattle.std.specs.Prelude.{◌≡◌, ◌≤◌, ◌++◌, OnOk};
+ghost use Rattle.std.specs.Prelude.{◌≡◌, ◌≤◌, ◌++◌, length, OnOk};
 ghost use Rattle.generations_rule.specs.Refusal.{Answers};
 ghost use Rattle.byte_codec.specs.Reading.{leaving};
 ghost use Rattle.delta_exchange.specs.Fault.{IsWant};
 ghost use Rattle.delta_exchange.specs.Spelling.{edit_text};
 ghost use Rattle.delta_exchange.specs.Reading.{count_at, count_fault, counted_cells_at, edit_at, edits_at, edits_in_turn_at, stamp_at};
 
-use crate::area::{push_area, read_area};
-use crate::cells::{push_cells, read_cells};
+use crate::area::{area_len, push_area, read_area};
+use crate::cells::{CELL_BYTES, push_cells, read_cells};
 use crate::fault::{ReadFault, value_unless};
 use byte_codec::Reader;
 use edit_stamps::{Cell, Edit, MOST_CELLS, Rect, Stamp};
 use std::alloc::{AllocError, Global};
+
+/// How many bytes a stamp and the number of cells take.
+const EDIT_BYTES: usize = 12;
 
 #[tactic(auto, unfolding(crate::specs::Spelling::edit_text))]
 pub fn push_edit(text: &mut Vec<u8>, edit: &Edit) -> Result<(), AllocError>
@@ -23,6 +26,13 @@ pub fn push_edit(text: &mut Vec<u8>, edit: &Edit) -> Result<(), AllocError>
     push_area(text, edit.area())?;
     text.extend_from_slice(&(cells.len() as u32).to_be_bytes())?;
     push_cells(text, cells)
+}
+
+/// How many bytes the text of an edit has.
+pub fn edit_len(edit: &Edit) -> usize
+    ensures { result ≡ length (edit_text edit.now) }
+{
+    EDIT_BYTES + usize::from(area_len(edit.area())) + CELL_BYTES * edit.listed_cells().len()
 }
 
 /// The edits behind their number, under a rule of so many states. Memory is taken edit by edit: the

@@ -20,7 +20,7 @@ pub fn push_place(text: &mut Vec<u8>, x: i32, y: i32) -> Result<(), AllocError>
 }
 
 /// How far a coordinate of the plane lies from the least.
-fn place_word(coordinate: i32) -> u32
+pub fn place_word(coordinate: i32) -> u32
     requires { negsuc 1073741823 ≤ℤ coordinate }
     ensures { result ≡ word_of coordinate }
 {
