@@ -1,15 +1,15 @@
 //! Deltas: lists of edits under a rule.
 
-ghost use Rattle.std.specs.Prelude.{◌≡◌, ◌+◌, ◌-◌, ◌<◌, ◌^◌, min, length, flat_map, IfOk, List, Ok};
+ghost use Rattle.std.specs.Prelude.{◌≡◌, ◌<◌, ◌^◌, length, IfOk, List, Ok};
 ghost use Rattle.generations_rule.specs.Refusal.{Answers};
 ghost use Rattle.generations_rule.specs.Rule.{IsRule};
 ghost use Rattle.edit_stamps.specs.Edit.{PlaneEdit};
 ghost use Rattle.delta_exchange.specs.Fault.{IsWant};
-ghost use Rattle.delta_exchange.specs.Spelling.{delta_text, edit_text};
+ghost use Rattle.delta_exchange.specs.Spelling.{delta_text};
 ghost use Rattle.delta_exchange.specs.Reading.{delta_of};
 ghost use Rattle.delta_exchange.specs.Delta.{AreTellable};
 
-use crate::edits::{edit_len, push_edit, read_edits};
+use crate::edits::{edits_len, push_edit, read_edits};
 use crate::fault::ReadFault;
 use crate::head::{head, read_head};
 use byte_codec::Reader;
@@ -35,17 +35,6 @@ pub fn write_delta(alloc: Global, rule: &Rule, edits: &[Edit]) -> Result<Vec<u8>
         push_edit(&mut text, edit)?;
     }
     Ok(text)
-}
-
-/// How many bytes the texts of edits have behind their number, if a machine's word can say it.
-fn edits_len(edits: &[Edit]) -> usize
-    ensures { result ≡ min (4 + length (flat_map edit_text edits.now)) (2 ^ 64 - 1) }
-{
-    let mut len: usize = 4;
-    for edit in edits {
-        len = len.saturating_add(edit_len(edit));
-    }
-    len
 }
 
 /// The edits of a text that is a delta under this rule, or its first fault from the left. Memory is
