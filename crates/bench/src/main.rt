@@ -1,9 +1,11 @@
-//! Measures edits, pattern texts, blocks, leaves, replicas and worlds, and asserts nothing. Prints what came of
-//! each, which is the same on every machine; with the word `--time` there is more of most, and it is
-//! also told how fast.
+//! Measures edits, pattern texts, deltas, frames, blocks, leaves, replicas and worlds, and asserts
+//! nothing. Prints what came of each, which is the same on every machine; with the word `--time` there
+//! is more of most, and it is also told how fast.
 #![tactic(auto)]
 
+mod deltas;
 mod edits;
+mod frames;
 mod kernel;
 mod leaves;
 mod patterns;
@@ -28,6 +30,8 @@ fn main(rt: HostRuntime) -> Result<()> {
     let is_timed = wants_time(&rt)?;
     edits::run(&rt, alloc, is_timed)?;
     patterns::run(&rt, alloc, is_timed)?;
+    deltas::run(&rt, alloc, is_timed)?;
+    frames::run(&rt, alloc, is_timed)?;
     kernel::run(&rt, alloc, is_timed)?;
     leaves::run(&rt, alloc, is_timed)?;
     replicas::run(&rt, alloc, is_timed)?;
