@@ -21,7 +21,8 @@ const MOST_BODY: usize = 0x100_0000;
 /// How many bytes the length of a body takes.
 const SIZE_BYTES: usize = 4;
 
-/// The frame of a body: how many bytes it has, and the body.
+/// The frame of a body: how many bytes it has, in four bytes with the greatest first, and the body.
+/// A body of more than 2^24 bytes is too long for one, whatever memory there is.
 pub fn frame(alloc: Global, body: &[u8]) -> Result<Vec<u8>, FrameFault>
     ensures ok { IfOk result (λ bytes. bytes.items ≡ frame_text body.now) }
     ensures too_long { IsErrOf result FrameFault.FrameTooLong ↔ (most_body < length body.now) }
@@ -35,7 +36,8 @@ pub fn frame(alloc: Global, body: &[u8]) -> Result<Vec<u8>, FrameFault>
     Ok(bytes)
 }
 
-/// A stream of frames that is fed in pieces and gives whole bodies.
+/// A stream of frames that is fed in pieces and gives whole bodies. Memory is taken for what was fed
+/// and for the bodies, and for no length that is announced.
 #[derive(Drop)]
 pub struct Frames {
     codec: LengthDelimitedCodec,
@@ -70,7 +72,8 @@ impl Frames {
         }
     }
 
-    /// Puts a piece behind what is pending. Once `next` wanted for memory, this does too.
+    /// Puts a piece behind what is pending. It fails only for want of memory, and leaves the stream as
+    /// it was; once `next` wanted for memory, it does so for ever.
     pub fn feed(&mut self, piece: &[u8]) -> Result<(), AllocError>
         ensures ok { OnOk result (self.new ≡ record { pending = self.old.pending ++ piece.now; is_spent = false }) }
         ensures err { OnErr result (self.new ≡ self.old) }
@@ -82,8 +85,8 @@ impl Frames {
         self.pending.extend_from_slice(piece)
     }
 
-    /// The next whole body, or nothing while its frame is not all there. Once it wanted for memory,
-    /// it does so for ever.
+    /// The next whole body, or nothing while its frame is not all there. Once it met a length that is
+    /// too great, or wanted for memory, it answers that for ever.
     pub fn next(&mut self) -> Result<Option<Vec<u8>>, FrameFault>
         // What stands next is answered.
         ensures exact { Answers IsFrameWant (leaving (λ body. option_map (λ bytes. bytes.items) body) result self.new.pending) (next_of self.old.pending) }
