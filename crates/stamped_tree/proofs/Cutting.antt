@@ -11,7 +11,8 @@ use Rattle.square_store.specs.Seen.{IsFourAt}
 use Rattle.square_store.proofs.Quarters.{twice, quarters_of}
 use Rattle.stamped_tree.specs.declared.leaf_kind.PlaneLeaf.{PlaneLeaf}
 use Rattle.stamped_tree.specs.LeafKind.{plane_grid}
-use Rattle.stamped_tree.specs.Copy.{IsCopy, AreAllCopies, IsQuarterOf, IsPieceOf, AddsAtMost, AddsPiecesOf}
+use Rattle.stamped_tree.specs.Copy.{IsCopy, AreAllCopies, AddsAtMost, AddsPiecesOf}
+use Rattle.stamped_tree.specs.Pieces.{IsQuarterOf, IsPieceOf}
 use Rattle.stamped_tree.specs.Plane.{HasPlaneWrites, HoldPlaneWrites}
 use Rattle.square_store.specs.Store.{nothing_held}
 use Rattle.square_store.proofs.Places.{at_within}

@@ -15,7 +15,7 @@ use Rattle.square_store.proofs.Quarters.{twice, quarter_nw, quarter_ne, quarter_
 use Rattle.stamped_tree.specs.declared.leaf_kind.PlaneLeaf.{PlaneLeaf}
 use Rattle.stamped_tree.specs.declared.cells.ListedCell.{ListedCell}
 use Rattle.stamped_tree.specs.LeafKind.{plane_grid}
-use Rattle.stamped_tree.specs.Walk.{IsLiveCell, Gathers, is_one_spot}
+use Rattle.stamped_tree.specs.Walk.{IsNonzeroCell, Gathers, is_one_spot}
 
 -- ---- lists
 
@@ -67,29 +67,29 @@ gathers_more P Q old mid new disjoint g h = record {
 }
 
 pub gathers_one : (cell : ListedCell) (old : List ListedCell) → cell.state ≢ 0 → Gathers (λ c. (c ≡ cell) × (c.state ≢ 0)) old (old ++ cell ∷ [])
-gathers_one cell old live = record {
+gathers_one cell old nonzero = record {
   kept = λ c h. Contains-append_left old (cell ∷ []) c h;
   got = λ c is. subst (λ d. Contains (old ++ cell ∷ []) d) (sym is.0) (Contains-append_right old (cell ∷ []) cell (contains_head cell []));
   only = λ c h. elim (Contains-append_cases old (cell ∷ []) c h) [
     | inl o ↦ inl o
-    | inr one ↦ (let e = contains_one cell c one in inr (e, subst (λ d. d.state ≢ 0) (sym e) live))
+    | inr one ↦ (let e = contains_one cell c one in inr (e, subst (λ d. d.state ≢ 0) (sym e) nonzero))
   ];
-  once = λ distinct apart. distinct_more old cell distinct (λ c o. apart c cell o (refl, live));
+  once = λ distinct apart. distinct_more old cell distinct (λ c o. apart c cell o (refl, nonzero));
 }
 
 -- ---- a leaf
 
--- the live cells of the first places of a leaf
-abbrev pub IsLiveBefore : PlaneLeaf → ℕ → ℕ → ℕ → ListedCell → Type 0
-IsLiveBefore l left top i c = IsLiveCell 8 (plane_grid l) left top c × (8 * (c.row - top) + (c.column - left) < i)
+-- the nonzero cells of the first places of a leaf
+abbrev pub IsNonzeroBefore : PlaneLeaf → ℕ → ℕ → ℕ → ListedCell → Type 0
+IsNonzeroBefore l left top i c = IsNonzeroCell 8 (plane_grid l) left top c × (8 * (c.row - top) + (c.column - left) < i)
 
 -- the cell at a place of a leaf
 abbrev pub cell_on_leaf : PlaneLeaf → ℕ → ℕ → ℕ → ListedCell
 cell_on_leaf l left top i = record { column = left + i % 8; row = top + i / 8; state = (write_on_leaf l.leaf i).state }
 
 module _ (l : PlaneLeaf) (left top i : ℕ) (small : i < 64) where
-  is_live : (c : ListedCell) → c ≡ cell_on_leaf l left top i → c.state ≢ 0 → IsLiveBefore l left top (i + 1) c
-  is_live c e live =
+  is_nonzero : (c : ListedCell) → c ≡ cell_on_leaf l left top i → c.state ≢ 0 → IsNonzeroBefore l left top (i + 1) c
+  is_nonzero c e nonzero =
       let column : c.column ≡ left + i % 8 = ap (λ (d : ListedCell). d.column) e in
       let row : c.row ≡ top + i / 8 = ap (λ (d : ListedCell). d.row) e in
       let place : 8 * (c.row - top) + (c.column - left) ≡ i = omega (arith, column, row) in (
@@ -99,50 +99,50 @@ module _ (l : PlaneLeaf) (left top i : ℕ) (small : i < 64) where
           column = omega (arith, column);
           row = omega (arith, row, small);
           state = ap (λ j. (write_on_leaf l.leaf j).state) place ∙ sym (ap (λ (d : ListedCell). d.state) e);
-          live = live;
+          nonzero = nonzero;
         },
         omega (arith, place),
       )
 
-  is_place_of : (c : ListedCell) → IsLiveCell 8 (plane_grid l) left top c → 8 * (c.row - top) + (c.column - left) ≡ i → c ≡ cell_on_leaf l left top i
-  is_place_of c live place =
-      let h = live.from_left in let h' = live.from_top in let w = live.column in let w' = live.row in
+  is_place_of : (c : ListedCell) → IsNonzeroCell 8 (plane_grid l) left top c → 8 * (c.row - top) + (c.column - left) ≡ i → c ≡ cell_on_leaf l left top i
+  is_place_of c nonzero place =
+      let h = nonzero.from_left in let h' = nonzero.from_top in let w = nonzero.column in let w' = nonzero.row in
       let column : left + i % 8 ≡ c.column = omega (arith, h, w, place) in
       let row : top + i / 8 ≡ c.row = omega (arith, h, h', w, w', place) in
-      let state : (write_on_leaf l.leaf i).state ≡ c.state = ap (λ j. (write_on_leaf l.leaf j).state) (sym place) ∙ live.state in
+      let state : (write_on_leaf l.leaf i).state ≡ c.state = ap (λ j. (write_on_leaf l.leaf j).state) (sym place) ∙ nonzero.state in
       rw (column, row, state) refl
 
-  pub gathers_place : (old mid new : List ListedCell) → Gathers (IsLiveBefore l left top i) old mid → Gathers (λ c. (c ≡ cell_on_leaf l left top i) × (c.state ≢ 0)) mid new → Gathers (IsLiveBefore l left top (i + 1)) old new
-  gathers_place old mid new g h = gathers_as (λ c. IsLiveBefore l left top i c ⊎ ((c ≡ cell_on_leaf l left top i) × (c.state ≢ 0))) (IsLiveBefore l left top (i + 1)) old new
-      (λ c is. elim is [ inl b ↦ (let lt = b.1 in (b.0, omega (arith, lt))) | inr one ↦ is_live c one.0 one.1 ])
+  pub gathers_place : (old mid new : List ListedCell) → Gathers (IsNonzeroBefore l left top i) old mid → Gathers (λ c. (c ≡ cell_on_leaf l left top i) × (c.state ≢ 0)) mid new → Gathers (IsNonzeroBefore l left top (i + 1)) old new
+  gathers_place old mid new g h = gathers_as (λ c. IsNonzeroBefore l left top i c ⊎ ((c ≡ cell_on_leaf l left top i) × (c.state ≢ 0))) (IsNonzeroBefore l left top (i + 1)) old new
+      (λ c is. elim is [ inl b ↦ (let lt = b.1 in (b.0, omega (arith, lt))) | inr one ↦ is_nonzero c one.0 one.1 ])
       (λ c b. elim (cases_lt (8 * (c.row - top) + (c.column - left)) i) [
         | inl lt ↦ inl (b.0, lt)
-        | inr ge ↦ (let lt = b.1 in inr (is_place_of c b.0 (omega (arith, lt, ge)), b.0.live))
+        | inr ge ↦ (let lt = b.1 in inr (is_place_of c b.0 (omega (arith, lt, ge)), b.0.nonzero))
       ])
-      (gathers_more (IsLiveBefore l left top i) (λ c. (c ≡ cell_on_leaf l left top i) × (c.state ≢ 0)) old mid new
-      (λ c d b one. not_one_spot c d (λ ec er. (let at = is_live d one.0 one.1 in
+      (gathers_more (IsNonzeroBefore l left top i) (λ c. (c ≡ cell_on_leaf l left top i) × (c.state ≢ 0)) old mid new
+      (λ c d b one. not_one_spot c d (λ ec er. (let at = is_nonzero d one.0 one.1 in
       let column : d.column ≡ left + i % 8 = ap (λ (d : ListedCell). d.column) one.0 in
       let row : d.row ≡ top + i / 8 = ap (λ (d : ListedCell). d.row) one.0 in
       let lt = b.1 in omega (arith, lt, ec, er, column, row)))) g h)
 
-pub gathers_leaf : (l : PlaneLeaf) (left top : ℕ) (old new : List ListedCell) → Gathers (IsLiveBefore l left top 64) old new → Gathers (IsLiveCell 8 (plane_grid l) left top) old new
-gathers_leaf l left top old new g = gathers_as (IsLiveBefore l left top 64) (IsLiveCell 8 (plane_grid l) left top) old new (λ c b. b.0) (λ c live. (let h = live.from_left in let h' = live.from_top in let w = live.column in let w' = live.row in (live, omega (arith, h, h', w, w')))) g
+pub gathers_leaf : (l : PlaneLeaf) (left top : ℕ) (old new : List ListedCell) → Gathers (IsNonzeroBefore l left top 64) old new → Gathers (IsNonzeroCell 8 (plane_grid l) left top) old new
+gathers_leaf l left top old new g = gathers_as (IsNonzeroBefore l left top 64) (IsNonzeroCell 8 (plane_grid l) left top) old new (λ c b. b.0) (λ c nonzero. (let h = nonzero.from_left in let h' = nonzero.from_top in let w = nonzero.column in let w' = nonzero.row in (nonzero, omega (arith, h, h', w, w')))) g
 
 -- a square that is a leaf
-pub gathers_leaf_at : (s : Held PlaneLeaf) (k p left top : ℕ) (l : PlaneLeaf) (old new : List ListedCell) → IsLeafAt plane_grid 8 s l p → IsAt s k p → Gathers (IsLiveCell 8 (plane_grid l) left top) old new
-    → Gathers (IsLiveCell (side_at 8 k) (grid_at plane_grid 8 s k p) left top) old new
+pub gathers_leaf_at : (s : Held PlaneLeaf) (k p left top : ℕ) (l : PlaneLeaf) (old new : List ListedCell) → IsLeafAt plane_grid 8 s l p → IsAt s k p → Gathers (IsNonzeroCell 8 (plane_grid l) left top) old new
+    → Gathers (IsNonzeroCell (side_at 8 k) (grid_at plane_grid 8 s k p) left top) old new
 gathers_leaf_at s k p left top l old new seen stands g =
     let level = seen.level k stands in
     let wide : side_at 8 k ≡ 8 = ap (side_at 8) level ∙ omega arith in
     let at : grid_at plane_grid 8 s k p ≡ grid_at plane_grid 8 s 0 p = ap (λ j. grid_at plane_grid 8 s j p) level in
-    gathers_as (IsLiveCell 8 (plane_grid l) left top) (IsLiveCell (side_at 8 k) (grid_at plane_grid 8 s k p) left top) old new
+    gathers_as (IsNonzeroCell 8 (plane_grid l) left top) (IsNonzeroCell (side_at 8 k) (grid_at plane_grid 8 s k p) left top) old new
     (λ c i. (let h = i.from_left in let h' = i.from_top in let w = i.column in let w' = i.row in
     record {
       from_left = h;
       from_top = h';
       column = omega (arith, w, wide);
       row = omega (arith, w', wide);
-      live = i.live;
+      nonzero = i.nonzero;
       state = ap (λ (f : Grid). (f (c.column - left) (c.row - top)).state) at ∙ ap (λ (w : Write). w.state) (seen.draws.same (c.column - left) (c.row - top) (omega (arith, h, w)) (omega (arith, h', w'))) ∙ i.state;
     }))
     (λ c i. (let h = i.from_left in let h' = i.from_top in let w = i.column in let w' = i.row in
@@ -151,7 +151,7 @@ gathers_leaf_at s k p left top l old new seen stands g =
       from_top = h';
       column = omega (arith, w, wide);
       row = omega (arith, w', wide);
-      live = i.live;
+      nonzero = i.nonzero;
       state = sym (ap (λ (w : Write). w.state) (seen.draws.same (c.column - left) (c.row - top) (omega (arith, h, w, wide)) (omega (arith, h', w', wide)))) ∙ sym (ap (λ (f : Grid). (f (c.column - left) (c.row - top)).state) at) ∙ i.state;
     }))
     g
@@ -177,15 +177,15 @@ module _ (n : ℕ) (fa fb fc fd g : Grid) (left top : ℕ) (same : AreSameWithin
       subst (λ z. quartered n fa fb fc fd z v ≡ fd (u - n) (v - n)) e (subst (λ z. quartered n fa fb fc fd (n + (u - n)) z ≡ fd (u - n) (v - n)) e' (quarter_se n fa fb fc fd (u - n) (v - n)))
 
   abbrev InNorth : ListedCell → Type 0
-  InNorth c = IsLiveCell n fa left top c ⊎ IsLiveCell n fb (left + n) top c
+  InNorth c = IsNonzeroCell n fa left top c ⊎ IsNonzeroCell n fb (left + n) top c
 
   abbrev InThree : ListedCell → Type 0
-  InThree c = InNorth c ⊎ IsLiveCell n fc left (top + n) c
+  InThree c = InNorth c ⊎ IsNonzeroCell n fc left (top + n) c
 
   abbrev InFour : ListedCell → Type 0
-  InFour c = InThree c ⊎ IsLiveCell n fd (left + n) (top + n) c
+  InFour c = InThree c ⊎ IsNonzeroCell n fd (left + n) (top + n) c
 
-  from_nw : (c : ListedCell) → IsLiveCell n fa left top c → IsLiveCell (n + n) g left top c
+  from_nw : (c : ListedCell) → IsNonzeroCell n fa left top c → IsNonzeroCell (n + n) g left top c
   from_nw c i =
       let h = i.from_left in let h' = i.from_top in let w = i.column in let w' = i.row in
       let u : c.column - left < n = omega (arith, h, w) in let v : c.row - top < n = omega (arith, h', w') in
@@ -194,11 +194,11 @@ module _ (n : ℕ) (fa fb fc fd g : Grid) (left top : ℕ) (same : AreSameWithin
         from_top = h';
         column = omega (arith, w);
         row = omega (arith, w');
-        live = i.live;
+        nonzero = i.nonzero;
         state = state_at (c.column - left) (c.row - top) c.state (fa (c.column - left) (c.row - top)) (omega (arith, u)) (omega (arith, v)) (quarter_nw n fa fb fc fd (c.column - left) (c.row - top) u v) i.state;
       }
 
-  from_ne : (c : ListedCell) → IsLiveCell n fb (left + n) top c → IsLiveCell (n + n) g left top c
+  from_ne : (c : ListedCell) → IsNonzeroCell n fb (left + n) top c → IsNonzeroCell (n + n) g left top c
   from_ne c i =
       let h = i.from_left in let h' = i.from_top in let w = i.column in let w' = i.row in
       let v : c.row - top < n = omega (arith, h', w') in
@@ -208,11 +208,11 @@ module _ (n : ℕ) (fa fb fc fd g : Grid) (left top : ℕ) (same : AreSameWithin
         from_top = h';
         column = omega (arith, w);
         row = omega (arith, w');
-        live = i.live;
+        nonzero = i.nonzero;
         state = state_at (c.column - left) (c.row - top) c.state (fb (c.column - (left + n)) (c.row - top)) (omega (arith, h, w)) (omega (arith, v)) (quarter_right (c.column - left) (c.row - top) (omega (arith, h)) v ∙ ap (λ z. fb z (c.row - top)) e) i.state;
       }
 
-  from_sw : (c : ListedCell) → IsLiveCell n fc left (top + n) c → IsLiveCell (n + n) g left top c
+  from_sw : (c : ListedCell) → IsNonzeroCell n fc left (top + n) c → IsNonzeroCell (n + n) g left top c
   from_sw c i =
       let h = i.from_left in let h' = i.from_top in let w = i.column in let w' = i.row in
       let u : c.column - left < n = omega (arith, h, w) in
@@ -222,11 +222,11 @@ module _ (n : ℕ) (fa fb fc fd g : Grid) (left top : ℕ) (same : AreSameWithin
         from_top = omega (arith, h');
         column = omega (arith, w);
         row = omega (arith, w');
-        live = i.live;
+        nonzero = i.nonzero;
         state = state_at (c.column - left) (c.row - top) c.state (fc (c.column - left) (c.row - (top + n))) (omega (arith, u)) (omega (arith, h', w')) (quarter_below (c.column - left) (c.row - top) u (omega (arith, h')) ∙ ap (λ z. fc (c.column - left) z) e) i.state;
       }
 
-  from_se : (c : ListedCell) → IsLiveCell n fd (left + n) (top + n) c → IsLiveCell (n + n) g left top c
+  from_se : (c : ListedCell) → IsNonzeroCell n fd (left + n) (top + n) c → IsNonzeroCell (n + n) g left top c
   from_se c i =
       let h = i.from_left in let h' = i.from_top in let w = i.column in let w' = i.row in
       let e : c.column - left - n ≡ c.column - (left + n) = omega arith in
@@ -236,11 +236,11 @@ module _ (n : ℕ) (fa fb fc fd g : Grid) (left top : ℕ) (same : AreSameWithin
         from_top = omega (arith, h');
         column = omega (arith, w);
         row = omega (arith, w');
-        live = i.live;
+        nonzero = i.nonzero;
         state = state_at (c.column - left) (c.row - top) c.state (fd (c.column - (left + n)) (c.row - (top + n))) (omega (arith, h, w)) (omega (arith, h', w')) (quarter_last (c.column - left) (c.row - top) (omega (arith, h)) (omega (arith, h')) ∙ ap (λ z. fd z (c.row - top - n)) e ∙ ap (λ z. fd (c.column - (left + n)) z) e') i.state;
       }
 
-  whole : (c : ListedCell) → InFour c → IsLiveCell (n + n) g left top c
+  whole : (c : ListedCell) → InFour c → IsNonzeroCell (n + n) g left top c
   whole c is = elim is [
     | inr d ↦ from_se c d
     | inl three ↦ elim three [
@@ -249,7 +249,7 @@ module _ (n : ℕ) (fa fb fc fd g : Grid) (left top : ℕ) (same : AreSameWithin
     ]
   ]
 
-  parted : (c : ListedCell) → IsLiveCell (n + n) g left top c → InFour c
+  parted : (c : ListedCell) → IsNonzeroCell (n + n) g left top c → InFour c
   parted c i =
       let h = i.from_left in let h' = i.from_top in let w = i.column in let w' = i.row in
       let hu : c.column - left < n + n = omega (arith, h, w) in let hv : c.row - top < n + n = omega (arith, h', w') in
@@ -263,7 +263,7 @@ module _ (n : ℕ) (fa fb fc fd g : Grid) (left top : ℕ) (same : AreSameWithin
             from_top = h';
             column = omega (arith, west, h);
             row = omega (arith, north, h');
-            live = i.live;
+            nonzero = i.nonzero;
             state = state_of u v c.state (fa u v) hu hv (quarter_nw n fa fb fc fd u v west north) i.state;
           })))
           | inr east ↦ inl (inl (inr (record {
@@ -271,7 +271,7 @@ module _ (n : ℕ) (fa fb fc fd g : Grid) (left top : ℕ) (same : AreSameWithin
             from_top = h';
             column = omega (arith, w);
             row = omega (arith, north, h');
-            live = i.live;
+            nonzero = i.nonzero;
             state = state_of u v c.state (fb (c.column - (left + n)) v) hu hv (quarter_right u v east north ∙ ap (λ z. fb z v) e) i.state;
           })))
         ]
@@ -281,7 +281,7 @@ module _ (n : ℕ) (fa fb fc fd g : Grid) (left top : ℕ) (same : AreSameWithin
             from_top = omega (arith, south, h');
             column = omega (arith, west, h);
             row = omega (arith, w');
-            live = i.live;
+            nonzero = i.nonzero;
             state = state_of u v c.state (fc u (c.row - (top + n))) hu hv (quarter_below u v west south ∙ ap (λ z. fc u z) e') i.state;
           }))
           | inr east ↦ inr (record {
@@ -289,35 +289,35 @@ module _ (n : ℕ) (fa fb fc fd g : Grid) (left top : ℕ) (same : AreSameWithin
             from_top = omega (arith, south, h');
             column = omega (arith, w);
             row = omega (arith, w');
-            live = i.live;
+            nonzero = i.nonzero;
             state = state_of u v c.state (fd (c.column - (left + n)) (c.row - (top + n))) hu hv (quarter_last u v east south ∙ ap (λ z. fd z (v - n)) e ∙ ap (λ z. fd (c.column - (left + n)) z) e') i.state;
           })
         ]
       ]
 
-  west_east : (f f' : Grid) (y : ℕ) (c d : ListedCell) → IsLiveCell n f left y c → IsLiveCell n f' (left + n) y d → is_one_spot c d ≡ false
+  west_east : (f f' : Grid) (y : ℕ) (c d : ListedCell) → IsNonzeroCell n f left y c → IsNonzeroCell n f' (left + n) y d → is_one_spot c d ≡ false
   west_east f f' y c d i j = let w = i.column in let h = j.from_left in not_one_spot c d (λ e e'. omega (arith, w, h, e))
 
-  north_south : (f f' : Grid) (x x' : ℕ) (c d : ListedCell) → IsLiveCell n f x top c → IsLiveCell n f' x' (top + n) d → is_one_spot c d ≡ false
+  north_south : (f f' : Grid) (x x' : ℕ) (c d : ListedCell) → IsNonzeroCell n f x top c → IsNonzeroCell n f' x' (top + n) d → is_one_spot c d ≡ false
   north_south f f' x x' c d i j = let w = i.row in let h = j.from_top in not_one_spot c d (λ e e'. omega (arith, w, h, e'))
 
-  pub gathers_four : (l0 l1 l2 l3 l4 : List ListedCell) → Gathers (IsLiveCell n fa left top) l0 l1 → Gathers (IsLiveCell n fb (left + n) top) l1 l2 → Gathers (IsLiveCell n fc left (top + n)) l2 l3 → Gathers (IsLiveCell n fd (left + n) (top + n)) l3 l4
-      → Gathers (IsLiveCell (n + n) g left top) l0 l4
-  gathers_four l0 l1 l2 l3 l4 ga gb gc gd = gathers_as InFour (IsLiveCell (n + n) g left top) l0 l4 whole parted
-      (gathers_more InThree (IsLiveCell n fd (left + n) (top + n)) l0 l3 l4
+  pub gathers_four : (l0 l1 l2 l3 l4 : List ListedCell) → Gathers (IsNonzeroCell n fa left top) l0 l1 → Gathers (IsNonzeroCell n fb (left + n) top) l1 l2 → Gathers (IsNonzeroCell n fc left (top + n)) l2 l3 → Gathers (IsNonzeroCell n fd (left + n) (top + n)) l3 l4
+      → Gathers (IsNonzeroCell (n + n) g left top) l0 l4
+  gathers_four l0 l1 l2 l3 l4 ga gb gc gd = gathers_as InFour (IsNonzeroCell (n + n) g left top) l0 l4 whole parted
+      (gathers_more InThree (IsNonzeroCell n fd (left + n) (top + n)) l0 l3 l4
       (λ c d three j. elim three [
         | inr i ↦ west_east fc fd (top + n) c d i j
         | inl north ↦ elim north [ inl i ↦ north_south fa fd left (left + n) c d i j | inr i ↦ north_south fb fd (left + n) (left + n) c d i j ]
       ])
-      (gathers_more InNorth (IsLiveCell n fc left (top + n)) l0 l2 l3
+      (gathers_more InNorth (IsNonzeroCell n fc left (top + n)) l0 l2 l3
       (λ c d north j. elim north [ inl i ↦ north_south fa fc left left c d i j | inr i ↦ north_south fb fc (left + n) left c d i j ])
-      (gathers_more (IsLiveCell n fa left top) (IsLiveCell n fb (left + n) top) l0 l1 l2 (λ c d i j. west_east fa fb top c d i j) ga gb) gc) gd)
+      (gathers_more (IsNonzeroCell n fa left top) (IsNonzeroCell n fb (left + n) top) l0 l1 l2 (λ c d i j. west_east fa fb top c d i j) ga gb) gc) gd)
 
 -- a square of four parts
 pub gathers_parts : (s : Held PlaneLeaf) (k j p left top n : ℕ) (parts : List ℕ) (ra rb rc rd : ℕ) (l0 l1 l2 l3 l4 : List ListedCell) → IsFourAt plane_grid 8 s j parts p → IsAt s k p → n ≡ side_at 8 (k - 1)
-    → Gathers (IsLiveCell (side_at 8 (k - 1)) (grid_at plane_grid 8 s (k - 1) (slice_index_or parts 0 ra)) left top) l0 l1 → Gathers (IsLiveCell (side_at 8 (k - 1)) (grid_at plane_grid 8 s (k - 1) (slice_index_or parts 1 rb)) (left + n) top) l1 l2
-    → Gathers (IsLiveCell (side_at 8 (k - 1)) (grid_at plane_grid 8 s (k - 1) (slice_index_or parts 2 rc)) left (top + n)) l2 l3 → Gathers (IsLiveCell (side_at 8 (k - 1)) (grid_at plane_grid 8 s (k - 1) (slice_index_or parts 3 rd)) (left + n) (top + n)) l3 l4
-    → Gathers (IsLiveCell (side_at 8 k) (grid_at plane_grid 8 s k p) left top) l0 l4
+    → Gathers (IsNonzeroCell (side_at 8 (k - 1)) (grid_at plane_grid 8 s (k - 1) (slice_index_or parts 0 ra)) left top) l0 l1 → Gathers (IsNonzeroCell (side_at 8 (k - 1)) (grid_at plane_grid 8 s (k - 1) (slice_index_or parts 1 rb)) (left + n) top) l1 l2
+    → Gathers (IsNonzeroCell (side_at 8 (k - 1)) (grid_at plane_grid 8 s (k - 1) (slice_index_or parts 2 rc)) left (top + n)) l2 l3 → Gathers (IsNonzeroCell (side_at 8 (k - 1)) (grid_at plane_grid 8 s (k - 1) (slice_index_or parts 3 rd)) (left + n) (top + n)) l3 l4
+    → Gathers (IsNonzeroCell (side_at 8 k) (grid_at plane_grid 8 s k p) left top) l0 l4
 gathers_parts s k j p left top n parts ra rb rc rd l0 l1 l2 l3 l4 four stands is ga gb gc gd =
     let level : k ≡ j = four.level k stands in
     let at_part = λ (i r : ℕ) (l : i < 4). get_or_default parts i r 0 (omega (arith, l, four.four)) in
@@ -328,6 +328,6 @@ gathers_parts s k j p left top n parts ra rb rc rd l0 l1 l2 l3 l4 four stands is
     let at = λ (q : ℕ). grid_at plane_grid 8 s (k - 1) q in
     let drawn : AreSameWithin (side_at 8 k) (grid_at plane_grid 8 s k p) (four_grid plane_grid 8 s (k - 1) parts) = subst (λ i. AreSameWithin (side_at 8 i) (grid_at plane_grid 8 s i p) (four_grid plane_grid 8 s (i - 1) parts)) (sym level) four.draws.same in
     let same : AreSameWithin (m + m) (grid_at plane_grid 8 s k p) (quartered m (at a) (at b) (at c) (at d)) = λ u v hu hv. rw (at_part 0 ra (omega arith), at_part 1 rb (omega arith), at_part 2 rc (omega arith), at_part 3 rd (omega arith)) (drawn u v (omega (arith, hu, wide)) (omega (arith, hv, wide))) in
-    subst (λ z. Gathers (IsLiveCell z (grid_at plane_grid 8 s k p) left top) l0 l4) (sym wide)
+    subst (λ z. Gathers (IsNonzeroCell z (grid_at plane_grid 8 s k p) left top) l0 l4) (sym wide)
     (gathers_four m (at a) (at b) (at c) (at d) (grid_at plane_grid 8 s k p) left top same l0 l1 l2 l3 l4 ga
-    (subst (λ z. Gathers (IsLiveCell m (at b) (left + z) top) l1 l2) is gb) (subst (λ z. Gathers (IsLiveCell m (at c) left (top + z)) l2 l3) is gc) (subst (λ z. Gathers (IsLiveCell m (at d) (left + z) (top + z)) l3 l4) is gd))
+    (subst (λ z. Gathers (IsNonzeroCell m (at b) (left + z) top) l1 l2) is gb) (subst (λ z. Gathers (IsNonzeroCell m (at c) left (top + z)) l2 l3) is gc) (subst (λ z. Gathers (IsNonzeroCell m (at d) (left + z) (top + z)) l3 l4) is gd))

@@ -19,7 +19,7 @@ use Rattle.stamped_tree.specs.declared.cells.ListedCell.{ListedCell}
 use Rattle.stamped_tree.specs.LeafKind.{plane_grid}
 use Rattle.stamped_tree.specs.Drawing.{state_listed}
 use Rattle.stamped_tree.specs.Plane.{from_edge, map_of}
-use Rattle.stamped_tree.specs.Walk.{AreLiveCells, IsLiveCell, Gathers, is_one_spot, is_on_plane, row_order, cell_of_plane}
+use Rattle.stamped_tree.specs.Walk.{AreNonzeroCells, IsNonzeroCell, Gathers, is_one_spot, is_on_plane, row_order, cell_of_plane}
 use Rattle.stamped_tree.proofs.Gathering.{contains_head, contains_tail}
 
 -- ---- what holds of each cell
@@ -28,13 +28,13 @@ each_passes : (p : ListedCell → Bool) (cells : List ListedCell) → ((c : List
 each_passes p [] all = refl
 each_passes p (c ∷ cells) all = rw (all c (contains_head c cells)) (each_passes p cells (λ d h. all d (contains_tail c d cells h)))
 
-alive : (n : ℕ) → n ≢ 0 → not (n == 0) ≡ true
-alive zero h = absurd (h refl)
-alive (suc n) h = grind (arith, nat_tests)
+not_zero : (n : ℕ) → n ≢ 0 → not (n == 0) ≡ true
+not_zero zero h = absurd (h refl)
+not_zero (suc n) h = grind (arith, nat_tests)
 
-nonzero_cells : (cells : List ListedCell) → ((c : ListedCell) → Contains cells c → c.state ≢ 0) → are_nonzero (map cell_of_plane cells) ≡ true
-nonzero_cells [] all = refl
-nonzero_cells (c ∷ cells) all = rw (alive c.state (all c (contains_head c cells))) (nonzero_cells cells (λ d h. all d (contains_tail c d cells h)))
+cells_are_nonzero : (cells : List ListedCell) → ((c : ListedCell) → Contains cells c → c.state ≢ 0) → are_nonzero (map cell_of_plane cells) ≡ true
+cells_are_nonzero [] all = refl
+cells_are_nonzero (c ∷ cells) all = rw (not_zero c.state (all c (contains_head c cells))) (cells_are_nonzero cells (λ d h. all d (contains_tail c d cells h)))
 
 -- ---- the order
 
@@ -131,7 +131,7 @@ none_distinct = tt
 
 -- the cells of a square from the corner on
 abbrev AreCellsOf : ℕ → Grid → List ListedCell → Type 0
-AreCellsOf n f cells = ((c : ListedCell) → IsLiveCell n f 0 0 c → Contains cells c) × ((c : ListedCell) → Contains cells c → IsLiveCell n f 0 0 c)
+AreCellsOf n f cells = ((c : ListedCell) → IsNonzeroCell n f 0 0 c → Contains cells c) × ((c : ListedCell) → Contains cells c → IsNonzeroCell n f 0 0 c)
 
 state_walked : (n : ℕ) (f : Grid) (cells : List ListedCell) (u v : ℕ) → AreCellsOf n f cells → u < n → v < n → unwrap_or (state_listed cells u v) 0 ≡ (f u v).state
 state_walked n f cells u v are hu hv = go (state_listed cells u v) refl (f u v).state refl
@@ -144,11 +144,11 @@ state_walked n f cells u v are hu hv = go (state_listed cells u v) refl (f u v).
     go None e zero e' = ap (λ o. unwrap_or o 0) e ∙ sym e'
     go None e (suc s) e' =
         let c : ListedCell = record { column = u; row = v; state = suc s } in
-        absurd (cell_missed cells u v c e (are.0 c (record { from_left = omega arith; from_top = omega arith; column = omega (arith, hu); row = omega (arith, hv); state = (let eu : u - 0 ≡ u = omega arith in let ev : v - 0 ≡ v = omega arith in rw (eu, ev) e'); live = λ z. omega (arith, z) })) refl refl)
+        absurd (cell_missed cells u v c e (are.0 c (record { from_left = omega arith; from_top = omega arith; column = omega (arith, hu); row = omega (arith, hv); state = (let eu : u - 0 ≡ u = omega arith in let ev : v - 0 ≡ v = omega arith in rw (eu, ev) e'); nonzero = λ z. omega (arith, z) })) refl refl)
 
 -- ---- the walk
 
-module _ (f : Grid) (start found sorted : List ListedCell) (none : start ≡ []) (g : Gathers (IsLiveCell 2147483648 f 0 0) start found) (order : IsNonDecreasingBy row_order sorted) (moved : IsPermutation found sorted) where
+module _ (f : Grid) (start found sorted : List ListedCell) (none : start ≡ []) (g : Gathers (IsNonzeroCell 2147483648 f 0 0) start found) (order : IsNonDecreasingBy row_order sorted) (moved : IsPermutation found sorted) where
   no_cell : (c : ListedCell) → Contains start c → ⊥
   no_cell c h = let l = (subst (λ cells. Contains cells c) none h).1 in omega (arith, l)
 
@@ -167,10 +167,10 @@ module _ (f : Grid) (start found sorted : List ListedCell) (none : start ≡ [])
   once : IsDistinct is_one_spot sorted
   once = IsDistinct-IsPermutation is_one_spot spots_flip found sorted moved (g.once (subst (λ cells. IsDistinct is_one_spot cells) (sym none) none_distinct) (λ c d h i. absurd (no_cell c h)))
 
-  pub walked : (s : Held PlaneLeaf) (root : ℕ) → f ≡ grid_at plane_grid 8 s 28 root → AreLiveCells (map_of (record { store = s; root = root })) (map cell_of_plane sorted)
+  pub walked : (s : Held PlaneLeaf) (root : ℕ) → f ≡ grid_at plane_grid 8 s 28 root → AreNonzeroCells (map_of (record { store = s; root = root })) (map cell_of_plane sorted)
   walked s root is = record {
     sorted = sorted_cells sorted on_plane once order;
-    nonzero = nonzero_cells sorted (λ c h. (are.1 c h).live);
+    nonzero = cells_are_nonzero sorted (λ c h. (are.1 c h).nonzero);
     states = λ at. go at (is_in_plane at) refl;
   }
     where

@@ -1,12 +1,12 @@
 -- Copies of squares from one store into another.
-use Rattle.std.specs.Prelude.{◌≡◌, ◌⊎◌, ℕ, zero, suc, ◌+◌, ◌<◌, ◌≤◌, cond, slice_index_or, List, length, Option, Some, is_some, if◌then◌else◌, eqb}
+use Rattle.std.specs.Prelude.{◌≡◌, ◌⊎◌, ℕ, ◌+◌, ◌<◌, ◌≤◌, cond, slice_index_or, List, length, Option, Some, is_some, if◌then◌else◌, eqb}
 use Rattle.std.specs.List.{IsDistinct}
 use Rattle.std.specs.Map.{keys_of, lookup}
-use Rattle.square_store.specs.Grid.{AreSameWithin}
-use Rattle.square_store.specs.Squares.{Held, side_at, IsAt, grid_at, Draws}
+use Rattle.square_store.specs.Squares.{Held, IsAt, grid_at, Draws}
 use Rattle.square_store.specs.Store.{IsHeld}
 use Rattle.stamped_tree.specs.declared.leaf_kind.PlaneLeaf.{PlaneLeaf}
 use Rattle.stamped_tree.specs.LeafKind.{plane_grid}
+use Rattle.stamped_tree.specs.Pieces.{IsPieceOf}
 
 -- each part that was copied, and its copy
 abbrev pub Copies : Type 0
@@ -37,26 +37,12 @@ pub record IsNoted (old new : Copies) (a b : ℕ) : Type 0 where
 abbrev pub AreAllCopies : (source target : Held PlaneLeaf) → List ℕ → List ℕ → Type 0
 AreAllCopies source target parts copied = (i : ℕ) → i < 4 → IsCopy source target (slice_index_or parts i 0) (slice_index_or copied i 0)
 
--- ---- the squares that a square is cut into
+-- ---- what a store holds more than before
 
--- the square of level k at r is a quarter of that of level k + 1 at p, so many columns and rows from its corner
-pub record IsQuarterOf (s : Held PlaneLeaf) (k p r : ℕ) : Type 0 where
-  pub column : ℕ
-  pub row : ℕ
-  pub left : (column ≡ 0) ⊎ (column ≡ side_at 8 k)
-  pub upper : (row ≡ 0) ⊎ (row ≡ side_at 8 k)
-  pub stands : IsAt s k r
-  pub same : AreSameWithin (side_at 8 k) (grid_at plane_grid 8 s k r) (λ u v. grid_at plane_grid 8 s (suc k) p (column + u) (row + v))
-
--- the square at q is the square of level k at p, or one of those that this is cut into, quarter by quarter
-unfoldable pub IsPieceOf : Held PlaneLeaf → ℕ → (p q : ℕ) → Type 0
-IsPieceOf s zero p q = q ≡ p
-IsPieceOf s (suc k) p q = (q ≡ p) ⊎ ((r : ℕ) × (IsQuarterOf s k p r × IsPieceOf s k r q))
-
--- what a store holds more than before is the square at p
+-- the square at p, or nothing
 abbrev pub AddsAtMost : (old new : Held PlaneLeaf) → ℕ → Type 0
 AddsAtMost old new p = (q : ℕ) → IsHeld new q → IsHeld old q ⊎ (q ≡ p)
 
--- what a store holds more than before is the square of level k at p, and what this is cut into
+-- some of the pieces of the square of level k at p, or nothing
 abbrev pub AddsPiecesOf : (old new : Held PlaneLeaf) → ℕ → ℕ → Type 0
 AddsPiecesOf old new k p = (q : ℕ) → IsHeld new q → IsHeld old q ⊎ IsPieceOf new k p q

@@ -11,7 +11,7 @@ use Rattle.square_store.specs.Store.{IsHeld, IsGrown, IsAdded, IsFullFor, IsRoom
 use Rattle.square_store.specs.Seen.{AreAt}
 use Rattle.stamped_tree.specs.declared.leaf_kind.PlaneLeaf.{PlaneLeaf}
 use Rattle.stamped_tree.specs.LeafKind.{plane_grid}
-use Rattle.stamped_tree.specs.Copy.{IsPieceOf}
+use Rattle.stamped_tree.specs.Pieces.{IsPieceOf}
 
 -- what contracts see of a plane: the squares that it stores, with its room, and the part that is the whole plane
 pub record StampedPlane : Type 0 where
@@ -20,7 +20,7 @@ pub record StampedPlane : Type 0 where
 
 -- ---- squares by their parts
 
--- a square of level k has 2^k columns and rows, and so many levels are between it and a leaf, which has level 3
+-- a square of level k, from 3 on, has 2^k columns and rows: it is so many levels above a leaf, of level 3
 abbrev pub above_leaf : ℕ → ℕ
 above_leaf level = level - 3
 

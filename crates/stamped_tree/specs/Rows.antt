@@ -1,15 +1,12 @@
 -- Worked values of the definitions.
-use Rattle.std.specs.Prelude.{◌≡◌, ℕ, zero, suc, ◌+◌, ◌^◌, ◌-◌, List, [], ◌∷◌, ◌++◌, pos, negsuc, refl, replicate, slice_set}
+use Rattle.std.specs.Prelude.{◌≡◌, ℕ, zero, suc, ◌^◌, ◌-◌, List, [], ◌∷◌, ◌++◌, pos, negsuc, refl, replicate, slice_set}
 use Rattle.edit_stamps.specs.declared.write.Write.{Write}
 use Rattle.generations_rule.specs.Place.{at_place}
 use Rattle.edit_stamps.specs.Write.{unwritten}
 use Rattle.leaf_merge_lanes.specs.Leaf.{write_of}
 use Rattle.square_store.specs.declared.node.Node.{Node}
 use Rattle.square_store.specs.declared.node.Node.TheVariants as node
-use Rattle.square_store.specs.Squares.{Held, grid_at}
-use Rattle.stamped_tree.specs.declared.leaf_kind.PlaneLeaf.{PlaneLeaf}
-use Rattle.stamped_tree.specs.LeafKind.{plane_grid}
-use Rattle.stamped_tree.specs.Copy.{IsPieceOf}
+use Rattle.square_store.specs.Squares.{grid_at}
 use Rattle.stamped_tree.specs.Plane.{StampedPlane, above_leaf, from_edge, map_of}
 use Rattle.stamped_tree.specs.Tree.{Tree, Blank, Four, IsTreeOf, IsPlaneTree, plane_corner}
 

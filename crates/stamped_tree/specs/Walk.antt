@@ -11,19 +11,19 @@ use Rattle.square_store.specs.Grid.{Grid}
 use Rattle.stamped_tree.specs.declared.cells.ListedCell.{ListedCell}
 
 -- the sorted list of a map's states that are not 0
-pub record AreLiveCells (p : Writes) (cells : List Cell) : Type 0 where
+pub record AreNonzeroCells (p : Writes) (cells : List Cell) : Type 0 where
   pub sorted : IsTrue (is_sorted cells)
   pub nonzero : IsTrue (are_nonzero cells)
   pub states : (c : Place) → unwrap_or (listed cells c) 0 ≡ (p c).state
 
 -- a cell of a square with n columns and rows, whose corner is in a column and a row: the square's state there, which is not 0
-pub record IsLiveCell (n : ℕ) (f : Grid) (left top : ℕ) (c : ListedCell) : Type 0 where
+pub record IsNonzeroCell (n : ℕ) (f : Grid) (left top : ℕ) (c : ListedCell) : Type 0 where
   pub from_left : left ≤ c.column
   pub from_top : top ≤ c.row
   pub column : c.column < left + n
   pub row : c.row < top + n
   pub state : (f (c.column - left) (c.row - top)).state ≡ c.state
-  pub live : c.state ≢ 0
+  pub nonzero : c.state ≢ 0
 
 -- two cells are listed in one column and row
 abbrev pub is_one_spot : ListedCell → ListedCell → Bool

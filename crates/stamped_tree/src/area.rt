@@ -18,7 +18,8 @@ impl Area {
     /// What the area has of a square with so many columns and rows, whose corner is at a column and
     /// a row. It has no column or row that the square does not have.
     pub fn of_part(self, left: u32, top: u32, side: u32) -> Area
-        ensures { IsAreaOfPart self left top side result }
+        ensures part { IsAreaOfPart self left top side result }
+        ensures within { (result.right ≤ side) × (result.bottom ≤ side) }
     {
         Area {
             left: clipped(self.left, left, side),

@@ -13,7 +13,7 @@ ghost use Rattle.square_store.specs.Store.{IsAdded, IsFullFor, IsHeld, IsOnePart
 ghost use Rattle.stamped_tree.specs.LeafKind.{IsPlaneLeaf, plane_grid};
 ghost use Rattle.stamped_tree.specs.Plane.{ArePlaneWrites, AreQuarterParts, DrawsPart, HasGrown, HasRoomForPart, IsFullForPart, IsPart, IsPartAdded, IsPlane, StoresRootAlone, grid_of_leaf, map_of, grid_of_parts};
 ghost use Rattle.stamped_tree.specs.Tree.{OneMap, OneTree};
-ghost use Rattle.stamped_tree.specs.Walk.{AreLiveCells};
+ghost use Rattle.stamped_tree.specs.Walk.{AreNonzeroCells};
 ghost use Rattle.stamped_tree.specs.View.{ShowSameWhereSame, ShowsItsTree, square_at};
 
 use crate::copy::copy_square;
@@ -21,7 +21,7 @@ use crate::draw::draw_edit;
 use crate::leaf_kind::PlaneLeaf;
 use crate::lookup;
 use crate::square::Square;
-use crate::walk::live_cells;
+use crate::walk::nonzero_cells;
 use edit_stamps::{Edit, Write};
 use indexmap::IndexMap;
 use leaf_merge_lanes::Leaf;
@@ -133,9 +133,9 @@ impl Plane {
 
     /// The cells whose state is not 0, sorted by `y`, then `x`.
     pub fn walk(&self) -> Result<Vec<Cell>, AllocError>
-        ensures { IfOk result (λ cells. AreLiveCells (map_of self.now) cells.items) }
+        ensures { IfOk result (λ cells. AreNonzeroCells (map_of self.now) cells.items) }
     {
-        let cells = live_cells(self.alloc, &self.store, self.root)?;
+        let cells = nonzero_cells(self.alloc, &self.store, self.root)?;
         Ok(cells)
     }
 

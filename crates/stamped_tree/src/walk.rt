@@ -6,7 +6,7 @@ ghost use Rattle.std.specs.List.Sorted.{IsNonDecreasingBy, IsPermutation};
 ghost use Rattle.square_store.specs.Squares.{IsAt, grid_at, side_at};
 ghost use Rattle.stamped_tree.specs.LeafKind.{plane_grid};
 ghost use Rattle.stamped_tree.specs.Plane.{map_of};
-ghost use Rattle.stamped_tree.specs.Walk.{AreLiveCells, IsLiveCell, Gathers, cell_of_plane, is_on_plane, row_order};
+ghost use Rattle.stamped_tree.specs.Walk.{AreNonzeroCells, IsNonzeroCell, Gathers, cell_of_plane, is_on_plane, row_order};
 
 use crate::area::side_of;
 use crate::cells::ListedCell;
@@ -20,13 +20,13 @@ const LEAST: i64 = -0x4000_0000;
 
 /// The cells of the plane whose root is at a part, sorted by `y`, then `x`. A blank is passed over,
 /// whatever its side; a square that stands in many places is gone through in each.
-pub(crate) fn live_cells(
+pub(crate) fn nonzero_cells(
     alloc: Global,
     store: &Store<PlaneLeaf>,
     root: Part,
 ) -> Result<Vec<Cell>, AllocError>
     requires { IsAt store.now 28 root }
-    ensures { IfOk result (λ cells. AreLiveCells (map_of (record { store = store.now; root = root })) cells.items) }
+    ensures { IfOk result (λ cells. AreNonzeroCells (map_of (record { store = store.now; root = root })) cells.items) }
 {
     let mut found = Vec::new(alloc);
     gather(store, 28, root, 0, 0, &mut found)?;
@@ -48,7 +48,7 @@ fn gather(
     requires stands { IsAt store.now level part }
     requires left { left + side_at 8 level ≤ 2147483648 }
     requires top { top + side_at 8 level ≤ 2147483648 }
-    ensures { OnOk result (Gathers (IsLiveCell (side_at 8 level) (grid_at plane_grid 8 store.now level part) left top) found.old.items found.new.items) }
+    ensures { OnOk result (Gathers (IsNonzeroCell (side_at 8 level) (grid_at plane_grid 8 store.now level part) left top) found.old.items found.new.items) }
 {
     match store.square(part) {
         Square::Blank(_) => Ok(()),
@@ -75,7 +75,7 @@ fn gather_leaf(
 ) -> Result<(), AllocError>
     requires left { left + 8 ≤ 2147483648 }
     requires top { top + 8 ≤ 2147483648 }
-    ensures { OnOk result (Gathers (IsLiveCell 8 (plane_grid leaf.now) left top) found.old.items found.new.items) }
+    ensures { OnOk result (Gathers (IsNonzeroCell 8 (plane_grid leaf.now) left top) found.old.items found.new.items) }
 {
     for place in 0..64u32 {
         let cell = ListedCell {
@@ -83,12 +83,12 @@ fn gather_leaf(
             row: top + place / 8,
             state: leaf.leaf.get(place as usize).state,
         };
-        push_live(cell, found)?;
+        push_nonzero(cell, found)?;
     }
     Ok(())
 }
 
-fn push_live(cell: ListedCell, found: &mut Vec<ListedCell>) -> Result<(), AllocError>
+fn push_nonzero(cell: ListedCell, found: &mut Vec<ListedCell>) -> Result<(), AllocError>
     ensures { OnOk result (Gathers (λ c. (c ≡ cell) × (c.state ≢ 0)) found.old.items found.new.items) }
 {
     if cell.state != 0 {

@@ -55,10 +55,10 @@ draw_anew-returns-clause-draws t c =
     (draws_later plane_grid 8 s3 s4 k fc c.in_ok-sw.sw g4 c.in_ok-sw.ensures.draws)
     c.in_ok-se.ensures.draws
     h c.side_of-half.ensures
-    (rw c.in_ok-quarters.ensures.nw (part_writes a.stamp a.area c.of_part.result a.cells.items 0 0 h c.of_part.ensures))
-    (rw c.in_ok-quarters.ensures.ne (part_writes a.stamp a.area c.of_part-2.result a.cells.items h 0 h c.of_part-2.ensures))
-    (rw c.in_ok-quarters.ensures.sw (part_writes a.stamp a.area c.of_part-3.result a.cells.items 0 h h c.of_part-3.ensures))
-    (rw c.in_ok-quarters.ensures.se (part_writes a.stamp a.area c.of_part-4.result a.cells.items h h h c.of_part-4.ensures))
+    (rw c.in_ok-quarters.ensures.nw (part_writes a.stamp a.area c.of_part.result a.cells.items 0 0 h c.of_part.ensures.part))
+    (rw c.in_ok-quarters.ensures.ne (part_writes a.stamp a.area c.of_part-2.result a.cells.items h 0 h c.of_part-2.ensures.part))
+    (rw c.in_ok-quarters.ensures.sw (part_writes a.stamp a.area c.of_part-3.result a.cells.items 0 h h c.of_part-3.ensures.part))
+    (rw c.in_ok-quarters.ensures.se (part_writes a.stamp a.area c.of_part-4.result a.cells.items h h h c.of_part-4.ensures.part))
 
 pub draw-returns-then-is_empty-clause-writes : goal.draw-returns-then-is_empty-clause-writes
 draw-returns-then-is_empty-clause-writes t c =
