@@ -1,2 +1,1 @@
 pub mod Single
-pub mod PlaneLeaf

@@ -1,10 +1,10 @@
 //! Squares of leaves of a plane: what is seen of them.
 
-use crate::plane_leaf::{PlaneLeaf, StampBounds};
 use crate::steps::four;
 use edit_stamps::Write;
 use leaf_merge_lanes::Leaf;
 use square_store::{Part, Square, Store, StoreFault};
+use stamped_tree::{PlaneLeaf, StampBounds};
 use std::alloc::Global;
 
 /// A leaf with one write at its last place.

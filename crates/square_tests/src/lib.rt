@@ -1,9 +1,8 @@
-//! Tests of `square_store`, over leaves of two kinds.
+//! Tests of `square_store`, over leaves of two kinds: single writes, and those of planes.
 #![tactic(auto)]
 
 #[cfg(test)]
 mod fours;
-mod plane_leaf;
 #[cfg(test)]
 mod random;
 #[cfg(test)]
@@ -12,5 +11,4 @@ mod single;
 #[cfg(test)]
 mod steps;
 
-pub use plane_leaf::{PlaneLeaf, StampBounds};
 pub use single::Single;

@@ -1,5 +1,0 @@
-use Rattle.square_tests.proofs.Bounds.{blank_leaf}
-use Rattle.square_tests.proofs.plane_leaf.PlaneLeafLeafKind.blank_stamp.Goals as goal
-
-pub returns-clause-blank : goal.returns-clause-blank
-returns-clause-blank c = blank_leaf c.args.self.now c.is_blank.result c.is_blank.ensures.some c.is_blank.ensures.none

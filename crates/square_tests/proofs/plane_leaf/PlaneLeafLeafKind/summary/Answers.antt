@@ -1,5 +1,0 @@
-use Rattle.square_tests.proofs.Bounds.{bounds_leaf}
-use Rattle.square_tests.proofs.plane_leaf.PlaneLeafLeafKind.summary.Goals as goal
-
-pub returns : goal.returns
-returns c = bounds_leaf c.args.self.now _ c.stamp_bounds-least.ensures.least c.stamp_bounds-least.ensures.greatest
