@@ -91,6 +91,10 @@ pub record HasGrown (old new : StampedPlane) : Type 0 where
   pub root : new.root ≡ old.root
   pub map : AreSame (map_of new) (map_of old)
 
+-- the plane whose root is another part of the same store
+abbrev pub rooted : StampedPlane → ℕ → StampedPlane
+rooted p part = record { store = p.store; root = part }
+
 -- a plane stores the root, and the squares that the root is cut into, and no other
 abbrev pub StoresRootAlone : StampedPlane → Type 0
 StoresRootAlone p = (q : ℕ) → IsHeld p.store q → IsPieceOf p.store (above_leaf 31) p.root q
