@@ -1,13 +1,14 @@
 -- What is seen at a square of a plane, one step deep, and step by step.
 use Rattle.std.specs.Prelude.{◌≡◌, ℕ, [], ◌∷◌, ◌↔◌}
 use Rattle.edit_stamps.specs.Write.{AreSame}
-use Rattle.square_store.specs.Squares.{Held}
+use Rattle.square_store.specs.Squares.{Held, IsAt, grid_at, side_at}
 use Rattle.square_store.specs.Seen.{IsBlankAt, IsLeafAt, IsFourAt}
 use Rattle.leaf_merge_lanes.specs.Leaf.{IsLeaf}
 use Rattle.stamped_tree.specs.declared.leaf_kind.PlaneLeaf.{PlaneLeaf}
+use Rattle.stamped_tree.specs.declared.leaf_kind.StampBounds.{StampBounds}
 use Rattle.stamped_tree.specs.declared.square.View.{View}
 use Rattle.stamped_tree.specs.declared.square.View.TheVariants as view
-use Rattle.stamped_tree.specs.LeafKind.{plane_grid}
+use Rattle.stamped_tree.specs.LeafKind.{plane_grid, AreStampBounds}
 use Rattle.stamped_tree.specs.PlaneSquare.{PlaneSquare}
 use Rattle.stamped_tree.specs.Plane.{StampedPlane, map_of}
 use Rattle.stamped_tree.specs.Tree.{Tree, Blank, Leaf, Four, IsPlaneTree}
@@ -15,6 +16,10 @@ use Rattle.stamped_tree.specs.Tree.{Tree, Blank, Leaf, Four, IsPlaneTree}
 -- a square of a store at a part
 abbrev pub square_at : Held PlaneLeaf → ℕ → PlaneSquare
 square_at s part = record { store = s; part = part }
+
+-- bounds of the stamps of the square's writes, which some of them reach, whatever level it is taken to have
+abbrev pub AreBoundsOf : PlaneSquare → StampBounds → Type 0
+AreBoundsOf q b = (k : ℕ) → IsAt q.store k q.part → AreStampBounds (side_at 8 k) (grid_at plane_grid 8 q.store k q.part) b
 
 -- four squares together are the square of a level at q
 pub record AreQuartersSeen (q nw ne sw se : PlaneSquare) : Type 0 where

@@ -1,6 +1,6 @@
 //! Squares of a plane, and what is seen of them.
 
-use crate::leaf_kind::PlaneLeaf;
+use crate::leaf_kind::{PlaneLeaf, StampBounds};
 use leaf_merge_lanes::Leaf;
 use square_store::{Part, Store};
 use std::marker::Model;
@@ -43,7 +43,7 @@ pub enum View<'a> {
 impl<'a> Square<'a> {
     ghost use Rattle.std.specs.Prelude.{◌≡◌};
     ghost use Rattle.square_store.specs.Store.{IsHeld};
-    ghost use Rattle.stamped_tree.specs.View.{IsView, square_at};
+    ghost use Rattle.stamped_tree.specs.View.{AreBoundsOf, IsView, square_at};
 
     /// The square at a part of a store.
     pub(crate) fn at(store: &'a Store<PlaneLeaf>, part: Part) -> Square<'a>
@@ -58,6 +58,13 @@ impl<'a> Square<'a> {
         ensures { result ≡ self.now.part }
     {
         self.part
+    }
+
+    /// The least and the greatest stamp of its writes, in constant time.
+    pub fn bounds(&self) -> StampBounds
+        ensures { AreBoundsOf self.now result }
+    {
+        self.store.summary(self.part)
     }
 
     /// What stands there.
