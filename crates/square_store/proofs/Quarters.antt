@@ -6,10 +6,10 @@ use Rattle.edit_stamps.specs.declared.write.Write.{Write}
 use Rattle.square_store.specs.Grid.{Grid, blank_grid, quartered, AreSameWithin}
 use Rattle.square_store.specs.Squares.{side_at}
 
-lt_true : (u n : ℕ) → u < n → nat_lt u n ≡ true
+pub lt_true : (u n : ℕ) → u < n → nat_lt u n ≡ true
 lt_true u n h = search (rules, h)
 
-lt_false : (u n : ℕ) → n ≤ u → nat_lt u n ≡ false
+pub lt_false : (u n : ℕ) → n ≤ u → nat_lt u n ≡ false
 lt_false u n h = search (rules, h)
 
 module _ (n : ℕ) (a b c d : Grid) (u v : ℕ) where

@@ -19,7 +19,7 @@ use Rattle.stamped_tree.specs.Plane.{StampedPlane, from_edge, map_of, IsPlane, I
 use Rattle.stamped_tree.specs.Tree.{plane_corner}
 
 -- a coordinate of the plane is a column
-column_within : (n : ℤ) → is_coordinate_in_plane n ≡ true → from_edge n < 2147483648
+pub column_within : (n : ℤ) → is_coordinate_in_plane n ≡ true → from_edge n < 2147483648
 column_within n h =
     let parts : (int_le least n ≡ true) × (int_lt n past ≡ true) = and_parts _ _ h in
     omega (arith, ints, parts.0, parts.1)

@@ -1,1 +1,4 @@
-
+pub mod Squares
+pub mod Leaves
+pub mod Remembered
+pub mod Laws

@@ -1,45 +1,140 @@
-//! Joins of planes.
+//! The join of planes.
 
-ghost use Rattle.std.specs.Prelude.{◌≡◌, IfOk, OnOk, OnErr, Err, IsTrue, ◌↔◌, length};
-ghost use Rattle.edit_stamps.specs.Write.{AreSame, IsBelow, joined};
+ghost use Rattle.std.specs.Prelude.{◌≡◌, ◌<◌, ◌≤◌, Err, IfOk, OnErr, OnOk, length};
+ghost use Rattle.edit_stamps.specs.Write.{AreSame, joined};
+ghost use Rattle.square_store.specs.Squares.{IsAt};
 ghost use Rattle.square_store.specs.Store.{IsGrown};
+ghost use Rattle.stamped_tree.specs.Filled.{IsFull};
 ghost use Rattle.stamped_tree.specs.LeafKind.{plane_grid};
 ghost use Rattle.stamped_tree.specs.Plane.{HasGrown, IsPart, map_of, rooted};
+ghost use Rattle.tree_join.specs.Remembered.{RemembersCopies, RemembersJoins};
+ghost use Rattle.tree_join.specs.Squares.{IsSquareJoin};
 
-use square_store::{Part, StoreFault};
-use stamped_tree::Plane;
-use std::alloc::{AllocError, Global};
+use crate::add::add_four_over;
+use crate::bring::bring;
+use crate::order::ROOT_ABOVE_LEAF;
+use crate::quarters::quarter_parts;
+use crate::remember::{PartPair, join_made, keep_join};
+use crate::step::{join_leaves, loses, stays};
+use indexmap::IndexMap;
+use stamped_tree::{Part, Plane, StoreFault};
+use std::alloc::Global;
 
-/// Joins another plane: at each coordinate the greater write stands.
-pub fn join(_alloc: Global, _plane: &mut Plane, _other: &Plane) -> Result<(), StoreFault>
-    ensures ok { OnOk result (AreSame (map_of _plane.new) (joined (map_of _plane.old) (map_of _other.now))) }
-    ensures err { OnErr result (HasGrown _plane.old _plane.new) }
-    ensures grows { IsGrown plane_grid 8 _plane.old.store _plane.new.store }
-    ensures full { result ≡ Err StoreFault.StoreFull → length _plane.new.store.squares ≡ _plane.new.store.room }
+/// Joins another plane: at each coordinate the greater write stands (RR-7506's merge of two states).
+///
+/// After an error the map is as it was. `StoreFull` comes only where the plane has no room for a square
+/// of the join; what was added by then is stored until `Plane::copy`.
+pub fn join(alloc: Global, plane: &mut Plane, other: &Plane) -> Result<(), StoreFault>
+    ensures ok { OnOk result (AreSame (map_of plane.new) (joined (map_of plane.old) (map_of other.now))) }
+    ensures err { OnErr result (HasGrown plane.old plane.new) }
+    ensures grows { IsGrown plane_grid 8 plane.old.store plane.new.store }
+    ensures room { plane.new.store.room ≡ plane.old.store.room }
+    ensures full { result ≡ Err StoreFault.StoreFull → length plane.new.store.squares ≡ plane.new.store.room }
 {
-    Err(StoreFault::Memory)
+    let root = plane.root().part();
+    let part = add_joined(alloc, plane, root, other)?;
+    plane.set_root(part);
+    Ok(())
 }
 
 /// Adds a square of level 31 of the plane joined with another plane: the part at which, were it the
 /// root, the greater write would stand at each coordinate. The map is as before.
 pub fn add_joined(
-    _alloc: Global,
-    _plane: &mut Plane,
-    _part: Part,
-    _other: &Plane,
+    alloc: Global,
+    plane: &mut Plane,
+    part: Part,
+    other: &Plane,
 ) -> Result<Part, StoreFault>
-    requires { IsPart _plane.old.store 31 _part }
-    ensures part { IfOk result (λ added. IsPart _plane.new.store 31 added) }
-    ensures joins { IfOk result (λ added. AreSame (map_of (rooted _plane.new added)) (joined (map_of (rooted _plane.old _part)) (map_of _other.now))) }
-    ensures grows { HasGrown _plane.old _plane.new }
-    ensures full { result ≡ Err StoreFault.StoreFull → length _plane.new.store.squares ≡ _plane.new.store.room }
+    requires { IsPart plane.old.store 31 part }
+    ensures part { IfOk result (λ added. IsPart plane.new.store 31 added) }
+    ensures joins { IfOk result (λ added. AreSame (map_of (rooted plane.new added)) (joined (map_of (rooted plane.old part)) (map_of other.now))) }
+    ensures grows { HasGrown plane.old plane.new }
+    ensures full { result ≡ Err StoreFault.StoreFull → length plane.new.store.squares ≡ plane.new.store.room }
 {
-    Err(StoreFault::Memory)
+    let there = other.root().part();
+    let mut joins = IndexMap::new(alloc);
+    let mut copies = IndexMap::new(alloc);
+    let added = join_squares(
+        plane,
+        other,
+        &mut joins,
+        &mut copies,
+        ROOT_ABOVE_LEAF,
+        part,
+        there,
+    )?;
+    Ok(added)
 }
 
-/// Whether two planes have the same map; takes memory, and time in proportion to their distinct squares.
-pub fn same_remembered(_alloc: Global, _plane: &Plane, _other: &Plane) -> Result<bool, AllocError>
-    ensures { IfOk result (λ same. IsTrue same ↔ AreSame (map_of _plane.now) (map_of _other.now)) }
+/// The join of two squares, so many levels above a leaf. Nothing is added where the first stays.
+#[cycle(join)]
+fn join_squares(
+    plane: &mut Plane,
+    other: &Plane,
+    joins: &mut IndexMap<PartPair, Part>,
+    copies: &mut IndexMap<Part, Part>,
+    above: u32,
+    here: Part,
+    there: Part,
+) -> Result<Part, StoreFault>
+    requires most { above ≤ 28 }
+    requires here { IsAt plane.old.store above here }
+    requires there { IsAt other.now.store above there }
+    requires joins { RemembersJoins plane.old.store other.now.store joins.old }
+    requires copies { RemembersCopies plane.old.store other.now.store copies.old }
+    ensures join { IfOk result (IsSquareJoin plane.new.store other.now.store above here there) }
+    ensures grows { HasGrown plane.old plane.new }
+    ensures joins { RemembersJoins plane.new.store other.now.store joins.new }
+    ensures copies { RemembersCopies plane.new.store other.now.store copies.new }
+    ensures full { result ≡ Err StoreFault.StoreFull → IsFull plane.new.store }
 {
-    Err(AllocError)
+    if stays(plane, other, above, here, there) {
+        return Ok(here);
+    }
+    if loses(plane, other, above, here, there) {
+        let part = bring(plane, other, copies, above, there)?;
+        return Ok(part);
+    }
+    if above == 0 {
+        let part = join_leaves(plane, other, here, there)?;
+        return Ok(part);
+    }
+    if let Some(part) = join_made(joins, plane, other, above, here, there) {
+        return Ok(part);
+    }
+    let part = join_quarters(plane, other, joins, copies, above, here, there)?;
+    keep_join(joins, plane, other, above, here, there, part)?;
+    Ok(part)
+}
+
+#[cycle(join)]
+fn join_quarters(
+    plane: &mut Plane,
+    other: &Plane,
+    joins: &mut IndexMap<PartPair, Part>,
+    copies: &mut IndexMap<Part, Part>,
+    above: u32,
+    here: Part,
+    there: Part,
+) -> Result<Part, StoreFault>
+    requires least { 0 < above }
+    requires most { above ≤ 28 }
+    requires here { IsAt plane.old.store above here }
+    requires there { IsAt other.now.store above there }
+    requires joins { RemembersJoins plane.old.store other.now.store joins.old }
+    requires copies { RemembersCopies plane.old.store other.now.store copies.old }
+    ensures join { IfOk result (IsSquareJoin plane.new.store other.now.store above here there) }
+    ensures grows { HasGrown plane.old plane.new }
+    ensures joins { RemembersJoins plane.new.store other.now.store joins.new }
+    ensures copies { RemembersCopies plane.new.store other.now.store copies.new }
+    ensures full { result ≡ Err StoreFault.StoreFull → IsFull plane.new.store }
+{
+    let a = quarter_parts(above, &plane.square(here));
+    let b = quarter_parts(above, &other.square(there));
+    let nw = join_squares(plane, other, joins, copies, above - 1, a[0], b[0])?;
+    let ne = join_squares(plane, other, joins, copies, above - 1, a[1], b[1])?;
+    let sw = join_squares(plane, other, joins, copies, above - 1, a[2], b[2])?;
+    let se = join_squares(plane, other, joins, copies, above - 1, a[3], b[3])?;
+    let part = add_four_over(plane, above, here, &a, [nw, ne, sw, se])?;
+    Ok(part)
 }

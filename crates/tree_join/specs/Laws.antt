@@ -1,0 +1,8 @@
+-- What the join of maps keeps.
+use Rattle.std.specs.Prelude.{ℕ}
+use Rattle.edit_stamps.specs.Write.{Writes, joined}
+use Rattle.edit_stamps.specs.PlaneMap.{HasStatesBelow, KeepsStates}
+
+-- where the states of both maps are below a number, those of the join are
+abbrev pub JoinKeepsStates : Type 0
+JoinKeepsStates = (p q : Writes) → KeepsStates (λ states. HasStatesBelow states q) p (joined p q)
