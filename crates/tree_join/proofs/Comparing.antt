@@ -1,7 +1,7 @@
 -- Two squares compared: quarter by quarter, by their stamps, pa blanks and pa leaves.
-use Rattle.std.proofs.Common.{◌≡◌, ℕ, zero, suc, ◌+◌, ◌-◌, ◌*◌, ◌/◌, ◌%◌, ◌<◌, ◌≤◌, ◌↔◌, Bool, true, false, List, [], ◌∷◌, length, inl, inr, refl, sym, ap, subst, ◌∙◌, arith}
-use Rattle.std.specs.Prelude.{IsTrue, slice_index_or, Option, None, Some, MatchOption, is_some}
-use Rattle.std.proofs.lemmas.Bool.{cases_lt}
+use Rattle.std.proofs.Common.{◌≡◌, ℕ, zero, suc, ◌+◌, ◌-◌, ◌*◌, ◌/◌, ◌%◌, ◌<◌, ◌≤◌, ◌↔◌, Bool, true, false, not, eqb-true, List, [], ◌∷◌, length, inl, inr, refl, sym, ap, subst, ◌∙◌, arith}
+use Rattle.std.specs.Prelude.{IsTrue, slice_index_or, Option, None, Some, MatchOption, is_some, ◌==◌, ◌&&◌}
+use Rattle.std.proofs.lemmas.Bool.{cases_lt, and_parts}
 use Rattle.std.proofs.lemmas.Bool.Decides.{nat_tests}
 use Rattle.edit_stamps.specs.declared.write.Write.{Write}
 use Rattle.edit_stamps.specs.Write.{at_most}
@@ -177,3 +177,40 @@ module _ (x y : List Write) (f g : Grid) (ex : AreSameWithin 8 (grid_of_leaf x) 
 -- a leaf with the writes of a square
 pub leaf_is : (x y : List Write) (f : Grid) → AreSameWithin 8 (grid_of_leaf x) f → IsTrue (is_same x y) → AreSameWithin 8 f (grid_of_leaf y)
 leaf_is x y f same h u v hu hv = sym (same u v hu hv) ∙ ap (λ l. grid_of_leaf l u v) ((same_Decides x y).0 h)
+
+-- ---- what one look tells
+
+module _ (n : ℕ) (f g : Grid) (b : StampBounds) (bf : AreStampBounds n f b) (bg : AreStampBounds n g b) where
+  -- two blanks with the same bounds
+  same_blanks : (x y : ℕ) → IsBlankWithin n f x → IsBlankWithin n g y → AreSameWithin n f g
+  same_blanks x y fx gy u v hu hv =
+      let l = bf.least in
+      let m = bg.least in
+      let ex : b.least ≡ x = l.1.3 ∙ ap (λ (w : Write). w.stamp) (fx l.0 l.1.0 l.1.1 l.1.2) in
+      let ey : b.least ≡ y = m.1.3 ∙ ap (λ (w : Write). w.stamp) (gy m.0 m.1.0 m.1.1 m.1.2) in
+      fx u v hu hv ∙ ap (λ t. write_of t 0) (sym ex ∙ ey) ∙ sym (gy u v hu hv)
+
+module _ (s t : Held PlaneLeaf) (k a c : ℕ) (at : IsAt s k a) (ct : IsAt t k c) where
+  pub looks_blank : (b : StampBounds) → AreStampBounds (side_at 8 k) (grid_at plane_grid 8 s k a) b → AreStampBounds (side_at 8 k) (grid_at plane_grid 8 t k c) b → (x : ℕ) → IsBlankAt plane_grid 8 s x a
+      → (o : Option ℕ) → MatchOption o ((j : ℕ) → IsAt t j c → IsSpeltWithin (side_at 8 j) (grid_at plane_grid 8 t j c)) (λ y. IsBlankAt plane_grid 8 t y c)
+      → IsTrue (is_some o) ↔ AreSameSquares s t k a c
+  looks_blank b ba bc x blank None spelt = (λ h. absurd (cc), λ same. absurd (spelt k ct x (λ u v hu hv. sym (same u v hu hv) ∙ (blank k).same u v hu hv)))
+  looks_blank b ba bc x blank (Some y) other = (λ h. same_blanks (side_at 8 k) _ _ b ba bc x y (blank k).same (other k).same, λ same. refl)
+
+  pub looks_spelt : ((j : ℕ) → IsAt s j a → IsSpeltWithin (side_at 8 j) (grid_at plane_grid 8 s j a)) → (y : ℕ) → IsBlankAt plane_grid 8 t y c → IsTrue false ↔ AreSameSquares s t k a c
+  looks_spelt spelt y blank = (λ h. absurd (cc), λ same. absurd (spelt k at y (λ u v hu hv. same u v hu hv ∙ (blank k).same u v hu hv)))
+
+is_true : (x : Bool) → false ≡ not x → x ≡ true
+is_true true h = refl
+is_true false h = absurd (cc)
+
+pub bounds_same : (b c : StampBounds) → false ≡ not ((b.least == c.least) && (b.greatest == c.greatest)) → b ≡ c
+bounds_same b c h =
+    let both = and_parts _ _ (is_true _ h) in
+    let p : b.least ≡ c.least = eqb-true b.least c.least both.0 in
+    let q : b.greatest ≡ c.greatest = eqb-true b.greatest c.greatest both.1 in
+    λ i. record { least = p i; greatest = q i }
+
+-- one quarter tells that the whole is not
+pub refuted : (P Q : Type 0) (r : Bool) → r ≡ false → (IsTrue r ↔ P) → (Q → P) → IsTrue false ↔ Q
+refuted P Q r e told down = (λ z. absurd (cc), λ q. sym e ∙ told.1 (down q))

@@ -1,3 +1,4 @@
 pub mod Comparing
 pub mod Keeping
 pub mod Joining
+pub mod Reading

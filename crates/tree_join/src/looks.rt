@@ -51,9 +51,12 @@ pub(crate) fn same_at_a_look(square: &Square<'_>, other: &Square<'_>) -> Option<
     if square.bounds() != other.bounds() {
         return Some(false);
     }
+    let counterpart = blank_stamp(other);
     match blank_stamp(square) {
-        Some(_) => Some(blank_stamp(other).is_some()),
-        None if blank_stamp(other).is_some() => Some(false),
-        None => None,
+        Some(_) => Some(counterpart.is_some()),
+        None => match counterpart {
+            Some(_) => Some(false),
+            None => None,
+        },
     }
 }

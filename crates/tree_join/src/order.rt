@@ -44,8 +44,14 @@ fn is_at_most(plane: &Plane, other: &Plane, above: u32, part: Part, others: Part
     }
     let a = quarter_parts(above, &square);
     let b = quarter_parts(above, &counterpart);
-    is_at_most(plane, other, above - 1, a[0], b[0])
-        && is_at_most(plane, other, above - 1, a[1], b[1])
-        && is_at_most(plane, other, above - 1, a[2], b[2])
-        && is_at_most(plane, other, above - 1, a[3], b[3])
+    if !is_at_most(plane, other, above - 1, a[0], b[0]) {
+        return false;
+    }
+    if !is_at_most(plane, other, above - 1, a[1], b[1]) {
+        return false;
+    }
+    if !is_at_most(plane, other, above - 1, a[2], b[2]) {
+        return false;
+    }
+    is_at_most(plane, other, above - 1, a[3], b[3])
 }

@@ -53,10 +53,16 @@ fn are_same(plane: &Plane, other: &Plane, above: u32, part: Part, others: Part) 
     }
     let a = quarter_parts(above, &square);
     let b = quarter_parts(above, &counterpart);
-    are_same(plane, other, above - 1, a[0], b[0])
-        && are_same(plane, other, above - 1, a[1], b[1])
-        && are_same(plane, other, above - 1, a[2], b[2])
-        && are_same(plane, other, above - 1, a[3], b[3])
+    if !are_same(plane, other, above - 1, a[0], b[0]) {
+        return false;
+    }
+    if !are_same(plane, other, above - 1, a[1], b[1]) {
+        return false;
+    }
+    if !are_same(plane, other, above - 1, a[2], b[2]) {
+        return false;
+    }
+    are_same(plane, other, above - 1, a[3], b[3])
 }
 
 /// The same, where pairs that were found to be the same are kept.
