@@ -3,12 +3,12 @@
 
 #[cfg(test)]
 mod drawn;
-#[cfg(test)]
 mod edits;
 mod path;
 #[cfg(test)]
 mod rooms;
-#[cfg(test)]
 mod views;
 
+pub use edits::{REACH, edit_near, next, write_by};
 pub use path::one_cell;
+pub use views::{AREA, show_the_same, zeros_listed};

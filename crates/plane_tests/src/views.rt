@@ -2,9 +2,8 @@
 
 use edit_stamps::{Cell, Edit, EditFault, Rect, Stamp};
 use generations_rule::Rule;
-use stamped_tree::{Plane, Square, View};
+use stamped_tree::{Square, View};
 use std::alloc::{AllocError, Global};
-use std::test::Fail;
 
 /// Whether two squares show the same, so many levels down.
 pub fn show_the_same(a: &Square<'_>, b: &Square<'_>, levels: u32) -> bool {
@@ -29,12 +28,8 @@ pub fn show_the_same(a: &Square<'_>, b: &Square<'_>, levels: u32) -> bool {
     }
 }
 
-fn stamp() -> Result<Stamp, EditFault> {
-    Stamp::new(1, 1).ok_or(EditFault::Nothing)
-}
-
 /// The upper left corner of the plane's south-eastern quarter.
-const AREA: Rect = Rect {
+pub const AREA: Rect = Rect {
     x: 0,
     y: 0,
     width: 16,
@@ -54,45 +49,57 @@ fn zeros(alloc: Global) -> Result<Vec<Cell>, AllocError> {
     Ok(list)
 }
 
-fn zeros_listed(alloc: Global) -> Result<Edit, EditFault> {
+/// The edit of these zeros.
+pub fn zeros_listed(alloc: Global, stamp: Stamp) -> Result<Edit, EditFault> {
     let Ok(rule) = Rule::parse(b"/2/3") else {
         return Err(EditFault::Nothing);
     };
-    Edit::cells(alloc, &rule, stamp()?, &zeros(alloc)?)
+    Edit::cells(alloc, &rule, stamp, &zeros(alloc)?)
 }
 
-/// A clear, the same cells listed, and whether the two planes, and their copies, show the same; then
-/// how many squares each has.
-fn cleared_and_listed(alloc: Global) -> Result<(bool, u32, u32), EditFault> {
-    let cleared = Plane::of_edit(alloc, &Edit::clear(alloc, stamp()?, AREA)?)?;
-    let listed = Plane::of_edit(alloc, &zeros_listed(alloc)?)?;
-    let copy = listed.copy()?;
-    let same = show_the_same(&cleared.root(), &listed.root(), 31)
-        && show_the_same(&cleared.root(), &copy.root(), 31);
-    Ok((same, cleared.nodes(), copy.nodes()))
-}
+#[cfg(test)]
+mod tests {
+    use super::*;
+    use stamped_tree::Plane;
+    use std::test::Fail;
 
-/// The square of 16 by 16 is a blank, below 27 squares of four; the other blank is of stamp 0.
-#[test]
-fn a_clear_is_the_zeros_listed(rt: HostRuntime) -> Result<(), Fail> {
-    assert!(rt; cleared_and_listed(rt.alloc())? == (true, 29, 29));
-    Ok(())
-}
+    fn stamp() -> Result<Stamp, EditFault> {
+        Stamp::new(1, 1).ok_or(EditFault::Nothing)
+    }
 
-/// How many squares the plane of a clear of 4096 by 4096 at odd coordinates has.
-fn squares_of_a_clear(alloc: Global) -> Result<u32, EditFault> {
-    let area = Rect {
-        x: -1023,
-        y: 777,
-        width: 4096,
-        height: 4096,
-    };
-    let plane = Plane::of_edit(alloc, &Edit::clear(alloc, stamp()?, area)?)?;
-    Ok(plane.nodes())
-}
+    /// A clear, the same cells listed, and whether the two planes, and their copies, show the same; then
+    /// how many squares each has.
+    fn cleared_and_listed(alloc: Global) -> Result<(bool, u32, u32), EditFault> {
+        let cleared = Plane::of_edit(alloc, &Edit::clear(alloc, stamp()?, AREA)?)?;
+        let listed = Plane::of_edit(alloc, &zeros_listed(alloc, stamp()?)?)?;
+        let copy = listed.copy()?;
+        let same = show_the_same(&cleared.root(), &listed.root(), 31)
+            && show_the_same(&cleared.root(), &copy.root(), 31);
+        Ok((same, cleared.nodes(), copy.nodes()))
+    }
 
-#[test]
-fn alike_parts_of_a_border_are_one_square(rt: HostRuntime) -> Result<(), Fail> {
-    assert!(rt; squares_of_a_clear(rt.alloc())? <= 256);
-    Ok(())
+    /// The square of 16 by 16 is a blank, below 27 squares of four; the other blank is of stamp 0.
+    #[test]
+    fn a_clear_is_the_zeros_listed(rt: HostRuntime) -> Result<(), Fail> {
+        assert!(rt; cleared_and_listed(rt.alloc())? == (true, 29, 29));
+        Ok(())
+    }
+
+    /// How many squares the plane of a clear of 4096 by 4096 at odd coordinates has.
+    fn squares_of_a_clear(alloc: Global) -> Result<u32, EditFault> {
+        let area = Rect {
+            x: -1023,
+            y: 777,
+            width: 4096,
+            height: 4096,
+        };
+        let plane = Plane::of_edit(alloc, &Edit::clear(alloc, stamp()?, area)?)?;
+        Ok(plane.nodes())
+    }
+
+    #[test]
+    fn alike_parts_of_a_border_are_one_square(rt: HostRuntime) -> Result<(), Fail> {
+        assert!(rt; squares_of_a_clear(rt.alloc())? <= 256);
+        Ok(())
+    }
 }

@@ -1,0 +1,157 @@
+//! Joins of planes of random edits, beside the edits' own lists.
+
+use edit_stamps::{Corner, Edit, EditFault, Stamp, Write};
+use generations_rule::Rule;
+use plane_tests::{REACH, edit_near, next, write_by};
+use stamped_tree::Plane;
+use std::alloc::{AllocError, Global};
+use std::test::Fail;
+use tree_join::{at_most, join, same, same_remembered};
+
+/// The plane's corners, its middle, and a place inside a leaf.
+static CENTRES: [Corner; 4] = [
+    Corner {
+        x: -0x4000_0000,
+        y: 0x3fff_ffff,
+    },
+    Corner {
+        x: 0x3fff_ffff,
+        y: -0x4000_0000,
+    },
+    Corner { x: 0, y: 0 },
+    Corner { x: 1021, y: -523 },
+];
+
+/// An edit near a place, with one of few stamps.
+fn draw(alloc: Global, centre: Corner, number: &mut u64) -> Result<Edit, EditFault> {
+    let counter = next(number) % 2 + 1;
+    let replica = (next(number) % 2 + 1) as u16;
+    let (Ok(rule), Some(stamp)) = (Rule::parse(b"345/2/4"), Stamp::new(counter, replica)) else {
+        return Err(EditFault::Nothing);
+    };
+    edit_near(alloc, &rule, stamp, centre, number)
+}
+
+/// Three edits near a place; those that leave the plane are left out.
+fn draws(alloc: Global, centre: Corner, number: &mut u64) -> Result<Vec<Edit>, EditFault> {
+    let mut edits = Vec::new(alloc);
+    for _ in 0..3 {
+        match draw(alloc, centre, number) {
+            Ok(edit) => edits.push(edit).map_err(AllocError::from)?,
+            Err(EditFault::OutOfPlane) => {}
+            Err(fault) => return Err(fault),
+        }
+    }
+    Ok(edits)
+}
+
+/// The greatest write of edits at a place, by their lists.
+fn greatest(edits: &[Edit], x: i32, y: i32) -> Write {
+    let mut greatest = Write::UNWRITTEN;
+    for edit in edits {
+        let write = write_by(edit, x, y);
+        if greatest.at_most(write) {
+            greatest = write;
+        }
+    }
+    greatest
+}
+
+/// What is compared at the places around a centre.
+#[derive(Clone, Copy, Debug, PartialEq, Eq)]
+struct Tally {
+    /// The joined plane reads as the greater write of the two lists.
+    is_joined: bool,
+    /// Each write of the first list is at most the second's.
+    is_below: bool,
+    /// The lists write the same.
+    is_same: bool,
+}
+
+fn compare(joined: &Plane, edits: &[Edit], others: &[Edit], centre: Corner) -> Tally {
+    let mut tally = Tally {
+        is_joined: true,
+        is_below: true,
+        is_same: true,
+    };
+    for row in 0..40_i32 {
+        for column in 0..40_i32 {
+            let x = centre.x.saturating_add(column).saturating_sub(REACH);
+            let y = centre.y.saturating_add(row).saturating_sub(REACH);
+            let write = greatest(edits, x, y);
+            let other = greatest(others, x, y);
+            let greater = if write.at_most(other) { other } else { write };
+            tally.is_joined = tally.is_joined && joined.get(x, y) == greater;
+            tally.is_below = tally.is_below && write.at_most(other);
+            tally.is_same = tally.is_same && write == other;
+        }
+    }
+    tally
+}
+
+/// The plane of edits, joined one after another.
+fn plane_of(alloc: Global, edits: &[Edit]) -> Result<Plane, EditFault> {
+    let mut plane = Plane::new(alloc)?;
+    for edit in edits {
+        let drawn = Plane::of_edit(alloc, edit)?;
+        if join(alloc, &mut plane, &drawn).is_err() {
+            return Err(EditFault::Memory);
+        }
+    }
+    Ok(plane)
+}
+
+/// Whether the join of two planes is their least upper bound by the calls, in either order.
+fn is_bound(
+    alloc: Global,
+    plane: &Plane,
+    other: &Plane,
+    joined: &Plane,
+) -> Result<bool, EditFault> {
+    let mut back = other.copy()?;
+    if join(alloc, &mut back, plane).is_err() {
+        return Err(EditFault::Memory);
+    }
+    Ok(
+        same(joined, &back)
+            && same_remembered(alloc, joined, &back)?
+            && at_most(plane, joined)
+            && at_most(other, joined)
+            && at_most(plane, other) == same(joined, other)
+            && same_remembered(alloc, joined, plane)? == at_most(other, plane),
+    )
+}
+
+/// Whether two random planes near a place join as their edits' lists do.
+fn joins_as_listed(alloc: Global, centre: Corner, number: &mut u64) -> Result<bool, EditFault> {
+    let edits = draws(alloc, centre, number)?;
+    let others = draws(alloc, centre, number)?;
+    let plane = plane_of(alloc, &edits)?;
+    let other = plane_of(alloc, &others)?;
+    let mut joined = plane.copy()?;
+    if join(alloc, &mut joined, &other).is_err() {
+        return Err(EditFault::Memory);
+    }
+    let tally = compare(&joined, &edits, &others, centre);
+    Ok(
+        tally.is_joined
+            && tally.is_below == at_most(&plane, &other)
+            && tally.is_same == same(&plane, &other)
+            && is_bound(alloc, &plane, &other, &joined)?,
+    )
+}
+
+#[test]
+fn planes_join_as_their_lists(rt: HostRuntime) -> Result<(), Fail> {
+    let mut number = 17;
+    let _ = next(&mut number);
+    for centre in CENTRES {
+        for round in 0..20_u32 {
+            assert!(rt;
+                joins_as_listed(rt.alloc(), centre, &mut number)?,
+                "{round}"
+            );
+        }
+    }
+    Ok(())
+}
