@@ -1,3 +1,4 @@
+pub mod SeenEdits
 pub mod JournalLaws
 mod JournalRows
 pub mod NotedLaws

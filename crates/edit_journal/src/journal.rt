@@ -1,10 +1,10 @@
 //! The edits that a replica drew or was given in messages, in order.
 
-ghost use Rattle.std.specs.Prelude.{◌≡◌, ℕ, ◌+◌, ◌<◌, ◌≤◌, ◌++◌, ◌∷◌, [], ◌==◌, if◌then◌else◌, IfOk, OnOk, OnErr, IsSome, length, take, slice_get};
+ghost use Rattle.std.specs.Prelude.{◌≡◌, ℕ, ◌+◌, ◌<◌, ◌≤◌, ◌++◌, ◌∷◌, [], ◌==◌, if◌then◌else◌, IfOk, OnOk, OnErr, IsSome, length, take, slice_get, Contains};
 ghost use Rattle.std.specs.List.{list_any};
 ghost use Rattle.std.specs.Ordering.{nat_cmp};
 ghost use Rattle.std.specs.BTreeMap.{get};
-ghost use Rattle.edit_stamps.specs.Edit.{PlaneEdit, is_edit};
+ghost use Rattle.edit_stamps.specs.Edit.{PlaneEdit, IsEdit, is_edit};
 ghost use Rattle.edit_journal.specs.Journal.{noted, IsLinked, IsChained};
 
 use edit_stamps::Edit;
@@ -67,15 +67,27 @@ impl Journal {
 
     /// Copies of those of the edits that are not in it by then, in order, each once.
     pub fn fresh(&self, edits: &[Edit]) -> Result<Journal, AllocError>
-        ensures { IfOk result (λ fresh. noted self.now edits.now ≡ self.now ++ fresh) }
+        ensures fresh { IfOk result (λ fresh. noted self.now edits.now ≡ self.now ++ fresh) }
+        ensures edits { OnOk result ((e : PlaneEdit) → Contains edits.now e → IsEdit e) }
     {
         let mut fresh = Journal::new(*self.edits.allocator());
         for edit in edits {
-            if !self.contains(edit) && !fresh.contains(edit) {
-                fresh.push(edit.copy()?)?;
-            }
+            self.add_fresh(&mut fresh, edit)?;
         }
         Ok(fresh)
+    }
+
+    /// Adds a copy of an edit to another journal, where neither has it.
+    fn add_fresh(&self, fresh: &mut Journal, edit: &Edit) -> Result<(), AllocError>
+        ensures ok { OnOk result (self.now ++ fresh.new ≡ (if list_any (is_edit edit.now) (self.now ++ fresh.old) then self.now ++ fresh.old else (self.now ++ fresh.old) ++ edit.now ∷ [])) }
+        ensures edit { IsEdit edit.now }
+    {
+        // For the proof alone: the call tells that it is an edit.
+        let _listed = edit.listed_cells();
+        if !self.contains(edit) && !fresh.contains(edit) {
+            fresh.push(edit.copy()?)?;
+        }
+        Ok(())
     }
 
     /// Adds an edit at the end. Where memory is refused, the journal stays as it was.

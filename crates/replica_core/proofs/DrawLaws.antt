@@ -6,12 +6,12 @@ use Rattle.std.proofs.lemmas.Bool.Decides.{nat_tests}
 use Rattle.generations_rule.specs.Refusal.{◌>>=◌, when, unless}
 use Rattle.generations_rule.specs.Rule.{GenerationsRule}
 use Rattle.edit_stamps.specs.declared.fault.EditFault.{EditFault}
-use Rattle.edit_stamps.specs.declared.fault.EditFault.TheVariants as edit_faults
 use Rattle.edit_stamps.specs.declared.write.Write.{Write}
 use Rattle.edit_stamps.specs.Edit.{has_states_below, PlaneEdit, is_covered, listed, write_by, writes_of}
 use Rattle.edit_stamps.specs.Making.{cells_fault, settled}
 use Rattle.edit_stamps.specs.Pasting.{box_of, clear_fault, copy_fault, or_fault, placed}
-use Rattle.edit_stamps.specs.PlaneMap.{map_of, IsGreatestStamp, IsPartlyJoined}
+use Rattle.edit_stamps.specs.PlaneMap.{IsGreatestStamp}
+use Rattle.stamped_tree.specs.Plane.{map_of}
 use Rattle.edit_stamps.specs.Stamp.{counter_in, last_counter, stamp_of}
 use Rattle.edit_stamps.specs.Write.{AreSame, greater, joined}
 use Rattle.replica_core.specs.declared.fault.Fault.{Fault}
@@ -19,7 +19,7 @@ use Rattle.replica_core.specs.declared.fault.Fault.TheVariants as faults
 use Rattle.replica_core.specs.declared.edit_spec.EditSpec.{EditSpec}
 use Rattle.replica_core.specs.declared.edit_spec.EditSpec.TheVariants.{Cells, Copy, Or, Clear}
 use Rattle.replica_core.specs.Fault.{IsWant}
-use Rattle.replica_core.specs.Replica.{ReplicaState, IsDraw, IsOneReplica, IsPartly, edit_drawn, made, or_edit_fault, stamp_after}
+use Rattle.replica_core.specs.Replica.{ReplicaState, IsDraw, IsOneReplica, IsUnchanged, edit_drawn, made, or_edit_fault, stamp_after}
 
 -- ---- what is made
 
@@ -84,32 +84,21 @@ draws old new n stamp spec e greatest_is next is states one map journal = (
   },
 )
 
--- a draw that was refused memory half way
-pub stops : (old new : ReplicaState) (n stamp : ℕ) (spec : EditSpec) (e : PlaneEdit)
-    → stamp_after (counter_in n) old.number ≡ Ok stamp → or_edit_fault (made old.rule stamp spec) ≡ Ok e
-    → IsOneReplica old new → new.journal ≡ old.journal → IsPartlyJoined (map_of old.plane) (writes_of e) (map_of new.plane)
-    → IsDraw old new (edit_drawn old.rule (counter_in n) old.number spec) (Err faults.Memory)
-stops old new n stamp spec e next is one journal part = inl (
-  tt,
-  (
-    e,
-    ap (λ s. s >>= (λ stamp. or_edit_fault (made old.rule stamp spec))) next ∙ is,
-    record { one = one; journal = journal; map = part },
-  ),
-)
+-- a draw that was refused memory or room
+pub stops : (old new : ReplicaState) (n stamp : ℕ) (spec : EditSpec) (e : PlaneEdit) (fault : Fault)
+    → stamp_after (counter_in n) old.number ≡ Ok stamp → or_edit_fault (made old.rule stamp spec) ≡ Ok e → IsWant fault
+    → IsUnchanged old new → IsDraw old new (edit_drawn old.rule (counter_in n) old.number spec) (Err fault)
+stops old new n stamp spec e fault next is want unchanged =
+    inl (want, subst IsOk (sym (ap (λ s. s >>= (λ stamp. or_edit_fault (made old.rule stamp spec))) next ∙ is)) refl, unchanged)
 
--- a map to which nothing was joined
-unchanged : (r : ReplicaState) (e : PlaneEdit) → IsPartly r r (λ p. IsPartlyJoined p (writes_of e))
-unchanged r e = record {
-  one = record { rule = refl; number = refl };
-  journal = refl;
-  map = λ c. inl refl;
-}
+-- a replica that nothing was done to
+unchanged : (r : ReplicaState) → IsUnchanged r r
+unchanged r = record { one = record { rule = refl; number = refl; room = refl }; map = λ c. refl; journal = refl }
 
 -- an edit that the maker means is one that the draw means
 wants : (r : ReplicaState) (meant : Result PlaneEdit Fault) (made_now : Result PlaneEdit EditFault) (fault : Fault) → IsWant fault
     → meant ≡ or_edit_fault made_now → IsOk made_now → IsDraw r r meant (Err fault)
-wants r meant (Ok e) fault want is ok = inl (want, (e, is, unchanged r e))
+wants r meant (Ok e) fault want is ok = inl (want, subst IsOk (sym is) refl, unchanged r)
 wants r meant (Err refusal) fault want is ok = absurd (cc)
 
 -- a refusal of the maker is one of the draw

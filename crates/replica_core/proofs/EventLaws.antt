@@ -1,11 +1,15 @@
 -- A world that stands for a history stands for the history after an event, and the reply is the history's.
-use Rattle.std.proofs.Common.{◌≡◌, ℕ, suc, ◌-◌, ◌≤◌, List, [], ◌∷◌, ◌++◌, length, refl, sym, ◌∙◌, ap, subst, arith, inl, length-append}
+use Rattle.std.proofs.Common.{◌≡◌, ℕ, ℤ, suc, ◌-◌, ◌≤◌, List, [], ◌∷◌, ◌++◌, length, refl, sym, ◌∙◌, ap, subst, arith, inl, length-append}
 use Rattle.std.specs.Prelude.{Contains, Some, slice_get, slice_set, Result, Ok, Err, MatchResult}
 use Rattle.std.specs.Option.{ok_or}
 use Rattle.generations_rule.specs.Refusal.{◌>>=◌}
-use Rattle.edit_stamps.specs.Edit.{PlaneEdit, IsEdit, greatest_counter}
+use Rattle.generations_rule.specs.Place.{at_place}
+use Rattle.edit_stamps.specs.declared.write.Write.{Write}
+use Rattle.edit_stamps.specs.Edit.{PlaneEdit, IsEdit, greatest, greatest_counter}
+use Rattle.edit_stamps.specs.Write.{AreSame}
+use Rattle.stamped_tree.specs.Plane.{map_of}
 use Rattle.replica_core.specs.declared.event.Event.{Event}
-use Rattle.replica_core.specs.declared.event.Event.TheVariants.{Draw, SendState, Deliver, Show}
+use Rattle.replica_core.specs.declared.event.Event.TheVariants.{Draw, SendState, Deliver, Show, Same}
 use Rattle.replica_core.specs.declared.event.Reply.{Reply}
 use Rattle.replica_core.specs.declared.event.Reply.TheVariants as replies
 use Rattle.replica_core.specs.declared.fault.Fault.{Fault}
@@ -133,6 +137,28 @@ sends_in_world w rs ms r i sender shared reply side sides one at there numbers s
     Sends meant = Given meant reply (λ d. reply ≡ replies.Sent (next_message w))
         × StandSideBySide (λ k. StandsForSent w.rule) (changed w meant (λ d. with_message w (State d.taken))).messages (ms ++ shared ∷ [])
 
+-- ---- looks
+
+-- a replica that is there holds the greatest writes of what it took
+record Held (w : History) (r : ℕ) (held : ReplicaState) : Type 0 where
+  history : ReplicaHistory
+  there : replica w r ≡ Ok history
+  map : AreSame (map_of held.plane) (greatest history.taken)
+
+held_in_world : (w : History) (rs : List ReplicaState) (r i : ℕ) (held : ReplicaState) → StandSideBySide (StandsFor w.rule) w.replicas rs
+    → 1 ≤ r → i ≡ r - 1 → slice_get rs i ≡ Some held → Held w r held
+held_in_world w rs r i held side one at there =
+    let near = beside (StandsFor w.rule) w.replicas rs i held side there in
+    record { history = near.other; there = found w.replicas r i near.other faults.NoReplica one at near.there; map = near.stands.map }
+
+pub shows_in_world : (w : History) (rs : List ReplicaState) (r i : ℕ) (held : ReplicaState) (x y : ℤ) (shown : Write)
+    → StandSideBySide (StandsFor w.rule) w.replicas rs → 1 ≤ r → i ≡ r - 1 → slice_get rs i ≡ Some held → shown ≡ map_of held.plane (at_place x y)
+    → IsReply w (Show r x y) (replies.Shown shown)
+shows_in_world w rs r i held x y shown side one at there is =
+    let here = held_in_world w rs r i held side one at there in
+    subst (λ (o : Result ReplicaHistory Fault). Given o (replies.Shown shown) (λ h. replies.Shown shown ≡ replies.Shown (greatest h.taken (at_place x y)))) (sym here.there)
+    (ap replies.Shown (is ∙ here.map (at_place x y)))
+
 -- ---- what an event leaves as it was
 
 -- what no change touches stays
@@ -146,6 +172,7 @@ keeps_rule w (Draw r spec) = unchanged (λ v. v.rule) w (drawn w r spec) (λ d. 
 keeps_rule w (SendState r) = unchanged (λ v. v.rule) w (replica w r) (λ h. with_message w (State h.taken)) (λ h. refl)
 keeps_rule w (Deliver m r) = unchanged (λ v. v.rule) w (delivered w m r) (λ h. with_replica w r h) (λ h. refl)
 keeps_rule w (Show r x y) = refl
+keeps_rule w (Same a b) = refl
 
 draw_keeps_messages : (w : History) (r : ℕ) (spec : EditSpec) → (after w (Draw r spec)).messages ≡ w.messages
 draw_keeps_messages w r spec = unchanged (λ v. v.messages) w (drawn w r spec) (λ d. with_replica w r d.1) (λ d. refl)

@@ -4,7 +4,7 @@ use Rattle.std.specs.Prelude.{IsTrue, Some, slice_get, slice_index_or}
 use Rattle.generations_rule.specs.Place.{Place}
 use Rattle.generations_rule.specs.Rule.{GenerationsRule}
 use Rattle.edit_stamps.specs.Edit.{PlaneEdit, greatest, is_covered, listed, writes_of}
-use Rattle.edit_stamps.specs.PlaneMap.{map_of}
+use Rattle.stamped_tree.specs.Plane.{map_of}
 use Rattle.edit_stamps.specs.Write.{at_most, greater, AreSame}
 use Rattle.edit_stamps.proofs.WriteLaws.{depends_on_members, is_least_upper_bound, is_total, joins_lists}
 use Rattle.edit_stamps.proofs.GreatestWrites.{made_by_one}

@@ -9,10 +9,10 @@ use Rattle.std.proofs.lemmas.List.Elements.{Contains-append_left, Contains-appen
 use Rattle.std.proofs.lemmas.Option.{slice_get_within}
 use Rattle.generations_rule.specs.Refusal.{◌>>=◌, when, unless}
 use Rattle.generations_rule.specs.Rule.{GenerationsRule}
-use Rattle.edit_stamps.specs.Edit.{PlaneEdit, IsEdit, greatest_counter}
+use Rattle.edit_stamps.specs.Edit.{PlaneEdit, greatest_counter}
 use Rattle.edit_stamps.specs.Stamp.{counter_in, last_counter, replica_in, stamp_of}
 use Rattle.replica_core.specs.declared.event.Event.{Event}
-use Rattle.replica_core.specs.declared.event.Event.TheVariants.{Draw, SendState, Deliver, Show}
+use Rattle.replica_core.specs.declared.event.Event.TheVariants.{Draw, SendState, Deliver, Show, Same}
 use Rattle.replica_core.specs.declared.fault.Fault.{Fault}
 use Rattle.replica_core.specs.declared.fault.Fault.TheVariants as faults
 use Rattle.replica_core.specs.declared.edit_spec.EditSpec.{EditSpec}
@@ -160,6 +160,7 @@ comes_from w (Draw r spec) e inside = from_drawing w r spec e (replica w r) refl
 comes_from w (SendState r) e inside = inl (from_sending w r e (replica w r) refl inside)
 comes_from w (Deliver m r) e inside = inl (from_delivery w m r e (message w m) (replica w r) refl refl inside)
 comes_from w (Show r x y) e inside = inl inside
+comes_from w (Same a b) e inside = inl inside
 
 -- ---- a drawn edit
 
@@ -266,6 +267,7 @@ grows w (Draw r spec) s k there = grows_by_drawing w r s spec k (replica w r) re
 grows w (SendState r) s k there = grows_by_sending w s k (replica w r) there
 grows w (Deliver m r) s k there = grows_by_delivery w r s k (message w m) (replica w r) refl there
 grows w (Show r x y) s k there = kept_as_it_was w s k there
+grows w (Same a b) s k there = kept_as_it_was w s k there
 
 -- behind events too
 pub grows_along : (w : History) (events : List Event) (s : ℕ) (k : ReplicaHistory) → replica w s ≡ Ok k → IsGrown (after_all w events) s k
@@ -290,6 +292,7 @@ keeps_count w (Draw r spec) = same_count w (drawn w r spec) (λ d. with_replica 
 keeps_count w (SendState r) = same_count w (replica w r) (λ h. with_message w (State h.taken)) (λ h. refl)
 keeps_count w (Deliver m r) = same_count w (delivered w m r) (λ h. with_replica w r h) (λ h. length-set w.replicas (r - 1) h)
 keeps_count w (Show r x y) = refl
+keeps_count w (Same a b) = refl
 
 -- a drawn edit is taken by its replica
 drawn_is_taken : (w : History) (event : Event) (e : PlaneEdit) (d : IsDrawnAt w event e) → Contains (after_drawing d.held e).taken e

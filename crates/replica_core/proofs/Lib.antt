@@ -1,3 +1,4 @@
+pub mod JoiningLaws
 pub mod DrawLaws
 pub mod SideBySide
 pub mod StandingLaws
@@ -6,3 +7,4 @@ pub mod HistoryLaws
 pub mod HeadlineLaws
 pub mod RunLaws
 pub mod NotedEdits
+pub mod StateLaws

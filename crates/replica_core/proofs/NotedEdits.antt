@@ -6,8 +6,9 @@ use Rattle.std.proofs.lemmas.Bool.{cases_Bool}
 use Rattle.std.proofs.lemmas.List.Elements.{Contains-append_cases, Contains-push_cases}
 use Rattle.std.proofs.lemmas.Map.Keys.{IsDistinct-push}
 use Rattle.generations_rule.specs.Rule.{GenerationsRule}
-use Rattle.edit_stamps.specs.Edit.{HaveStatesBelow, has_states_below, PlaneEdit, IsEdit, greatest, is_edit, writes_of, IsPartlyEdited}
-use Rattle.edit_stamps.specs.PlaneMap.{map_of, IsGreatestStamp, IsPartlyJoined}
+use Rattle.edit_stamps.specs.Edit.{HaveStatesBelow, has_states_below, PlaneEdit, IsEdit, greatest, is_edit, writes_of}
+use Rattle.edit_stamps.specs.PlaneMap.{IsGreatestStamp}
+use Rattle.stamped_tree.specs.Plane.{map_of}
 use Rattle.edit_stamps.specs.Write.{at_most, Writes, AreSame, IsBelow, joined}
 use Rattle.edit_stamps.proofs.WriteLaws.{is_least_upper_bound, is_total}
 use Rattle.edit_stamps.proofs.ClockLaws.{stamp_in}
@@ -15,7 +16,7 @@ use Rattle.edit_journal.specs.Journal.{noted}
 use Rattle.edit_journal.proofs.NotedLaws.{contains_told, edits_equiv, noted_distinct, noted_members}
 use Rattle.replica_core.specs.declared.message.Content.{Content}
 use Rattle.replica_core.specs.declared.message.Content.TheVariants as contents
-use Rattle.replica_core.specs.Message.{edits_in, writes_in, IsBelowStates, IsPartlyTaken}
+use Rattle.replica_core.specs.Message.{edits_in, writes_in, IsBelowStates}
 use Rattle.replica_core.specs.Replica.{IsJournalOf}
 use Rattle.replica_core.proofs.HeadlineLaws.{greatest_of}
 
@@ -23,18 +24,6 @@ use Rattle.replica_core.proofs.HeadlineLaws.{greatest_of}
 
 whole_grows : (p q added : Writes) → AreSame q (joined p added) → IsBelow p q
 whole_grows p q added whole c = subst (λ w. IsTrue (at_most (p c) w)) (sym (whole c)) (is_least_upper_bound.left p added c)
-
-part_grows : (p q added : Writes) → IsPartlyJoined p added q → IsBelow p q
-part_grows p q added part c = elim (part c) [
-  | inl stays ↦ subst (λ w. IsTrue (at_most (p c) w)) (sym stays) (is_total.reflexive (p c))
-  | inr moves ↦ subst (λ w. IsTrue (at_most (p c) w)) (sym moves) (is_least_upper_bound.left p added c)
-]
-
-edits_grow : (p q : Writes) (edits : List PlaneEdit) → IsPartlyEdited p edits q → IsBelow p q
-edits_grow p q edits part c = elim (part c) [
-  | inl stays ↦ subst (λ w. IsTrue (at_most (p c) w)) (sym stays) (is_total.reflexive (p c))
-  | inr by ↦ subst (λ w. IsTrue (at_most (p c) w)) (sym by.2) (is_least_upper_bound.left p (writes_of by.0) c)
-]
 
 -- a journal of a map is one of each map above it
 grown : (p q : Writes) (journal : List PlaneEdit) → IsBelow p q → IsJournalOf p journal → IsJournalOf q journal
@@ -44,14 +33,10 @@ grown p q journal up is = record {
   held = λ e has c. is_total.transitive (writes_of e c) (p c) (q c) (is.held e has c) (up c);
 }
 
--- a draw that stopped half way
-pub draw_stopped : (p q : Writes) (e : PlaneEdit) (journal : List PlaneEdit) → IsPartlyJoined p (writes_of e) q → IsJournalOf p journal → IsJournalOf q journal
-draw_stopped p q e journal part = grown p q journal (part_grows p q (writes_of e) part)
-
--- a take that stopped half way
-pub take_stopped : (p q : Writes) (content : Content) (journal : List PlaneEdit) → IsPartlyTaken p content q → IsJournalOf p journal → IsJournalOf q journal
-take_stopped p q (contents.Edits edits) journal part = grown p q journal (edits_grow p q edits part)
-take_stopped p q (contents.State plane) journal part = grown p q journal (part_grows p q (map_of plane) part)
+-- so is it one of the same map
+pub kept : (p q : Writes) (journal journal_now : List PlaneEdit) → AreSame q p → journal_now ≡ journal → IsJournalOf p journal → IsJournalOf q journal_now
+kept p q journal journal_now same unnoted is =
+    subst (IsJournalOf q) (sym unnoted) (grown p q journal (λ c. subst (λ w. IsTrue (at_most (p c) w)) (sym (same c)) (is_total.reflexive (p c))) is)
 
 -- ---- draws
 

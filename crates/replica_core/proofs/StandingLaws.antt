@@ -1,16 +1,16 @@
 -- A replica that stands for what it took still does after a draw and after a message.
-use Rattle.std.proofs.Common.{inl, inr, ◌≡◌, ◌≢◌, ℕ, ◌≤◌, List, [], ◌∷◌, ◌++◌, refl, sym, ◌∙◌, ap, subst, suc, arith}
+use Rattle.std.proofs.Common.{inl, inr, ◌≡◌, ℕ, ◌≤◌, List, [], ◌∷◌, ◌++◌, refl, sym, ◌∙◌, ap, subst, suc, arith}
 use Rattle.std.specs.Prelude.{Contains, Result, Ok, Err, MatchResult, pos}
 use Rattle.std.specs.List.{AllByRecursion}
 use Rattle.generations_rule.specs.Rule.{GenerationsRule}
 use Rattle.edit_stamps.specs.declared.write.Write.{Write}
 use Rattle.edit_stamps.specs.Edit.{PlaneEdit, IsEdit, greatest, writes_of, greatest_counter}
-use Rattle.edit_stamps.specs.PlaneMap.{map_of, IsGreatestStamp}
+use Rattle.edit_stamps.specs.PlaneMap.{IsGreatestStamp}
+use Rattle.stamped_tree.specs.Plane.{map_of}
 use Rattle.edit_stamps.specs.Stamp.{counter_in}
 use Rattle.edit_stamps.specs.Write.{unwritten, greater, Writes, AreSame, joined}
 use Rattle.edit_stamps.proofs.WriteLaws.{is_lattice, is_least_upper_bound, is_total, joins_lists}
 use Rattle.replica_core.specs.declared.fault.Fault.{Fault}
-use Rattle.replica_core.specs.declared.fault.Fault.TheVariants as faults
 use Rattle.replica_core.specs.declared.message.Content.{Content}
 use Rattle.replica_core.specs.declared.message.Content.TheVariants as contents
 use Rattle.replica_core.specs.declared.edit_spec.EditSpec.{EditSpec}

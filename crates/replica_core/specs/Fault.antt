@@ -3,14 +3,17 @@ use Rattle.std.specs.Prelude.{ℕ, List, codes, Option, Some, None, ⊤}
 use Rattle.edit_stamps.specs.EditFault.{edit_fault_number, edit_fault_text}
 use Rattle.edit_stamps.specs.declared.fault.EditFault.{EditFault}
 use Rattle.edit_stamps.specs.declared.fault.EditFault.TheVariants as edit_faults
+use Rattle.square_store.specs.declared.fault.StoreFault.{StoreFault}
+use Rattle.square_store.specs.declared.fault.StoreFault.TheVariants as store_faults
 use Rattle.replica_core.specs.declared.event.Stop.{Stop}
 use Rattle.replica_core.specs.declared.event.Stop.TheVariants as stops
 use Rattle.replica_core.specs.declared.fault.Fault.{Fault}
-use Rattle.replica_core.specs.declared.fault.Fault.TheVariants.{Edit, OtherRule, ClockFull, NoReplica, NoMessage, Memory}
+use Rattle.replica_core.specs.declared.fault.Fault.TheVariants.{Edit, StoreFull, OtherRule, ClockFull, NoReplica, NoMessage, Memory}
 
 -- its number in the table of faults
 abbrev pub replica_fault_number : Fault → ℕ
 replica_fault_number (Edit fault) = edit_fault_number fault
+replica_fault_number StoreFull = 13
 replica_fault_number OtherRule = 16
 replica_fault_number ClockFull = 24
 replica_fault_number NoReplica = 26
@@ -19,15 +22,17 @@ replica_fault_number Memory = 255
 
 abbrev pub replica_fault_text : Fault → List ℕ
 replica_fault_text (Edit fault) = edit_fault_text fault
+replica_fault_text StoreFull = codes "StoreFull"
 replica_fault_text OtherRule = codes "OtherRule"
 replica_fault_text ClockFull = codes "ClockFull"
 replica_fault_text NoReplica = codes "NoReplica"
 replica_fault_text NoMessage = codes "NoMessage"
 replica_fault_text Memory = codes "Memory"
 
--- a fault that is no part of what a call means
+-- a want of memory or of room: no part of what a call means
 abbrev pub IsWant : Fault → Type 0
 IsWant Memory = ⊤
+IsWant StoreFull = ⊤
 IsWant (Edit fault) = ⊥
 IsWant OtherRule = ⊥
 IsWant ClockFull = ⊥
@@ -37,11 +42,17 @@ IsWant NoMessage = ⊥
 -- why a list of events stops, where a fault is a want
 abbrev pub stop_of : Fault → Option Stop
 stop_of Memory = Some stops.Memory
+stop_of StoreFull = Some stops.StoreFull
 stop_of (Edit fault) = None
 stop_of OtherRule = None
 stop_of ClockFull = None
 stop_of NoReplica = None
 stop_of NoMessage = None
+
+-- a store's refusal as a replica's
+abbrev pub fault_of_store : StoreFault → Fault
+fault_of_store store_faults.StoreFull = StoreFull
+fault_of_store store_faults.Memory = Memory
 
 -- an edit's refusal as a replica's
 abbrev pub fault_of_edit : EditFault → Fault
@@ -53,11 +64,6 @@ fault_of_edit edit_faults.StateRange = Edit edit_faults.StateRange
 fault_of_edit edit_faults.AreaSide = Edit edit_faults.AreaSide
 
 -- ---- why a list of events is not run to its end
-
--- what stops a list of events is a want; no replica has a store yet that could be full
-abbrev pub IsStopWant : Stop → Type 0
-IsStopWant stops.Memory = ⊤
-IsStopWant stops.StoreFull = ⊥
 
 abbrev pub stop_number : Stop → ℕ
 stop_number stops.Memory = 255

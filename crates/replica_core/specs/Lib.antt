@@ -1,4 +1,5 @@
 pub mod Fault
+pub mod HeldPlane
 pub mod Message
 pub mod Replica
 pub mod World

@@ -1,9 +1,10 @@
 -- Messages, and what they share.
 use Rattle.std.specs.Prelude.{ℕ, List, [], Option, Some, None}
 use Rattle.generations_rule.specs.Rule.{GenerationsRule}
-use Rattle.edit_stamps.specs.Edit.{PlaneEdit, greatest, HaveStatesBelow, IsPartlyEdited}
-use Rattle.edit_stamps.specs.PlaneMap.{map_of, HasStatesBelow, IsPartlyJoined}
+use Rattle.edit_stamps.specs.Edit.{PlaneEdit, greatest, HaveStatesBelow}
+use Rattle.edit_stamps.specs.PlaneMap.{HasStatesBelow}
 use Rattle.edit_stamps.specs.Write.{Writes}
+use Rattle.stamped_tree.specs.Plane.{map_of}
 use Rattle.replica_core.specs.declared.message.Content.{Content}
 use Rattle.replica_core.specs.declared.message.Content.TheVariants.{Edits, State}
 
@@ -26,11 +27,6 @@ edits_of (State plane) = None
 abbrev pub edits_in : Content → List PlaneEdit
 edits_in (Edits edits) = edits
 edits_in (State plane) = []
-
--- at each place a map has what it had, or what joining one of the content's edits, or its map, makes of it
-abbrev pub IsPartlyTaken : Writes → Content → Writes → Type 0
-IsPartlyTaken old (Edits edits) new = IsPartlyEdited old edits new
-IsPartlyTaken old (State plane) new = IsPartlyJoined old (map_of plane) new
 
 -- each state of a message is below a number of states
 abbrev pub IsBelowStates : ℕ → Content → Type 0

@@ -1,6 +1,7 @@
 -- A replica, and what a draw and a message do to it.
 use Rattle.std.specs.Prelude.{◌≡◌, ◌≢◌, ◌⊎◌, IsTrue, ℕ, ◌+◌, ◌^◌, ◌<◌, ◌≤◌, not, nat_lt, List, [], ◌∷◌, ◌++◌, Result, Ok, Err}
 use Rattle.std.specs.List.{Contains, IsDistinct}
+use Rattle.std.specs.Result.{IsOk}
 use Rattle.generations_rule.specs.Place.{Place}
 use Rattle.generations_rule.specs.Refusal.{when, unless, ◌>>=◌}
 use Rattle.generations_rule.specs.Rule.{GenerationsRule}
@@ -8,7 +9,7 @@ use Rattle.edit_stamps.specs.declared.fault.EditFault.{EditFault}
 use Rattle.edit_stamps.specs.Edit.{HaveStatesBelow, PlaneEdit, IsEdit, has_states_below, is_edit, writes_of}
 use Rattle.edit_stamps.specs.Making.{edit_of_cells}
 use Rattle.edit_stamps.specs.Pasting.{edit_of_clear, edit_of_copy, edit_of_or}
-use Rattle.edit_stamps.specs.PlaneMap.{HasStampedWrites, PlaneValue, map_of, HasStatesBelow, IsPartlyJoined}
+use Rattle.edit_stamps.specs.PlaneMap.{HasStampedWrites, HasStatesBelow}
 use Rattle.edit_stamps.specs.Stamp.{stamp_of, last_counter}
 use Rattle.edit_stamps.specs.Write.{unwritten, Writes, AreSame, IsBelow, joined}
 use Rattle.replica_core.specs.declared.edit_spec.EditSpec.{EditSpec}
@@ -19,13 +20,14 @@ use Rattle.replica_core.specs.declared.message.Content.{Content}
 use Rattle.replica_core.specs.declared.message.Content.TheVariants.{Edits, State}
 use Rattle.replica_core.specs.Fault.{IsWant, fault_of_edit}
 use Rattle.edit_journal.specs.Journal.{noted}
-use Rattle.replica_core.specs.Message.{Shared, writes_in, edits_in, IsPartlyTaken}
+use Rattle.replica_core.specs.Message.{Shared, writes_in, edits_in}
+use Rattle.stamped_tree.specs.Plane.{StampedPlane, map_of}
 
 -- what contracts see of a replica
 pub record ReplicaState : Type 0 where
   pub rule : GenerationsRule
   pub number : ℕ
-  pub plane : PlaneValue
+  pub plane : StampedPlane
   pub journal : List PlaneEdit
 
 -- ---- draws
@@ -51,10 +53,11 @@ edit_drawn r counter replica spec = stamp_after counter replica >>= (λ stamp. o
 
 -- ---- what changes
 
--- rule and number are as they were
+-- rule and number are as they were, and the room of the store
 pub record IsOneReplica (old new : ReplicaState) : Type 0 where
   pub rule : new.rule ≡ old.rule
   pub number : new.number ≡ old.number
+  pub room : new.plane.store.room ≡ old.plane.store.room
 
 -- the edit has states of the rule; it is joined, stands in the journal, and wins each cell that it writes
 pub record DrawsAs (old new : ReplicaState) (e : PlaneEdit) : Type 0 where
@@ -70,40 +73,33 @@ pub record Takes (old new : ReplicaState) (m : Content) : Type 0 where
   pub map : AreSame (map_of new.plane) (joined (map_of old.plane) (writes_in m))
   pub journal : new.journal ≡ noted old.journal (edits_in m)
 
--- after want of memory all but the map is as it was, and of the map as much as is said
-pub record IsPartly (old new : ReplicaState) (IsPartOf : Writes → Writes → Type 0) : Type 0 where
+-- map and journal are as they were; squares that nothing names may have come, or gone
+pub record IsUnchanged (old new : ReplicaState) : Type 0 where
   pub one : IsOneReplica old new
+  pub map : AreSame (map_of new.plane) (map_of old.plane)
   pub journal : new.journal ≡ old.journal
-  pub map : IsPartOf (map_of old.plane) (map_of new.plane)
 
 -- ---- what each call answers, and what it leaves
 
 -- a new replica: nothing is written, and no edit noted
-pub record IsNew (rule : GenerationsRule) (number : ℕ) (r : ReplicaState) : Type 0 where
+pub record IsNew (rule : GenerationsRule) (number nodes : ℕ) (r : ReplicaState) : Type 0 where
   pub same_rule : r.rule ≡ rule
   pub same_number : r.number ≡ number
+  pub room : r.plane.store.room ≡ nodes
   pub map : AreSame (map_of r.plane) (λ _. unwritten)
   pub journal : r.journal ≡ []
 
--- a draw that is refused nothing and was stopped half way, where some of its edit may be joined
-abbrev pub IsDrawStopped : ReplicaState → ReplicaState → Result PlaneEdit Fault → Type 0
-IsDrawStopped old new meant = (e : PlaneEdit) × (meant ≡ Ok e) × IsPartly old new (λ p. IsPartlyJoined p (writes_of e))
-
 -- A draw answers the edit that is drawn at the greatest stamp of the map, or its first refusal, which leaves all as it
--- was, or, where nothing is refused, a want.
+-- was, or, where nothing is refused, a want, which leaves map and journal as they were.
 abbrev pub IsDraw : ReplicaState → ReplicaState → Result PlaneEdit Fault → Result PlaneEdit Fault → Type 0
 IsDraw old new meant (Ok e) = (meant ≡ Ok e) × DrawsAs old new e
-IsDraw old new meant (Err fault) = (IsWant fault × IsDrawStopped old new meant) ⊎ ((meant ≡ Err fault) × (new ≡ old))
-
--- a take of a message of the replica's own rule that was stopped half way
-abbrev pub IsTakingStopped : ReplicaState → ReplicaState → Shared → Type 0
-IsTakingStopped old new m = (m.rule ≡ old.rule) × IsPartly old new (λ p. IsPartlyTaken p m.content)
+IsDraw old new meant (Err fault) = (IsWant fault × IsOk meant × IsUnchanged old new) ⊎ ((meant ≡ Err fault) × (new ≡ old))
 
 -- A message is taken whole; one of another rule is refused, which leaves all as it was; nothing else is refused, and
--- only a message of the replica's own rule meets a want.
+-- only a message of the replica's own rule meets a want, which leaves map and journal as they were.
 abbrev pub IsTaking : ReplicaState → ReplicaState → Shared → Result (Unit {0}) Fault → Type 0
 IsTaking old new m (Ok done) = (m.rule ≡ old.rule) × Takes old new m.content
-IsTaking old new m (Err fault) = (IsWant fault × IsTakingStopped old new m) ⊎ ((fault ≡ faults.OtherRule) × (m.rule ≢ old.rule) × (new ≡ old))
+IsTaking old new m (Err fault) = (IsWant fault × (m.rule ≡ old.rule) × IsUnchanged old new) ⊎ ((fault ≡ faults.OtherRule) × (m.rule ≢ old.rule) × (new ≡ old))
 
 -- a message's content is a map equal to p at every place
 abbrev pub IsMapOf : Writes → Content → Type 0

@@ -1,16 +1,16 @@
 -- Worlds of replicas as histories: which edits each replica took, which messages were sent, and what is answered to
 -- each event. The plane of a replica is no part of a history; it is the greatest writes of the edits that it took.
-use Rattle.std.specs.Prelude.{◌≡◌, ◌≤◌, IsTrue, ℕ, zero, suc, ◌+◌, ◌-◌, List, [], ◌∷◌, ◌++◌, length, Option, Some, None, Result, Ok, Err, slice_get, slice_set, Contains, ◌⊎◌, ⊤}
+use Rattle.std.specs.Prelude.{◌≡◌, ◌≤◌, ◌↔◌, Bool, IsTrue, ℕ, zero, suc, ◌+◌, ◌-◌, List, [], ◌∷◌, ◌++◌, length, Option, Some, None, Result, Ok, Err, slice_get, slice_set, Contains, ◌⊎◌, ⊤}
 use Rattle.std.specs.Option.{ok_or}
 use Rattle.std.proofs.Math.ListN.{replicate}
 use Rattle.generations_rule.specs.Place.{at_place}
 use Rattle.generations_rule.specs.Refusal.{◌>>=◌}
 use Rattle.generations_rule.specs.Rule.{GenerationsRule}
 use Rattle.edit_stamps.specs.Edit.{PlaneEdit, IsEdit, greatest, greatest_counter, has_states_below}
-use Rattle.edit_stamps.specs.PlaneMap.{map_of}
+use Rattle.stamped_tree.specs.Plane.{map_of}
 use Rattle.edit_stamps.specs.Write.{AreSame}
 use Rattle.replica_core.specs.declared.event.Event.{Event}
-use Rattle.replica_core.specs.declared.event.Event.TheVariants.{Draw, SendState, Deliver, Show}
+use Rattle.replica_core.specs.declared.event.Event.TheVariants.{Draw, SendState, Deliver, Show, Same}
 use Rattle.replica_core.specs.declared.event.Reply.{Reply}
 use Rattle.replica_core.specs.declared.event.Reply.TheVariants as replies
 use Rattle.replica_core.specs.declared.fault.Fault.{Fault}
@@ -95,6 +95,7 @@ after w (Draw r spec) = changed w (drawn w r spec) (λ d. with_replica w r d.1)
 after w (SendState r) = changed w (replica w r) (λ h. with_message w (State h.taken))
 after w (Deliver m r) = changed w (delivered w m r) (λ h. with_replica w r h)
 after w (Show r x y) = w
+after w (Same a b) = w
 
 abbrev pub after_all : History → List Event → History
 after_all w [] = w
@@ -111,12 +112,21 @@ abbrev pub Given : {A : Type 0} → Result A Fault → Reply → (A → Type 0) 
 Given (Err fault) reply P = reply ≡ replies.Refused fault
 Given (Ok x) reply P = P x
 
+-- what two replicas took
+abbrev pub both : History → ℕ → ℕ → Result (ReplicaHistory × ReplicaHistory) Fault
+both w a b = replica w a >>= (λ h. replica w b >>= (λ k. Ok (h, k)))
+
+-- the reply that tells whether two lists of edits have the same greatest write at every place
+abbrev pub TellsSame : List PlaneEdit → List PlaneEdit → Reply → Type 0
+TellsSame es fs reply = (same : Bool) × (reply ≡ replies.Same same) × (IsTrue same ↔ AreSame (greatest es) (greatest fs))
+
 -- the reply to an event
 abbrev pub IsReply : History → Event → Reply → Type 0
 IsReply w (Draw r spec) reply = Given (drawn w r spec) reply (λ d. reply ≡ replies.Drawn d.0.stamp)
 IsReply w (SendState r) reply = Given (replica w r) reply (λ h. reply ≡ replies.Sent (next_message w))
 IsReply w (Deliver m r) reply = Given (delivered w m r) reply (λ h. reply ≡ replies.Taken)
 IsReply w (Show r x y) reply = Given (replica w r) reply (λ h. reply ≡ replies.Shown (greatest h.taken (at_place x y)))
+IsReply w (Same a b) reply = Given (both w a b) reply (λ hs. TellsSame hs.0.taken hs.1.taken reply)
 
 -- the replies to events one after another
 abbrev pub AreReplies : History → List Event → List Reply → Type 0
@@ -174,6 +184,10 @@ Carries (State edits) content = IsMapOf (greatest edits) content
 pub record StandsForSent (rule : GenerationsRule) (sent : Sent) (m : Shared) : Type 0 where
   pub same_rule : m.rule ≡ rule
   pub content : Carries sent m.content
+
+-- the store of each has room for so many squares
+abbrev pub HaveRoom : ℕ → List ReplicaState → Type 0
+HaveRoom nodes replicas = (i : ℕ) (r : ReplicaState) → slice_get replicas i ≡ Some r → r.plane.store.room ≡ nodes
 
 -- as many, and each stands for the one at its place
 pub record StandSideBySide {A B : Type 0} (Stands : ℕ → A → B → Type 0) (xs : List A) (ys : List B) : Type 0 where

@@ -20,6 +20,8 @@ pub enum Event {
     Deliver(u64, u32),
     /// Somebody looks at a replica's cell at `x`, `y`.
     Show(u32, i32, i32),
+    /// Somebody asks whether two replicas hold the same write at every cell.
+    Same(u32, u32),
 }
 
 /// What is answered to an event.
@@ -33,8 +35,10 @@ pub enum Reply {
     Taken,
     /// The write at the cell; the least write where nothing was written, and outside the plane.
     Shown(Write),
+    /// Whether the two hold the same write at every cell.
+    Same(bool),
     /// Why nothing happened. A draw and a look are refused for want of the replica first, a
-    /// delivery for want of the message first. It is never `Fault::Memory`.
+    /// delivery for want of the message first. It is never `Fault::Memory` or `Fault::StoreFull`.
     Refused(Fault),
 }
 
@@ -43,7 +47,7 @@ pub enum Reply {
 pub enum Stop {
     /// The system refused memory.
     Memory,
-    /// A store of squares was full. Replicas have no such store yet, and it is never answered.
+    /// A replica's store held as many squares as it has room for.
     StoreFull,
 }
 

@@ -4,6 +4,7 @@ ghost use Rattle.std.specs.Prelude.{◌≡◌};
 
 use crate::event::Stop;
 use edit_stamps::EditFault;
+use stamped_tree::StoreFault;
 use std::alloc::AllocError;
 use std::error::Error;
 use std::fmt;
@@ -13,6 +14,8 @@ use std::fmt;
 pub enum Fault {
     /// The edit's own refusal; never its want of memory, which is `Memory`.
     Edit(EditFault),
+    /// The replica's store holds as many squares as it has room for.
+    StoreFull,
     /// The message has another rule than the replica.
     OtherRule,
     /// The greatest counter of the plane is the last one, 2^48 - 1.
@@ -34,6 +37,7 @@ impl Fault {
     {
         match self {
             Fault::Edit(fault) => fault.number(),
+            Fault::StoreFull => 13,
             Fault::OtherRule => 16,
             Fault::ClockFull => 24,
             Fault::NoReplica => 26,
@@ -48,6 +52,7 @@ impl Fault {
     {
         match self {
             Fault::Memory => Some(Stop::Memory),
+            Fault::StoreFull => Some(Stop::StoreFull),
             _ => None,
         }
     }
@@ -63,6 +68,7 @@ impl fmt::Display for Fault {
     fn fmt<W: fmt::Write>(&self, f: &mut fmt::Formatter<W>) -> fmt::Result {
         match self {
             Fault::Edit(fault) => write!(f, "{fault}"),
+            Fault::StoreFull => write!(f, "StoreFull"),
             Fault::OtherRule => write!(f, "OtherRule"),
             Fault::ClockFull => write!(f, "ClockFull"),
             Fault::NoReplica => write!(f, "NoReplica"),
@@ -82,6 +88,20 @@ impl From<AllocError> for Fault {
 
     fn from(_error: AllocError) -> Fault {
         Fault::Memory
+    }
+}
+
+impl From<StoreFault> for Fault {
+    ghost use Rattle.std.specs.Prelude.{◌≡◌};
+    ghost use Rattle.replica_core.specs.Fault.{fault_of_store};
+
+    ghost from_gives = { λ from fault. fault ≡ fault_of_store from };
+
+    fn from(fault: StoreFault) -> Fault {
+        match fault {
+            StoreFault::StoreFull => Fault::StoreFull,
+            StoreFault::Memory => Fault::Memory,
+        }
     }
 }
 

@@ -4,6 +4,7 @@
 mod edit_spec;
 mod event;
 mod fault;
+mod held_plane;
 mod laws;
 mod message;
 mod replica;
@@ -16,4 +17,4 @@ pub use fault::Fault;
 pub use laws::world_laws;
 pub use message::Message;
 pub use replica::Replica;
-pub use world::{World, replay};
+pub use world::{World, replay, replay_within};

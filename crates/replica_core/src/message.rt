@@ -4,18 +4,18 @@ ghost use Rattle.std.specs.Prelude.{◌≡◌, IfSome, option_copied};
 
 use edit_stamps::{Edit, EditList};
 use generations_rule::Rule;
-use stamped_map::Plane;
+use stamped_tree::Plane;
 use std::marker::Model;
 
 /// A rule, and either edits or a map.
-#[derive(Debug, Drop)]
+#[derive(Drop)]
 pub struct Message {
     rule: Rule,
     content: Content,
 }
 
 /// What a message shares.
-#[derive(Debug, Drop)]
+#[derive(Drop)]
 pub enum Content {
     /// Edits in order.
     Edits(EditList),
@@ -37,7 +37,8 @@ impl Message {
     ghost use Rattle.replica_core.specs.declared.message.Content.TheVariants.{Edits, State};
     ghost use Rattle.replica_core.specs.Message.{IsBelowStates, edits_of};
     ghost use Rattle.edit_stamps.specs.Edit.{HaveStatesBelow};
-    ghost use Rattle.edit_stamps.specs.PlaneMap.{map_of, HasStatesBelow};
+    ghost use Rattle.edit_stamps.specs.PlaneMap.{HasStatesBelow};
+    ghost use Rattle.stamped_tree.specs.Plane.{map_of};
 
     /// A message of edits whose states the rule has.
     pub fn of_edits(rule: Rule, edits: Vec<Edit>) -> Message

@@ -1,36 +1,44 @@
 //! One replica of a shared plane.
 
-ghost use Rattle.std.specs.Prelude.{◌≡◌, ◌≤◌, ◌++◌, ◌∷◌, [], ℕ, false, Contains, IfOk, IfErr, IsTrue, OnOk};
+ghost use Rattle.std.specs.Prelude.{◌≡◌, ◌≤◌, ◌^◌, ◌↔◌, ◌++◌, ◌∷◌, [], ℕ, false, Contains, IfOk, IfErr, IsTrue, OnOk, OnErr};
 ghost use Rattle.std.specs.Result.{IsOk};
 ghost use Rattle.generations_rule.specs.Refusal.{Answers};
 ghost use Rattle.generations_rule.specs.Place.{at_place};
 ghost use Rattle.edit_stamps.specs.Stamp.{counter_in};
-ghost use Rattle.edit_stamps.specs.PlaneMap.{map_of, HasStampedWrites, IsGreatestStamp, IsPartlyJoined, KeepsStates};
+ghost use Rattle.edit_stamps.specs.PlaneMap.{HasStampedWrites, IsGreatestStamp};
 ghost use Rattle.edit_stamps.specs.Write.{unwritten, AreSame, joined};
-ghost use Rattle.edit_stamps.specs.Edit.{PlaneEdit, IsEdit, greatest, has_states_below, writes_of, HaveStatesBelow, IsPartlyEdited};
-ghost use Rattle.replica_core.specs.Fault.{IsWant};
+ghost use Rattle.edit_stamps.specs.Edit.{PlaneEdit, IsEdit, has_states_below, writes_of, HaveStatesBelow, greatest};
 ghost use Rattle.edit_journal.specs.Journal.{noted};
-ghost use Rattle.replica_core.specs.Message.{edits_in, writes_in, IsBelowStates, IsPartlyTaken};
+ghost use Rattle.replica_core.specs.Fault.{IsWant};
+ghost use Rattle.replica_core.specs.HeldPlane.{IsAsBefore};
+ghost use Rattle.replica_core.specs.Message.{edits_in, writes_in, IsBelowStates};
 ghost use Rattle.replica_core.specs.Replica.{made, or_edit_fault, stamp_after};
+ghost use Rattle.stamped_tree.specs.Plane.{map_of};
 
 use crate::edit_spec::EditSpec;
 use crate::fault::Fault;
+use crate::held_plane::{Added, HeldPlane};
 use crate::message::{Content, Message};
 use edit_journal::Journal;
 use edit_stamps::{Edit, Stamp, Write, counter_of};
 use generations_rule::Rule;
-use stamped_map::Plane;
-use std::alloc::Global;
+use stamped_tree::Plane;
+use std::alloc::{AllocError, Global};
 use std::marker::Model;
+use std::slice;
+use tree_join::same_remembered;
+
+/// How many squares a replica may store if nothing else is said.
+const ROOM: u32 = 0x400_0000;
 
 /// A replica of a shared plane: it draws, takes what others send, and shows what it holds. Its
 /// number, 1 to 65535, is its own among all that exchange messages.
-#[derive(Debug, Drop)]
+#[derive(Drop)]
 pub struct Replica {
     alloc: Global,
     rule: Rule,
     number: u16,
-    plane: Plane,
+    plane: HeldPlane,
     journal: Journal,
 }
 
@@ -50,19 +58,30 @@ impl Replica {
     ghost use Rattle.edit_stamps.specs.Plane.{is_in_plane};
     ghost use Rattle.replica_core.specs.Replica.{edit_drawn, IsDraw, IsJournalOf, IsNew, IsReplica, IsSnapshot, IsTaking};
 
-    /// A replica that holds nothing. The only error is want of memory.
+    /// A replica that holds nothing, with room for 2^26 squares. The only error is want of memory.
     pub fn new(alloc: Global, rule: Rule, number: u16) -> Result<Replica, Fault>
         requires { 1 ≤ number }
-        ensures new { IfOk result (λ replica. IsNew rule number replica) }
-        ensures err { IfErr result IsWant }
+        ensures new { IfOk result (λ replica. IsNew rule number (2 ^ 26) replica) }
+        ensures err { IfErr result (λ fault. fault ≡ Fault.Memory) }
+    {
+        Replica::with_room(alloc, rule, number, ROOM)
+    }
+
+    /// A replica that holds nothing, with room for so many squares. The only error is want of memory.
+    pub fn with_room(alloc: Global, rule: Rule, number: u16, nodes: u32) -> Result<Replica, Fault>
+        requires number { 1 ≤ number }
+        requires nodes { 1 ≤ nodes }
+        ensures new { IfOk result (λ replica. IsNew rule number nodes replica) }
+        ensures err { IfErr result (λ fault. fault ≡ Fault.Memory) }
     {
         // For the proof alone: the call tells that what is held is a rule.
         let _rule = rule.states();
+        let plane = HeldPlane::with_room(alloc, nodes)?;
         Ok(Replica {
             alloc,
             rule,
             number,
-            plane: Plane::new(alloc),
+            plane,
             journal: Journal::new(alloc),
         })
     }
@@ -95,22 +114,31 @@ impl Replica {
         ensures outside { is_in_plane (at_place x y) ≡ false → result ≡ unwritten }
         ensures stamped { HasStampedWrites (map_of self.now.plane) }
     {
-        self.plane.get(x, y)
+        self.plane.plane().get(x, y)
+    }
+
+    /// Whether another replica holds the same write at every cell. The only error is want of memory.
+    pub fn holds_same(&self, other: &Replica) -> Result<bool, AllocError>
+        ensures { IfOk result (λ same. IsTrue same ↔ AreSame (map_of self.now.plane) (map_of other.now.plane)) }
+    {
+        same_remembered(self.alloc, self.plane.plane(), other.plane.plane())
     }
 
     /// A message of this replica's map. The only error is want of memory.
     pub fn snapshot(&self) -> Result<Message, Fault>
         ensures snapshot { IfOk result (λ message. IsSnapshot self.now message) }
-        ensures err { IfErr result IsWant }
+        ensures err { IfErr result (λ fault. fault ≡ Fault.Memory) }
     {
-        let plane = self.plane.copy()?;
+        // For the proof alone: the call tells that each write has a stamp.
+        let _write = self.plane.plane().get(0, 0);
+        let plane = self.plane.plane().copy()?;
         Ok(Message::of_plane(self.rule, plane))
     }
 
     /// Draws an edit: its stamp is one more than the greatest counter held, with this replica's
     /// number (Lamport 1978), so that it wins every cell that it writes. Refused are a full clock,
-    /// then what the maker of the edit refuses; memory is wanted only where neither refuses. After
-    /// want of memory the edit may be joined at some places alone.
+    /// then what the maker of the edit refuses; memory and room are wanted only where neither
+    /// refuses. After any refusal the replica is as it was.
     pub fn draw(&mut self, spec: EditSpec) -> Result<Edit, Fault>
         ensures { (n : ℕ) × IsGreatestStamp n (map_of self.old.plane)
             × IsDraw self.old self.new (edit_drawn self.old.rule (counter_in n) self.old.number spec) result }
@@ -130,8 +158,8 @@ impl Replica {
     }
 
     /// Takes a message: joins its map, or what its edits write, and notes those of its edits that
-    /// the journal does not have by then. Refused is a message of another rule. After want of
-    /// memory each place has what it had, or what one of the edits, or the map, makes of it.
+    /// the journal does not have by then. Refused is a message of another rule. A message is taken
+    /// whole or not at all: after any refusal, want of memory or of room too, the replica is as it was.
     pub fn take(&mut self, message: &Message) -> Result<(), Fault>
         ensures { IsTaking self.old self.new message.now result }
     {
@@ -144,11 +172,11 @@ impl Replica {
 }
 
 /// Lamport's rule: one more than the greatest counter held.
-fn next_stamp(plane: &Plane, number: u16) -> Result<Stamp, Fault>
+fn next_stamp(plane: &HeldPlane, number: u16) -> Result<Stamp, Fault>
     requires { 1 ≤ number }
     ensures { (n : ℕ) × IsGreatestStamp n (map_of plane.now) × (result ≡ stamp_after (counter_in n) number) }
 {
-    let counter = counter_of(plane.greatest_stamp());
+    let counter = counter_of(plane.plane().greatest_stamp());
     Stamp::new(counter + 1, number).ok_or(Fault::ClockFull)
 }
 
@@ -167,51 +195,63 @@ fn make(alloc: Global, rule: &Rule, stamp: Stamp, spec: &EditSpec) -> Result<Edi
     Ok(edit)
 }
 
-/// Joins an edit and notes it.
-fn draw_into(plane: &mut Plane, journal: &mut Journal, edit: &Edit) -> Result<(), Fault>
+/// Joins an edit and notes it. All that may be refused is done before anything changes.
+fn draw_into(plane: &mut HeldPlane, journal: &mut Journal, edit: &Edit) -> Result<(), Fault>
     ensures map { OnOk result (AreSame (map_of plane.new) (joined (map_of plane.old) (writes_of edit.now))) }
+    ensures room { plane.new.store.room ≡ plane.old.store.room }
     ensures noted { OnOk result (journal.new ≡ journal.old ++ edit.now ∷ []) }
-    ensures err { IfErr result (λ fault. (fault ≡ Fault.Memory) × (journal.new ≡ journal.old)
-        × IsPartlyJoined (map_of plane.old) (writes_of edit.now) (map_of plane.new)) }
-    ensures states { KeepsStates (λ states. IsTrue (has_states_below states edit.now)) (map_of plane.old) (map_of plane.new) }
+    ensures before { OnErr result (IsAsBefore plane.old plane.new) }
+    ensures unnoted { OnErr result (journal.new ≡ journal.old) }
+    ensures err { IfErr result IsWant }
 {
     let noted = edit.copy()?;
-    plane.join_edit(edit)?;
+    let root = plane.add(Added::Edits(slice::from_ref(edit)))?;
     journal.push(noted)?;
+    plane.set_root(root);
     Ok(())
 }
 
 /// Joins what a message shares, and notes its edits.
-fn take_into(plane: &mut Plane, journal: &mut Journal, content: &Content) -> Result<(), Fault>
+fn take_into(plane: &mut HeldPlane, journal: &mut Journal, content: &Content) -> Result<(), Fault>
     ensures map { OnOk result (AreSame (map_of plane.new) (joined (map_of plane.old) (writes_in content.now))) }
+    ensures room { plane.new.store.room ≡ plane.old.store.room }
     ensures noted { OnOk result (journal.new ≡ noted journal.old (edits_in content.now)) }
-    ensures err { IfErr result (λ fault. (fault ≡ Fault.Memory) × (journal.new ≡ journal.old)
-        × IsPartlyTaken (map_of plane.old) content.now (map_of plane.new)) }
-    ensures states { KeepsStates (λ states. IsBelowStates states content.now) (map_of plane.old) (map_of plane.new) }
+    ensures before { OnErr result (IsAsBefore plane.old plane.new) }
+    ensures unnoted { OnErr result (journal.new ≡ journal.old) }
+    ensures err { IfErr result IsWant }
     ensures edits { OnOk result ((e : PlaneEdit) → Contains (edits_in content.now) e → IsEdit e) }
 {
     match content {
-        Content::Edits(edits) => {
-            take_edits(plane, journal, edits.as_slice())?;
-            Ok(())
-        }
-        Content::State(other) => {
-            plane.join(other)?;
-            Ok(())
-        }
+        Content::Edits(edits) => take_edits(plane, journal, edits.as_slice()),
+        Content::State(other) => take_map(plane, other),
     }
 }
 
-fn take_edits(plane: &mut Plane, journal: &mut Journal, edits: &[Edit]) -> Result<(), Fault>
+/// Joins what edits write, and notes them. All that may be refused is done before anything changes.
+fn take_edits(plane: &mut HeldPlane, journal: &mut Journal, edits: &[Edit]) -> Result<(), Fault>
     ensures map { OnOk result (AreSame (map_of plane.new) (joined (map_of plane.old) (greatest edits.now))) }
+    ensures room { plane.new.store.room ≡ plane.old.store.room }
     ensures noted { OnOk result (journal.new ≡ noted journal.old edits.now) }
-    ensures err { IfErr result (λ fault. (fault ≡ Fault.Memory) × (journal.new ≡ journal.old)
-        × IsPartlyEdited (map_of plane.old) edits.now (map_of plane.new)) }
-    ensures states { KeepsStates (λ states. HaveStatesBelow states edits.now) (map_of plane.old) (map_of plane.new) }
     ensures edits { OnOk result ((e : PlaneEdit) → Contains edits.now e → IsEdit e) }
+    ensures before { OnErr result (IsAsBefore plane.old plane.new) }
+    ensures unnoted { OnErr result (journal.new ≡ journal.old) }
+    ensures err { IfErr result IsWant }
 {
     let fresh = journal.fresh(edits)?;
-    plane.join_edits(edits)?;
+    let root = plane.add(Added::Edits(edits))?;
     journal.append(fresh)?;
+    plane.set_root(root);
+    Ok(())
+}
+
+/// Joins a map.
+fn take_map(plane: &mut HeldPlane, other: &Plane) -> Result<(), Fault>
+    ensures map { OnOk result (AreSame (map_of plane.new) (joined (map_of plane.old) (map_of other.now))) }
+    ensures room { plane.new.store.room ≡ plane.old.store.room }
+    ensures before { OnErr result (IsAsBefore plane.old plane.new) }
+    ensures err { IfErr result IsWant }
+{
+    let root = plane.add(Added::Map(other))?;
+    plane.set_root(root);
     Ok(())
 }

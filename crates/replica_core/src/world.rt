@@ -1,13 +1,13 @@
 //! Worlds of replicas: lists of events, and their replies.
 
-ghost use Rattle.std.specs.Prelude.{◌≡◌, ◌≤◌, ◌-◌, ℕ, IfOk, IfErr, SomeIff, Contains, length, MatchResult, option_copied};
+ghost use Rattle.std.specs.Prelude.{◌≡◌, ◌≤◌, ◌^◌, ◌-◌, ℕ, IfOk, IfErr, Some, SomeIff, Contains, length, MatchResult, option_copied};
 ghost use Rattle.edit_stamps.specs.Edit.{IsEdit, PlaneEdit, greatest_counter};
 ghost use Rattle.generations_rule.specs.Rule.{GenerationsRule};
 ghost use Rattle.replica_core.specs.declared.event.Event.TheVariants as events;
 ghost use Rattle.replica_core.specs.declared.event.Reply.TheVariants as replies;
-ghost use Rattle.replica_core.specs.Fault.{IsStopWant, IsWant};
+ghost use Rattle.replica_core.specs.Fault.{IsWant, stop_of};
 ghost use Rattle.replica_core.specs.Replica.{edit_drawn, IsNew, IsSnapshot};
-ghost use Rattle.replica_core.specs.World.{History, IsEditUnder, IsThere, ReplicaHistory, Sent, opening, after, after_all, after_drawing, after_message, numbered, AreEdits, AreReplies, IsReply, StandSideBySide, StandsFor, StandsForSent, StandsForWorld};
+ghost use Rattle.replica_core.specs.World.{History, IsEditUnder, IsThere, ReplicaHistory, Sent, opening, after, after_all, after_drawing, after_message, numbered, AreEdits, AreReplies, HaveRoom, IsReply, StandSideBySide, StandsFor, StandsForSent, StandsForWorld};
 
 use crate::edit_spec::EditSpec;
 use crate::event::{Event, Reply, Stop};
@@ -18,8 +18,11 @@ use generations_rule::Rule;
 use std::alloc::Global;
 use std::marker::Model;
 
+/// How many squares each replica may store if nothing else is said.
+const ROOM: u32 = 0x400_0000;
+
 /// Replicas of one rule with the numbers 1, 2, .. and the messages that they sent.
-#[derive(Debug, Drop)]
+#[derive(Drop)]
 pub struct World {
     rule: Rule,
     replicas: Vec<Replica>,
@@ -35,13 +38,25 @@ impl Model for World {
 }
 
 impl World {
-    /// A world of replicas 1 to `n` that hold nothing, where no message was sent. The only error is
-    /// want of memory.
+    /// A world of replicas 1 to `n` that hold nothing, where no message was sent; each has room for
+    /// 2^26 squares. The only error is want of memory.
     pub fn new(alloc: Global, rule: Rule, n: u16) -> Result<World, Stop>
         ensures new { IfOk result (λ world. StandsForWorld (opening rule n) world) }
-        ensures err { IfErr result IsStopWant }
+        ensures room { IfOk result (λ world. HaveRoom (2 ^ 26) world.replicas) }
+        ensures err { IfErr result (λ stop. stop ≡ Stop.Memory) }
     {
-        let replicas = beginners(alloc, rule, n)?;
+        World::with_room(alloc, rule, n, ROOM)
+    }
+
+    /// A world of replicas 1 to `n` that hold nothing, where no message was sent; each has room for so
+    /// many squares. The only error is want of memory.
+    pub fn with_room(alloc: Global, rule: Rule, n: u16, nodes: u32) -> Result<World, Stop>
+        requires { 1 ≤ nodes }
+        ensures new { IfOk result (λ world. StandsForWorld (opening rule n) world) }
+        ensures room { IfOk result (λ world. HaveRoom nodes world.replicas) }
+        ensures err { IfErr result (λ stop. stop ≡ Stop.Memory) }
+    {
+        let replicas = beginners(alloc, rule, n, nodes)?;
         Ok(World {
             rule,
             replicas,
@@ -59,8 +74,8 @@ impl World {
 }
 
 /// Runs a world of replicas 1 to `n` through events, in order: the world behind the last event, and
-/// the reply to each. A refused event changes nothing, and the next one follows. The only error is
-/// want of memory.
+/// the reply to each. A refused event changes nothing, and the next one follows. The only errors are
+/// want of memory, and of room: each replica has room for 2^26 squares.
 pub fn replay(
     alloc: Global,
     rule: Rule,
@@ -70,9 +85,26 @@ pub fn replay(
     ensures replies { IfOk result (λ done. AreReplies (opening rule n) events.now done.1.items) }
     ensures world { IfOk result (λ done. StandsForWorld (after_all (opening rule n) events.now) done.0) }
     ensures edits { IfOk result (λ done. AreEdits (after_all (opening rule n) events.now)) }
-    ensures err { IfErr result IsStopWant }
+    ensures room { IfOk result (λ done. HaveRoom (2 ^ 26) done.0.replicas) }
 {
-    let mut world = World::new(alloc, rule, n)?;
+    replay_within(alloc, rule, n, ROOM, events)
+}
+
+/// `replay` where each replica has room for so many squares.
+pub fn replay_within(
+    alloc: Global,
+    rule: Rule,
+    n: u16,
+    nodes: u32,
+    events: &[Event],
+) -> Result<(World, Vec<Reply>), Stop>
+    requires { 1 ≤ nodes }
+    ensures replies { IfOk result (λ done. AreReplies (opening rule n) events.now done.1.items) }
+    ensures world { IfOk result (λ done. StandsForWorld (after_all (opening rule n) events.now) done.0) }
+    ensures edits { IfOk result (λ done. AreEdits (after_all (opening rule n) events.now)) }
+    ensures room { IfOk result (λ done. HaveRoom nodes done.0.replicas) }
+{
+    let mut world = World::with_room(alloc, rule, n, nodes)?;
     let mut replies = Vec::with_capacity(alloc, events.len())?;
     for event in events {
         let reply = happen(&mut world, event)?;
@@ -81,23 +113,26 @@ pub fn replay(
     Ok((world, replies))
 }
 
-fn beginners(alloc: Global, rule: Rule, n: u16) -> Result<Vec<Replica>, Stop>
+fn beginners(alloc: Global, rule: Rule, n: u16, nodes: u32) -> Result<Vec<Replica>, Stop>
+    requires { 1 ≤ nodes }
     ensures new { IfOk result (λ made. StandSideBySide (StandsFor rule) (opening rule n).replicas made.items) }
-    ensures err { IfErr result IsStopWant }
+    ensures room { IfOk result (λ made. HaveRoom nodes made.items) }
+    ensures err { IfErr result (λ stop. stop ≡ Stop.Memory) }
 {
     let mut replicas = Vec::with_capacity(alloc, usize::from(n))?;
     for index in 0..n {
-        replicas.push(beginner(alloc, rule, index + 1)?)?;
+        replicas.push(beginner(alloc, rule, index + 1, nodes)?)?;
     }
     Ok(replicas)
 }
 
-fn beginner(alloc: Global, rule: Rule, number: u16) -> Result<Replica, Stop>
-    requires { 1 ≤ number }
-    ensures new { IfOk result (λ replica. IsNew rule number replica) }
-    ensures err { IfErr result IsStopWant }
+fn beginner(alloc: Global, rule: Rule, number: u16, nodes: u32) -> Result<Replica, Stop>
+    requires number { 1 ≤ number }
+    requires nodes { 1 ≤ nodes }
+    ensures new { IfOk result (λ replica. IsNew rule number nodes replica) }
+    ensures err { IfErr result (λ stop. stop ≡ Stop.Memory) }
 {
-    match Replica::new(alloc, rule, number) {
+    match Replica::with_room(alloc, rule, number, nodes) {
         Ok(replica) => Ok(replica),
         Err(fault) => Err(stopped(fault)),
     }
@@ -118,7 +153,7 @@ fn happen(world: &mut World, event: &Event) -> Result<Reply, Stop>
     ensures step { IfOk result (λ reply. (w : History) → AreEdits w → StandsForWorld w world.old →
         IsReply w event.now reply × StandsForWorld (after w event.now) world.new) }
     ensures edits { IfOk result (λ _. (w : History) → AreEdits w → StandsForWorld w world.old → AreEdits (after w event.now)) }
-    ensures err { IfErr result IsStopWant }
+    ensures room { (nodes : ℕ) → HaveRoom nodes world.old.replicas → HaveRoom nodes world.new.replicas }
 {
     match event {
         Event::Draw(number, spec) => draw(&mut world.replicas, *number, spec),
@@ -127,6 +162,7 @@ fn happen(world: &mut World, event: &Event) -> Result<Reply, Stop>
             deliver(&world.messages, &mut world.replicas, *message, *number)
         }
         Event::Show(number, x, y) => Ok(show(&world.replicas, *number, *x, *y)),
+        Event::Same(a, b) => same(&world.replicas, *a, *b),
     }
 }
 
@@ -136,7 +172,8 @@ fn draw(replicas: &mut [Replica], number: u32, spec: &EditSpec) -> Result<Reply,
         × StandSideBySide (StandsFor w.rule) (after w (events.Draw number spec.now)).replicas replicas.new) }
     ensures edits { IfOk result (λ _. (w : History) → AreEdits w → StandSideBySide (StandsFor w.rule) w.replicas replicas.old → AreEdits (after w (events.Draw number spec.now))) }
     ensures as_many { length replicas.new ≡ length replicas.old }
-    ensures err { IfErr result (λ stop. IsStopWant stop × IsThere number (length replicas.old)) }
+    ensures room { (nodes : ℕ) → HaveRoom nodes replicas.old → HaveRoom nodes replicas.new }
+    ensures err { IfErr result (λ _. IsThere number (length replicas.old)) }
 {
     match index_of(u64::from(number), replicas.len()) {
         None => Ok(Reply::Refused(Fault::NoReplica)),
@@ -151,7 +188,7 @@ fn draw_at(replica: &mut Replica, spec: &EditSpec) -> Result<Reply, Stop>
         → MatchResult (edit_drawn rule (greatest_counter h.taken) replica.old.number spec.now)
         (λ e. (reply ≡ replies.Drawn e.stamp) × StandsFor rule replica.old.number (after_drawing h e) replica.new × IsEditUnder rule e)
         (λ fault. (reply ≡ replies.Refused fault) × (replica.new ≡ replica.old))) }
-    ensures err { IfErr result IsStopWant }
+    ensures room { replica.new.plane.store.room ≡ replica.old.plane.store.room }
 {
     match replica.draw_as(spec) {
         Ok(edit) => Ok(Reply::Drawn(edit.stamp())),
@@ -162,7 +199,7 @@ fn draw_at(replica: &mut Replica, spec: &EditSpec) -> Result<Reply, Stop>
 /// The reply of a refusal; a want is none.
 fn refused(fault: Fault) -> Result<Reply, Stop>
     ensures reply { IfOk result (λ reply. (¬ IsWant fault) × (reply ≡ replies.Refused fault)) }
-    ensures err { IfErr result (λ stop. IsWant fault × IsStopWant stop) }
+    ensures err { IfErr result (λ stop. IsWant fault × (stop_of fault ≡ Some stop)) }
 {
     match fault.stop() {
         Some(stop) => Err(stop),
@@ -173,7 +210,7 @@ fn refused(fault: Fault) -> Result<Reply, Stop>
 /// Why a list of events stops at a want.
 fn stopped(fault: Fault) -> Stop
     requires { IsWant fault }
-    ensures { IsStopWant result }
+    ensures { stop_of fault ≡ Some result }
 {
     match fault.stop() {
         Some(stop) => stop,
@@ -186,7 +223,7 @@ fn send_state(replicas: &[Replica], messages: &mut Vec<Message>, number: u32) ->
         → StandSideBySide (λ m. StandsForSent w.rule) w.messages messages.old.items →
         IsReply w (events.SendState number) reply
         × StandSideBySide (λ m. StandsForSent w.rule) (after w (events.SendState number)).messages messages.new.items) }
-    ensures err { IfErr result (λ stop. IsStopWant stop × IsThere number (length replicas.now)) }
+    ensures err { IfErr result (λ stop. (stop ≡ Stop.Memory) × IsThere number (length replicas.now)) }
 {
     match index_of(u64::from(number), replicas.len()) {
         None => Ok(Reply::Refused(Fault::NoReplica)),
@@ -200,7 +237,7 @@ fn send_state(replicas: &[Replica], messages: &mut Vec<Message>, number: u32) ->
 
 fn snapshot_of(replica: &Replica) -> Result<Message, Stop>
     ensures snapshot { IfOk result (λ message. IsSnapshot replica.now message) }
-    ensures err { IfErr result IsStopWant }
+    ensures err { IfErr result (λ stop. stop ≡ Stop.Memory) }
 {
     match replica.snapshot() {
         Ok(message) => Ok(message),
@@ -219,7 +256,8 @@ fn deliver(
         IsReply w (events.Deliver message number) reply
         × StandSideBySide (StandsFor w.rule) (after w (events.Deliver message number)).replicas replicas.new) }
     ensures as_many { length replicas.new ≡ length replicas.old }
-    ensures err { IfErr result (λ stop. IsStopWant stop × IsThere message (length messages.now) × IsThere number (length replicas.old)) }
+    ensures room { (nodes : ℕ) → HaveRoom nodes replicas.old → HaveRoom nodes replicas.new }
+    ensures err { IfErr result (λ _. IsThere message (length messages.now) × IsThere number (length replicas.old)) }
 {
     let Some(from) = index_of(message, messages.len()) else {
         return Ok(Reply::Refused(Fault::NoMessage));
@@ -235,7 +273,7 @@ fn take_at(replica: &mut Replica, message: &Message) -> Result<Reply, Stop>
     ensures step { IfOk result (λ reply. (rule : GenerationsRule) (h : ReplicaHistory) (sent : Sent) → StandsFor rule replica.old.number h replica.old
         → StandsForSent rule sent message.now
         → (reply ≡ replies.Taken) × StandsFor rule replica.old.number (after_message h sent) replica.new) }
-    ensures err { IfErr result IsStopWant }
+    ensures room { replica.new.plane.store.room ≡ replica.old.plane.store.room }
 {
     match replica.take(message) {
         Ok(()) => Ok(Reply::Taken),
@@ -250,4 +288,18 @@ fn show(replicas: &[Replica], number: u32, x: i32, y: i32) -> Reply
         None => Reply::Refused(Fault::NoReplica),
         Some(index) => Reply::Shown(replicas[index].get(x, y)),
     }
+}
+
+fn same(replicas: &[Replica], a: u32, b: u32) -> Result<Reply, Stop>
+    ensures step { IfOk result (λ reply. (w : History) → StandSideBySide (StandsFor w.rule) w.replicas replicas.now → IsReply w (events.Same a b) reply) }
+    ensures err { IfErr result (λ stop. (stop ≡ Stop.Memory) × IsThere a (length replicas.now) × IsThere b (length replicas.now)) }
+{
+    let Some(one) = index_of(u64::from(a), replicas.len()) else {
+        return Ok(Reply::Refused(Fault::NoReplica));
+    };
+    let Some(other) = index_of(u64::from(b), replicas.len()) else {
+        return Ok(Reply::Refused(Fault::NoReplica));
+    };
+    let same = replicas[one].holds_same(&replicas[other])?;
+    Ok(Reply::Same(same))
 }

@@ -1,7 +1,7 @@
 use Rattle.std.proofs.Common.{refl, sym, subst, length, ap, ◌∙◌}
 use Rattle.std.proofs.lemmas.List.{with_items_is}
 use Rattle.std.proofs.lemmas.Result.{IfOk-weaker}
-use Rattle.replica_core.specs.World.{AreEdits, after, StandSideBySide, StandsForSent, StandsFor, StandsForWorld}
+use Rattle.replica_core.specs.World.{AreEdits, HaveRoom, after, StandSideBySide, StandsForSent, StandsFor, StandsForWorld}
 use Rattle.replica_core.proofs.HistoryLaws.{edits_delivered, edits_sent_on}
 use Rattle.replica_core.proofs.EventLaws.{goes_by_drawing, goes_by_delivery, goes_by_sending}
 use Rattle.replica_core.proofs.world.happen.Goals as goal
@@ -46,3 +46,23 @@ returns-in-Deliver-clause-edits c = IfOk-weaker c.deliver.result _ _ (λ reply s
 pub returns-in-Show-clause-edits : goal.returns-in-Show-clause-edits
 returns-in-Show-clause-edits c = λ w valid stands.
     subst (λ e. AreEdits (after w e)) (sym c.in-Show.is) valid
+
+pub returns-in-Same-clause-edits : goal.returns-in-Same-clause-edits
+returns-in-Same-clause-edits c = IfOk-weaker c.same.result _ _ (λ reply step w valid stands.
+    subst (λ e. AreEdits (after w e)) (sym c.in-Same.is) valid) c.same.ensures.step
+
+pub returns-in-Draw-clause-room : goal.returns-in-Draw-clause-room
+returns-in-Draw-clause-room c = λ nodes all.
+    let replicas = c.world.inside.replicas in
+    subst (HaveRoom nodes) (sym (with_items_is replicas c.draw.new.replicas (c.draw.ensures.as_many ∙ ap length c.deref_mut.ensures.value ∙ sym replicas.ok.0)))
+    (c.draw.ensures.room nodes (subst (HaveRoom nodes) (sym c.deref_mut.ensures.value) (subst (λ s. HaveRoom nodes s.replicas) (sym c.world.view_is) all)))
+
+pub returns-in-SendState-clause-room : goal.returns-in-SendState-clause-room
+returns-in-SendState-clause-room c = λ nodes all.
+    subst (λ s. HaveRoom nodes s.replicas) (sym c.world.view_is) all
+
+pub returns-in-Deliver-clause-room : goal.returns-in-Deliver-clause-room
+returns-in-Deliver-clause-room c = λ nodes all.
+    let replicas = c.world.inside.replicas in
+    subst (HaveRoom nodes) (sym (with_items_is replicas c.deliver.new.replicas (c.deliver.ensures.as_many ∙ ap length c.deref_mut-in-Deliver.ensures.value ∙ sym replicas.ok.0)))
+    (c.deliver.ensures.room nodes (subst (HaveRoom nodes) (sym c.deref_mut-in-Deliver.ensures.value) (subst (λ s. HaveRoom nodes s.replicas) (sym c.world.view_is) all)))

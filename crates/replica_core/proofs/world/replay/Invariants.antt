@@ -1,7 +1,0 @@
-use Rattle.std.proofs.Common.{drop}
-use Rattle.replica_core.specs.World.{opening}
-use Rattle.replica_core.proofs.RunLaws.{IsRunning}
-use Rattle.replica_core.proofs.world.replay.Given as goal
-
-abbrev pub invariant-loop-event : goal.invariant-loop-event
-invariant-loop-event l = IsRunning (opening l.fn.rule l.n) l.events (drop l.event-index l.events) l.replies.items l.world
