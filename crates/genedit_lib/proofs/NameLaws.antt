@@ -15,7 +15,7 @@ use Rattle.edit_stamps.specs.declared.fault.EditFault.{EditFault}
 use Rattle.edit_stamps.specs.declared.fault.EditFault.TheVariants as edits
 use Rattle.edit_stamps.specs.EditFault.{edit_fault_number, edit_fault_text}
 use Rattle.replica_core.specs.declared.fault.Fault.{Fault}
-use Rattle.replica_core.specs.declared.fault.Fault.TheVariants.{Edit, OtherRule, ClockFull, NoReplica, NoMessage, Memory}
+use Rattle.replica_core.specs.declared.fault.Fault.TheVariants.{Edit, StoreFull, OtherRule, ClockFull, NoReplica, NoMessage, Memory}
 use Rattle.replica_core.specs.declared.event.Stop.{Stop}
 use Rattle.replica_core.specs.declared.event.Stop.TheVariants as stops
 use Rattle.replica_core.specs.Fault.{replica_fault_number, replica_fault_text, stop_number, stop_text}
@@ -45,6 +45,7 @@ edit_names edits.Memory refused = absurd (refused refl)
 
 replica_names : (fault : Fault) → IsNamed (replica_fault_number fault) None (replica_fault_text fault)
 replica_names (Edit fault) refused = edit_names fault refused
+replica_names StoreFull refused = refl
 replica_names OtherRule refused = refl
 replica_names ClockFull refused = refl
 replica_names NoReplica refused = refl

@@ -1,5 +1,5 @@
 -- What the text of a script comes to, and how a run ends by it.
-use Rattle.std.specs.Prelude.{◌≡◌, ℕ, List, Result, Ok, Err}
+use Rattle.std.specs.Prelude.{◌≡◌, ◌⊎◌, ℕ, List, Result, Ok, Err}
 use Rattle.devices.specs.Source.{KnownSource}
 use Rattle.devices.specs.Sink.{KnownSink}
 use Rattle.genedit_io.specs.Runs.{IsRun}
@@ -24,9 +24,19 @@ pub record IsFaultyScript (text : List ℕ) (fault : RunFault) : Type 0 where
   pub told : fault ≡ Script line
   pub first : script_of text ≡ Err line
 
+-- the text is a script, and a replica's store was full in its run
+pub record IsStopped (text : List ℕ) (fault : RunFault) : Type 0 where
+  pub script : ScriptValue
+  pub told : fault ≡ StoreFull
+  pub read : script_of text ≡ Ok script
+
+-- the text is no script, or its run was stopped
+abbrev pub IsUnprinted : List ℕ → RunFault → Type 0
+IsUnprinted text fault = IsFaultyScript text fault ⊎ IsStopped text fault
+
 -- the run of a script, in at most so many pulls
 abbrev pub IsScriptRun : ℕ → {A : Type 0} → Result A RunFault → KnownSource → KnownSource → {K : Type 0} → (K → KnownSink) → K → K → Type 0
-IsScriptRun turns result source source' known sink sink' = IsRun PrintsAs IsFaultyScript turns result source source' known sink sink'
+IsScriptRun turns result source source' known sink sink' = IsRun PrintsAs IsUnprinted turns result source source' known sink sink'
 
 -- a text's fault, as the program ends with it
 abbrev pub run_fault_of : ScriptFault → RunFault

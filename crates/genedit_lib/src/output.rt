@@ -109,6 +109,8 @@ fn push_line(alloc: Global, out: &mut Vec<u8>, reply: &Reply) -> Result<(), Allo
             push_write(out, *write)?;
             out.extend_from_slice(b"\n")
         }
+        Reply::Same(true) => out.extend_from_slice(b"same\n"),
+        Reply::Same(false) => out.extend_from_slice(b"differ\n"),
         Reply::Refused(fault) => {
             let name = fault.to_string(alloc)?;
             push_refusal(out, fault.number(), name.as_bytes())?;

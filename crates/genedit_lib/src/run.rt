@@ -1,29 +1,31 @@
 //! Scripts, from a source's bytes to a sink's.
 
-ghost use Rattle.std.specs.Prelude.{◌≡◌, ◌⊎◌, ◌^◌, IfOk, IfErr};
-ghost use Rattle.replica_core.specs.Fault.{IsStopWant};
+ghost use Rattle.std.specs.Prelude.{◌≡◌, ◌≤◌, ◌⊎◌, ◌^◌, IfOk, IfErr};
 ghost use Rattle.genedit_io.specs.RunFault.{IsWant};
 ghost use Rattle.genedit_lib.specs.Output.{IsScriptOutput};
-ghost use Rattle.genedit_lib.specs.Run.{IsFaultyScript, IsScriptRun, PrintsAs, run_fault_of, run_fault_of_stop};
+ghost use Rattle.genedit_lib.specs.Run.{IsScriptRun, IsUnprinted, PrintsAs, run_fault_of, run_fault_of_stop};
 
 use crate::output::output;
 use crate::plan::planned;
 use devices::{Sink, Source};
 use genedit_io::{RunFault, pull_all, push_output};
 use genedit_script::{Script, ScriptFault, read_script};
-use replica_core::{Stop, replay};
+use replica_core::{Stop, replay_within};
 use std::alloc::Global;
 
 /// How many pulls a script has, at most.
 const TURNS: u64 = 1 << 32;
+
+/// How many squares each replica of a script has room for.
+const ROOM: u32 = 0x400_0000;
 
 /// Pulls a script to its source's end, checks it whole, runs it, and pushes all that it prints at
 /// once: a line for each command. A refused command prints its refusal, and the run goes on.
 ///
 /// Where it is Ok, exactly one push was made, of all the output, though it be empty; no fault but a
 /// failed push comes after it, and where the run ends otherwise nothing was pushed.
-/// `RunFault::Turns` comes after 2^32 pulls that each gave something; `RunFault::Refused` and
-/// `RunFault::StoreFull` never come.
+/// `RunFault::Turns` comes after 2^32 pulls that each gave something, `RunFault::StoreFull` where a
+/// replica would store more than 2^26 squares; `RunFault::Refused` never comes.
 pub fn run_script<S: Source, K: Sink>(
     alloc: Global,
     source: &mut S,
@@ -31,41 +33,44 @@ pub fn run_script<S: Source, K: Sink>(
 ) -> Result<(), RunFault>
     ensures { IsScriptRun (2 ^ 32) result (S.known source.old) (S.known source.new) K.known sink.old sink.new }
 {
-    run_script_within(alloc, source, sink, TURNS)
+    run_script_within(alloc, source, sink, TURNS, ROOM)
 }
 
-/// The same with another number of pulls, at most.
+/// The same with another number of pulls, at most, and with replicas that have another room.
 pub fn run_script_within<S: Source, K: Sink>(
     alloc: Global,
     source: &mut S,
     sink: &mut K,
     turns: u64,
+    nodes: u32,
 ) -> Result<(), RunFault>
+    requires { 1 ≤ nodes }
     ensures { IsScriptRun turns result (S.known source.old) (S.known source.new) K.known sink.old sink.new }
 {
     let text = pull_all(alloc, source, turns)?;
-    let out = printed(alloc, &text)?;
+    let out = printed(alloc, &text, nodes)?;
     push_output(sink, &out)
 }
 
 /// What the script of a text prints.
-fn printed(alloc: Global, text: &[u8]) -> Result<Vec<u8>, RunFault>
+fn printed(alloc: Global, text: &[u8], nodes: u32) -> Result<Vec<u8>, RunFault>
+    requires { 1 ≤ nodes }
     ensures out { IfOk result (λ out. PrintsAs text.now out.items) }
-    ensures fault { IfErr result (λ fault. IsFaultyScript text.now fault ⊎ IsWant fault) }
+    ensures fault { IfErr result (λ fault. IsUnprinted text.now fault ⊎ IsWant fault) }
 {
     let script = read_script(alloc, text).map_err(fault_of_script)?;
-    let out = script_output(alloc, script).map_err(fault_of_stop)?;
+    let out = script_output(alloc, script, nodes).map_err(fault_of_stop)?;
     Ok(out)
 }
 
 /// What a script prints.
-fn script_output(alloc: Global, script: Script) -> Result<Vec<u8>, Stop>
-    ensures out { IfOk result (λ out. IsScriptOutput script out.items) }
-    ensures stop { IfErr result IsStopWant }
+fn script_output(alloc: Global, script: Script, nodes: u32) -> Result<Vec<u8>, Stop>
+    requires { 1 ≤ nodes }
+    ensures { IfOk result (λ out. IsScriptOutput script out.items) }
 {
     let (rule, replicas) = (script.rule(), script.replicas());
     let plan = planned(alloc, script.into_commands())?;
-    let (_world, replies) = replay(alloc, rule, replicas, &plan.events)?;
+    let (_world, replies) = replay_within(alloc, rule, replicas, nodes, &plan.events)?;
     let out = output(alloc, &plan.lines, &replies)?;
     Ok(out)
 }

@@ -14,7 +14,7 @@ use Rattle.multistate_rle.specs.Position.{words, signed_number}
 use Rattle.multistate_rle.specs.declared.cell.Cell.{Cell}
 use Rattle.edit_stamps.specs.declared.rect.Rect.{Rect}
 use Rattle.replica_core.specs.declared.event.Event.{Event}
-use Rattle.replica_core.specs.declared.event.Event.TheVariants.{Draw, SendState, Deliver, Show}
+use Rattle.replica_core.specs.declared.event.Event.TheVariants.{Draw, SendState, Deliver, Show, Same}
 use Rattle.replica_core.specs.declared.edit_spec.EditSpec.TheVariants.{Cells, Clear}
 use Rattle.genedit_script.specs.declared.command.Command.{Command}
 use Rattle.genedit_script.specs.declared.command.Command.TheVariants.{Does, Names, Copies, Ors}
@@ -72,6 +72,11 @@ abbrev pub show_spelled : List (List ℕ) → Option Event
 show_spelled (replica ∷ x ∷ y ∷ []) = number_spelled replica >=> λ replica. signed_number x >=> λ x. option_map (Show replica x) (signed_number y)
 show_spelled _ = None
 
+-- A B
+abbrev pub same_spelled : List (List ℕ) → Option Event
+same_spelled (one ∷ other ∷ []) = number_spelled one >=> λ one. option_map (Same one) (number_spelled other)
+same_spelled _ = None
+
 -- R x y w h
 abbrev pub clear_spelled : List (List ℕ) → Option Event
 clear_spelled (replica ∷ x ∷ y ∷ width ∷ height ∷ []) = number_spelled replica >=> λ replica. option_map (λ area. Draw replica (Clear area)) (area_spelled x y width height)
@@ -85,7 +90,8 @@ event_spelled (name ∷ words) =
     else (if bytes_eq name (codes "state") then sending_spelled words
     else (if bytes_eq name (codes "deliver") then delivery_spelled words
     else (if bytes_eq name (codes "show") then show_spelled words
-    else (if bytes_eq name (codes "clear") then clear_spelled words else None))))
+    else (if bytes_eq name (codes "clear") then clear_spelled words
+    else (if bytes_eq name (codes "same") then same_spelled words else None)))))
 
 -- 1 to 16 ASCII letters and digits
 abbrev pub is_pattern_name : List ℕ → Bool

@@ -4,7 +4,7 @@ ghost use Rattle.std.specs.Prelude.{◌≡◌, ◌∷◌, [], IfOk, IfSome, Matc
 ghost use Rattle.std.specs.Char.{is_ascii_alphanumeric};
 ghost use Rattle.std.specs.List.{list_all};
 ghost use Rattle.multistate_rle.specs.Position.{words};
-ghost use Rattle.genedit_script.specs.Script.{argument_behind, rule_spelled, replicas_spelled, cell_spelled, cells_spelled, number_spelled, draw_spelled, sending_spelled, delivery_spelled, show_spelled, area_spelled, clear_spelled, event_spelled, is_pattern_name, name_spelled, paste_spelled, command_spelled, opening_spelled};
+ghost use Rattle.genedit_script.specs.Script.{argument_behind, rule_spelled, replicas_spelled, cell_spelled, cells_spelled, number_spelled, draw_spelled, sending_spelled, delivery_spelled, same_spelled, show_spelled, area_spelled, clear_spelled, event_spelled, is_pattern_name, name_spelled, paste_spelled, command_spelled, opening_spelled};
 
 use crate::command::{Command, Paste, PatternName};
 use edit_stamps::Rect;
@@ -136,6 +136,8 @@ fn event_in(alloc: Global, name: &[u8], arguments: &[u8]) -> Result<Option<Event
         Ok(show_in(arguments))
     } else if name == b"clear".as_slice() {
         Ok(clear_in(arguments))
+    } else if name == b"same".as_slice() {
+        Ok(same_in(arguments))
     } else {
         Ok(None)
     }
@@ -195,6 +197,18 @@ fn show_in(arguments: &[u8]) -> Option<Event>
         return None;
     }
     Some(Event::Show(unsigned(replica)?, signed(x)?, signed(y)?))
+}
+
+/// `A B`
+fn same_in(arguments: &[u8]) -> Option<Event>
+    ensures { result ≡ same_spelled (words arguments.now) }
+{
+    let (one, rest) = split_word(arguments)?;
+    let (other, rest) = split_word(rest)?;
+    if !ends(rest) {
+        return None;
+    }
+    Some(Event::Same(unsigned(one)?, unsigned(other)?))
 }
 
 /// `R x y w h`
