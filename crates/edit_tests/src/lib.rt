@@ -1,4 +1,4 @@
-//! Tests of `edit_stamps`, `leaf_merge_lanes`, `stamped_map` and `edit_journal`.
+//! Tests of `edit_stamps`, `leaf_merge_lanes` and `edit_journal`.
 #![tactic(auto)]
 
 #[cfg(test)]
@@ -9,7 +9,5 @@ mod journals;
 mod leaves;
 #[cfg(test)]
 mod pastes;
-#[cfg(test)]
-mod planes;
 #[cfg(test)]
 mod told;

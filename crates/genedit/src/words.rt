@@ -26,7 +26,8 @@ pattern's block it is part of the pattern's text.
   pattern NAME           the lines up to a line `end` are an RLE text; keeps its pattern by name
   copy R NAME x y        replica R draws the pattern's whole box there, dead cells too
   or R NAME x y          replica R draws the pattern's live and dying cells there
-  clear R x y w h        replica R draws an area of dead cells, w wide and h high";
+  clear R x y w h        replica R draws an area of dead cells, w wide and h high
+  same A B               prints whether replicas A and B hold the same at every cell: same or differ";
 
 const FORM_HELP: &str = "\
 The text has an optional line `#CXRLE Pos=x,y Gen=n`, a header `x = w, y = h`, and runs of cells up to

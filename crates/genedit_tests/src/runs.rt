@@ -1,5 +1,7 @@
 //! Scripts, from end to end.
 
+ghost use Rattle.std.specs.Prelude.{◌≤◌};
+
 use crate::faulty::{Broken, Pieces};
 use crate::told;
 use devices::{ReadSource, WriteSink};
@@ -24,7 +26,7 @@ fn run_within(
     turns: u64,
 ) -> Result<(String, (u64, u64, u64)), AllocError> {
     let mut out = Vec::new(alloc);
-    let end = run_script_within(alloc, source, &mut WriteSink::new(&mut out), turns);
+    let end = run_script_within(alloc, source, &mut WriteSink::new(&mut out), turns, 1000);
     Ok((told::run(alloc, end, &out)?, source.counts()))
 }
 
@@ -50,6 +52,41 @@ fn counters_go_on_from_what_was_taken(rt: HostRuntime) -> Result<(), AllocError>
         "drawn 1 1\ndrawn 2 1\ndrawn 3 1\ndrawn 4 1\ndrawn 5 1\nsent 1\ntaken\ndrawn 6 2\n\
         sent 2\ntaken\ncell 2 6 2\n"
     );
+    Ok(())
+}
+
+#[test]
+fn replicas_are_the_same_or_differ(rt: HostRuntime) -> Result<(), AllocError> {
+    let script = b"rule /2/3\nreplicas 2\nsame 1 2\ncells 1 0 0 1\nsame 1 2\nstate 1\n\
+        deliver 1 2\nsame 1 2\nsame 1 3\n";
+    assert_eq!(rt;
+        run(rt.alloc(), script)?.as_str(),
+        "same\ndrawn 1 1\ndiffer\nsent 1\ntaken\nsame\nrefused 26 NoReplica\n"
+    );
+    Ok(())
+}
+
+/// How the run of a script ends whose replicas have so much room.
+fn end_within(alloc: Global, script: &str, nodes: u32) -> Result<String, AllocError>
+    requires { 1 ≤ nodes }
+{
+    let mut out = Vec::new(alloc);
+    let mut source = ReadSource::new(script.as_bytes());
+    let end = run_script_within(
+        alloc,
+        &mut source,
+        &mut WriteSink::new(&mut out),
+        10,
+        nodes,
+    );
+    told::run(alloc, end, &out)
+}
+
+#[test]
+fn a_full_store_prints_nothing(rt: HostRuntime) -> Result<(), AllocError> {
+    let script = "rule /2/3\nreplicas 1\ncells 1 0 0 1\n";
+    assert_eq!(rt; end_within(rt.alloc(), script, 29)?.as_str(), "store full, 0 bytes");
+    assert_eq!(rt; end_within(rt.alloc(), script, 30)?.as_str(), "drawn 1 1\n");
     Ok(())
 }
 

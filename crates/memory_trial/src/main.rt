@@ -46,9 +46,10 @@ fn tell_deltas(rt: &impl Print, alloc: Global) -> io::Result<()> {
 }
 
 fn tell_planes(rt: &impl Print, alloc: Global) -> io::Result<()> {
-    tell(rt, "Plane::join_edit", planes::edit_is_joined(alloc))?;
-    tell(rt, "Plane::join_edits", planes::edits_are_joined(alloc))?;
-    tell(rt, "Plane::join", planes::plane_is_joined(alloc))?;
+    tell(rt, "Plane::of_edit", planes::edit_is_drawn(alloc))?;
+    tell(rt, "join", planes::plane_is_joined(alloc))?;
+    tell(rt, "same_remembered", planes::planes_are_same(alloc))?;
+    tell(rt, "Plane::walk", planes::plane_is_walked(alloc))?;
     tell(rt, "Plane::copy", planes::plane_is_copied(alloc))?;
     tell(rt, "Journal::push", planes::edit_is_noted(alloc))?;
     tell(rt, "Journal::fresh, append", planes::edits_are_noted(alloc))

@@ -3,8 +3,9 @@
 use crate::edits;
 use edit_journal::Journal;
 use edit_stamps::Edit;
-use stamped_map::Plane;
+use stamped_tree::{Plane, StoreFault};
 use std::alloc::{AllocError, Global};
+use tree_join::{join, same_remembered};
 
 /// The states of the cells 0 to 2 of row 0.
 fn shown(plane: &Plane) -> [u8; 3] {
@@ -15,14 +16,19 @@ fn shown(plane: &Plane) -> [u8; 3] {
     ]
 }
 
+fn begun(alloc: Global) -> Result<Plane, AllocError> {
+    match Plane::new(alloc) {
+        Ok(plane) => Ok(plane),
+        Err(AllocError) => Plane::new(alloc),
+    }
+}
+
 /// The plane of an edit.
 fn plane_of(alloc: Global, edit: &Edit) -> Result<Plane, AllocError> {
-    let mut plane = Plane::new(alloc);
-    match plane.join_edit(edit) {
-        Ok(()) => {}
-        Err(AllocError) => plane.join_edit(edit)?,
+    match Plane::of_edit(alloc, edit) {
+        Ok(plane) => Ok(plane),
+        Err(AllocError) => Plane::of_edit(alloc, edit),
     }
-    Ok(plane)
 }
 
 fn row(alloc: Global) -> Option<Plane> {
@@ -30,33 +36,16 @@ fn row(alloc: Global) -> Option<Plane> {
     plane_of(alloc, &edit).ok()
 }
 
-pub fn edit_is_joined(alloc: Global) -> bool {
+pub fn edit_is_drawn(alloc: Global) -> bool {
     row(alloc).is_some_and(|plane| shown(&plane) == [2, 3, 0] && plane.greatest_stamp() == 65537)
 }
 
-/// The plane of edits.
-fn plane_of_all(alloc: Global, edits: &[Edit]) -> Result<Plane, AllocError> {
-    let mut plane = Plane::new(alloc);
-    match plane.join_edits(edits) {
-        Ok(()) => {}
-        Err(AllocError) => plane.join_edits(edits)?,
-    }
-    Ok(plane)
-}
-
-pub fn edits_are_joined(alloc: Global) -> bool {
-    let (Ok(first), Ok(second)) = (edits::row(alloc, 1), edits::row(alloc, 2)) else {
-        return false;
-    };
-    plane_of_all(alloc, &[first, second]).is_ok_and(|plane| shown(&plane) == [2, 3, 0]
-        && plane.greatest_stamp() == 131073)
-}
-
-fn joined(alloc: Global, other: &Plane) -> Result<Plane, AllocError> {
-    let mut plane = Plane::new(alloc);
-    match plane.join(other) {
-        Ok(()) => {}
-        Err(AllocError) => plane.join(other)?,
+/// The join of a new plane with another. Where memory is refused, the new plane is still empty.
+fn joined(alloc: Global, other: &Plane) -> Result<Plane, StoreFault> {
+    let mut plane = begun(alloc)?;
+    match join(alloc, &mut plane, other) {
+        Err(StoreFault::Memory) if shown(&plane) == [0, 0, 0] => join(alloc, &mut plane, other)?,
+        done => done?,
     }
     Ok(plane)
 }
@@ -66,6 +55,28 @@ pub fn plane_is_joined(alloc: Global) -> bool {
         return false;
     };
     joined(alloc, &other).is_ok_and(|plane| shown(&plane) == [2, 3, 0])
+}
+
+pub fn planes_are_same(alloc: Global) -> bool {
+    let (Some(one), Some(other)) = (row(alloc), row(alloc)) else {
+        return false;
+    };
+    let same = match same_remembered(alloc, &one, &other) {
+        Ok(same) => Ok(same),
+        Err(AllocError) => same_remembered(alloc, &one, &other),
+    };
+    same == Ok(true)
+}
+
+pub fn plane_is_walked(alloc: Global) -> bool {
+    let Some(plane) = row(alloc) else {
+        return false;
+    };
+    let cells = match plane.walk() {
+        Ok(cells) => Ok(cells),
+        Err(AllocError) => plane.walk(),
+    };
+    cells.is_ok_and(|cells| cells.len() == 2)
 }
 
 pub fn plane_is_copied(alloc: Global) -> bool {

@@ -32,15 +32,21 @@ fn replica(alloc: Global, number: u16) -> Option<Replica> {
     }
 }
 
-fn draw(replica: &mut Replica, spec: &EditSpec) -> Result<Edit, Fault> {
-    match replica.draw_as(spec) {
-        Err(Fault::Memory) => replica.draw_as(spec),
-        answer => answer,
-    }
-}
-
 fn shown(replica: &Replica) -> [u8; 2] {
     [replica.get(0, 0).state, replica.get(1, 0).state]
+}
+
+/// Whether a refused call has left nothing behind.
+fn is_new(replica: &Replica) -> bool {
+    shown(replica) == [0, 0] && replica.journal().is_empty()
+}
+
+/// The first draw of a replica.
+fn draw(replica: &mut Replica, spec: &EditSpec) -> Result<Edit, Fault> {
+    match replica.draw_as(spec) {
+        Err(Fault::Memory) if is_new(replica) => replica.draw_as(spec),
+        answer => answer,
+    }
 }
 
 /// A replica that drew states 2 and 3.
@@ -79,7 +85,7 @@ fn snapshot(replica: &Replica) -> Result<Message, Fault> {
 fn taken(alloc: Global, message: &Message) -> Option<Replica> {
     let mut taker = replica(alloc, 2)?;
     match taker.take(message) {
-        Err(Fault::Memory) => taker.take(message).ok()?,
+        Err(Fault::Memory) if is_new(&taker) => taker.take(message).ok()?,
         answer => answer.ok()?,
     }
     Some(taker)

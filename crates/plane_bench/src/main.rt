@@ -1,10 +1,8 @@
-//! Measures planes as squares, beside planes as an ordered map of written coordinates, and asserts
-//! nothing. Prints what came of each, which is the same on every machine; with the word `--time` it is
-//! also told how fast. `--clear`, `--dense` or `--scattered` chooses one picture, and `--squares` or
-//! `--map` one kind of plane, so that the memory of one can be seen from outside.
+//! Measures planes, and asserts nothing. Prints what came of each picture, which is the same on every
+//! machine; with the word `--time` it is also told how fast. `--clear`, `--dense` or `--scattered`
+//! chooses one picture, so that its memory can be seen from outside.
 #![tactic(auto)]
 
-mod ordered;
 mod pictures;
 mod squares;
 mod words;
@@ -29,11 +27,5 @@ fn main(rt: HostRuntime) -> Result<()> {
 fn run(rt: &(impl Clock + Print), alloc: Global, words: &Words, picture: Picture) -> Result<()> {
     let edit = picture.edit(alloc)?;
     let places = picture.places(alloc)?;
-    if words.wants_squares {
-        squares::run(rt, alloc, picture, &edit, &places, words.is_timed)?;
-    }
-    if words.wants_map {
-        ordered::run(rt, alloc, picture, &edit, &places, words.is_timed)?;
-    }
-    Ok(())
+    squares::run(rt, alloc, picture, &edit, &places, words.is_timed)
 }

@@ -8,8 +8,6 @@ use std::env;
 #[derive(Clone, Copy, Debug)]
 pub struct Words {
     pub is_timed: bool,
-    pub wants_squares: bool,
-    pub wants_map: bool,
     /// One picture alone.
     pub picture: Option<Picture>,
 }
@@ -17,8 +15,6 @@ pub struct Words {
 impl Words {
     const ALL: Words = Words {
         is_timed: false,
-        wants_squares: true,
-        wants_map: true,
         picture: None,
     };
 
@@ -27,8 +23,6 @@ impl Words {
         let mut words = self;
         match word {
             "--time" => words.is_timed = true,
-            "--squares" => words.wants_map = false,
-            "--map" => words.wants_squares = false,
             "--clear" => words.picture = Some(Picture::Clear),
             "--dense" => words.picture = Some(Picture::Dense),
             "--scattered" => words.picture = Some(Picture::Scattered),

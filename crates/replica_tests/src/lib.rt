@@ -10,4 +10,6 @@ mod pastes;
 #[cfg(test)]
 mod replicas;
 #[cfg(test)]
+mod rooms;
+#[cfg(test)]
 mod worlds;

@@ -4,7 +4,7 @@ ghost use Rattle.std.specs.Prelude.{◌≤◌, ◌<◌};
 
 use edit_stamps::Cell;
 use generations_rule::Rule;
-use replica_core::{CellList, EditSpec, Event, Reply, Stop, World, replay};
+use replica_core::{CellList, EditSpec, Event, Reply, Stop, World, replay, replay_within};
 use std::alloc::{AllocError, Global};
 
 /// An event whose cell takes no memory yet.
@@ -14,6 +14,7 @@ enum Step {
     Send(u32),
     Deliver(u64, u32),
     Show(u32, i32, i32),
+    Same(u32, u32),
 }
 
 fn event(alloc: Global, step: Step) -> Result<Event, AllocError> {
@@ -25,6 +26,7 @@ fn event(alloc: Global, step: Step) -> Result<Event, AllocError> {
         Step::Send(number) => Event::SendState(number),
         Step::Deliver(message, number) => Event::Deliver(message, number),
         Step::Show(number, x, y) => Event::Show(number, x, y),
+        Step::Same(a, b) => Event::Same(a, b),
     })
 }
 
@@ -47,6 +49,7 @@ fn reply_told(alloc: Global, reply: &Reply) -> Result<String, AllocError> {
         Reply::Sent(message) => format!(in alloc; "sent {message}"),
         Reply::Taken => "taken".to_string(alloc),
         Reply::Shown(write) => format!(in alloc; "shown {} {}", write.stamp, write.state),
+        Reply::Same(same) => format!(in alloc; "same {same}"),
         Reply::Refused(fault) => fault.to_string(alloc),
     }
 }
@@ -119,6 +122,37 @@ fn settles_a_tie(rt: HostRuntime) {
     let lines =
         "drawn 1 1\ndrawn 1 2\nsent 1\nsent 2\ntaken\ntaken\nshown 65538 2\nshown 65538 2\n";
     assert!(rt; is_answered(rt.alloc(), 2, &TIE, lines) == Ok(true));
+}
+
+/// Two replicas before and after the second took the map of the first, and one that is not there.
+static ASKED: [Step; 7] = [
+    Step::Same(1, 2),
+    Step::Draw(1, 0, 0, 1),
+    Step::Same(1, 2),
+    Step::Send(1),
+    Step::Deliver(1, 2),
+    Step::Same(2, 1),
+    Step::Same(1, 3),
+];
+
+#[test]
+fn tells_the_same_from_the_different(rt: HostRuntime) {
+    let lines = "same true\ndrawn 1 1\nsame false\nsent 1\ntaken\nsame true\nNoReplica\n";
+    assert!(rt; is_answered(rt.alloc(), 2, &ASKED, lines) == Ok(true));
+}
+
+/// How many replies come where each replica has so much room.
+fn replies_within(alloc: Global, nodes: u32, steps: &[Step]) -> Result<usize, Stop>
+    requires { 1 ≤ nodes }
+{
+    let (_, replies) = replay_within(alloc, rule()?, 2, nodes, &events(alloc, steps)?)?;
+    Ok(replies.len())
+}
+
+#[test]
+fn a_full_store_stops_a_world(rt: HostRuntime) {
+    assert!(rt; replies_within(rt.alloc(), 29, &ASKED) == Err(Stop::StoreFull));
+    assert!(rt; replies_within(rt.alloc(), 30, &ASKED) == Ok(7));
 }
 
 /// A replica that took a map draws past the counters in it.

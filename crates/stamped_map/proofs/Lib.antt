@@ -1,9 +1,0 @@
-pub mod ReadLemmas
-pub mod JoinLemmas
-pub mod JoiningLaws
-pub mod EditWrites
-pub mod PartLaws
-pub mod EntryLaws
-pub mod StateLaws
-pub mod AheadLaws
-pub mod MergeLaws

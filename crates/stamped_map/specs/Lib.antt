@@ -1,3 +1,0 @@
-pub mod Plane
-pub mod Merge
-pub mod Rows
