@@ -6,14 +6,13 @@ mod planes;
 mod times;
 
 use crate::planes::{at, dense, one_cell};
-use crate::times::{
-    Times, quickest_comparison, quickest_copy_of_leaves, quickest_join, quickest_steps,
-};
+use crate::times::{quickest_comparison, quickest_copy_of_leaves, quickest_join, quickest_steps};
 use anyhow::Result;
 use stamped_tree::Plane;
 use std::alloc::Global;
 use std::env;
 use std::rt::Clock;
+use std::time::Duration;
 use tree_join::{at_most, join, same, same_remembered};
 
 fn main(rt: HostRuntime) -> Result<()> {
@@ -36,84 +35,108 @@ fn is_timed(rt: &(impl env::Env + Alloc)) -> Result<bool> {
 fn joins_of_dense_planes(rt: &(impl Clock + Print), alloc: Global, is_timed: bool) -> Result<()> {
     let plane = dense(alloc, 1, 0)?;
     let other = dense(alloc, 2, 512)?;
-    let mut joined = plane.copy()?;
-    join(alloc, &mut joined, &other)?;
-    println!(rt;
-        "two planes of 2^20 cells, half of them shared: {} and {} squares; joined {} squares, {} cells",
-        plane.nodes(),
-        other.nodes(),
-        joined.copy()?.nodes(),
-        joined.walk()?.len()
-    )?;
-    let back = dense_joined_back(alloc, &plane, &other)?;
-    println!(rt; "  the other way round the same: {}", same(&joined, &back))?;
+    tell_of_joins(rt, alloc, &plane, &other)?;
     if is_timed {
-        tell(rt, "joined", quickest_join(rt, alloc, &plane, &other)?)?;
-        tell(
-            rt,
-            "joined the other way round",
-            quickest_join(rt, alloc, &other, &plane)?,
-        )?;
-        tell(
-            rt,
-            "a copy of 24576 leaves' bytes",
-            quickest_copy_of_leaves(rt, alloc, 24576)?,
-        )?;
+        time_joins(rt, alloc, &plane, &other)?;
     }
     Ok(())
 }
 
-fn dense_joined_back(alloc: Global, plane: &Plane, other: &Plane) -> Result<Plane> {
-    let mut back = other.copy()?;
-    join(alloc, &mut back, plane)?;
-    Ok(back)
+fn tell_of_joins(rt: &impl Print, alloc: Global, plane: &Plane, other: &Plane) -> Result<()> {
+    let there = joined(alloc, plane, other)?;
+    let back = joined(alloc, other, plane)?;
+    let nodes = there.copy()?.nodes();
+    let is_same = same(&there, &back);
+    Ok(println!(rt;
+        "two planes of 2^20 cells, half of them shared: {} and {} squares; joined {nodes}, the other way round the same: {is_same}",
+        plane.nodes(),
+        other.nodes()
+    )?)
+}
+
+fn joined(alloc: Global, plane: &Plane, other: &Plane) -> Result<Plane> {
+    let mut joined = plane.copy()?;
+    join(alloc, &mut joined, other)?;
+    Ok(joined)
+}
+
+fn time_joins(
+    rt: &(impl Clock + Print),
+    alloc: Global,
+    plane: &Plane,
+    other: &Plane,
+) -> Result<()> {
+    let there = quickest_join(rt, alloc, plane, other)?;
+    let back = quickest_join(rt, alloc, other, plane)?;
+    let copied = quickest_copy_of_leaves(rt, alloc, 24576)?;
+    tell(rt, "joined", there)?;
+    tell(rt, "joined the other way round", back)?;
+    tell(rt, "a copy of 24576 leaves' bytes", copied)
 }
 
 /// A plane of 2^20 cells and its equal, in two stores.
 fn equal_planes(rt: &(impl Clock + Print), alloc: Global, is_timed: bool) -> Result<()> {
     let plane = dense(alloc, 1, 0)?;
     let equal = plane.copy()?;
-    println!(rt;
-        "a plane of {} squares and its copy: same {}, the same with pairs kept {}, at most {}",
-        plane.nodes(),
-        same(&plane, &equal),
-        same_remembered(alloc, &plane, &equal)?,
-        at_most(&plane, &equal)
-    )?;
+    tell_of_equals(rt, alloc, &plane, &equal)?;
     if is_timed {
-        tell(rt, "joined", quickest_join(rt, alloc, &plane, &equal)?)?;
-        let Times {
-            same,
-            remembered,
-            at_most,
-        } = quickest_comparison(rt, alloc, &plane, &equal)?;
-        tell(rt, "same", same)?;
-        tell(rt, "same with pairs kept", remembered)?;
-        tell(rt, "at most", at_most)?;
+        time_equals(rt, alloc, &plane, &equal)?;
     }
     Ok(())
 }
 
+fn tell_of_equals(rt: &impl Print, alloc: Global, plane: &Plane, equal: &Plane) -> Result<()> {
+    let is_same = same(plane, equal);
+    let is_found_same = same_remembered(alloc, plane, equal)?;
+    let is_at_most = at_most(plane, equal);
+    Ok(println!(rt;
+        "a plane of {} squares and its copy: same {is_same}, the same with pairs kept {is_found_same}, at most {is_at_most}",
+        plane.nodes()
+    )?)
+}
+
+fn time_equals(
+    rt: &(impl Clock + Print),
+    alloc: Global,
+    plane: &Plane,
+    equal: &Plane,
+) -> Result<()> {
+    let join = quickest_join(rt, alloc, plane, equal)?;
+    let times = quickest_comparison(rt, alloc, plane, equal)?;
+    tell(rt, "joined", join)?;
+    tell(rt, "same", times.same)?;
+    tell(rt, "same with pairs kept", times.remembered)?;
+    tell(rt, "at most", times.at_most)
+}
+
 /// A thousand edits of one cell, each joined into a plane of 2^20 cells.
 fn edits_into_a_plane(rt: &(impl Clock + Print), alloc: Global, is_timed: bool) -> Result<()> {
-    let mut plane = dense(alloc, 1, 0)?;
+    let plane = dense(alloc, 1, 0)?;
     let edits = one_cell(alloc, 1000)?;
-    let before = plane.nodes();
-    for edit in &edits {
-        join(alloc, &mut plane, edit)?;
-    }
-    println!(rt;
-        "1000 edits of one cell joined into it: {} squares more, {} of them are there",
-        plane.nodes().wrapping_sub(before),
-        at(&plane, 1000)
-    )?;
+    tell_of_edits(rt, alloc, &plane, &edits)?;
     if is_timed {
-        let plane = dense(alloc, 1, 0)?;
         tell(rt, "1000 joins", quickest_steps(rt, alloc, &plane, &edits)?)?;
     }
     Ok(())
 }
 
-fn tell(rt: &impl Print, what: &str, time: std::time::Duration) -> Result<()> {
+fn tell_of_edits(rt: &impl Print, alloc: Global, plane: &Plane, edits: &[Plane]) -> Result<()> {
+    let drawn = with_edits(alloc, plane, edits)?;
+    let more = drawn.nodes().wrapping_sub(plane.nodes());
+    let there = at(&drawn, 1000);
+    Ok(println!(rt;
+        "1000 edits of one cell joined into it: {more} squares more, {there} of them are there"
+    )?)
+}
+
+fn with_edits(alloc: Global, plane: &Plane, edits: &[Plane]) -> Result<Plane> {
+    let mut drawn = plane.copy()?;
+    for edit in edits {
+        join(alloc, &mut drawn, edit)?;
+    }
+    Ok(drawn)
+}
+
+fn tell(rt: &impl Print, what: &str, time: Duration) -> Result<()> {
     Ok(println!(rt; "  {what}: {} us", time.as_micros())?)
 }
