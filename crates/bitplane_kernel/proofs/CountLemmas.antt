@@ -7,7 +7,7 @@ use Rattle.std.proofs.lemmas.Bool.{eq-eqb, ne_eqb}
 use Rattle.bitplane_kernel.specs.Planes.{bit, HasBits}
 use Rattle.bitplane_kernel.specs.Count.{MarksAt}
 use Rattle.bitplane_kernel.proofs.AdderLemmas.{bit_lt}
-use Rattle.bitplane_kernel.proofs.NumberLemmas.{by_digit}
+use Rattle.bitplane_kernel.specs.Digits.{by_digit}
 
 -- 1 where the two numbers are the same, else 0
 abbrev pub mark : ℕ → ℕ → ℕ

@@ -12,27 +12,10 @@ use Rattle.std.proofs.lemmas.Bool.{eq-eqb, ne_eqb}
 use Rattle.bitplane_kernel.specs.declared.planes.BitPlane.{BitPlane}
 use Rattle.bitplane_kernel.specs.Planes.{bit, number, plane_at, leaf_states, block_states, IsJoinedPlane}
 use Rattle.bitplane_kernel.specs.Square.{state_at, IsJoined, IsCentre}
-use Rattle.bitplane_kernel.proofs.NumberLemmas.{by_digit, number_lt, number_same, number_split, number_of_digits}
+use Rattle.bitplane_kernel.specs.Digits.{by_digit, digit_of_number, number_lt, number_same, number_of_digits, leaf_read, leaf_length}
 use Rattle.bitplane_kernel.proofs.ReadLemmas.{worth}
-use Rattle.bitplane_kernel.proofs.StepLemmas.{first_digit}
 use Rattle.bitplane_kernel.proofs.PlaneLemmas.{plane_set_same, plane_set_other}
-use Rattle.bitplane_kernel.proofs.SquareLemmas.{leaf_read, leaf_length, block_read}
-
--- digit p of a number that is made of digits
-pub digit_of_number : (n p : ℕ) (f : ℕ → ℕ) → p < n → ((q : ℕ) → q < n → f q < 2) → bit_at (number n f) p ≡ f p
-digit_of_number n p f h digits =
-    let sides : p + (n - p) ≡ n = omega arith in
-    let low : number p f < 2 ^ p = number_lt p f (λ q k. digits q (omega arith)) in
-    let high : ℕ = number (n - p) (λ q. f (p + q)) in
-    let parts : number n f ≡ number p f + 2 ^ p * high = ap (λ k. number k f) (sym sides) ∙ number_split p (n - p) f in
-    let order : number n f ≡ high * 2 ^ p + number p f = omega arith in
-    let own : p + 0 ≡ p = omega arith in
-    let least : high ≡ f (p + 0) + 2 * number (n - p - 1) (λ q. f (p + (1 + q))) = first_digit (n - p) (λ q. f (p + q)) (omega arith) in
-    let same : p - p ≡ 0 = omega arith in
-    let small = digits p h in
-    let digit : f (p + 0) ≡ f p = ap f own in
-    let is : high % 2 ≡ f p = omega arith in
-    ap (λ k. bit_at k p) order ∙ bit_at_cat_high high p (number p f) p low (omega arith) ∙ ap (bit_at high) same ∙ bit_at_lowest high ∙ is
+use Rattle.bitplane_kernel.proofs.SquareLemmas.{block_read}
 
 -- a byte by its eight digits
 pub byte_of_digits : (s : ℕ) (f : ℕ → ℕ) → s < 256 → ((p : ℕ) → p < 8 → f p ≡ bit_at s p) → number 8 f ≡ s

@@ -1,6 +1,5 @@
 pub mod BitLemmas
 pub mod AdderLemmas
-pub mod NumberLemmas
 pub mod CountLemmas
 pub mod PlaneLemmas
 pub mod StepLemmas
@@ -9,3 +8,4 @@ pub mod AdvanceLemmas
 pub mod ReadLemmas
 pub mod QuarterLemmas
 pub mod LeafLemmas
+pub mod KeyLemmas

@@ -9,7 +9,7 @@ use Rattle.std.proofs.lemmas.Nat.Bits.{bit_at-lt}
 use Rattle.bitplane_kernel.specs.declared.planes.BitPlane.{BitPlane}
 use Rattle.bitplane_kernel.specs.Planes.{bit, HasBits, state_in, plane_at, IsHalfSum, IsSumOfStates}
 use Rattle.bitplane_kernel.proofs.AdderLemmas.{bit_lt}
-use Rattle.bitplane_kernel.proofs.NumberLemmas.{by_digit, number_lt, number_none, number_more, number_same, number_of_digits}
+use Rattle.bitplane_kernel.specs.Digits.{by_digit, number_lt, number_none, number_more, number_same, number_of_digits}
 use Rattle.bitplane_kernel.proofs.CountLemmas.{by_two_digits, mark, mark_same, mark_other}
 
 -- a plane marks where its digit is 1, and its complement where it is 0

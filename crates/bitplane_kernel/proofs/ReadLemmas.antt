@@ -5,7 +5,7 @@ use Rattle.std.specs.Int.{bit_at}
 use Rattle.std.proofs.Math.Nat.{pow-suc, pow-le-pow_right, mod-eq_of_lt}
 use Rattle.std.proofs.lemmas.Nat.Bits.{shr_and_one, bit_at-lt}
 use Rattle.bitplane_kernel.specs.Planes.{bit, number}
-use Rattle.bitplane_kernel.proofs.NumberLemmas.{number_lt, number_more}
+use Rattle.bitplane_kernel.specs.Digits.{number_lt, number_more}
 
 room : (p : ℕ) → p < 8 → 2 ^ p + 2 ^ p ≤ 256
 room p h =

@@ -11,7 +11,7 @@ use Rattle.bitplane_kernel.specs.declared.adders.Count.{Count}
 use Rattle.bitplane_kernel.specs.Count.{total, around_in, MarksAt}
 use Rattle.bitplane_kernel.specs.Step.{AreBelow, ChangesAt, live_in, one_if_live}
 use Rattle.bitplane_kernel.proofs.AdderLemmas.{bit_lt}
-use Rattle.bitplane_kernel.proofs.NumberLemmas.{number_lt, number_one, number_same, number_split}
+use Rattle.bitplane_kernel.specs.Digits.{number_lt, number_one, number_same, number_split}
 use Rattle.bitplane_kernel.proofs.CountLemmas.{mark, mark_same, mark_other}
 use Rattle.bitplane_kernel.proofs.PlaneLemmas.{plane_set_same, plane_set_other}
 

@@ -4,3 +4,6 @@ pub mod Step
 pub mod Square
 pub mod Advance
 pub mod Rows
+pub mod Digits
+pub mod Population
+pub mod Same

@@ -2,7 +2,7 @@ use Rattle.std.proofs.Common.{◌≡◌, ◌∙◌, ap, refl, arith, subst, sym,
 use Rattle.bitplane_kernel.specs.Planes.{block_states}
 use Rattle.bitplane_kernel.specs.Square.{IsCentre}
 use Rattle.bitplane_kernel.proofs.LeafLemmas.{middle_none, middle_more, middle_all}
-use Rattle.bitplane_kernel.proofs.SquareLemmas.{leaf_length}
+use Rattle.bitplane_kernel.specs.Digits.{leaf_length}
 use Rattle.bitplane_kernel.proofs.block.Block.centre.Goals as goal
 
 pub loop-p-init : goal.loop-p-init

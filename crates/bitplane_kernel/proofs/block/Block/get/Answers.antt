@@ -3,7 +3,7 @@ use Rattle.std.specs.Int.{bit_at}
 use Rattle.bitplane_kernel.specs.Planes.{bit, plane_at, state_in}
 use Rattle.bitplane_kernel.specs.Square.{state_at}
 use Rattle.bitplane_kernel.proofs.AdderLemmas.{bit_lt}
-use Rattle.bitplane_kernel.proofs.NumberLemmas.{number_none}
+use Rattle.bitplane_kernel.specs.Digits.{number_none}
 use Rattle.bitplane_kernel.proofs.ReadLemmas.{digit_fits, digit_set, digit_clear, tested_set, tested_clear, bit_is}
 use Rattle.bitplane_kernel.proofs.SquareLemmas.{block_read}
 use Rattle.bitplane_kernel.proofs.block.Block.get.Goals as goal

@@ -2,9 +2,9 @@ use Rattle.std.proofs.Common.{◌≡◌, ℕ, ◌∙◌, sym, ap, arith, get_or}
 use Rattle.std.specs.Int.{bit_at}
 use Rattle.std.proofs.lemmas.Nat.Bits.{bit_at-lt}
 use Rattle.bitplane_kernel.specs.Planes.{number}
-use Rattle.bitplane_kernel.proofs.NumberLemmas.{number_none}
+use Rattle.bitplane_kernel.specs.Digits.{number_none}
 use Rattle.bitplane_kernel.proofs.ReadLemmas.{digit_fits, digit_set, digit_clear, tested_set, tested_clear}
-use Rattle.bitplane_kernel.proofs.SquareLemmas.{leaf_read}
+use Rattle.bitplane_kernel.specs.Digits.{leaf_read}
 use Rattle.bitplane_kernel.proofs.leaf.BitLeaf.get.Goals as goal
 use Rattle.bitplane_kernel.proofs.leaf.BitLeaf.get.Goals.{then-self-p-eq1, else-self-p-eq1}
 

@@ -1,4 +1,4 @@
-use Rattle.std.proofs.Common.{◌≡◌, refl, arith}
+use Rattle.std.proofs.Common.{◌≡◌, ◌∙◌, refl, arith}
 use Rattle.bitplane_kernel.proofs.LeafLemmas.{digits_none, digits_more, states_back}
 use Rattle.bitplane_kernel.proofs.leaf.BitLeaf.of_states.Goals as goal
 
@@ -11,4 +11,4 @@ loop-p-preserved c = digits_more c.loop-p.p c.args.states.now c.loop-p.planes c.
 pub returns : goal.returns
 returns c =
     let all : c.loop-p.p ≡ 8 = omega arith in
-    states_back c.loop-p.p c.args.states.now c.loop-p.planes all c.told-states (λ i h. c.fits-states i) c.loop-p.invariant
+    c.of_planes.ensures ∙ states_back c.loop-p.p c.args.states.now c.loop-p.planes all c.told-states (λ i h. c.fits-states i) c.loop-p.invariant
