@@ -1,0 +1,6 @@
+pub mod Leaves
+pub mod Counting
+pub mod Grids
+pub mod Squares
+pub mod Bringing
+pub mod Reading

@@ -1,0 +1,14 @@
+use Rattle.std.proofs.Common.{refl}
+use Rattle.generation_engine.specs.Universe.{EngineValue}
+use Rattle.generation_engine.proofs.Reading.{plane_read, plane_engine}
+use Rattle.generation_engine.proofs.engine.Engine.load.Goals as goal
+
+pub invariant_of-self : goal.invariant_of-self
+invariant_of-self c =
+    let e : EngineValue = record { rule = c.self.inside.rule; store = c.universe_of.new.target; root = c.in_ok-root.root; generation = 0 } in
+    plane_engine c.args.plane.now e c.in_ok-root.ensures.draws (rw (← c.self.view_is) at c.requires) refl
+
+pub returns-clause-states : goal.returns-clause-states
+returns-clause-states c =
+    let e : EngineValue = record { rule = c.self.inside.rule; store = c.universe_of.new.target; root = c.in_ok-root.root; generation = 0 } in
+    plane_read c.args.plane.now e c.in_ok-root.ensures.draws

@@ -1,0 +1,3 @@
+pub mod EngineLeaf
+pub mod Universe
+pub mod Loading

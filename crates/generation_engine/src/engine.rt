@@ -1,0 +1,106 @@
+//! The engine.
+
+ghost use Rattle.std.specs.Prelude.{◌≡◌, ◌^◌, ◌≤◌, ◌<◌, IfOk, OnOk, OnErr};
+ghost use Rattle.edit_stamps.specs.PlaneMap.{HasStatesBelow};
+ghost use Rattle.stamped_tree.specs.Plane.{map_of};
+ghost use Rattle.generation_engine.specs.Universe.{AreSameStates, population_of, states_in_writes, states_of};
+
+use crate::leaf_kind::EngineLeaf;
+use crate::load::universe_of;
+use generations_rule::Rule;
+use square_store::{Part, Store, StoreFault};
+use stamped_tree::Plane;
+use std::alloc::{AllocError, Global};
+use std::marker::Model;
+
+/// How many squares an engine may store if nothing else is said.
+const ROOM: u32 = 0x400_0000;
+
+/// A universe of states under a rule: x and y from -2^32 to 2^32 - 1. It is stored as distinct squares,
+/// of which one is the root, of level 33: a square of level k has 2^k columns and rows.
+#[derive(Drop)]
+pub struct Engine {
+    rule: Rule,
+    store: Store<EngineLeaf>,
+    root: Part,
+    generation: u32,
+    alloc: Global,
+}
+
+impl Model for Engine {
+    ghost use Rattle.generation_engine.specs.Universe.{EngineValue, IsEngine};
+
+    ghost Value = { EngineValue };
+
+    ghost view = { λ e. record { rule = e.rule; store = e.store; root = e.root; generation = e.generation } };
+
+    ghost invariant = { λ e. IsEngine (record { rule = e.rule; store = e.store; root = e.root; generation = e.generation }) };
+}
+
+impl Engine {
+    /// An engine without a cell, with room for 2^26 squares.
+    pub fn new(alloc: Global, rule: Rule) -> Result<Engine, AllocError>
+        ensures states { IfOk result (λ engine. AreSameStates (states_of engine) (λ _. 0)) }
+        ensures generation { IfOk result (λ engine. engine.generation ≡ 0) }
+        ensures rule { IfOk result (λ engine. engine.rule ≡ rule) }
+        ensures room { IfOk result (λ engine. engine.store.room ≡ 2 ^ 26) }
+    {
+        Engine::with_room(alloc, rule, ROOM)
+    }
+
+    /// An engine without a cell, with room for so many squares, of which an empty universe takes one.
+    pub fn with_room(alloc: Global, rule: Rule, nodes: u32) -> Result<Engine, AllocError>
+        requires { 64 ≤ nodes }
+        ensures states { IfOk result (λ engine. AreSameStates (states_of engine) (λ _. 0)) }
+        ensures generation { IfOk result (λ engine. engine.generation ≡ 0) }
+        ensures rule { IfOk result (λ engine. engine.rule ≡ rule) }
+        ensures room { IfOk result (λ engine. engine.store.room ≡ nodes) }
+    {
+        let _states = rule.states();
+        let mut store = Store::new(alloc, nodes);
+        match store.add_blank(0) {
+            Ok(root) => Ok(Engine {
+                rule,
+                store,
+                root,
+                generation: 0,
+                alloc,
+            }),
+            Err(StoreFault::StoreFull) => unreachable!(),
+            Err(StoreFault::Memory) => Err(AllocError),
+        }
+    }
+
+    /// Makes the universe that of a plane's states, at generation 0. A new store of the same room is
+    /// filled and put in place last: what was there before takes no room, and stays where this is
+    /// refused. `StoreFull` is answered where that new store is full.
+    pub fn load(&mut self, plane: &Plane) -> Result<(), StoreFault>
+        requires { HasStatesBelow self.old.rule.states (map_of plane.now) }
+        ensures states { OnOk result (AreSameStates (states_of self.new) (states_in_writes (map_of plane.now))) }
+        ensures generation { OnOk result (self.new.generation ≡ 0) }
+        ensures rule { self.new.rule ≡ self.old.rule }
+        ensures room { self.new.store.room ≡ self.old.store.room }
+        ensures err { OnErr result (self.new ≡ self.old) }
+    {
+        let mut store = Store::new(self.alloc, self.store.room());
+        let root = universe_of(self.alloc, &mut store, plane)?;
+        self.store = store;
+        self.root = root;
+        self.generation = 0;
+        Ok(())
+    }
+
+    /// How many generations were run since the last load.
+    pub fn generation(&self) -> u32
+        ensures { result ≡ self.now.generation }
+    {
+        self.generation
+    }
+
+    /// How many cells are not dead, in constant time.
+    pub fn population(&self) -> u128
+        ensures { result ≡ population_of self.now }
+    {
+        self.store.summary(self.root)
+    }
+}

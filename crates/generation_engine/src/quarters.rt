@@ -1,0 +1,46 @@
+//! Squares and what they are cut into.
+
+ghost use Rattle.std.specs.Prelude.{◌≡◌, ◌<◌, ◌+◌, ◌-◌, IfOk, Err};
+ghost use Rattle.square_store.specs.Squares.{IsAt, grid_at, side_at, Draws};
+ghost use Rattle.square_store.specs.Store.{IsGrown};
+ghost use Rattle.generation_engine.specs.EngineLeaf.{leaf_grid};
+ghost use Rattle.generation_engine.specs.Loading.{AreQuartersAt, IsStoreFull, centred};
+
+use crate::leaf_kind::EngineLeaf;
+use square_store::{Part, Square, Store, StoreFault};
+
+/// The four parts of a square, NW, NE, SW, SE; of a blank, which is of every level, itself.
+pub(crate) fn quarters(store: &Store<EngineLeaf>, level: u32, part: Part) -> [Part; 4]
+    requires level { 0 < level }
+    requires stands { IsAt store.now level part }
+    ensures { AreQuartersAt store.now level part result }
+{
+    match store.square(part) {
+        Square::Blank(_) => [part; 4],
+        Square::Leaf(_) => unreachable!(),
+        Square::Four { parts, .. } => parts,
+    }
+}
+
+/// A square of a level, in the middle of a dead square of twice its side.
+pub(crate) fn padded(
+    store: &mut Store<EngineLeaf>,
+    level: u32,
+    part: Part,
+) -> Result<Part, StoreFault>
+    requires above { 0 < level }
+    requires below { level < 100 }
+    requires stands { IsAt store.old level part }
+    ensures draws { IfOk result (Draws leaf_grid 8 store.new (level + 1) (centred (side_at 8 (level - 1)) (grid_at leaf_grid 8 store.old level part))) }
+    ensures grows { IsGrown leaf_grid 8 store.old store.new }
+    ensures full { result ≡ Err StoreFault.StoreFull → IsStoreFull store.new }
+{
+    let dead = store.add_blank(0)?;
+    let quarters = quarters(store, level, part);
+    let nw = store.add_four(level, [dead, dead, dead, quarters[0]])?;
+    let ne = store.add_four(level, [dead, dead, quarters[1], dead])?;
+    let sw = store.add_four(level, [dead, quarters[2], dead, dead])?;
+    let se = store.add_four(level, [quarters[3], dead, dead, dead])?;
+    let whole = store.add_four(level + 1, [nw, ne, sw, se])?;
+    Ok(whole)
+}
