@@ -18,6 +18,7 @@ mod plane;
 mod square;
 mod walk;
 
+pub use cells::ListedCell;
 pub use leaf_kind::{PlaneLeaf, StampBounds};
 pub use plane::Plane;
 pub use square::{Square, View};
