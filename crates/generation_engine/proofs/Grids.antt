@@ -112,3 +112,21 @@ module _ (n : ℕ) (a b c d f : Grid) (is : AreSameWithin (n + n) (quartered n a
       (λ u v hu hv. quarter_ne (n + n) p q r s u v hv ∙ hq u v hu hv ∙ north_east u v hu hv)
       (λ u v hu hv. quarter_sw (n + n) p q r s u v hu ∙ hr u v hu hv ∙ south_west u v hu hv)
       (λ u v hu hv. quarter_se (n + n) p q r s u v ∙ hs u v hu hv ∙ south_east u v hu hv)
+
+-- the middle of a square, by the quarters of its quarters that are next to it
+pub middle_is : (n : ℕ) (f fa fb fc fd a a1 a2 a3 b b1 b2 b4 c c1 c3 c4 d d2 d3 d4 : Grid)
+    → AreSameWithin (n + n + (n + n)) f (quartered (n + n) fa fb fc fd) → AreSameWithin (n + n) fa (quartered n a1 a2 a3 a) → AreSameWithin (n + n) fb (quartered n b1 b2 b b4)
+    → AreSameWithin (n + n) fc (quartered n c1 c c3 c4) → AreSameWithin (n + n) fd (quartered n d d2 d3 d4)
+    → (u v : ℕ) → u < n + n → v < n + n → f (n + u) (n + v) ≡ quartered n a b c d u v
+middle_is n f fa fb fc fd a a1 a2 a3 b b1 b2 b4 c c1 c3 c4 d d2 d3 d4 is ha hb hc hd = by_quarter n (λ u v. f (n + u) (n + v) ≡ quartered n a b c d u v)
+    (λ u v hu hv. is (n + u) (n + v) (omega (arith, hu)) (omega (arith, hv)) ∙ quarter_nw (n + n) fa fb fc fd (n + u) (n + v) (omega (arith, hu)) (omega (arith, hv))
+    ∙ ha (n + u) (n + v) (omega (arith, hu)) (omega (arith, hv)) ∙ quarter_se n a1 a2 a3 a u v ∙ sym (quarter_nw n a b c d u v hu hv))
+    (λ u v hu hv. (let e : n + (n + u) ≡ n + n + u = omega arith in
+    ap (λ x. f x (n + v)) e ∙ is (n + n + u) (n + v) (omega (arith, hu)) (omega (arith, hv)) ∙ quarter_ne (n + n) fa fb fc fd u (n + v) (omega (arith, hv))
+    ∙ hb u (n + v) (omega (arith, hu)) (omega (arith, hv)) ∙ quarter_sw n b1 b2 b b4 u v hu ∙ sym (quarter_ne n a b c d u v hv)))
+    (λ u v hu hv. (let e : n + (n + v) ≡ n + n + v = omega arith in
+    ap (λ y. f (n + u) y) e ∙ is (n + u) (n + n + v) (omega (arith, hu)) (omega (arith, hv)) ∙ quarter_sw (n + n) fa fb fc fd (n + u) v (omega (arith, hu))
+    ∙ hc (n + u) v (omega (arith, hu)) (omega (arith, hv)) ∙ quarter_ne n c1 c c3 c4 u v hv ∙ sym (quarter_sw n a b c d u v hu)))
+    (λ u v hu hv. (let e : n + (n + u) ≡ n + n + u = omega arith in let e' : n + (n + v) ≡ n + n + v = omega arith in
+    ap (λ x. f x (n + (n + v))) e ∙ ap (λ y. f (n + n + u) y) e' ∙ is (n + n + u) (n + n + v) (omega (arith, hu)) (omega (arith, hv)) ∙ quarter_se (n + n) fa fb fc fd u v
+    ∙ hd u v (omega (arith, hu)) (omega (arith, hv)) ∙ quarter_nw n d d2 d3 d4 u v hu hv ∙ sym (quarter_se n a b c d u v)))

@@ -4,3 +4,5 @@ pub mod Grids
 pub mod Squares
 pub mod Bringing
 pub mod Reading
+pub mod Gathering
+pub mod WalkLaws

@@ -10,7 +10,9 @@ use Rattle.square_store.proofs.Quarters.{twice, blank_quarters}
 use Rattle.generation_engine.specs.declared.leaf_kind.EngineLeaf.{EngineLeaf}
 use Rattle.generation_engine.specs.EngineLeaf.{leaf_grid}
 use Rattle.generation_engine.specs.Loading.{AreQuartersAt, centred}
-use Rattle.generation_engine.proofs.Grids.{quartered_same, middle_drawn}
+use Rattle.stamped_tree.proofs.Parts.{same_default}
+use Rattle.generation_engine.specs.Walk.{AreMiddleParts}
+use Rattle.generation_engine.proofs.Grids.{quartered_same, middle_drawn, middle_is}
 
 pub grown_more : (s t u : Held EngineLeaf) → IsGrown leaf_grid 8 s t → IsGrown leaf_grid 8 t u → IsGrown leaf_grid 8 s u
 grown_more s t u g h = record {
@@ -122,3 +124,41 @@ padded_parts s2 s3 s4 s5 k a b c d g3 g4 g5 ha hb hc hd =
 
 pub full_kept : (old new : Held EngineLeaf) → new ≡ old → length old.squares ≡ old.room → length new.squares ≡ new.room
 full_kept old new e h = subst (λ (s : Held EngineLeaf). length s.squares ≡ s.room) (sym e) h
+
+-- the middle of a square that was cut twice
+module _ (s : Held EngineLeaf) (k p : ℕ) (outer nw ne sw se : List ℕ) (o0 o1 o2 o3 q0 q1 q2 q3 : ℕ) (more : 1 < k) (cut : AreQuartersAt s k p outer)
+    (cut_nw : AreQuartersAt s (k - 1) (slice_index_or outer 0 o0) nw) (cut_ne : AreQuartersAt s (k - 1) (slice_index_or outer 1 o1) ne) (cut_sw : AreQuartersAt s (k - 1) (slice_index_or outer 2 o2) sw) (cut_se : AreQuartersAt s (k - 1) (slice_index_or outer 3 o3) se) where
+  listed : (parts : List ℕ) → length parts ≡ 4 → (i d : ℕ) → i < 4 → slice_index_or parts i d ≡ slice_index_or parts i 0
+  listed parts four i d h = same_default parts i d 0 (omega (arith, h, four))
+
+  below : ℕ → Grid
+  below q = grid_at leaf_grid 8 s (k - 1 - 1) q
+
+  pub middle_cut : AreMiddleParts s k p (slice_index_or nw 3 q0 ∷ slice_index_or ne 2 q1 ∷ slice_index_or sw 1 q2 ∷ slice_index_or se 0 q3 ∷ [])
+  unfolding below
+  middle_cut =
+      let stands = λ (q : ℕ). IsAt s (k - 1 - 1) q in
+      let e = wide k (omega (arith, more)) in
+      let e' = wide (k - 1) (omega (arith, more)) in
+      let n = side_at 8 (k - 1 - 1) in
+      let l0 = listed outer cut.four 0 o0 (omega arith) in let l1 = listed outer cut.four 1 o1 (omega arith) in let l2 = listed outer cut.four 2 o2 (omega arith) in let l3 = listed outer cut.four 3 o3 (omega arith) in
+      let g = λ (q : ℕ). grid_at leaf_grid 8 s (k - 1) q in
+      let whole : AreSameWithin (n + n + (n + n)) (grid_at leaf_grid 8 s k p) (quartered (n + n) (g (slice_index_or outer 0 o0)) (g (slice_index_or outer 1 o1)) (g (slice_index_or outer 2 o2)) (g (slice_index_or outer 3 o3))) = λ u v hu hv.
+      rw (l0, l1, l2, l3, ← e') (cut.draws.same u v (omega (arith, hu, e, e')) (omega (arith, hv, e, e'))) in
+      record {
+        four = refl;
+        stand = each_of_four stands _ _ _ _
+            (subst stands (sym (listed nw cut_nw.four 3 q0 (omega arith))) (cut_nw.stand 3 (omega arith))) (subst stands (sym (listed ne cut_ne.four 2 q1 (omega arith))) (cut_ne.stand 2 (omega arith)))
+            (subst stands (sym (listed sw cut_sw.four 1 q2 (omega arith))) (cut_sw.stand 1 (omega arith))) (subst stands (sym (listed se cut_se.four 0 q3 (omega arith))) (cut_se.stand 0 (omega arith)));
+        same = λ u v hu hv.
+            rw (listed nw cut_nw.four 3 q0 (omega arith), listed ne cut_ne.four 2 q1 (omega arith), listed sw cut_sw.four 1 q2 (omega arith), listed se cut_se.four 0 q3 (omega arith))
+            (middle_is n (grid_at leaf_grid 8 s k p) (g (slice_index_or outer 0 o0)) (g (slice_index_or outer 1 o1)) (g (slice_index_or outer 2 o2)) (g (slice_index_or outer 3 o3))
+            (below (slice_index_or nw 3 0)) (below (slice_index_or nw 0 0)) (below (slice_index_or nw 1 0)) (below (slice_index_or nw 2 0))
+            (below (slice_index_or ne 2 0)) (below (slice_index_or ne 0 0)) (below (slice_index_or ne 1 0)) (below (slice_index_or ne 3 0))
+            (below (slice_index_or sw 1 0)) (below (slice_index_or sw 0 0)) (below (slice_index_or sw 2 0)) (below (slice_index_or sw 3 0))
+            (below (slice_index_or se 0 0)) (below (slice_index_or se 1 0)) (below (slice_index_or se 2 0)) (below (slice_index_or se 3 0))
+            whole (narrower cut_nw.draws.same e') (narrower cut_ne.draws.same e') (narrower cut_sw.draws.same e') (narrower cut_se.draws.same e') u v (omega (arith, hu, e')) (omega (arith, hv, e')));
+      }
+    where
+      narrower : {m n : ℕ} {f g : Grid} → AreSameWithin m f g → m ≡ n → AreSameWithin n f g
+      narrower same e u v hu hv = same u v (omega (arith, hu, e)) (omega (arith, hv, e))

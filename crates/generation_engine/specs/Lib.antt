@@ -1,3 +1,4 @@
 pub mod EngineLeaf
 pub mod Universe
 pub mod Loading
+pub mod Walk

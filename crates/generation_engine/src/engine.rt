@@ -4,10 +4,13 @@ ghost use Rattle.std.specs.Prelude.{◌≡◌, ◌^◌, ◌≤◌, ◌<◌, IfOk
 ghost use Rattle.edit_stamps.specs.PlaneMap.{HasStatesBelow};
 ghost use Rattle.stamped_tree.specs.Plane.{map_of};
 ghost use Rattle.generation_engine.specs.Universe.{AreSameStates, population_of, states_in_writes, states_of};
+ghost use Rattle.generation_engine.specs.Walk.{AreCellsOf};
 
 use crate::leaf_kind::EngineLeaf;
 use crate::load::universe_of;
+use crate::walk::{middle_cells, placed_cells};
 use generations_rule::Rule;
+use multistate_rle::Cell;
 use square_store::{Part, Store, StoreFault};
 use stamped_tree::Plane;
 use std::alloc::{AllocError, Global};
@@ -95,6 +98,15 @@ impl Engine {
         ensures { result ≡ self.now.generation }
     {
         self.generation
+    }
+
+    /// The cells that are not dead, sorted by `y`, then `x`.
+    pub fn cells(&self) -> Result<Vec<Cell>, AllocError>
+        ensures { IfOk result (λ cells. AreCellsOf (states_of self.now) cells.items) }
+    {
+        let sorted = middle_cells(self.alloc, &self.store, self.root)?;
+        let cells = placed_cells(self.alloc, &sorted)?;
+        Ok(cells)
     }
 
     /// How many cells are not dead, in constant time.

@@ -8,6 +8,7 @@ mod engine;
 mod leaf_kind;
 mod load;
 mod quarters;
+mod walk;
 
 pub use engine::Engine;
 pub use leaf_kind::EngineLeaf;

@@ -5,6 +5,7 @@ ghost use Rattle.square_store.specs.Squares.{IsAt, grid_at, side_at, Draws};
 ghost use Rattle.square_store.specs.Store.{IsGrown};
 ghost use Rattle.generation_engine.specs.EngineLeaf.{leaf_grid};
 ghost use Rattle.generation_engine.specs.Loading.{AreQuartersAt, IsStoreFull, centred};
+ghost use Rattle.generation_engine.specs.Walk.{AreMiddleParts};
 
 use crate::leaf_kind::EngineLeaf;
 use square_store::{Part, Square, Store, StoreFault};
@@ -43,4 +44,18 @@ pub(crate) fn padded(
     let se = store.add_four(level, [quarters[3], dead, dead, dead])?;
     let whole = store.add_four(level + 1, [nw, ne, sw, se])?;
     Ok(whole)
+}
+
+/// The four parts, two levels below a square, that together are its middle: NW, NE, SW, SE.
+pub(crate) fn middle(store: &Store<EngineLeaf>, level: u32, part: Part) -> [Part; 4]
+    requires level { 1 < level }
+    requires stands { IsAt store.now level part }
+    ensures { AreMiddleParts store.now level part result }
+{
+    let outer = quarters(store, level, part);
+    let nw = quarters(store, level - 1, outer[0]);
+    let ne = quarters(store, level - 1, outer[1]);
+    let sw = quarters(store, level - 1, outer[2]);
+    let se = quarters(store, level - 1, outer[3]);
+    [nw[3], ne[2], sw[1], se[0]]
 }

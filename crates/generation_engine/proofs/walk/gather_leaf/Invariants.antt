@@ -1,0 +1,6 @@
+use Rattle.stamped_tree.specs.Walk.{Gathers}
+use Rattle.generation_engine.proofs.Gathering.{IsNonzeroBefore}
+use Rattle.generation_engine.proofs.walk.gather_leaf.Given as goal
+
+abbrev pub invariant-loop-place : goal.invariant-loop-place
+invariant-loop-place l = Gathers (IsNonzeroBefore l.leaf l.left l.top l.place) l.fn.found.items l.found.items
