@@ -6,3 +6,4 @@ pub mod Bringing
 pub mod Reading
 pub mod Gathering
 pub mod WalkLaws
+pub mod ResultLaws

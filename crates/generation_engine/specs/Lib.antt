@@ -2,3 +2,4 @@ pub mod EngineLeaf
 pub mod Universe
 pub mod Loading
 pub mod Walk
+pub mod Results

@@ -5,11 +5,13 @@
 #![tactic(auto)]
 
 mod engine;
+mod laws;
 mod leaf_kind;
 mod load;
 mod quarters;
 mod walk;
 
 pub use engine::Engine;
+pub use laws::engine_laws;
 pub use leaf_kind::EngineLeaf;
 pub use square_store::StoreFault;
