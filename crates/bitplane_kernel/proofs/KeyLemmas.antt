@@ -95,7 +95,7 @@ sum_same s (suc n) f g same =
     λ i. own i + rest i
 
 -- row by row
-sum_of_rows : (f : ℕ → ℕ) → sum_from 0 64 f ≡ sum_from 0 8 (λ y. sum_from 0 8 (λ x. f (8 * y + x)))
+pub sum_of_rows : (f : ℕ → ℕ) → sum_from 0 64 f ≡ sum_from 0 8 (λ y. sum_from 0 8 (λ x. f (8 * y + x)))
 unfolding sum_from
 sum_of_rows f = omega arith
 

@@ -18,7 +18,7 @@ sum_same s (suc n) f g same =
     let rest : sum_from (suc s) n f ≡ sum_from (suc s) n g = sum_same (suc s) n f g (λ i l h. same i (omega (arith, l)) (omega (arith, h))) in
     λ i. own i + rest i
 
-sum_split : (s a b : ℕ) (f : ℕ → ℕ) → sum_from s (a + b) f ≡ sum_from s a f + sum_from (s + a) b f
+pub sum_split : (s a b : ℕ) (f : ℕ → ℕ) → sum_from s (a + b) f ≡ sum_from s a f + sum_from (s + a) b f
 unfolding sum_from
 sum_split s zero b f =
     let count : 0 + b ≡ b = omega arith in let start : s ≡ s + 0 = omega arith in
@@ -36,12 +36,12 @@ sum_moved s d (suc n) f =
     let next : suc (d + s) ≡ d + suc s = omega arith in
     ap (λ k. f (d + s) + sum_from k n f) next ∙ ap (λ k. f (d + s) + k) (sum_moved (suc s) d n f)
 
-sum_halves : (n : ℕ) (f : ℕ → ℕ) → sum_from 0 (n + n) f ≡ sum_from 0 n f + sum_from 0 n (λ i. f (n + i))
+pub sum_halves : (n : ℕ) (f : ℕ → ℕ) → sum_from 0 (n + n) f ≡ sum_from 0 n f + sum_from 0 n (λ i. f (n + i))
 sum_halves n f =
     let start : 0 + n ≡ n + 0 = omega arith in
     sum_split 0 n n f ∙ ap (λ k. sum_from 0 n f + sum_from k n f) start ∙ ap (λ k. sum_from 0 n f + k) (sum_moved 0 n n f)
 
-sum_added : (s n : ℕ) (f g : ℕ → ℕ) → sum_from s n (λ i. f i + g i) ≡ sum_from s n f + sum_from s n g
+pub sum_added : (s n : ℕ) (f g : ℕ → ℕ) → sum_from s n (λ i. f i + g i) ≡ sum_from s n f + sum_from s n g
 unfolding sum_from
 sum_added s zero f g = refl
 sum_added s (suc n) f g = let rest = sum_added (suc s) n f g in omega (arith, rest)

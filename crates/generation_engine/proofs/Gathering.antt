@@ -125,3 +125,12 @@ gathers_middle s root parts ra rb rc rd l0 l1 l2 l3 l4 mid ga gb gc gd =
     gathers_four 2147483648 (at a) (at b) (at c) (at d) (middle_grid s root) 0 0
     (λ u v hu hv. rw (at_part 0 ra (omega arith), at_part 1 rb (omega arith), at_part 2 rc (omega arith), at_part 3 rd (omega arith)) (mid.same u v (omega (arith, hu)) (omega (arith, hv))))
     l0 l1 l2 l3 l4 ga gb gc gd
+
+-- of no place nothing is gathered
+pub gathers_nothing : (l : EngineLeaf) (left top : ℕ) (old : List ListedCell) → Gathers (IsNonzeroBefore l left top 0) old old
+gathers_nothing l left top old = record {
+  kept = λ c h. h;
+  got = λ c b. (let lt = b.1 in absurd (omega (arith, lt)));
+  only = λ c h. inl h;
+  once = λ distinct apart. distinct;
+}

@@ -1,12 +1,12 @@
 -- The sorted list of a universe's cells.
-use Rattle.std.proofs.Common.{◌≡◌, ◌≢◌, ℕ, zero, suc, ◌+◌, ◌-◌, ◌<◌, ◌≤◌, ◌⊎◌, ◌==◌, Bool, true, false, List, [], ◌∷◌, map, inl, inr, refl, sym, ap, ◌∙◌, subst, arith}
+use Rattle.std.proofs.Common.{◌≡◌, ◌≢◌, ℕ, zero, suc, ◌+◌, ◌-◌, ◌<◌, ◌≤◌, ◌⊎◌, ◌==◌, Bool, true, false, List, [], ◌∷◌, length, map, inl, inr, refl, sym, ap, ◌∙◌, subst, arith}
 use Rattle.std.specs.Prelude.{◌&&◌, not, Contains, Option, None, Some, unwrap_or, ℤ}
 use Rattle.std.specs.List.{IsDistinct, list_all}
 use Rattle.std.specs.List.Sorted.{IsNonDecreasingBy, IsPermutation}
 use Rattle.std.proofs.lemmas.Bool.{and_parts, cases_Bool, cases_lt}
 use Rattle.std.proofs.lemmas.Bool.Decides.{nat_tests}
 use Rattle.std.proofs.lemmas.Int.{ints}
-use Rattle.std.proofs.lemmas.List.Sorted.{Contains-permutation, IsPermutation-sym}
+use Rattle.std.proofs.lemmas.List.Sorted.{Contains-permutation, IsPermutation-sym, length_permutation}
 use Rattle.std.proofs.lemmas.Map.Keys.{IsDistinct-IsPermutation}
 use Rattle.generations_rule.specs.Place.{Place, is_before, is_place}
 use Rattle.multistate_rle.specs.Cells.{place_of, is_sorted, are_nonzero}
@@ -188,3 +188,6 @@ module _ (e : EngineValue) (is : IsEngine e) (cells : List ListedCell) (order : 
           (state_walked 4294967296 (middle_grid e.store e.root) cells (from_middle_edge at.x) (from_middle_edge at.y) (all.got, all.only) within.0 within.1
           ∙ ap (λ z. (grid_at leaf_grid 8 e.store 30 e.root z (2147483648 + from_middle_edge at.y)).state) (middle_column at.x parts.0)
           ∙ ap (λ z. (grid_at leaf_grid 8 e.store 30 e.root (from_universe_edge at.x) z).state) (middle_column at.y parts.1))
+
+pub sorted_counted : (n : ℕ) (start found sorted : List ListedCell) → start ≡ [] → length found ≡ length start + n → IsPermutation found sorted → length sorted ≡ n
+sorted_counted n start found sorted none count moved = let same = length_permutation found sorted moved in let empty = ap length none in omega (arith, same, count, empty)

@@ -1,13 +1,14 @@
 -- The cells of a universe, as they are listed.
-use Rattle.std.specs.Prelude.{◌≡◌, ℕ, ◌+◌, ◌-◌, ◌*◌, ◌^◌, ◌<◌, ℤ, pos, negsuc, ◌+ℤ◌, ◌-ℤ◌, nat_abs, Bool, ◌&&◌, int_le, int_lt, nat_lt, List, length, Contains}
+use Rattle.std.specs.Prelude.{◌≡◌, ◌≢◌, ℕ, ◌+◌, ◌-◌, ◌*◌, ◌^◌, ◌<◌, ℤ, pos, negsuc, ◌+ℤ◌, ◌-ℤ◌, nat_abs, Bool, ◌&&◌, int_le, int_lt, nat_lt, List, length, Contains}
 use Rattle.std.specs.List.{IsDistinct}
 use Rattle.generations_rule.specs.Place.{Place}
 use Rattle.multistate_rle.specs.declared.cell.Cell.{Cell}
-use Rattle.square_store.specs.Grid.{Grid, quartered}
+use Rattle.bitplane_kernel.specs.Population.{one_unless_dead, population}
+use Rattle.square_store.specs.Grid.{Grid}
 use Rattle.square_store.specs.Squares.{Held, side_at, IsAt, grid_at, four_grid}
 use Rattle.square_store.specs.Seen.{AreAt}
 use Rattle.stamped_tree.specs.declared.cells.ListedCell.{ListedCell}
-use Rattle.stamped_tree.specs.Walk.{AreNonzeroCells, is_one_spot}
+use Rattle.stamped_tree.specs.Walk.{AreNonzeroCells, Gathers, IsNonzeroCell, is_one_spot}
 use Rattle.generation_engine.specs.declared.leaf_kind.EngineLeaf.{EngineLeaf}
 use Rattle.generation_engine.specs.EngineLeaf.{leaf_grid}
 use Rattle.generation_engine.specs.Universe.{unstamped_writes}
@@ -56,3 +57,13 @@ pub record AreGathered (IsCell : ListedCell → Type 0) (cells : List ListedCell
   pub got : (c : ListedCell) → IsCell c → Contains cells c
   pub only : (c : ListedCell) → Contains cells c → IsCell c
   pub once : IsDistinct is_one_spot cells
+
+-- the list gained the cells of a square that are not dead, and is longer by as many as there are
+pub record GathersSquare (n : ℕ) (f : Grid) (left top : ℕ) (old new : List ListedCell) : Type 0 where
+  pub gathers : Gathers (IsNonzeroCell n f left top) old new
+  pub count : length new ≡ length old + population n (λ u v. (f u v).state)
+
+-- the list gained the cell, unless it is dead
+pub record GathersOne (cell : ListedCell) (old new : List ListedCell) : Type 0 where
+  pub gathers : Gathers (λ c. (c ≡ cell) × (c.state ≢ 0)) old new
+  pub count : length new ≡ length old + one_unless_dead cell.state

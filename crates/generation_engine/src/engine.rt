@@ -1,6 +1,6 @@
 //! The engine.
 
-ghost use Rattle.std.specs.Prelude.{◌≡◌, ◌^◌, ◌≤◌, ◌<◌, IfOk, OnOk, OnErr};
+ghost use Rattle.std.specs.Prelude.{◌≡◌, ◌^◌, ◌≤◌, length, IfOk, OnOk, OnErr};
 ghost use Rattle.edit_stamps.specs.PlaneMap.{HasStatesBelow};
 ghost use Rattle.stamped_tree.specs.Plane.{map_of};
 ghost use Rattle.generation_engine.specs.Universe.{AreSameStates, population_of, states_in_writes, states_of};
@@ -102,7 +102,8 @@ impl Engine {
 
     /// The cells that are not dead, sorted by `y`, then `x`.
     pub fn cells(&self) -> Result<Vec<Cell>, AllocError>
-        ensures { IfOk result (λ cells. AreCellsOf (states_of self.now) cells.items) }
+        ensures cells { IfOk result (λ cells. AreCellsOf (states_of self.now) cells.items) }
+        ensures count { IfOk result (λ cells. length cells.items ≡ population_of self.now) }
     {
         let sorted = middle_cells(self.alloc, &self.store, self.root)?;
         let cells = placed_cells(self.alloc, &sorted)?;

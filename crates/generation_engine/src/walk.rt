@@ -1,11 +1,12 @@
 //! The cells of a universe that are not dead.
 
-ghost use Rattle.std.specs.Prelude.{◌≡◌, ◌≢◌, ◌<◌, ◌≤◌, ◌+◌, map, IfOk, OnOk};
+ghost use Rattle.std.specs.Prelude.{◌≡◌, ◌≤◌, ◌+◌, map, length, IfOk, OnOk};
 ghost use Rattle.std.specs.List.Sorted.{IsNonDecreasingBy, IsPermutation};
 ghost use Rattle.square_store.specs.Squares.{IsAt, grid_at, side_at};
-ghost use Rattle.stamped_tree.specs.Walk.{Gathers, IsNonzeroCell};
+ghost use Rattle.bitplane_kernel.specs.Population.{population};
+ghost use Rattle.stamped_tree.specs.Walk.{IsNonzeroCell};
 ghost use Rattle.generation_engine.specs.EngineLeaf.{leaf_grid};
-ghost use Rattle.generation_engine.specs.Walk.{AreGathered, cell_of_middle, middle_grid, middle_order};
+ghost use Rattle.generation_engine.specs.Walk.{AreGathered, GathersOne, GathersSquare, cell_of_middle, middle_grid, middle_order};
 
 use crate::leaf_kind::EngineLeaf;
 use crate::quarters::middle;
@@ -29,6 +30,7 @@ pub(crate) fn middle_cells(
     requires { IsAt store.now 30 root }
     ensures sorted { IfOk result (λ sorted. IsNonDecreasingBy middle_order sorted.items) }
     ensures cells { IfOk result (λ sorted. AreGathered (IsNonzeroCell 4294967296 (middle_grid store.now root) 0 0) sorted.items) }
+    ensures count { IfOk result (λ sorted. length sorted.items ≡ population 4294967296 (λ u v. (middle_grid store.now root u v).state)) }
 {
     let parts = middle(store, 30, root);
     let mut found = Vec::new(alloc);
@@ -53,7 +55,7 @@ fn gather(
     requires stands { IsAt store.now level part }
     requires left { left + side_at 8 level ≤ 4294967296 }
     requires top { top + side_at 8 level ≤ 4294967296 }
-    ensures { OnOk result (Gathers (IsNonzeroCell (side_at 8 level) (grid_at leaf_grid 8 store.now level part) left top) found.old.items found.new.items) }
+    ensures { OnOk result (GathersSquare (side_at 8 level) (grid_at leaf_grid 8 store.now level part) left top found.old.items found.new.items) }
 {
     match store.square(part) {
         Square::Blank(_) => Ok(()),
@@ -80,7 +82,7 @@ fn gather_leaf(
 ) -> Result<(), AllocError>
     requires left { left + 8 ≤ 4294967296 }
     requires top { top + 8 ≤ 4294967296 }
-    ensures { OnOk result (Gathers (IsNonzeroCell 8 (leaf_grid leaf.now) left top) found.old.items found.new.items) }
+    ensures { OnOk result (GathersSquare 8 (leaf_grid leaf.now) left top found.old.items found.new.items) }
 {
     for place in 0..64u32 {
         let cell = ListedCell {
@@ -94,7 +96,7 @@ fn gather_leaf(
 }
 
 fn push_live(cell: ListedCell, found: &mut Vec<ListedCell>) -> Result<(), AllocError>
-    ensures { OnOk result (Gathers (λ c. (c ≡ cell) × (c.state ≢ 0)) found.old.items found.new.items) }
+    ensures { OnOk result (GathersOne cell found.old.items found.new.items) }
 {
     if cell.state != 0 {
         found.push(cell)?;

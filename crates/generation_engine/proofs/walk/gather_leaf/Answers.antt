@@ -1,15 +1,30 @@
-use Rattle.std.proofs.Common.{◌≡◌, ◌<◌, subst, arith}
+use Rattle.std.proofs.Common.{◌≡◌, ◌<◌, ◌∙◌, ap, length, subst, arith}
 use Rattle.stamped_tree.specs.Walk.{Gathers}
-use Rattle.generation_engine.proofs.Gathering.{IsNonzeroBefore, gathers_place, gathers_leaf}
+use Rattle.generation_engine.proofs.Counted.{first_none, first_more, first_all, first_count}
+use Rattle.generation_engine.proofs.Gathering.{IsNonzeroBefore, gathers_place, gathers_leaf, gathers_nothing}
 use Rattle.generation_engine.proofs.walk.gather_leaf.Goals as goal
+
+pub loop-place-init : goal.loop-place-init
+loop-place-init c = (gathers_nothing c.args.leaf.now c.args.left c.args.top c.args.found.now.items, (let none = first_none c.args.leaf.now in omega (arith, none)))
 
 pub loop-place-preserved : goal.loop-place-preserved
 loop-place-preserved c =
     let i = c.loop-place.place in
     let small : i < 64 = omega arith in
-    gathers_place c.args.leaf.now c.args.left c.args.top i small c.args.found.now.items c.loop-place.found.items c.push_live.new.found.items c.loop-place.invariant (rw c.get.ensures at c.in_ok-push_live.ensures)
+    let pushed = (rw c.get.ensures at c.in_ok-push_live.ensures) in
+    let more = first_more c.args.leaf.now i in
+    let so_far = c.loop-place.invariant.1 in
+    let own = pushed.count in (
+      gathers_place c.args.leaf.now c.args.left c.args.top i small c.args.found.now.items c.loop-place.found.items c.push_live.new.found.items c.loop-place.invariant.0 pushed.gathers,
+      omega (arith, more, so_far, own),
+    )
 
 pub returns : goal.returns
 returns c =
     let all : c.loop-place.place ≡ 64 = omega arith in
-    gathers_leaf c.args.leaf.now c.args.left c.args.top c.args.found.now.items c.loop-place.found.items (subst (λ i. Gathers (IsNonzeroBefore c.args.leaf.now c.args.left c.args.top i) c.args.found.now.items c.loop-place.found.items) all c.loop-place.invariant)
+    let count = ap (first_count c.args.leaf.now) all ∙ first_all c.args.leaf.now in
+    let so_far = c.loop-place.invariant.1 in
+    record {
+      gathers = gathers_leaf c.args.leaf.now c.args.left c.args.top c.args.found.now.items c.loop-place.found.items (subst (λ i. Gathers (IsNonzeroBefore c.args.leaf.now c.args.left c.args.top i) c.args.found.now.items c.loop-place.found.items) all c.loop-place.invariant.0);
+      count = omega (arith, so_far, count);
+    }

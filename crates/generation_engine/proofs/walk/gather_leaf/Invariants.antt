@@ -1,6 +1,8 @@
+use Rattle.std.proofs.Common.{◌≡◌, ◌+◌, length}
 use Rattle.stamped_tree.specs.Walk.{Gathers}
+use Rattle.generation_engine.proofs.Counted.{first_count}
 use Rattle.generation_engine.proofs.Gathering.{IsNonzeroBefore}
 use Rattle.generation_engine.proofs.walk.gather_leaf.Given as goal
 
 abbrev pub invariant-loop-place : goal.invariant-loop-place
-invariant-loop-place l = Gathers (IsNonzeroBefore l.leaf l.left l.top l.place) l.fn.found.items l.found.items
+invariant-loop-place l = Gathers (IsNonzeroBefore l.leaf l.left l.top l.place) l.fn.found.items l.found.items × (length l.found.items ≡ length l.fn.found.items + first_count l.leaf l.place)

@@ -1,6 +1,12 @@
-use Rattle.std.proofs.Common.{arith}
+use Rattle.std.proofs.Common.{arith, ◌≢◌, ℕ}
 use Rattle.stamped_tree.proofs.Gathering.{gathers_one}
+use Rattle.generation_engine.proofs.Counted.{counted_live}
 use Rattle.generation_engine.proofs.walk.push_live.Goals as goal
 
 pub returns-in_ok-push : goal.returns-in_ok-push
-returns-in_ok-push c = rw c.in_ok-push.ensures.items (gathers_one c.args.cell c.args.found.now.items (search (arith, c.if-cell-ne0.true)))
+returns-in_ok-push c =
+    let live : c.args.cell.state ≢ 0 = search (arith, c.if-cell-ne0.true) in
+    record {
+      gathers = rw c.in_ok-push.ensures.items (gathers_one c.args.cell c.args.found.now.items live);
+      count = counted_live c.args.cell c.args.found.now.items _ c.in_ok-push.ensures.items live;
+    }
