@@ -3,3 +3,4 @@ pub mod Universe
 pub mod Loading
 pub mod Walk
 pub mod Results
+pub mod Rows
