@@ -9,4 +9,4 @@ mod planes;
 #[cfg(test)]
 mod rooms;
 
-pub use loading::{plane_of, refuses, shows, takes};
+pub use loading::{plane_of, refuses, shows, takes, walks};

@@ -49,6 +49,23 @@ pub fn takes(
     Ok(loaded == Ok(()) && shown)
 }
 
+/// Whether an engine takes some cells, and lists and counts what the walk of their plane gives.
+pub fn walks(
+    alloc: Global,
+    engine: &mut Engine,
+    rule: &Rule,
+    cells: &[Cell],
+) -> Result<bool, EditFault>
+    requires { engine.old.rule ≡ rule.now }
+    ensures { engine.new.rule ≡ rule.now }
+{
+    let plane = plane_of(alloc, rule, cells)?;
+    let loaded = engine.load(&plane);
+    let walked = plane.walk()?;
+    let shown = shows(engine, &walked)?;
+    Ok(loaded == Ok(()) && shown)
+}
+
 /// Whether an engine is full where it is to take some cells, and has those that it had.
 pub fn refuses(
     alloc: Global,

@@ -1,10 +1,9 @@
 //! Universes of random planes beside the planes' own walks.
 
-use crate::loading::plane_of;
+use crate::loading::walks;
 use edit_stamps::{Cell, Corner, EditFault};
 use generation_engine::Engine;
 use generations_rule::Rule;
-use stamped_tree::Plane;
 use std::alloc::{AllocError, Global};
 use std::test::Fail;
 
@@ -68,22 +67,21 @@ fn cells_near(alloc: Global, centre: Corner, number: &mut u64) -> Result<Vec<Cel
     Ok(list)
 }
 
-/// Whether an engine lists and counts the cells that a plane's walk gives.
-fn walks_alike(engine: &Engine, plane: &Plane) -> Result<bool, AllocError> {
-    let walked = plane.walk()?;
-    let listed = engine.cells()?;
-    Ok(listed.as_slice() == walked.as_slice() && engine.population() == walked.len() as u128)
+/// Whether a new engine shows the plane of some cells as it walks.
+fn shows_plane(alloc: Global, rule: Rule, cells: &[Cell]) -> Result<bool, EditFault> {
+    let mut engine = Engine::new(alloc, rule)?;
+    let shown = walks(alloc, &mut engine, &rule, cells)?;
+    Ok(shown)
 }
 
 /// How many of ten planes near each centre an engine shows as they are.
 fn shown(alloc: Global, rule: Rule) -> Result<u32, EditFault> {
-    let mut engine = Engine::new(alloc, rule)?;
     let mut number = 20_221_212;
     let mut shown = 0_u32;
     for centre in CENTRES {
         for _ in 0..10 {
-            let plane = plane_of(alloc, &rule, &cells_near(alloc, centre, &mut number)?)?;
-            if engine.load(&plane).is_ok() && walks_alike(&engine, &plane)? {
+            let cells = cells_near(alloc, centre, &mut number)?;
+            if shows_plane(alloc, rule, &cells)? {
                 shown = shown.saturating_add(1);
             }
         }

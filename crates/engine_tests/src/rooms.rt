@@ -29,10 +29,10 @@ static BLINKER: [Cell; 3] = [
 /// One live cell in each of 64 leaves, in each at another place.
 fn scattered(alloc: Global) -> Result<Vec<Cell>, AllocError> {
     let mut cells = Vec::new(alloc);
-    for i in 0..64 {
+    for i in 0..64u32 {
         cells.push(Cell {
-            x: 16 * i + i % 8,
-            y: i / 8,
+            x: (16 * i + i % 8) as i32,
+            y: (i / 8) as i32,
             state: 1,
         })?;
     }
