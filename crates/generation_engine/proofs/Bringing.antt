@@ -1,6 +1,6 @@
 -- Squares of a plane, brought into a store that grows.
-use Rattle.std.proofs.Common.{◌≡◌, ℕ, zero, suc, ◌+◌, ◌-◌, ◌*◌, ◌<◌, Bool, true, false, List, [], ◌∷◌, length, refl, sym, ◌∙◌, ap, subst, arith}
-use Rattle.std.specs.Prelude.{slice_index_or, slice_index, Option, None, Some, cond, eqb, nat_lt, if◌then◌else◌}
+use Rattle.std.proofs.Common.{◌≡◌, ℕ, ◌+◌, ◌-◌, ◌*◌, ◌<◌, Bool, true, false, List, [], ◌∷◌, length, refl, sym, ◌∙◌, ap, subst, arith}
+use Rattle.std.specs.Prelude.{slice_index_or, slice_index, Some, cond, eqb, nat_lt, if◌then◌else◌}
 use Rattle.std.proofs.lemmas.List.{get_or-map}
 use Rattle.edit_stamps.specs.declared.write.Write.{Write}
 use Rattle.edit_stamps.specs.Write.{unwritten}
@@ -8,7 +8,7 @@ use Rattle.leaf_merge_lanes.specs.Leaf.{states_of, write_on_leaf}
 use Rattle.square_store.specs.Grid.{Grid, quartered, blank_grid, AreSameWithin}
 use Rattle.square_store.specs.Squares.{Held, side_at, IsAt, grid_at, four_grid, Draws}
 use Rattle.square_store.specs.Store.{IsGrown}
-use Rattle.square_store.specs.Seen.{AreAt, IsBlankAt, IsLeafAt, IsFourAt}
+use Rattle.square_store.specs.Seen.{AreAt, IsBlankAt, IsLeafAt}
 use Rattle.square_store.proofs.Nodes.{nat_same}
 use Rattle.stamped_tree.specs.Copy.{Copies, copy_of}
 use Rattle.stamped_tree.specs.PlaneSquare.{PlaneSquare}

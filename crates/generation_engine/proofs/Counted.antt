@@ -1,24 +1,22 @@
 -- As many cells are gathered as are not dead.
-use Rattle.std.proofs.Common.{◌≡◌, ◌≢◌, ℕ, zero, suc, ◌+◌, ◌-◌, ◌*◌, ◌<◌, ◌≤◌, false, List, [], ◌∷◌, ◌++◌, length, inl, refl, sym, ◌∙◌, ap, subst, arith}
+use Rattle.std.proofs.Common.{◌≡◌, ◌≢◌, ℕ, zero, suc, ◌+◌, ◌-◌, ◌<◌, List, [], ◌∷◌, ◌++◌, length, inl, refl, sym, ◌∙◌, ap, subst, arith}
 use Rattle.std.specs.Prelude.{slice_index, slice_index_or}
 use Rattle.std.proofs.lemmas.Bool.Decides.{nat_tests}
 use Rattle.edit_stamps.specs.declared.write.Write.{Write}
 use Rattle.bitplane_kernel.specs.Population.{sum_from, one_unless_dead, population}
-use Rattle.bitplane_kernel.specs.Square.{state_at}
 use Rattle.bitplane_kernel.proofs.KeyLemmas.{sum_of_rows}
-use Rattle.generations_rule.specs.Place.{Place}
 use Rattle.square_store.specs.Grid.{Grid, quartered, blank_grid, AreSameWithin}
 use Rattle.square_store.specs.Squares.{Held, side_at, IsAt, grid_at, four_grid}
 use Rattle.square_store.specs.Seen.{IsBlankAt, IsLeafAt, IsFourAt}
 use Rattle.square_store.proofs.Growth.{longer}
 use Rattle.stamped_tree.specs.declared.cells.ListedCell.{ListedCell}
-use Rattle.stamped_tree.specs.Walk.{Gathers, IsNonzeroCell}
+use Rattle.stamped_tree.specs.Walk.{IsNonzeroCell}
 use Rattle.stamped_tree.proofs.Parts.{same_default}
 use Rattle.generation_engine.specs.declared.leaf_kind.EngineLeaf.{EngineLeaf}
 use Rattle.generation_engine.specs.EngineLeaf.{leaf_grid}
-use Rattle.generation_engine.specs.Walk.{AreMiddleParts, GathersOne, GathersSquare, middle_grid}
+use Rattle.generation_engine.specs.Walk.{AreMiddleParts, GathersSquare, middle_grid}
 use Rattle.generation_engine.proofs.Counting.{sum_split, population_same, population_none, population_four}
-use Rattle.generation_engine.proofs.Gathering.{IsNonzeroBefore, gathers_leaf, gathers_leaf_at, gathers_middle, gathers_parts}
+use Rattle.generation_engine.proofs.Gathering.{gathers_middle, gathers_parts}
 use Rattle.generation_engine.proofs.Squares.{wide}
 
 states : Grid → ℕ → ℕ → ℕ

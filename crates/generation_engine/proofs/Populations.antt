@@ -1,11 +1,8 @@
 -- All cells of a universe that are not dead are in its middle.
-use Rattle.std.proofs.Common.{◌≡◌, ℕ, ◌+◌, ◌-◌, ◌*◌, ◌^◌, ◌<◌, ◌≤◌, Bool, true, false, ℤ, pos, negsuc, ◌+ℤ◌, refl, sym, ◌∙◌, ap, arith}
-use Rattle.std.proofs.lemmas.Bool.Decides.{nat_tests}
+use Rattle.std.proofs.Common.{◌≡◌, ℕ, ◌+◌, ◌<◌, ◌≤◌, false, ℤ, pos, negsuc, ◌+ℤ◌, refl, sym, ◌∙◌, ap, arith}
 use Rattle.std.proofs.lemmas.Int.{ints}
-use Rattle.generations_rule.specs.Place.{Place, moved}
+use Rattle.generations_rule.specs.Place.{moved}
 use Rattle.bitplane_kernel.specs.Population.{sum_from, one_unless_dead, population}
-use Rattle.square_store.specs.Squares.{Held, grid_at}
-use Rattle.generation_engine.specs.EngineLeaf.{leaf_grid}
 use Rattle.generation_engine.specs.Universe.{EngineValue, IsEngine, is_in_reach, population_of, states_of, universe_corner}
 use Rattle.generation_engine.specs.Walk.{middle_grid}
 use Rattle.generation_engine.proofs.Counting.{population_same, population_none, sum_added, sum_halves, sum_same}

@@ -1,22 +1,21 @@
 -- What is read of a universe.
-use Rattle.std.proofs.Common.{◌≡◌, ℕ, ◌+◌, ◌-◌, ◌*◌, ◌^◌, ◌<◌, ◌≤◌, Bool, true, false, ℤ, pos, negsuc, ◌+ℤ◌, ◌-ℤ◌, inl, inr, min, refl, sym, ◌∙◌, ap, subst, arith, length}
+use Rattle.std.proofs.Common.{◌≡◌, ℕ, ◌-◌, ◌^◌, ◌<◌, ◌≤◌, Bool, true, false, ℤ, pos, negsuc, ◌+ℤ◌, min, refl, sym, ◌∙◌, ap, subst, arith}
 use Rattle.std.specs.Prelude.{◌&&◌, int_le, int_lt, if◌then◌else◌}
-use Rattle.std.proofs.lemmas.Bool.{cases_Bool, and_parts}
+use Rattle.std.proofs.lemmas.Bool.{and_parts}
 use Rattle.std.proofs.lemmas.Bool.Decides.{nat_tests}
 use Rattle.std.proofs.lemmas.Int.{ints}
 use Rattle.generations_rule.specs.Place.{Place, moved}
-use Rattle.generations_rule.specs.Rule.{GenerationsRule, IsRule}
+use Rattle.generations_rule.specs.Rule.{IsRule}
 use Rattle.edit_stamps.specs.declared.write.Write.{Write}
 use Rattle.edit_stamps.specs.Write.{unwritten}
 use Rattle.edit_stamps.specs.Plane.{is_coordinate_in_plane, is_in_plane}
 use Rattle.edit_stamps.specs.PlaneMap.{HasStatesBelow}
 use Rattle.bitplane_kernel.specs.Population.{population}
 use Rattle.square_store.specs.Grid.{Grid, blank_grid}
-use Rattle.square_store.specs.Squares.{Held, side_at, IsAt, grid_at, Draws}
+use Rattle.square_store.specs.Squares.{side_at, grid_at, Draws}
 use Rattle.square_store.specs.Store.{nothing_held, IsFullFor}
 use Rattle.stamped_tree.specs.LeafKind.{plane_grid}
 use Rattle.stamped_tree.specs.Plane.{StampedPlane, from_edge, map_of}
-use Rattle.generation_engine.specs.declared.leaf_kind.EngineLeaf.{EngineLeaf}
 use Rattle.generation_engine.specs.EngineLeaf.{leaf_grid, states_on, IsPopulationOf}
 use Rattle.generation_engine.specs.Loading.{centred, plane_in_universe}
 use Rattle.generation_engine.specs.Universe.{EngineValue, AreSameStates, IsEngine, from_universe_edge, is_coordinate_in_universe, is_in_universe, population_of, states_in_writes, states_of, universe_corner}

@@ -1,10 +1,10 @@
 -- The laws that HashLife stands on.
-use Rattle.std.proofs.Common.{◌≡◌, ℕ, zero, suc, ◌+◌, ◌-◌, ◌*◌, ◌<◌, ◌≤◌, List, [], ◌∷◌, ℤ, pos, negsuc, ◌+ℤ◌, ◌-ℤ◌, ◌≤ℤ◌, refl, sym, ◌∙◌, ap, subst, arith}
-use Rattle.std.specs.Prelude.{count_by, map, ◌==◌, nat_abs}
+use Rattle.std.proofs.Common.{◌≡◌, ℕ, zero, suc, ◌+◌, ◌*◌, ◌<◌, ◌≤◌, List, [], ◌∷◌, ℤ, pos, negsuc, ◌+ℤ◌, ◌-ℤ◌, ◌≤ℤ◌, refl, sym, ◌∙◌, ap, subst, arith}
+use Rattle.std.specs.Prelude.{count_by, ◌==◌, nat_abs}
 use Rattle.std.proofs.lemmas.Int.{ints}
-use Rattle.generations_rule.specs.Place.{Place, moved, around, IsWithin}
+use Rattle.generations_rule.specs.Place.{Place, moved}
 use Rattle.generations_rule.specs.Rule.{GenerationsRule, IsRule, next_state}
-use Rattle.generations_rule.specs.Evolution.{at, live_around}
+use Rattle.generations_rule.specs.Evolution.{at}
 use Rattle.generations_rule.proofs.EvolutionLaws.{runs_compose, is_local, stays_in_range}
 use Rattle.square_store.specs.Grid.{Grid, quartered}
 use Rattle.square_store.proofs.Quarters.{quarter_nw, quarter_ne, quarter_sw, quarter_se}

@@ -1,11 +1,10 @@
 -- Squares of a store that grows, and what they are cut into.
-use Rattle.std.proofs.Common.{◌≡◌, ℕ, zero, suc, ◌+◌, ◌-◌, ◌<◌, ◌≤◌, List, [], ◌∷◌, length, refl, sym, ◌∙◌, ap, subst, arith}
-use Rattle.std.specs.Prelude.{slice_index_or, Some}
-use Rattle.edit_stamps.specs.declared.write.Write.{Write}
+use Rattle.std.proofs.Common.{◌≡◌, ℕ, zero, suc, ◌+◌, ◌-◌, ◌<◌, List, [], ◌∷◌, length, refl, sym, ◌∙◌, ap, subst, arith}
+use Rattle.std.specs.Prelude.{slice_index_or}
 use Rattle.square_store.specs.Grid.{Grid, quartered, blank_grid, AreSameWithin}
 use Rattle.square_store.specs.Squares.{Held, side_at, IsAt, grid_at, four_grid, Draws}
 use Rattle.square_store.specs.Store.{IsGrown}
-use Rattle.square_store.specs.Seen.{AreAt, IsBlankAt}
+use Rattle.square_store.specs.Seen.{IsBlankAt}
 use Rattle.square_store.proofs.Quarters.{twice, blank_quarters}
 use Rattle.generation_engine.specs.declared.leaf_kind.EngineLeaf.{EngineLeaf}
 use Rattle.generation_engine.specs.EngineLeaf.{leaf_grid}

@@ -12,12 +12,12 @@ use Rattle.generations_rule.specs.Place.{Place, is_before, is_place}
 use Rattle.multistate_rle.specs.Cells.{place_of, is_sorted, are_nonzero}
 use Rattle.edit_stamps.specs.Edit.{listed}
 use Rattle.square_store.specs.Grid.{Grid}
-use Rattle.square_store.specs.Squares.{Held, IsAt, grid_at}
+use Rattle.square_store.specs.Squares.{grid_at}
 use Rattle.stamped_tree.specs.declared.cells.ListedCell.{ListedCell}
 use Rattle.stamped_tree.specs.Drawing.{state_listed}
 use Rattle.stamped_tree.specs.Walk.{IsNonzeroCell, Gathers, is_one_spot}
 use Rattle.stamped_tree.proofs.Gathering.{contains_head, contains_tail}
-use Rattle.generation_engine.specs.Universe.{EngineValue, IsEngine, is_in_reach, is_in_universe, is_coordinate_in_universe, from_universe_edge, states_of}
+use Rattle.generation_engine.specs.Universe.{EngineValue, IsEngine, is_in_reach, is_in_universe, from_universe_edge, states_of}
 use Rattle.generation_engine.specs.Walk.{AreCellsOf, AreGathered, from_middle_edge, is_coordinate_in_middle, is_in_middle, is_on_middle, middle_order, middle_grid, cell_of_middle}
 use Rattle.generation_engine.specs.EngineLeaf.{leaf_grid}
 

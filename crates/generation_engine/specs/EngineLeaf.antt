@@ -1,5 +1,5 @@
 -- Leaves of states, by columns and rows, and how many cells of a square are not dead.
-use Rattle.std.specs.Prelude.{◌≡◌, ℕ, ◌+◌, ◌-◌, ◌*◌, ◌/◌, ◌%◌, ◌^◌, ◌<◌, min, true, List, length, slice_index}
+use Rattle.std.specs.Prelude.{◌≡◌, ℕ, ◌+◌, ◌-◌, ◌*◌, ◌/◌, ◌%◌, ◌^◌, ◌<◌, min, true, List, length}
 use Rattle.std.proofs.Common.{arith, ap, ◌∙◌, sym, get_or}
 use Rattle.std.proofs.lemmas.List.{ext_get_or}
 use Rattle.edit_stamps.specs.declared.write.Write.{Write}

@@ -1,5 +1,5 @@
 -- A universe of states as squares, each once, and what holds of every engine.
-use Rattle.std.specs.Prelude.{◌≡◌, ℕ, ◌+◌, ◌-◌, ◌^◌, ◌<◌, ◌≤◌, ℤ, pos, negsuc, ◌-ℤ◌, ◌+ℤ◌, nat_abs, Bool, false, ◌&&◌, int_le, int_lt, if◌then◌else◌}
+use Rattle.std.specs.Prelude.{◌≡◌, ℕ, ◌-◌, ◌^◌, ◌<◌, ◌≤◌, ℤ, pos, negsuc, ◌-ℤ◌, ◌+ℤ◌, nat_abs, Bool, false, ◌&&◌, int_le, int_lt, if◌then◌else◌}
 use Rattle.generations_rule.specs.Place.{Place, moved}
 use Rattle.generations_rule.specs.Rule.{GenerationsRule}
 use Rattle.edit_stamps.specs.Write.{Writes}

@@ -5,7 +5,7 @@ use Rattle.generations_rule.specs.Place.{Place}
 use Rattle.multistate_rle.specs.declared.cell.Cell.{Cell}
 use Rattle.bitplane_kernel.specs.Population.{one_unless_dead, population}
 use Rattle.square_store.specs.Grid.{Grid}
-use Rattle.square_store.specs.Squares.{Held, side_at, IsAt, grid_at, four_grid}
+use Rattle.square_store.specs.Squares.{Held, side_at, grid_at, four_grid}
 use Rattle.square_store.specs.Seen.{AreAt}
 use Rattle.stamped_tree.specs.declared.cells.ListedCell.{ListedCell}
 use Rattle.stamped_tree.specs.Walk.{AreNonzeroCells, Gathers, IsNonzeroCell, is_one_spot}

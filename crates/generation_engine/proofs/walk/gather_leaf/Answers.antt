@@ -1,4 +1,4 @@
-use Rattle.std.proofs.Common.{◌≡◌, ◌<◌, ◌∙◌, ap, length, subst, arith}
+use Rattle.std.proofs.Common.{◌≡◌, ◌<◌, ◌∙◌, ap, subst, arith}
 use Rattle.stamped_tree.specs.Walk.{Gathers}
 use Rattle.generation_engine.proofs.Counted.{first_none, first_more, first_all, first_count}
 use Rattle.generation_engine.proofs.Gathering.{IsNonzeroBefore, gathers_place, gathers_leaf, gathers_nothing}

@@ -1,5 +1,3 @@
-use Rattle.std.proofs.Common.{◌∙◌, ap, length}
-use Rattle.std.proofs.lemmas.List.Sorted.{length_permutation}
 use Rattle.stamped_tree.specs.Walk.{IsNonzeroCell}
 use Rattle.generation_engine.specs.Walk.{GathersSquare, middle_grid}
 use Rattle.generation_engine.proofs.Counted.{middle_counted}

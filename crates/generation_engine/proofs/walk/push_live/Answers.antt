@@ -1,4 +1,4 @@
-use Rattle.std.proofs.Common.{arith, ◌≢◌, ℕ}
+use Rattle.std.proofs.Common.{arith, ◌≢◌}
 use Rattle.stamped_tree.proofs.Gathering.{gathers_one}
 use Rattle.generation_engine.proofs.Counted.{counted_live}
 use Rattle.generation_engine.proofs.walk.push_live.Goals as goal
