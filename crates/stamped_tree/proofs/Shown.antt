@@ -29,7 +29,7 @@ abbrev pub Covers : Writes → Place → Held PlaneLeaf → ℕ → ℕ → Type
 Covers p corner s k part = (u v : ℕ) → u < side k → v < side k → grid_at plane_grid 8 s k part u v ≡ p (moved corner (pos u) (pos v))
 
 -- a place of the square is so far from its corner
-from_corner : (P : Place → Type 0) (corner : Place) (n : ℕ) → ((u v : ℕ) → u < n → v < n → P (moved corner (pos u) (pos v))) → (c : Place) → IsInSquare corner n c → P c
+pub from_corner : (P : Place → Type 0) (corner : Place) (n : ℕ) → ((u v : ℕ) → u < n → v < n → P (moved corner (pos u) (pos v))) → (c : Place) → IsInSquare corner n c → P c
 from_corner P corner n all c h =
     let i = inside corner n c h in
     let x = distance corner.x c.x n i.left i.right in
@@ -159,7 +159,7 @@ shows_its_tree q is at = record {
 }
 
 -- a place of the plane is in the root's square
-in_root : (c : Place) → is_in_plane c ≡ true → IsInSquare plane_corner (side 28) c
+pub in_root : (c : Place) → is_in_plane c ≡ true → IsInSquare plane_corner (side 28) c
 in_root c h =
     let parts : (is_coordinate_in_plane c.x ≡ true) × (is_coordinate_in_plane c.y ≡ true) = and_parts _ _ h in
     let x : (int_le least c.x ≡ true) × (int_lt c.x past ≡ true) = and_parts _ _ parts.0 in

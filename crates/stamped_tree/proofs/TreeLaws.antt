@@ -140,7 +140,7 @@ leaf_reads p q corner c a l m i =
     ap p (sym here) ∙ sym (l.each x.0 y.0 x.1 y.1 (p c)) ∙ m.each x.0 y.0 x.1 y.1 (p c) ∙ ap q here
 
 -- a place of the whole is in one of the quarters
-in_quarter : (above : ℕ) (corner c : Place) (P : Type 0) → Inside corner (side (suc above)) c
+pub in_quarter : (above : ℕ) (corner c : Place) (P : Type 0) → Inside corner (side (suc above)) c
     → (Inside corner (side above) c → P) → (Inside (east (side above) corner) (side above) c → P)
     → (Inside (south (side above) corner) (side above) c → P) → (Inside (south_east (side above) corner) (side above) c → P) → P
 in_quarter above corner c P i nw ne sw se =
