@@ -58,10 +58,10 @@ rule_codec r = checked_codec sized_text is_sized (chosen_at byte_at (λ size. by
 abbrev pub head_spelt : Head → List ℕ
 head_spelt head = head.0 ++ (to_be_bytes w8 head.1.0 ++ sized_text head.1.1)
 
-abbrev is_head : List ℕ → GenerationsRule → Head → Bool
+abbrev pub is_head : List ℕ → GenerationsRule → Head → Bool
 is_head magic r head = is_magic magic head.0 && (is_version head.1.0 && is_text_of r head.1.1)
 
-head_codec : (magic : List ℕ) (r : GenerationsRule) → IsCodec head_spelt (is_head magic r) (head_at magic r)
+pub head_codec : (magic : List ℕ) (r : GenerationsRule) → IsCodec head_spelt (is_head magic r) (head_at magic r)
 head_codec magic r =
     pair_codec (λ bytes. bytes) (is_magic magic) (magic_at magic) (λ bytes (p : ℕ × List ℕ). to_be_bytes w8 p.0 ++ sized_text p.1) (λ bytes p. is_version p.0 && is_text_of r p.1) _ (magic_codec magic)
     (λ bytes is. pair_codec (to_be_bytes w8) is_version version_at (λ version. sized_text) (λ version. is_text_of r) (λ version. rule_at r) version_codec (λ version fits. rule_codec r))
@@ -76,7 +76,7 @@ bytes_told a b f none = (bytes_eq-Decides a b).0 (sym (one_test (bytes_eq a b) f
 bytes_same : (a : List ℕ) (f : ReadFault) → is_none (when (not (bytes_eq a a)) f) ≡ true
 bytes_same a f = one_test (bytes_eq a a) f ∙ (bytes_eq-Decides a a).1 refl
 
-head_is_told : (magic : List ℕ) (r : GenerationsRule) (head : Head) → is_head magic r head ≡ true → head_of magic r ≡ head
+pub head_is_told : (magic : List ℕ) (r : GenerationsRule) (head : Head) → is_head magic r head ≡ true → head_of magic r ≡ head
 head_is_told magic r head is =
     let a : (is_magic magic head.0 ≡ true) × ((is_version head.1.0 && is_text_of r head.1.1) ≡ true) = and_parts _ _ is in
     let b : (is_version head.1.0 ≡ true) × (is_text_of r head.1.1 ≡ true) = and_parts _ _ a.1 in
@@ -91,8 +91,8 @@ text_is_sized r is =
     let below : length (text_of r) < 256 = omega arith in
     and_from _ _ (lt-ltb _ _ below) (eq-eqb _ _ refl)
 
-head_is_one : (r : GenerationsRule) → IsRule r → is_head delta_magic r (head_of delta_magic r) ≡ true
-head_is_one r is = and_from _ _ refl (and_from _ _ refl (and_from _ _ (text_is_sized r is) (bytes_same (text_of r) OtherRule)))
+pub head_is_one : (magic : List ℕ) (r : GenerationsRule) → is_magic magic magic ≡ true → IsRule r → is_head magic r (head_of magic r) ≡ true
+head_is_one magic r same is = and_from _ _ same (and_from _ _ refl (and_from _ _ (text_is_sized r is) (bytes_same (text_of r) OtherRule)))
 
 -- ---- deltas
 
@@ -105,4 +105,4 @@ delta_codec r is =
     (λ head es. to_be_bytes w32 (length es) ++ flat_map edit_text es) (λ head. edits_suit r.states) (λ head. edits_at r.states)
     (head_codec delta_magic r) (λ head fits. edits_codec r.states is.most) (λ head es fits suits. head_is_told delta_magic r head fits))
     (λ es fits. (and_parts _ _ fits).1)
-    (λ es suits. (and_from _ _ (head_is_one r is) suits, refl))
+    (λ es suits. (and_from _ _ (head_is_one delta_magic r refl is) suits, refl))

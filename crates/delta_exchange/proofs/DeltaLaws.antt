@@ -37,11 +37,19 @@ some_head_codec =
     (bytes_codec Short 4)
     (λ bytes is. pair_codec (to_be_bytes w8) is_byte byte_at (λ version. sized_text) (λ version. is_sized) (λ version. chosen_at byte_at (λ size. bytes_at Short size)) byte_codec (λ version fits. sized_codec))
 
-head_fits : (r : GenerationsRule) → IsRule r → is_some_head (head_of delta_magic r) ≡ true
-head_fits r is = and_from _ _ refl (and_from _ _ refl (text_is_sized r is))
+head_fits : (magic : List ℕ) (r : GenerationsRule) → (length magic == 4) ≡ true → IsRule r → is_some_head (head_of magic r) ≡ true
+head_fits magic r four is = and_from _ _ four (and_from _ _ refl (text_is_sized r is))
 
 same_rule : (q r : GenerationsRule) → IsRule q → IsRule r → text_of q ≡ text_of r → q ≡ r
 same_rule q r is_q is_r e = ok_is {F = RuleFault} q r (sym (reads_back q is_q) ∙ ap parsed e ∙ reads_back r is_r)
+
+-- texts behind heads of one magic
+pub heads_apart : (magic : List ℕ) (q r : GenerationsRule) (x y : List ℕ) → (length magic == 4) ≡ true → IsRule q → IsRule r
+    → head_spelt (head_of magic q) ++ x ≡ head_spelt (head_of magic r) ++ y → (q ≡ r) × (x ≡ y)
+heads_apart magic q r x y four is_q is_r e =
+    let heads : (head_of magic q ≡ head_of magic r) × (x ≡ y) =
+    keeps_texts_apart head_spelt is_some_head _ some_head_codec (head_of magic q) (head_of magic r) x y (head_fits magic q four is_q) (head_fits magic r four is_r) e in
+    (same_rule q r is_q is_r (ap (λ (head : Head). head.1.1) heads.0), heads.1)
 
 pub has_own_texts : HasOwnTexts
 unfolding head_text
@@ -50,13 +58,11 @@ has_own_texts q r a b x y is_q is_r are_a are_b e =
     let text_b : List ℕ = to_be_bytes w32 (length b) ++ flat_map edit_text b in
     let regrouped : head_spelt (head_of delta_magic q) ++ (text_a ++ x) ≡ head_spelt (head_of delta_magic r) ++ (text_b ++ y) =
     sym (append_assoc (head_spelt (head_of delta_magic q)) text_a x) ∙ e ∙ append_assoc (head_spelt (head_of delta_magic r)) text_b y in
-    let heads : (head_of delta_magic q ≡ head_of delta_magic r) × (text_a ++ x ≡ text_b ++ y) =
-    keeps_texts_apart head_spelt is_some_head _ some_head_codec (head_of delta_magic q) (head_of delta_magic r) (text_a ++ x) (text_b ++ y) (head_fits q is_q) (head_fits r is_r) regrouped in
-    let rule : q ≡ r = same_rule q r is_q is_r (ap (λ (head : Head). head.1.1) heads.0) in
-    let fits_a : edits_suit r.states a ≡ true = subst (λ (p : GenerationsRule). edits_suit p.states a ≡ true) rule (are_suited q.states a are_a) in
+    let heads : (q ≡ r) × (text_a ++ x ≡ text_b ++ y) = heads_apart delta_magic q r (text_a ++ x) (text_b ++ y) refl is_q is_r regrouped in
+    let fits_a : edits_suit r.states a ≡ true = subst (λ (p : GenerationsRule). edits_suit p.states a ≡ true) heads.0 (are_suited q.states a are_a) in
     let rest : (a ≡ b) × (x ≡ y) =
     keeps_texts_apart (λ (es : List PlaneEdit). to_be_bytes w32 (length es) ++ flat_map edit_text es) (edits_suit r.states) (edits_at r.states) (edits_codec r.states is_r.most) a b x y fits_a (are_suited r.states b are_b) heads.1 in
-    (rule, rest)
+    (heads.0, rest)
 
 -- ---- whole texts
 

@@ -11,3 +11,11 @@ pub mod FrameCodec
 pub mod FramePort
 pub mod StreamLaws
 pub mod TextLengths
+pub mod SquareTexts
+pub mod RegisterSteps
+pub mod ShownSquares
+pub mod SquareSteps
+pub mod TreeCodec
+pub mod TreeSuits
+pub mod StateLaws
+pub mod MessageLaws

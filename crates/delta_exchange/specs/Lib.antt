@@ -4,6 +4,12 @@ pub mod PlaceWord
 pub mod Spelling
 pub mod Reading
 pub mod Delta
+pub mod StateText
+pub mod StateReading
+pub mod StateSquares
+pub mod State
+pub mod Message
+pub mod MessageReading
 pub mod Frames
 pub mod FrameLaws
 pub mod Layout

@@ -3,6 +3,7 @@
 ghost use Rattle.std.specs.Prelude.{◌≡◌};
 ghost use Rattle.byte_codec.specs.Reading.{unrefused};
 
+use stamped_tree::StoreFault;
 use std::alloc::{AllocError, AllocFailed};
 use std::error::Error;
 use std::fmt;
@@ -21,6 +22,8 @@ pub enum ReadFault {
     StateRange,
     /// A side of an area is above 4096.
     AreaSide,
+    /// The store of the plane that is read has no room for one more square.
+    StoreFull,
     /// The text does not begin as one of this kind.
     Magic,
     /// The version is not 1.
@@ -53,6 +56,7 @@ impl ReadFault {
             ReadFault::OutOfPlane => 10,
             ReadFault::StateRange => 11,
             ReadFault::AreaSide => 12,
+            ReadFault::StoreFull => 13,
             ReadFault::Magic => 14,
             ReadFault::Version => 15,
             ReadFault::OtherRule => 16,
@@ -89,6 +93,7 @@ impl fmt::Display for ReadFault {
             ReadFault::OutOfPlane => write!(f, "OutOfPlane"),
             ReadFault::StateRange => write!(f, "StateRange"),
             ReadFault::AreaSide => write!(f, "AreaSide"),
+            ReadFault::StoreFull => write!(f, "StoreFull"),
             ReadFault::Magic => write!(f, "Magic"),
             ReadFault::Version => write!(f, "Version"),
             ReadFault::OtherRule => write!(f, "OtherRule"),
@@ -122,5 +127,19 @@ impl<T: Drop> From<AllocFailed<T>> for ReadFault {
 
     fn from(_failed: AllocFailed<T>) -> ReadFault {
         ReadFault::Memory
+    }
+}
+
+impl From<StoreFault> for ReadFault {
+    ghost use Rattle.std.specs.Prelude.{◌≡◌};
+    ghost use Rattle.delta_exchange.specs.Fault.{fault_of_store};
+
+    ghost from_gives = { λ store fault. fault ≡ fault_of_store store };
+
+    fn from(fault: StoreFault) -> ReadFault {
+        match fault {
+            StoreFault::StoreFull => ReadFault::StoreFull,
+            StoreFault::Memory => ReadFault::Memory,
+        }
     }
 }

@@ -1,11 +1,19 @@
-//! What the texts of deltas and frames obey: the contracts of functions that do nothing.
+//! What the texts of deltas, states and frames obey: the contracts of functions that do nothing.
 
 ghost use Rattle.delta_exchange.specs.Delta.{HasOwnTexts};
 ghost use Rattle.delta_exchange.specs.FrameLaws.{HasOneCut, HasTaken};
+ghost use Rattle.delta_exchange.specs.State.{HasOneStateText, HasOwnStateTexts};
 
 /// Different rules or lists of edits have different texts, and no text begins another.
 pub fn delta_laws()
     ensures { HasOwnTexts }
+{}
+
+/// A map has one text as a state, so that planes which read the same have equal bytes. Different rules
+/// or maps have different texts, and no text begins another.
+pub fn state_laws()
+    ensures one_text { HasOneStateText }
+    ensures own_texts { HasOwnStateTexts }
 {}
 
 /// The bodies of a stream of frames are those of its bytes, however these come in pieces: what was
