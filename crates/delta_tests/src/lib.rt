@@ -9,3 +9,5 @@ mod frames;
 mod random;
 #[cfg(test)]
 mod refusals;
+#[cfg(test)]
+mod states;
