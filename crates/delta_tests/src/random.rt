@@ -1,9 +1,11 @@
-//! Deltas by chance.
+//! Deltas and states by chance.
 
 use crate::deltas::{brians_brain, rewritten};
-use delta_exchange::write_delta;
+use crate::states::text_of;
+use delta_exchange::{ReadFault, read, write_delta, write_state};
 use edit_stamps::{Cell, Edit, EditFault, Rect, Stamp};
 use generations_rule::Rule;
+use stamped_tree::Plane;
 use std::alloc::{AllocError, Global};
 use std::test::Fail;
 
@@ -90,5 +92,63 @@ fn told_again(alloc: Global, rule: &Rule) -> Result<u32, AllocError> {
 #[test]
 fn what_is_written_is_read_and_written_again(rt: HostRuntime) -> Result<(), Fail> {
     assert_eq!(rt; told_again(rt.alloc(), &brians_brain()?)?, 500);
+    Ok(())
+}
+
+/// Whether two planes read the same where an edit has cells, and beside them.
+fn read_alike(a: &Plane, b: &Plane, edit: &Edit) -> bool {
+    for cell in edit.listed_cells() {
+        let beside = cell.x.saturating_add(1);
+        if a.get(cell.x, cell.y) != b.get(cell.x, cell.y)
+            || a.get(beside, cell.y) != b.get(beside, cell.y)
+        {
+            return false;
+        }
+    }
+    true
+}
+
+/// Whether the text of an edit's plane is read as a plane that reads the same, with the same text.
+fn is_told_again(alloc: Global, rule: &Rule, edit: &Edit) -> Result<bool, AllocError> {
+    let plane = Plane::of_edit(alloc, edit)?;
+    let text = write_state(alloc, rule, &plane)?;
+    let message = match read(alloc, rule, &text) {
+        Ok(message) => message,
+        Err(ReadFault::Memory) => return Err(AllocError),
+        Err(_) => return Ok(false),
+    };
+    let same = text_of(alloc, rule, &message)?.as_slice() == text.as_slice();
+    match message.plane() {
+        Some(again) => Ok(same && read_alike(&plane, again, edit)),
+        None => Ok(false),
+    }
+}
+
+/// How many of the planes of 100 edits are told again, and how many edits there are.
+fn planes_told_again(alloc: Global, rule: &Rule) -> Result<(u32, u32), AllocError> {
+    let mut chance = Chance { state: 7 };
+    let mut again = 0_u32;
+    let mut edits = 0_u32;
+    for _ in 0..100_u32 {
+        match edit(alloc, rule, &mut chance) {
+            Ok(Some(edit)) => {
+                edits = edits.saturating_add(1);
+                if is_told_again(alloc, rule, &edit)? {
+                    again = again.saturating_add(1);
+                }
+            }
+            Err(EditFault::Memory) => return Err(AllocError),
+            _ => {}
+        }
+    }
+    Ok((again, edits))
+}
+
+#[test]
+fn what_is_written_of_a_plane_is_read_and_written_again(rt: HostRuntime) -> Result<(), Fail> {
+    assert_eq!(rt;
+        planes_told_again(rt.alloc(), &brians_brain()?)?,
+        (100, 100)
+    );
     Ok(())
 }
