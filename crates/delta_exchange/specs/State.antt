@@ -21,10 +21,6 @@ StandsForTree plane tree = IsPlaneTree (map_of plane) tree
 abbrev pub HasOneStateText : Type 0
 HasOneStateText = (r : GenerationsRule) (p q : Writes) (a b : List ℕ) → IsStateText r p a → IsStateText r q b → AreSame p q → a ≡ b
 
--- a map of a plane has a text
-abbrev pub HasStateText : StampedPlane → Type 0
-HasStateText plane = (r : GenerationsRule) → (text : List ℕ) × IsStateText r (map_of plane) text
-
 -- different rules or maps have different texts, and none begins another
 abbrev pub HasOwnStateTexts : Type 0
 HasOwnStateTexts =
