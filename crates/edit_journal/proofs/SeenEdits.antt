@@ -27,8 +27,8 @@ pub noted_next : (H N edits : List PlaneEdit) (i : ℕ) (x : PlaneEdit) → i < 
 noted_next H N edits i x within is next =
     ap (λ (n : List PlaneEdit). noted n (drop (i + 1) edits)) next
     ∙ (λ j. noted H (is_here j)) where
-  is_here : x ∷ drop (i + 1) edits ≡ drop i edits
-  is_here = sym (drop-cons edits i x within ∙ (λ j. (sym is j) ∷ drop (sym (add-one i) j) edits))
+      is_here : x ∷ drop (i + 1) edits ≡ drop i edits
+      is_here = sym (drop-cons edits i x within ∙ (λ j. (sym is j) ∷ drop (sym (add-one i) j) edits))
 
 -- all are seen
 pub all_seen : (edits : List PlaneEdit) → AreSeen edits (length edits) → (e : PlaneEdit) → Contains edits e → IsEdit e

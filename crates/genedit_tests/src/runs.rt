@@ -72,20 +72,17 @@ fn end_within(alloc: Global, script: &str, nodes: u32) -> Result<String, AllocEr
 {
     let mut out = Vec::new(alloc);
     let mut source = ReadSource::new(script.as_bytes());
-    let end = run_script_within(
-        alloc,
-        &mut source,
-        &mut WriteSink::new(&mut out),
-        10,
-        nodes,
-    );
+    let end = run_script_within(alloc, &mut source, &mut WriteSink::new(&mut out), 10, nodes);
     told::run(alloc, end, &out)
 }
 
 #[test]
 fn a_full_store_prints_nothing(rt: HostRuntime) -> Result<(), AllocError> {
     let script = "rule /2/3\nreplicas 1\ncells 1 0 0 1\n";
-    assert_eq!(rt; end_within(rt.alloc(), script, 29)?.as_str(), "store full, 0 bytes");
+    assert_eq!(rt;
+        end_within(rt.alloc(), script, 29)?.as_str(),
+        "store full, 0 bytes"
+    );
     assert_eq!(rt; end_within(rt.alloc(), script, 30)?.as_str(), "drawn 1 1\n");
     Ok(())
 }

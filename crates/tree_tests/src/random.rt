@@ -68,7 +68,15 @@ struct Tally {
     is_same: bool,
 }
 
-fn compare(joined: &Plane, edits: &[Edit], others: &[Edit], centre: Corner) -> Tally {
+/// Two lists of edits near a place.
+#[derive(Clone, Copy)]
+struct Lists<'a> {
+    centre: Corner,
+    edits: &'a [Edit],
+    others: &'a [Edit],
+}
+
+fn compare(joined: &Plane, lists: Lists<'_>) -> Tally {
     let mut tally = Tally {
         is_joined: true,
         is_below: true,
@@ -76,10 +84,10 @@ fn compare(joined: &Plane, edits: &[Edit], others: &[Edit], centre: Corner) -> T
     };
     for row in 0..40_i32 {
         for column in 0..40_i32 {
-            let x = centre.x.saturating_add(column).saturating_sub(REACH);
-            let y = centre.y.saturating_add(row).saturating_sub(REACH);
-            let write = greatest(edits, x, y);
-            let other = greatest(others, x, y);
+            let x = lists.centre.x.saturating_add(column).saturating_sub(REACH);
+            let y = lists.centre.y.saturating_add(row).saturating_sub(REACH);
+            let write = greatest(lists.edits, x, y);
+            let other = greatest(lists.others, x, y);
             let greater = if write.at_most(other) { other } else { write };
             tally.is_joined = tally.is_joined && joined.get(x, y) == greater;
             tally.is_below = tally.is_below && write.at_most(other);
@@ -89,16 +97,31 @@ fn compare(joined: &Plane, edits: &[Edit], others: &[Edit], centre: Corner) -> T
     tally
 }
 
+/// Joins an edit.
+fn join_edit(alloc: Global, plane: &mut Plane, edit: &Edit) -> Result<(), EditFault> {
+    let drawn = Plane::of_edit(alloc, edit)?;
+    match join(alloc, plane, &drawn) {
+        Ok(()) => Ok(()),
+        Err(_) => Err(EditFault::Memory),
+    }
+}
+
 /// The plane of edits, joined one after another.
 fn plane_of(alloc: Global, edits: &[Edit]) -> Result<Plane, EditFault> {
     let mut plane = Plane::new(alloc)?;
     for edit in edits {
-        let drawn = Plane::of_edit(alloc, edit)?;
-        if join(alloc, &mut plane, &drawn).is_err() {
-            return Err(EditFault::Memory);
-        }
+        join_edit(alloc, &mut plane, edit)?;
     }
     Ok(plane)
+}
+
+/// The join of two planes, in a store of its own.
+fn joined_with(alloc: Global, plane: &Plane, other: &Plane) -> Result<Plane, EditFault> {
+    let mut joined = plane.copy()?;
+    match join(alloc, &mut joined, other) {
+        Ok(()) => Ok(joined),
+        Err(_) => Err(EditFault::Memory),
+    }
 }
 
 /// Whether the join of two planes is their least upper bound by the calls, in either order.
@@ -108,10 +131,7 @@ fn is_bound(
     other: &Plane,
     joined: &Plane,
 ) -> Result<bool, EditFault> {
-    let mut back = other.copy()?;
-    if join(alloc, &mut back, plane).is_err() {
-        return Err(EditFault::Memory);
-    }
+    let back = joined_with(alloc, other, plane)?;
     Ok(
         same(joined, &back)
             && same_remembered(alloc, joined, &back)?
@@ -122,23 +142,40 @@ fn is_bound(
     )
 }
 
+/// Whether two planes join as the lists of the edits that they were drawn by do.
+fn join_as_listed(
+    alloc: Global,
+    plane: &Plane,
+    other: &Plane,
+    lists: Lists<'_>,
+) -> Result<bool, EditFault> {
+    let joined = joined_with(alloc, plane, other)?;
+    let tally = compare(&joined, lists);
+    Ok(
+        tally.is_joined
+            && tally.is_below == at_most(plane, other)
+            && tally.is_same == same(plane, other)
+            && is_bound(alloc, plane, other, &joined)?,
+    )
+}
+
+/// The same where the second plane has not been drawn.
+fn joins_drawn(alloc: Global, plane: &Plane, lists: Lists<'_>) -> Result<bool, EditFault> {
+    let other = plane_of(alloc, lists.others)?;
+    join_as_listed(alloc, plane, &other, lists)
+}
+
 /// Whether two random planes near a place join as their edits' lists do.
 fn joins_as_listed(alloc: Global, centre: Corner, number: &mut u64) -> Result<bool, EditFault> {
     let edits = draws(alloc, centre, number)?;
     let others = draws(alloc, centre, number)?;
-    let plane = plane_of(alloc, &edits)?;
-    let other = plane_of(alloc, &others)?;
-    let mut joined = plane.copy()?;
-    if join(alloc, &mut joined, &other).is_err() {
-        return Err(EditFault::Memory);
-    }
-    let tally = compare(&joined, &edits, &others, centre);
-    Ok(
-        tally.is_joined
-            && tally.is_below == at_most(&plane, &other)
-            && tally.is_same == same(&plane, &other)
-            && is_bound(alloc, &plane, &other, &joined)?,
-    )
+    let lists = Lists {
+        centre,
+        edits: &edits,
+        others: &others,
+    };
+    let plane = plane_of(alloc, lists.edits)?;
+    joins_drawn(alloc, &plane, lists)
 }
 
 #[test]

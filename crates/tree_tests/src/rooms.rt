@@ -35,17 +35,23 @@ fn a_join_is_refused_below_thirty_squares(rt: HostRuntime) -> Result<(), Fail> {
 /// The same of a plane that has a cell: a leaf and 28 squares of four more.
 fn into_a_cell(alloc: Global, room: u32) -> Result<(bool, u32, u8), EditFault> {
     let mut plane = Plane::with_room(alloc, room.max(1))?;
-    let cell = one_cell(alloc, 1, 1)?;
-    if join(alloc, &mut plane, &cell).is_err() {
-        return Err(EditFault::Memory);
-    }
-    let later = one_cell(alloc, 2, 2)?;
-    let answer = join(alloc, &mut plane, &later);
+    let first = join_cell(alloc, &mut plane, 1)?;
+    let second = join_cell(alloc, &mut plane, 2)?;
     Ok((
-        answer == Err(StoreFault::StoreFull),
+        first == Ok(()) && second == Err(StoreFault::StoreFull),
         plane.nodes(),
         plane.get(0, 0).state,
     ))
+}
+
+/// Joins the cell of a replica, whose state is the replica's number.
+fn join_cell(
+    alloc: Global,
+    plane: &mut Plane,
+    replica: u8,
+) -> Result<Result<(), StoreFault>, EditFault> {
+    let cell = one_cell(alloc, u16::from(replica), replica)?;
+    Ok(join(alloc, plane, &cell))
 }
 
 #[test]
