@@ -4,9 +4,8 @@ use Rattle.std.specs.Prelude.{◌⊎◌, Contains}
 use Rattle.std.proofs.lemmas.Bool.{cases_Bool}
 use Rattle.generations_rule.specs.Place.{Place}
 use Rattle.edit_stamps.specs.declared.write.Write.{Write}
-use Rattle.edit_stamps.specs.Edit.{PlaneEdit, IsPartlyEdited, greatest, writes_of}
-use Rattle.edit_stamps.specs.Write.{at_most, greater, unwritten, Writes, AreSame, joined}
-use Rattle.edit_stamps.proofs.WriteLaws.{greater-unwritten}
+use Rattle.edit_stamps.specs.Edit.{PlaneEdit, greatest, writes_of}
+use Rattle.edit_stamps.specs.Write.{at_most, unwritten}
 
 -- what is read of edits at a place is what one of them writes there, if anything
 pub made_by_one : (edits : List PlaneEdit) (c : Place) → (greatest edits c ≡ unwritten) ⊎ ((e : PlaneEdit) × Contains edits e × (writes_of e c ≡ greatest edits c))
@@ -20,10 +19,3 @@ made_by_one (e ∷ edits) c =
         | inr by ↦ inr (by.0, (suc by.1.0, omega (arith, by.1.1), by.1.2), by.2 ∙ sym (ap pick rest))
       ]
     ]
-
--- edits that are wholly joined
-pub edited_whole : (old new : Writes) (edits : List PlaneEdit) → AreSame new (joined old (greatest edits)) → IsPartlyEdited old edits new
-edited_whole old new edits whole c = elim (made_by_one edits c) [
-  | inl nothing ↦ inl (whole c ∙ ap (greater (old c)) nothing ∙ greater-unwritten (old c))
-  | inr by ↦ inr (by.0, by.1, whole c ∙ ap (greater (old c)) (sym by.2))
-]

@@ -1,5 +1,5 @@
 -- An edit, and what it writes.
-use Rattle.std.specs.Prelude.{◌≡◌, ◌⊎◌, Contains, max, fold, ℕ, ◌^◌, ◌≤◌, Bool, true, false, not, ◌&&◌, ◌==◌, nat_le, List, [], ◌∷◌, length, find, Option, Some, None, option_map, IsTrue}
+use Rattle.std.specs.Prelude.{max, fold, ℕ, ◌^◌, ◌≤◌, Bool, true, false, not, ◌&&◌, ◌==◌, nat_le, List, [], ◌∷◌, length, find, Option, Some, None, option_map, IsTrue}
 use Rattle.std.specs.Ordering.{int_eq}
 use Rattle.std.specs.List.{AllByRecursion, list_all}
 use Rattle.std.specs.Cmp.Lexicographic.{pointwise}
@@ -9,9 +9,8 @@ use Rattle.multistate_rle.specs.Cells.{place_of, is_sorted, are_nonzero, are_sta
 use Rattle.edit_stamps.specs.declared.write.Write.{Write}
 use Rattle.edit_stamps.specs.declared.rect.Rect.{Rect}
 use Rattle.edit_stamps.specs.Plane.{is_in_plane, is_in, is_empty, is_area_in_plane}
-use Rattle.edit_stamps.specs.PlaneMap.{only}
 use Rattle.edit_stamps.specs.Stamp.{counter_in, is_stamp}
-use Rattle.edit_stamps.specs.Write.{unwritten, greater, Writes, joined}
+use Rattle.edit_stamps.specs.Write.{unwritten, greater, Writes}
 
 -- a stamp, an area if there is one, and the listed cells
 pub record PlaneEdit : Type 0 where
@@ -61,18 +60,9 @@ abbrev pub greatest : List PlaneEdit → Writes
 greatest [] c = unwritten
 greatest (e ∷ edits) c = greater (writes_of e c) (greatest edits c)
 
--- what cells write that are listed with one stamp
-abbrev pub written : ℕ → List Cell → Writes
-written stamp [] c = unwritten
-written stamp (cell ∷ cells) c = greater (only (place_of cell) (record { stamp = stamp; state = cell.state }) c) (written stamp cells c)
-
 -- the greatest counter of some edits
 abbrev pub greatest_counter : List PlaneEdit → ℕ
 greatest_counter edits = fold (λ n e. max n (counter_in e.stamp)) 0 edits
-
--- at each place a map has what it had, or what joining one of the edits makes of it
-abbrev pub IsPartlyEdited : Writes → List PlaneEdit → Writes → Type 0
-IsPartlyEdited old edits new = (c : Place) → (new c ≡ old c) ⊎ ((e : PlaneEdit) × Contains edits e × (new c ≡ joined old (writes_of e) c))
 
 -- ---- which edits there are
 

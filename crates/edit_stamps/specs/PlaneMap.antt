@@ -1,35 +1,15 @@
--- A map of the plane as plain data: squares, each with one write. The first that covers a place has its write,
--- and where none does nothing was written.
-use Rattle.std.specs.Prelude.{◌≡◌, ◌⊎◌, ℕ, ◌≤◌, ◌<◌, Bool, false, ◌||◌, ◌&&◌, ◌==◌, IsTrue, List, find, option_map, unwrap_or, if◌then◌else◌}
-use Rattle.generations_rule.specs.Place.{Place, is_place}
+-- What is said of maps of the plane, each as what is read at each place.
+use Rattle.std.specs.Prelude.{◌≡◌, ℕ, ◌≤◌, ◌<◌, Bool, false, ◌||◌, ◌&&◌, ◌==◌, IsTrue}
+use Rattle.generations_rule.specs.Place.{Place}
 use Rattle.edit_stamps.specs.declared.write.Write.{Write}
 use Rattle.edit_stamps.specs.declared.rect.Rect.{Rect}
-use Rattle.edit_stamps.specs.Plane.{is_in, is_in_plane}
+use Rattle.edit_stamps.specs.Plane.{is_in_plane}
 use Rattle.edit_stamps.specs.Stamp.{is_stamp}
-use Rattle.edit_stamps.specs.Write.{unwritten, Writes, joined}
+use Rattle.edit_stamps.specs.Write.{unwritten, Writes}
 
-pub record Patch : Type 0 where
-  pub corner : Place
-  pub side : ℕ
-  pub write : Write
-
-abbrev pub PlaneMap : Type 0
-PlaneMap = List Patch
-
+-- the places of a square at a corner
 abbrev pub square : Place → ℕ → Rect
 square corner side = record { x = corner.x; y = corner.y; width = side; height = side }
-
--- what is read at a place
-abbrev pub write_at : PlaneMap → Writes
-write_at patches c = unwrap_or (option_map (λ p. p.write) (find (λ p. is_in (square p.corner p.side) c) patches)) unwritten
-
--- what contracts see of a plane
-pub record PlaneValue : Type 0 where
-  pub map : PlaneMap
-
--- what is read of a plane at each place
-abbrev pub map_of : PlaneValue → Writes
-map_of plane = write_at plane.map
 
 -- ---- maps
 
@@ -57,17 +37,3 @@ HasStatesBelow states p = (c : Place) → (p c).state < states
 -- of a map whose states are below a number, what is joined is too where each state that was to be joined is
 abbrev pub KeepsStates : (ℕ → Type 0) → Writes → Writes → Type 0
 KeepsStates IsAddedBelow old new = (states : ℕ) → HasStatesBelow states old → IsAddedBelow states → HasStatesBelow states new
-
--- at each place a map has what it had, or what the join makes of it
-abbrev pub IsPartlyJoined : Writes → Writes → Writes → Type 0
-IsPartlyJoined old added new = (c : Place) → (new c ≡ old c) ⊎ (new c ≡ joined old added c)
-
--- ---- maps of few writes
-
--- one write at a place, and nothing elsewhere
-abbrev pub only : Place → Write → Writes
-only place write c = if is_place place c then write else unwritten
-
--- state 0 with one stamp in an area
-abbrev pub blank : ℕ → Rect → Writes
-blank stamp area c = if is_in area c then record { stamp = stamp; state = 0 } else unwritten

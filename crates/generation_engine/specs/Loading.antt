@@ -22,10 +22,6 @@ pub record AreBrought (source : Held PlaneLeaf) (target : Held EngineLeaf) (copi
 pub record IsBroughtNoted (old new : Copies) (a b : ℕ) : Type 0 where
   pub found : (q : ℕ) → copy_of new q ≡ cond (eqb a q) (Some b) (copy_of old q)
 
--- four parts of the one store were brought to four of the other
-abbrev pub AreAllBrought : (source : Held PlaneLeaf) (target : Held EngineLeaf) → List ℕ → List ℕ → Type 0
-AreAllBrought source target parts brought = (i : ℕ) → i < 4 → IsBrought source target (slice_index_or parts i 0) (slice_index_or brought i 0)
-
 -- the store holds as many squares as it has room for
 abbrev pub IsStoreFull : Held EngineLeaf → Type 0
 IsStoreFull s = length s.squares ≡ s.room

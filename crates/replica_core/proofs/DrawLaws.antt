@@ -1,5 +1,5 @@
 -- A draw: the stamp of what is drawn, which cells it wins, and what a refusal says.
-use Rattle.std.proofs.Common.{◌≡◌, ◌⊎◌, ℕ, ◌+◌, ◌<◌, ◌≤◌, Bool, true, false, [], ◌∷◌, ◌++◌, refl, sym, ◌∙◌, ap, subst, arith, inl, inr}
+use Rattle.std.proofs.Common.{◌≡◌, ◌≢◌, ◌⊎◌, ℕ, ◌+◌, ◌<◌, ◌≤◌, Bool, true, false, [], ◌∷◌, ◌++◌, refl, sym, ◌∙◌, ap, subst, arith, inl, inr}
 use Rattle.std.specs.Prelude.{IsTrue, Option, Some, None, Result, Ok, Err, nat_lt, not}
 use Rattle.std.specs.Result.{IsOk}
 use Rattle.std.proofs.lemmas.Bool.Decides.{nat_tests}
@@ -19,7 +19,7 @@ use Rattle.replica_core.specs.declared.fault.Fault.TheVariants as faults
 use Rattle.replica_core.specs.declared.edit_spec.EditSpec.{EditSpec}
 use Rattle.replica_core.specs.declared.edit_spec.EditSpec.TheVariants.{Cells, Copy, Or, Clear}
 use Rattle.replica_core.specs.Fault.{IsWant}
-use Rattle.replica_core.specs.Replica.{ReplicaState, IsDraw, IsOneReplica, IsUnchanged, edit_drawn, made, or_edit_fault, stamp_after}
+use Rattle.replica_core.specs.Replica.{ReplicaState, IsDraw, IsOneReplica, IsUnchanged, MeetsWant, edit_drawn, made, or_edit_fault, stamp_after}
 
 -- ---- what is made
 
@@ -86,10 +86,10 @@ draws old new n stamp spec e greatest_is next is states one map journal = (
 
 -- a draw that was refused memory or room
 pub stops : (old new : ReplicaState) (n stamp : ℕ) (spec : EditSpec) (e : PlaneEdit) (fault : Fault)
-    → stamp_after (counter_in n) old.number ≡ Ok stamp → or_edit_fault (made old.rule stamp spec) ≡ Ok e → IsWant fault
-    → IsUnchanged old new → IsDraw old new (edit_drawn old.rule (counter_in n) old.number spec) (Err fault)
-stops old new n stamp spec e fault next is want unchanged =
-    inl (want, subst IsOk (sym (ap (λ s. s >>= (λ stamp. or_edit_fault (made old.rule stamp spec))) next ∙ is)) refl, unchanged)
+    → stamp_after (counter_in n) old.number ≡ Ok stamp → or_edit_fault (made old.rule stamp spec) ≡ Ok e
+    → MeetsWant old new fault → IsDraw old new (edit_drawn old.rule (counter_in n) old.number spec) (Err fault)
+stops old new n stamp spec e fault next is want =
+    inl (subst IsOk (sym (ap (λ s. s >>= (λ stamp. or_edit_fault (made old.rule stamp spec))) next ∙ is)) refl, want)
 
 -- a replica that nothing was done to
 unchanged : (r : ReplicaState) → IsUnchanged r r
@@ -97,19 +97,20 @@ unchanged r = record { one = record { rule = refl; number = refl; room = refl };
 
 -- an edit that the maker means is one that the draw means
 wants : (r : ReplicaState) (meant : Result PlaneEdit Fault) (made_now : Result PlaneEdit EditFault) (fault : Fault) → IsWant fault
-    → meant ≡ or_edit_fault made_now → IsOk made_now → IsDraw r r meant (Err fault)
-wants r meant (Ok e) fault want is ok = inl (want, subst IsOk (sym is) refl, unchanged r)
-wants r meant (Err refusal) fault want is ok = absurd (cc)
+    → fault ≢ faults.StoreFull → meant ≡ or_edit_fault made_now → IsOk made_now → IsDraw r r meant (Err fault)
+wants r meant (Ok e) fault want roomy is ok =
+    inl (subst IsOk (sym is) refl, record { want = want; unchanged = unchanged r; full = λ same. absurd (roomy same) })
+wants r meant (Err refusal) fault want roomy is ok = absurd (cc)
 
 -- a refusal of the maker is one of the draw
 pub refuses : (r : ReplicaState) (meant : Result PlaneEdit Fault) (made_now : Result PlaneEdit EditFault) (fault : Fault) → meant ≡ or_edit_fault made_now
-    → IsWant fault ⊎ (or_edit_fault made_now ≡ Err fault) → (IsWant fault → IsOk made_now) → IsDraw r r meant (Err fault)
-refuses r meant made_now fault is (inl want) last = wants r meant made_now fault want is (last want)
-refuses r meant made_now fault is (inr same) last = inr (is ∙ same, refl)
+    → IsWant fault ⊎ (or_edit_fault made_now ≡ Err fault) → (IsWant fault → IsOk made_now) → fault ≢ faults.StoreFull → IsDraw r r meant (Err fault)
+refuses r meant made_now fault is (inl want) last roomy = wants r meant made_now fault want roomy is (last want)
+refuses r meant made_now fault is (inr same) last roomy = inr (is ∙ same, refl)
 
 pub refuses_made : (r : ReplicaState) (n stamp : ℕ) (spec : EditSpec) (fault : Fault)
     → stamp_after (counter_in n) r.number ≡ Ok stamp → IsWant fault ⊎ (or_edit_fault (made r.rule stamp spec) ≡ Err fault)
-    → (IsWant fault → IsOk (made r.rule stamp spec)) → IsDraw r r (edit_drawn r.rule (counter_in n) r.number spec) (Err fault)
-refuses_made r n stamp spec fault next told last =
+    → (IsWant fault → IsOk (made r.rule stamp spec)) → fault ≢ faults.StoreFull → IsDraw r r (edit_drawn r.rule (counter_in n) r.number spec) (Err fault)
+refuses_made r n stamp spec fault next told last roomy =
     refuses r (edit_drawn r.rule (counter_in n) r.number spec) (made r.rule stamp spec) fault
-    (ap (λ s. s >>= (λ stamp. or_edit_fault (made r.rule stamp spec))) next) told last
+    (ap (λ s. s >>= (λ stamp. or_edit_fault (made r.rule stamp spec))) next) told last roomy

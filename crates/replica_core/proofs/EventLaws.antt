@@ -15,7 +15,7 @@ use Rattle.replica_core.specs.declared.event.Reply.TheVariants as replies
 use Rattle.replica_core.specs.declared.fault.Fault.{Fault}
 use Rattle.replica_core.specs.declared.fault.Fault.TheVariants as faults
 use Rattle.replica_core.specs.declared.edit_spec.EditSpec.{EditSpec}
-use Rattle.replica_core.specs.Message.{Shared}
+use Rattle.delta_exchange.specs.Message.{Shared}
 use Rattle.replica_core.specs.Replica.{ReplicaState, edit_drawn}
 use Rattle.replica_core.specs.World.{IsEditUnder, History, ReplicaHistory, Sent, State, AreEdits, Given, IsReply, StandSideBySide, StandsFor, StandsForSent, StandsForWorld, WorldState, after, after_drawing, after_message, changed, delivered, drawn, message, next_message, numbered, replica, with_message, with_replica}
 use Rattle.replica_core.proofs.HistoryLaws.{edits_drawn}

@@ -1,5 +1,5 @@
 -- A plane to which edits are joined one after another.
-use Rattle.std.proofs.Common.{◌≡◌, ℕ, ◌+◌, ◌<◌, drop, drop-cons, add-one, length, get_or, List, [], ◌∷◌, refl, sym, ◌∙◌, ap}
+use Rattle.std.proofs.Common.{◌≡◌, ℕ, ◌+◌, ◌<◌, drop, drop-cons, add-one, length, get_or, List, refl, sym, ◌∙◌, ap}
 use Rattle.edit_stamps.specs.Edit.{PlaneEdit, greatest, writes_of}
 use Rattle.edit_stamps.specs.Write.{greater, unwritten, Writes, AreSame, joined}
 use Rattle.edit_stamps.proofs.WriteLaws.{is_lattice, greater-unwritten}
@@ -29,10 +29,6 @@ joining_goes old now later edits i e within is far step c =
 pub joining_ends : (old now rest all : Writes) → IsJoining old now rest all → AreSame rest (λ _. unwritten) → AreSame now (joined old all)
 joining_ends old now rest all far none c =
     sym (greater-unwritten (now c)) ∙ ap (greater (now c)) (sym (none c)) ∙ far c
-
--- one edit alone
-pub one_joined : (old now : Writes) (e : PlaneEdit) → AreSame now (joined old (greatest (e ∷ []))) → AreSame now (joined old (writes_of e))
-one_joined old now e joins c = joins c ∙ ap (greater (old c)) (greater-unwritten (writes_of e c))
 
 -- a plane to which nothing was added
 pub grows_anyway : (p : StampedPlane) → HasGrown p p

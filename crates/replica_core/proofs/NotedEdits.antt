@@ -14,9 +14,9 @@ use Rattle.edit_stamps.proofs.WriteLaws.{is_least_upper_bound, is_total}
 use Rattle.edit_stamps.proofs.ClockLaws.{stamp_in}
 use Rattle.edit_journal.specs.Journal.{noted}
 use Rattle.edit_journal.proofs.NotedLaws.{contains_told, edits_equiv, noted_distinct, noted_members}
-use Rattle.replica_core.specs.declared.message.Content.{Content}
-use Rattle.replica_core.specs.declared.message.Content.TheVariants as contents
-use Rattle.replica_core.specs.Message.{edits_in, writes_in, IsBelowStates}
+use Rattle.delta_exchange.specs.declared.message.Content.{Content}
+use Rattle.delta_exchange.specs.declared.message.Content.TheVariants as contents
+use Rattle.delta_exchange.specs.Message.{edits_in, writes_in, IsBelowStates}
 use Rattle.replica_core.specs.Replica.{IsJournalOf}
 use Rattle.replica_core.proofs.HeadlineLaws.{greatest_of}
 

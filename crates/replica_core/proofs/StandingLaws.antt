@@ -11,11 +11,11 @@ use Rattle.edit_stamps.specs.Stamp.{counter_in}
 use Rattle.edit_stamps.specs.Write.{unwritten, greater, Writes, AreSame, joined}
 use Rattle.edit_stamps.proofs.WriteLaws.{is_lattice, is_least_upper_bound, is_total, joins_lists}
 use Rattle.replica_core.specs.declared.fault.Fault.{Fault}
-use Rattle.replica_core.specs.declared.message.Content.{Content}
-use Rattle.replica_core.specs.declared.message.Content.TheVariants as contents
+use Rattle.delta_exchange.specs.declared.message.Content.{Content}
+use Rattle.delta_exchange.specs.declared.message.Content.TheVariants as contents
 use Rattle.replica_core.specs.declared.edit_spec.EditSpec.{EditSpec}
 use Rattle.edit_stamps.proofs.ClockLaws.{tells_counter}
-use Rattle.replica_core.specs.Message.{Shared}
+use Rattle.delta_exchange.specs.Message.{Shared}
 use Rattle.replica_core.specs.Fault.{IsWant}
 use Rattle.replica_core.specs.Replica.{ReplicaState, DrawsAs, Takes, IsMapOf, IsSnapshot, IsDraw, edit_drawn}
 use Rattle.replica_core.specs.World.{ReplicaHistory, Sent, State, Carries, StandsFor, StandsForSent, after_drawing, after_message}
@@ -96,5 +96,5 @@ given_err P Q meant fault is q = subst (λ r. MatchResult r P Q) (sym is) q
 -- a draw that was refused, and met no want
 pub refused_as_meant : (old new : ReplicaState) (meant : Result PlaneEdit Fault) (fault : Fault)
     → IsDraw old new meant (Err fault) → ¬ IsWant fault → (meant ≡ Err fault) × (new ≡ old)
-refused_as_meant old new meant fault (inl want) other = absurd (other want.0)
+refused_as_meant old new meant fault (inl want) other = absurd (other want.1.want)
 refused_as_meant old new meant fault (inr is) other = is

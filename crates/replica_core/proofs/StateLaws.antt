@@ -9,9 +9,9 @@ use Rattle.edit_stamps.specs.declared.write.Write.{Write}
 use Rattle.edit_stamps.specs.Edit.{PlaneEdit, HaveStatesBelow, greatest, has_states_below, is_covered, listed, write_by, writes_of}
 use Rattle.edit_stamps.specs.PlaneMap.{HasStatesBelow}
 use Rattle.edit_stamps.specs.Write.{at_most, greater, Writes, AreSame, joined}
-use Rattle.replica_core.specs.declared.message.Content.{Content}
-use Rattle.replica_core.specs.declared.message.Content.TheVariants as contents
-use Rattle.replica_core.specs.Message.{writes_in, IsBelowStates}
+use Rattle.delta_exchange.specs.declared.message.Content.{Content}
+use Rattle.delta_exchange.specs.declared.message.Content.TheVariants as contents
+use Rattle.delta_exchange.specs.Message.{writes_in, IsBelowStates}
 
 -- ---- joins
 

@@ -1,6 +1,5 @@
 pub mod Fault
 pub mod HeldPlane
-pub mod Message
 pub mod Replica
 pub mod World
 pub mod Headline

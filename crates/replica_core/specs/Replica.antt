@@ -1,5 +1,5 @@
 -- A replica, and what a draw and a message do to it.
-use Rattle.std.specs.Prelude.{◌≡◌, ◌≢◌, ◌⊎◌, IsTrue, ℕ, ◌+◌, ◌^◌, ◌<◌, ◌≤◌, not, nat_lt, List, [], ◌∷◌, ◌++◌, Result, Ok, Err}
+use Rattle.std.specs.Prelude.{◌≡◌, ◌≢◌, ◌⊎◌, IsTrue, ℕ, ◌+◌, ◌^◌, ◌<◌, ◌≤◌, not, nat_lt, List, [], ◌∷◌, ◌++◌, length, Result, Ok, Err}
 use Rattle.std.specs.List.{Contains, IsDistinct}
 use Rattle.std.specs.Result.{IsOk}
 use Rattle.generations_rule.specs.Place.{Place}
@@ -16,11 +16,11 @@ use Rattle.replica_core.specs.declared.edit_spec.EditSpec.{EditSpec}
 use Rattle.replica_core.specs.declared.edit_spec.EditSpec.TheVariants.{Cells, Copy, Or, Clear}
 use Rattle.replica_core.specs.declared.fault.Fault.{Fault}
 use Rattle.replica_core.specs.declared.fault.Fault.TheVariants as faults
-use Rattle.replica_core.specs.declared.message.Content.{Content}
-use Rattle.replica_core.specs.declared.message.Content.TheVariants.{Edits, State}
+use Rattle.delta_exchange.specs.declared.message.Content.{Content}
+use Rattle.delta_exchange.specs.declared.message.Content.TheVariants.{Edits, State}
 use Rattle.replica_core.specs.Fault.{IsWant, fault_of_edit}
 use Rattle.edit_journal.specs.Journal.{noted}
-use Rattle.replica_core.specs.Message.{Shared, writes_in, edits_in}
+use Rattle.delta_exchange.specs.Message.{Shared, writes_in, edits_in}
 use Rattle.stamped_tree.specs.Plane.{StampedPlane, map_of}
 
 -- what contracts see of a replica
@@ -79,6 +79,12 @@ pub record IsUnchanged (old new : ReplicaState) : Type 0 where
   pub map : AreSame (map_of new.plane) (map_of old.plane)
   pub journal : new.journal ≡ old.journal
 
+-- a want: map and journal are as they were, and room is wanted only where the store holds as many squares as it may
+pub record MeetsWant (old new : ReplicaState) (fault : Fault) : Type 0 where
+  pub want : IsWant fault
+  pub unchanged : IsUnchanged old new
+  pub full : fault ≡ faults.StoreFull → length new.plane.store.squares ≡ new.plane.store.room
+
 -- ---- what each call answers, and what it leaves
 
 -- a new replica: nothing is written, and no edit noted
@@ -93,13 +99,13 @@ pub record IsNew (rule : GenerationsRule) (number nodes : ℕ) (r : ReplicaState
 -- was, or, where nothing is refused, a want, which leaves map and journal as they were.
 abbrev pub IsDraw : ReplicaState → ReplicaState → Result PlaneEdit Fault → Result PlaneEdit Fault → Type 0
 IsDraw old new meant (Ok e) = (meant ≡ Ok e) × DrawsAs old new e
-IsDraw old new meant (Err fault) = (IsWant fault × IsOk meant × IsUnchanged old new) ⊎ ((meant ≡ Err fault) × (new ≡ old))
+IsDraw old new meant (Err fault) = (IsOk meant × MeetsWant old new fault) ⊎ ((meant ≡ Err fault) × (new ≡ old))
 
 -- A message is taken whole; one of another rule is refused, which leaves all as it was; nothing else is refused, and
 -- only a message of the replica's own rule meets a want, which leaves map and journal as they were.
 abbrev pub IsTaking : ReplicaState → ReplicaState → Shared → Result (Unit {0}) Fault → Type 0
 IsTaking old new m (Ok done) = (m.rule ≡ old.rule) × Takes old new m.content
-IsTaking old new m (Err fault) = (IsWant fault × (m.rule ≡ old.rule) × IsUnchanged old new) ⊎ ((fault ≡ faults.OtherRule) × (m.rule ≢ old.rule) × (new ≡ old))
+IsTaking old new m (Err fault) = ((m.rule ≡ old.rule) × MeetsWant old new fault) ⊎ ((fault ≡ faults.OtherRule) × (m.rule ≢ old.rule) × (new ≡ old))
 
 -- a message's content is a map equal to p at every place
 abbrev pub IsMapOf : Writes → Content → Type 0

@@ -15,9 +15,9 @@ use Rattle.replica_core.specs.declared.event.Reply.{Reply}
 use Rattle.replica_core.specs.declared.event.Reply.TheVariants as replies
 use Rattle.replica_core.specs.declared.fault.Fault.{Fault}
 use Rattle.replica_core.specs.declared.fault.Fault.TheVariants as faults
-use Rattle.replica_core.specs.declared.message.Content.{Content}
+use Rattle.delta_exchange.specs.declared.message.Content.{Content}
 use Rattle.replica_core.specs.declared.edit_spec.EditSpec.{EditSpec}
-use Rattle.replica_core.specs.Message.{Shared}
+use Rattle.delta_exchange.specs.Message.{Shared}
 use Rattle.replica_core.specs.Replica.{ReplicaState, IsMapOf, edit_drawn}
 
 -- ---- histories

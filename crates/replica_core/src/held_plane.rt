@@ -90,7 +90,7 @@ impl HeldPlane {
         ensures room { self.new.store.room ≡ self.old.store.room }
     {
         self.plane.set_root(part);
-        if self.plane.nodes() > FEW && self.plane.nodes() / 2 > self.copied {
+        if self.plane.nodes() > FEW.max(self.copied.saturating_mul(2)) {
             let _ = self.put_copy();
         }
     }

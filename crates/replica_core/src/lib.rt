@@ -6,15 +6,14 @@ mod event;
 mod fault;
 mod held_plane;
 mod laws;
-mod message;
 mod replica;
 mod world;
 
+pub use delta_exchange::Message;
 pub use devices::{Failed, ReadSource, Sink, Source, WriteSink};
 pub use edit_spec::{CellList, EditSpec};
 pub use event::{Event, Reply, Stop};
 pub use fault::Fault;
 pub use laws::world_laws;
-pub use message::Message;
 pub use replica::Replica;
 pub use world::{World, replay, replay_within};

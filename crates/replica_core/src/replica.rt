@@ -1,6 +1,6 @@
 //! One replica of a shared plane.
 
-ghost use Rattle.std.specs.Prelude.{◌≡◌, ◌≤◌, ◌^◌, ◌↔◌, ◌++◌, ◌∷◌, [], ℕ, false, Contains, IfOk, IfErr, IsTrue, OnOk, OnErr};
+ghost use Rattle.std.specs.Prelude.{◌≡◌, ◌≢◌, ◌≤◌, ◌^◌, ◌↔◌, ◌++◌, ◌∷◌, [], ℕ, false, Contains, IfOk, IfErr, IsTrue, OnOk, OnErr, length};
 ghost use Rattle.std.specs.Result.{IsOk};
 ghost use Rattle.generations_rule.specs.Refusal.{Answers};
 ghost use Rattle.generations_rule.specs.Place.{at_place};
@@ -11,14 +11,14 @@ ghost use Rattle.edit_stamps.specs.Edit.{PlaneEdit, IsEdit, has_states_below, wr
 ghost use Rattle.edit_journal.specs.Journal.{noted};
 ghost use Rattle.replica_core.specs.Fault.{IsWant};
 ghost use Rattle.replica_core.specs.HeldPlane.{IsAsBefore};
-ghost use Rattle.replica_core.specs.Message.{edits_in, writes_in, IsBelowStates};
+ghost use Rattle.delta_exchange.specs.Message.{edits_in, writes_in, IsBelowStates};
 ghost use Rattle.replica_core.specs.Replica.{made, or_edit_fault, stamp_after};
 ghost use Rattle.stamped_tree.specs.Plane.{map_of};
 
 use crate::edit_spec::EditSpec;
 use crate::fault::Fault;
 use crate::held_plane::{Added, HeldPlane};
-use crate::message::{Content, Message};
+use delta_exchange::{Content, Message};
 use edit_journal::Journal;
 use edit_stamps::{Edit, Stamp, Write, counter_of};
 use generations_rule::Rule;
@@ -43,8 +43,6 @@ pub struct Replica {
 }
 
 impl Model for Replica {
-    ghost use Rattle.std.specs.Prelude.{◌≤◌};
-    ghost use Rattle.edit_stamps.specs.PlaneMap.{map_of, HasStatesBelow};
     ghost use Rattle.replica_core.specs.Replica.{ReplicaState, IsReplica};
 
     ghost Value = { ReplicaState };
@@ -184,6 +182,7 @@ fn next_stamp(plane: &HeldPlane, number: u16) -> Result<Stamp, Fault>
 fn make(alloc: Global, rule: &Rule, stamp: Stamp, spec: &EditSpec) -> Result<Edit, Fault>
     ensures edit { Answers IsWant result (or_edit_fault (made rule.now stamp spec.now)) }
     ensures want { IfErr result (λ fault. IsWant fault → IsOk (made rule.now stamp spec.now)) }
+    ensures room { IfErr result (λ fault. fault ≢ Fault.StoreFull) }
     ensures states { IfOk result (λ edit. IsTrue (has_states_below rule.now.states edit)) }
 {
     let edit = match spec {
@@ -203,6 +202,7 @@ fn draw_into(plane: &mut HeldPlane, journal: &mut Journal, edit: &Edit) -> Resul
     ensures before { OnErr result (IsAsBefore plane.old plane.new) }
     ensures unnoted { OnErr result (journal.new ≡ journal.old) }
     ensures err { IfErr result IsWant }
+    ensures full { IfErr result (λ fault. fault ≡ Fault.StoreFull → length plane.new.store.squares ≡ plane.new.store.room) }
 {
     let noted = edit.copy()?;
     let root = plane.add(Added::Edits(slice::from_ref(edit)))?;
@@ -219,6 +219,7 @@ fn take_into(plane: &mut HeldPlane, journal: &mut Journal, content: &Content) ->
     ensures before { OnErr result (IsAsBefore plane.old plane.new) }
     ensures unnoted { OnErr result (journal.new ≡ journal.old) }
     ensures err { IfErr result IsWant }
+    ensures full { IfErr result (λ fault. fault ≡ Fault.StoreFull → length plane.new.store.squares ≡ plane.new.store.room) }
     ensures edits { OnOk result ((e : PlaneEdit) → Contains (edits_in content.now) e → IsEdit e) }
 {
     match content {
@@ -236,6 +237,7 @@ fn take_edits(plane: &mut HeldPlane, journal: &mut Journal, edits: &[Edit]) -> R
     ensures before { OnErr result (IsAsBefore plane.old plane.new) }
     ensures unnoted { OnErr result (journal.new ≡ journal.old) }
     ensures err { IfErr result IsWant }
+    ensures full { IfErr result (λ fault. fault ≡ Fault.StoreFull → length plane.new.store.squares ≡ plane.new.store.room) }
 {
     let fresh = journal.fresh(edits)?;
     let root = plane.add(Added::Edits(edits))?;
@@ -250,6 +252,7 @@ fn take_map(plane: &mut HeldPlane, other: &Plane) -> Result<(), Fault>
     ensures room { plane.new.store.room ≡ plane.old.store.room }
     ensures before { OnErr result (IsAsBefore plane.old plane.new) }
     ensures err { IfErr result IsWant }
+    ensures full { IfErr result (λ fault. fault ≡ Fault.StoreFull → length plane.new.store.squares ≡ plane.new.store.room) }
 {
     let root = plane.add(Added::Map(other))?;
     plane.set_root(root);

@@ -12,8 +12,8 @@ ghost use Rattle.replica_core.specs.World.{History, IsEditUnder, IsThere, Replic
 use crate::edit_spec::EditSpec;
 use crate::event::{Event, Reply, Stop};
 use crate::fault::Fault;
-use crate::message::Message;
 use crate::replica::Replica;
+use delta_exchange::Message;
 use generations_rule::Rule;
 use std::alloc::Global;
 use std::marker::Model;

@@ -1,7 +1,7 @@
 //! Journals handed on.
 
 ghost use Rattle.std.specs.Prelude.{◌≡◌, IfOk};
-ghost use Rattle.replica_core.specs.declared.message.Content.TheVariants.{Edits};
+ghost use Rattle.delta_exchange.specs.declared.message.Content.TheVariants.{Edits};
 
 use edit_stamps::{Edit, Rect, Write};
 use generations_rule::Rule;

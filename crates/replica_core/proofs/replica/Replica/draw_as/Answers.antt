@@ -20,7 +20,7 @@ returns-in_err-edit c =
       told.0,
       told.1,
       subst (IsDraw old old (edit_drawn old.rule (counter_in told.0) old.number c.args.spec.now)) (sym (is.1 ∙ ap Err is.2))
-          (refuses_made old told.0 c.in_ok-stamp.stamp c.args.spec.now c.in_err-edit.field-0.0 (sym told.2 ∙ c.in_ok-stamp.was) c.in_err-edit.ensures.edit c.in_err-edit.ensures.want),
+          (refuses_made old told.0 c.in_ok-stamp.stamp c.args.spec.now c.in_err-edit.field-0.0 (sym told.2 ∙ c.in_ok-stamp.was) c.in_err-edit.ensures.edit c.in_err-edit.ensures.want c.in_err-edit.ensures.room),
     )
 
 pub returns : goal.returns
@@ -48,8 +48,11 @@ returns-in_err-draw_into c =
       told.1,
       subst (IsDraw old new (edit_drawn old.rule (counter_in told.0) old.number c.args.spec.now)) (sym (is.1 ∙ ap Err is.2))
           (stops old new told.0 c.in_ok-stamp.stamp c.args.spec.now c.in_ok-edit.edit c.in_err-draw_into.field-0.0 (sym told.2 ∙ c.in_ok-stamp.was) c.in_ok-edit.ensures.edit
-          c.in_err-draw_into.ensures.err
-          (record { one = record { rule = refl; number = refl; room = c.draw_into.ensures.room }; map = c.in_err-draw_into.ensures.before.map; journal = c.in_err-draw_into.ensures.unnoted })),
+          (record {
+            want = c.in_err-draw_into.ensures.err;
+            unchanged = record { one = record { rule = refl; number = refl; room = c.draw_into.ensures.room }; map = c.in_err-draw_into.ensures.before.map; journal = c.in_err-draw_into.ensures.unnoted };
+            full = c.in_err-draw_into.ensures.full;
+          })),
     )
 
 pub invariant_of-self : goal.invariant_of-self
