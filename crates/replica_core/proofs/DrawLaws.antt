@@ -92,7 +92,7 @@ stops old new n stamp spec e fault next is want =
     inl (subst IsOk (sym (ap (λ s. s >>= (λ stamp. or_edit_fault (made old.rule stamp spec))) next ∙ is)) refl, want)
 
 -- a replica that nothing was done to
-unchanged : (r : ReplicaState) → IsUnchanged r r
+pub unchanged : (r : ReplicaState) → IsUnchanged r r
 unchanged r = record { one = record { rule = refl; number = refl; room = refl }; map = λ c. refl; journal = refl }
 
 -- an edit that the maker means is one that the draw means

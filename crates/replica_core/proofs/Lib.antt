@@ -2,6 +2,7 @@ pub mod JoiningLaws
 pub mod DrawLaws
 pub mod SideBySide
 pub mod StandingLaws
+pub mod ExchangeLaws
 pub mod EventLaws
 pub mod HistoryLaws
 pub mod HeadlineLaws

@@ -56,7 +56,7 @@ sends_taken rule number h r m stands snapshot = record {
 
 -- ---- draws
 
-all_recursively : (edits : List PlaneEdit) → ((e : PlaneEdit) → Contains edits e → IsEdit e) → AllByRecursion (λ e. IsEdit e) edits
+pub all_recursively : (edits : List PlaneEdit) → ((e : PlaneEdit) → Contains edits e → IsEdit e) → AllByRecursion (λ e. IsEdit e) edits
 all_recursively [] each = tt
 all_recursively (e ∷ edits) each = (each e (0, omega arith, refl), all_recursively edits (λ x there. each x (suc there.0, omega (arith, there.1), there.2)))
 

@@ -1,6 +1,7 @@
 pub mod Fault
 pub mod HeldPlane
 pub mod Replica
+pub mod Exchange
 pub mod World
 pub mod Headline
 pub mod Rows

@@ -3,6 +3,7 @@
 ghost use Rattle.std.specs.Prelude.{◌≡◌};
 
 use crate::event::Stop;
+use delta_exchange::ReadFault;
 use edit_stamps::EditFault;
 use stamped_tree::StoreFault;
 use std::alloc::AllocError;
@@ -14,12 +15,17 @@ use std::fmt;
 pub enum Fault {
     /// The edit's own refusal; never its want of memory, which is `Memory`.
     Edit(EditFault),
-    /// The replica's store holds as many squares as it has room for.
+    /// The store of the replica, or of the map that it reads, holds as many squares as it has room for.
     StoreFull,
+    /// The bytes are no message; never that the rule is another one, that the store is full, or want of
+    /// memory, which are faults of their own here.
+    Read(ReadFault),
     /// The message has another rule than the replica.
     OtherRule,
     /// The greatest counter of the plane is the last one, 2^48 - 1.
     ClockFull,
+    /// The journal has no such entry.
+    NoSuchEdit,
     /// There is no replica of this number.
     NoReplica,
     /// There is no message of this number.
@@ -38,8 +44,10 @@ impl Fault {
         match self {
             Fault::Edit(fault) => fault.number(),
             Fault::StoreFull => 13,
+            Fault::Read(fault) => fault.number(),
             Fault::OtherRule => 16,
             Fault::ClockFull => 24,
+            Fault::NoSuchEdit => 25,
             Fault::NoReplica => 26,
             Fault::NoMessage => 27,
             Fault::Memory => 255,
@@ -69,8 +77,10 @@ impl fmt::Display for Fault {
         match self {
             Fault::Edit(fault) => write!(f, "{fault}"),
             Fault::StoreFull => write!(f, "StoreFull"),
+            Fault::Read(fault) => write!(f, "{fault}"),
             Fault::OtherRule => write!(f, "OtherRule"),
             Fault::ClockFull => write!(f, "ClockFull"),
+            Fault::NoSuchEdit => write!(f, "NoSuchEdit"),
             Fault::NoReplica => write!(f, "NoReplica"),
             Fault::NoMessage => write!(f, "NoMessage"),
             Fault::Memory => write!(f, "Memory"),
@@ -115,6 +125,22 @@ impl From<EditFault> for Fault {
         match fault {
             EditFault::Memory => Fault::Memory,
             refusal => Fault::Edit(refusal),
+        }
+    }
+}
+
+impl From<ReadFault> for Fault {
+    ghost use Rattle.std.specs.Prelude.{◌≡◌};
+    ghost use Rattle.replica_core.specs.Fault.{fault_of_read};
+
+    ghost from_gives = { λ from fault. fault ≡ fault_of_read from };
+
+    fn from(fault: ReadFault) -> Fault {
+        match fault {
+            ReadFault::Memory => Fault::Memory,
+            ReadFault::StoreFull => Fault::StoreFull,
+            ReadFault::OtherRule => Fault::OtherRule,
+            refusal => Fault::Read(refusal),
         }
     }
 }

@@ -1,12 +1,12 @@
 //! One replica of a shared plane.
 
-ghost use Rattle.std.specs.Prelude.{◌≡◌, ◌≢◌, ◌≤◌, ◌^◌, ◌↔◌, ◌++◌, ◌∷◌, [], ℕ, false, Contains, IfOk, IfErr, IsTrue, OnOk, OnErr, length};
+ghost use Rattle.std.specs.Prelude.{List, take, drop, ◌≡◌, ◌≢◌, ◌≤◌, ◌^◌, ◌↔◌, ◌++◌, ◌∷◌, [], ℕ, false, Contains, IfOk, IfErr, IsTrue, OnOk, OnErr, length};
 ghost use Rattle.std.specs.Result.{IsOk};
-ghost use Rattle.generations_rule.specs.Refusal.{Answers};
+ghost use Rattle.generations_rule.specs.Refusal.{Answers, AnswersAs};
 ghost use Rattle.generations_rule.specs.Place.{at_place};
 ghost use Rattle.edit_stamps.specs.Stamp.{counter_in};
 ghost use Rattle.edit_stamps.specs.PlaneMap.{HasStampedWrites, IsGreatestStamp};
-ghost use Rattle.edit_stamps.specs.Write.{unwritten, AreSame, joined};
+ghost use Rattle.edit_stamps.specs.Write.{unwritten, AreSame, Writes, joined};
 ghost use Rattle.edit_stamps.specs.Edit.{PlaneEdit, IsEdit, has_states_below, writes_of, HaveStatesBelow, greatest};
 ghost use Rattle.edit_journal.specs.Journal.{noted};
 ghost use Rattle.replica_core.specs.Fault.{IsWant};
@@ -18,7 +18,7 @@ ghost use Rattle.stamped_tree.specs.Plane.{map_of};
 use crate::edit_spec::EditSpec;
 use crate::fault::Fault;
 use crate::held_plane::{Added, HeldPlane};
-use delta_exchange::{Content, Message};
+use delta_exchange::{Content, Message, read, write_delta, write_state};
 use edit_journal::Journal;
 use edit_stamps::{Edit, Stamp, Write, counter_of};
 use generations_rule::Rule;
@@ -54,6 +54,13 @@ impl Model for Replica {
 
 impl Replica {
     ghost use Rattle.edit_stamps.specs.Plane.{is_in_plane};
+    ghost use Rattle.delta_exchange.specs.declared.message.Content.TheVariants.{Edits};
+    ghost use Rattle.delta_exchange.specs.Delta.{AreTellable};
+    ghost use Rattle.delta_exchange.specs.MessageReading.{message_of, HasMap};
+    ghost use Rattle.delta_exchange.specs.Spelling.{delta_text};
+    ghost use Rattle.delta_exchange.specs.State.{IsTellableMap};
+    ghost use Rattle.delta_exchange.specs.StateText.{IsStateText};
+    ghost use Rattle.replica_core.specs.Exchange.{delta_given, entries, IsTakingOf, IsTakingText};
     ghost use Rattle.replica_core.specs.Replica.{edit_drawn, IsDraw, IsJournalOf, IsNew, IsReplica, IsSnapshot, IsTaking};
 
     /// A replica that holds nothing, with room for 2^26 squares. The only error is want of memory.
@@ -166,6 +173,48 @@ impl Replica {
         }
         take_into(&mut self.plane, &mut self.journal, message.content())?;
         Ok(())
+    }
+
+    /// Takes the bytes of a message: reads them, and takes what they tell, whole or not at all. Refused
+    /// are bytes that are no message under this replica's rule, by their first fault. After any refusal
+    /// the replica is as it was.
+    pub fn take_bytes(&mut self, text: &[u8]) -> Result<(), Fault>
+        // What is taken, or which fault.
+        ensures told { IsTakingText self.old self.new (message_of self.old.rule text.now) result }
+        // The text of edits, and of a map, is taken.
+        ensures edits { (meant : List PlaneEdit) → AreTellable self.old.rule.states meant → text.now ≡ delta_text self.old.rule meant
+            → IsTakingOf self.old self.new (λ content. content ≡ Edits meant) result }
+        ensures map { (meant : Writes) → IsTellableMap self.old.rule.states meant → IsStateText self.old.rule meant text.now
+            → IsTakingOf self.old self.new (λ content. HasMap content meant) result }
+    {
+        let message = read(self.alloc, &self.rule, text)?;
+        self.take(&message)
+    }
+
+    /// The bytes of a message of this replica's map. The only error is want of memory.
+    pub fn state(&self) -> Result<Vec<u8>, AllocError>
+        ensures text { IfOk result (λ text. IsStateText self.now.rule (map_of self.now.plane) text.items) }
+        ensures map { IsTellableMap self.now.rule.states (map_of self.now.plane) }
+    {
+        // For the proof alone: the call tells that each write has a stamp, and none lies outside.
+        let _write = self.plane.plane().get(0, 0);
+        write_state(self.alloc, &self.rule, self.plane.plane())
+    }
+
+    /// The bytes of a message of `count` edits of the journal from place `from` on, counted from 0.
+    /// Refused is `NoSuchEdit` where the journal ends before; memory is wanted only where it does not.
+    pub fn delta(&self, from: u32, count: u32) -> Result<Vec<u8>, Fault>
+        ensures text { AnswersAs (λ text meant. text.items ≡ meant) IsWant result (delta_given self.now from count) }
+        ensures err { IfErr result (λ fault. IsWant fault → IsOk (entries self.now.journal from count)) }
+        ensures edits { IfOk result (λ _. AreTellable self.now.rule.states (take count (drop from self.now.journal))) }
+    {
+        let end = u64::from(from) + u64::from(count);
+        let journal = self.journal.as_slice();
+        if end > journal.len() as u64 {
+            return Err(Fault::NoSuchEdit);
+        }
+        let edits = &journal[from as usize..end as usize];
+        Ok(write_delta(self.alloc, &self.rule, edits)?)
     }
 }
 

@@ -1,0 +1,83 @@
+-- The bytes of messages, taken and given.
+use Rattle.std.proofs.Common.{◌≡◌, ℕ, zero, suc, ◌<◌, ◌^◌, List, [], ◌∷◌, refl, sym, ap, subst, arith, inl, inr}
+use Rattle.std.specs.Prelude.{IsTrue, take, drop, Result, Ok, Err}
+use Rattle.std.specs.List.{AllByRecursion, Contains}
+use Rattle.std.proofs.lemmas.List.{length-take}
+use Rattle.generations_rule.specs.Refusal.{AnswersAs}
+use Rattle.generations_rule.specs.Rule.{GenerationsRule}
+use Rattle.edit_stamps.specs.Edit.{HaveStatesBelow, has_states_below, IsEdit, PlaneEdit}
+use Rattle.edit_stamps.specs.Write.{Writes}
+use Rattle.delta_exchange.specs.declared.fault.ReadFault.{ReadFault}
+use Rattle.delta_exchange.specs.declared.message.Content.{Content}
+use Rattle.delta_exchange.specs.Delta.{AreTellable}
+use Rattle.delta_exchange.specs.Fault.{IsWantOrFull}
+use Rattle.delta_exchange.specs.Message.{Shared}
+use Rattle.delta_exchange.specs.MessageReading.{HasContentTold, HasMap, StandsForMap, StandsForTold, Told}
+use Rattle.replica_core.specs.declared.fault.Fault.{Fault}
+use Rattle.replica_core.specs.Exchange.{IsTakingOf, IsTakingText}
+use Rattle.replica_core.specs.Fault.{IsWant, fault_of_read}
+use Rattle.replica_core.specs.Replica.{IsTaking, ReplicaState}
+use Rattle.replica_core.proofs.DrawLaws.{unchanged}
+use Rattle.replica_core.proofs.StandingLaws.{all_recursively}
+
+-- ---- entries of a journal
+
+all_taken : {X : Type 0} (P : X → Type 0) (n : ℕ) (xs : List X) → AllByRecursion P xs → AllByRecursion P (take n xs)
+all_taken P zero xs all = tt
+all_taken P (suc n) [] all = tt
+all_taken P (suc n) (x ∷ xs) all = (all.0, all_taken P n xs all.1)
+
+all_dropped : {X : Type 0} (P : X → Type 0) (n : ℕ) (xs : List X) → AllByRecursion P xs → AllByRecursion P (drop n xs)
+all_dropped P zero xs all = all
+all_dropped P (suc n) [] all = tt
+all_dropped P (suc n) (x ∷ xs) all = all_dropped P n xs all.1
+
+all_between : {X : Type 0} (P : X → Type 0) (from count : ℕ) (xs : List X) → AllByRecursion P xs → AllByRecursion P (take count (drop from xs))
+all_between P from count xs all = all_taken P count (drop from xs) (all_dropped P from xs all)
+
+-- fewer than 2^32 entries of a journal make a delta
+pub entries_tellable : (states from count : ℕ) (journal : List PlaneEdit) → count < 2 ^ 32 → ((e : PlaneEdit) → Contains journal e → IsEdit e)
+    → HaveStatesBelow states journal → AreTellable states (take count (drop from journal))
+entries_tellable states from count journal few edits below = record {
+  edits_are = all_between (λ e. IsEdit e) from count journal (all_recursively journal edits);
+  below = all_between (λ e. IsTrue (has_states_below states e)) from count journal below;
+  count = omega (arith, few, length-take count (drop from journal));
+}
+
+-- ---- what is taken
+
+-- a want of the reader is one of the replica
+want_read : (fault : ReadFault) → IsWantOrFull fault → IsWant (fault_of_read fault)
+want_read fault (inl memory) = subst (λ f. IsWant (fault_of_read f)) (sym memory) tt
+want_read fault (inr full) = subst (λ f. IsWant (fault_of_read f)) (sym full) tt
+
+-- a text that is refused, or whose reading meets a want
+pub refuses_text : (r : ReplicaState) (rule : GenerationsRule) (meant : Result Told ReadFault) (refusal : ReadFault)
+    → AnswersAs (StandsForTold rule) IsWantOrFull (Err refusal) meant → IsTakingText r r meant (Err (fault_of_read refusal))
+refuses_text r rule (Ok told) refusal want = inl (want_read refusal want, unchanged r)
+refuses_text r rule (Err fault) refusal (inl want) = inl (want_read refusal want, unchanged r)
+refuses_text r rule (Err fault) refusal (inr same) = inr (refusal, ap Err (sym same), refl, refl)
+
+-- the text of a map whose reading meets a want
+pub refuses_map : (r : ReplicaState) (rule : GenerationsRule) (p : Writes) (refusal : ReadFault)
+    → AnswersAs (StandsForMap rule) IsWantOrFull (Err refusal) (Ok p) → IsTakingOf r r (λ content. HasMap content p) (Err (fault_of_read refusal))
+refuses_map r rule p refusal want = (want_read refusal want, unchanged r)
+
+-- a message of the replica's rule
+pub takes_some : (old new : ReplicaState) (m : Shared) (P : Content → Type 0) (result : Result (Unit {0}) Fault)
+    → m.rule ≡ old.rule → P m.content → IsTaking old new m result → IsTakingOf old new P result
+takes_some old new m P (Ok done) same is taking = (m.content, is, taking.1)
+takes_some old new m P (Err fault) same is (inl want) = (want.1.want, want.1.unchanged)
+takes_some old new m P (Err fault) same is (inr other) = absurd (other.1 same)
+
+-- what a text tells, as the message that was read of it is taken
+takes_told : (old new : ReplicaState) (told : Told) (result : Result (Unit {0}) Fault)
+    → IsTakingOf old new (λ content. HasContentTold content told) result → IsTakingText old new (Ok told) result
+takes_told old new told (Ok done) takes = (told, refl, takes)
+takes_told old new told (Err fault) want = inl want
+
+pub takes_text : (old new : ReplicaState) (m : Shared) (meant : Result Told ReadFault) (result : Result (Unit {0}) Fault)
+    → AnswersAs (StandsForTold old.rule) IsWantOrFull (Ok m) meant → IsTaking old new m result → IsTakingText old new meant result
+takes_text old new m (Ok told) result stands taking =
+    takes_told old new told result (takes_some old new m (λ content. HasContentTold content told) result stands.0 stands.1 taking)
+takes_text old new m (Err fault) result stands taking = absurd stands

@@ -1,0 +1,44 @@
+use Rattle.std.proofs.Common.{◌∙◌, Err, ap, sym, subst}
+use Rattle.std.proofs.lemmas.Result.{err_from_is_err_and}
+use Rattle.edit_stamps.specs.Write.{Writes}
+use Rattle.delta_exchange.specs.MessageReading.{HasMap, message_of}
+use Rattle.delta_exchange.specs.State.{IsTellableMap}
+use Rattle.delta_exchange.specs.StateText.{IsStateText}
+use Rattle.replica_core.specs.Exchange.{IsTakingOf, IsTakingText}
+use Rattle.replica_core.specs.Replica.{ReplicaState, IsTaking}
+use Rattle.replica_core.proofs.ExchangeLaws.{refuses_map, refuses_text, takes_some, takes_text}
+use Rattle.replica_core.proofs.replica.Replica.take_bytes.Goals as goal
+
+pub returns-in_err-message-clause-told : goal.returns-in_err-message-clause-told
+returns-in_err-message-clause-told c =
+    let is = err_from_is_err_and c.from_residual.result c.from_residual.ensures.1 in
+    let old : ReplicaState = record { rule = c.self.inside.rule; number = c.self.inside.number; plane = c.self.inside.plane; journal = c.self.inside.journal } in
+    subst (λ r. IsTakingText r r (message_of r.rule c.args.text.now) c.from_residual.result) c.self.view_is
+    (subst (IsTakingText old old (message_of old.rule c.args.text.now)) (sym (is.1 ∙ ap Err is.2))
+    (refuses_text old old.rule (message_of old.rule c.args.text.now) c.in_err-message.field-0.0 c.in_err-message.ensures.exact))
+
+pub returns-in_err-message-clause-map : goal.returns-in_err-message-clause-map
+returns-in_err-message-clause-map c =
+    let is = err_from_is_err_and c.from_residual.result c.from_residual.ensures.1 in
+    let old : ReplicaState = record { rule = c.self.inside.rule; number = c.self.inside.number; plane = c.self.inside.plane; journal = c.self.inside.journal } in
+    subst (λ r. (meant : Writes) → IsTellableMap r.rule.states meant → IsStateText r.rule meant c.args.text.now
+    → IsTakingOf r r (λ content. HasMap content meant) c.from_residual.result) c.self.view_is
+    (λ meant tellable spelt. subst (IsTakingOf old old (λ content. HasMap content meant)) (sym (is.1 ∙ ap Err is.2))
+    (refuses_map old old.rule meant c.in_err-message.field-0.0 (c.in_err-message.ensures.only_map meant tellable spelt)))
+
+pub returns-clause-told : goal.returns-clause-told
+returns-clause-told c =
+    let old : ReplicaState = record { rule = c.self.inside.rule; number = c.self.inside.number; plane = c.self.inside.plane; journal = c.self.inside.journal } in
+    subst (λ r. IsTakingText r c.take.new.self (message_of r.rule c.args.text.now) c.take.result) c.self.view_is
+    (takes_text old c.take.new.self c.in_ok-message.message (message_of old.rule c.args.text.now) c.take.result
+    c.in_ok-message.ensures.exact (subst (λ r. IsTaking r c.take.new.self c.in_ok-message.message c.take.result) (sym c.self.view_is) c.take.ensures))
+
+pub returns-clause-map : goal.returns-clause-map
+returns-clause-map c =
+    let old : ReplicaState = record { rule = c.self.inside.rule; number = c.self.inside.number; plane = c.self.inside.plane; journal = c.self.inside.journal } in
+    let taking = subst (λ r. IsTaking r c.take.new.self c.in_ok-message.message c.take.result) (sym c.self.view_is) c.take.ensures in
+    subst (λ r. (meant : Writes) → IsTellableMap r.rule.states meant → IsStateText r.rule meant c.args.text.now
+    → IsTakingOf r c.take.new.self (λ content. HasMap content meant) c.take.result) c.self.view_is
+    (λ meant tellable spelt.
+    let stands = c.in_ok-message.ensures.only_map meant tellable spelt in
+    takes_some old c.take.new.self c.in_ok-message.message (λ content. HasMap content meant) c.take.result stands.0 stands.1 taking)
