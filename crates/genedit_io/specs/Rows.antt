@@ -45,11 +45,32 @@ area_side = refl
 pub full_store : name_of_number 13 ≡ codes "StoreFull"
 full_store = refl
 
+pub magic : name_of_number 14 ≡ codes "Magic"
+magic = refl
+
+pub version : name_of_number 15 ≡ codes "Version"
+version = refl
+
 pub other_rule : name_of_number 16 ≡ codes "OtherRule"
 other_rule = refl
 
+pub short : name_of_number 17 ≡ codes "Short"
+short = refl
+
+pub stamp_range : name_of_number 18 ≡ codes "StampRange"
+stamp_range = refl
+
+pub not_canonical : name_of_number 19 ≡ codes "NotCanonical"
+not_canonical = refl
+
+pub trailing : name_of_number 20 ≡ codes "Trailing"
+trailing = refl
+
 pub clock_full : name_of_number 24 ≡ codes "ClockFull"
 clock_full = refl
+
+pub no_such_edit : name_of_number 25 ≡ codes "NoSuchEdit"
+no_such_edit = refl
 
 pub no_replica : name_of_number 26 ≡ codes "NoReplica"
 no_replica = refl

@@ -24,7 +24,9 @@ names =
     (1, codes "Slashes") ∷ (2, codes "Digit") ∷ (3, codes "States")
     ∷ (4, codes "Header") ∷ (5, codes "Tag") ∷ (6, codes "Count") ∷ (7, codes "State") ∷ (8, codes "TooMany")
     ∷ (9, codes "Nothing") ∷ (10, codes "OutOfPlane") ∷ (11, codes "StateRange") ∷ (12, codes "AreaSide")
-    ∷ (13, codes "StoreFull") ∷ (16, codes "OtherRule") ∷ (24, codes "ClockFull") ∷ (26, codes "NoReplica") ∷ (27, codes "NoMessage")
+    ∷ (13, codes "StoreFull") ∷ (14, codes "Magic") ∷ (15, codes "Version") ∷ (16, codes "OtherRule") ∷ (17, codes "Short")
+    ∷ (18, codes "StampRange") ∷ (19, codes "NotCanonical") ∷ (20, codes "Trailing") ∷ (24, codes "ClockFull") ∷ (25, codes "NoSuchEdit")
+    ∷ (26, codes "NoReplica") ∷ (27, codes "NoMessage")
     ∷ (38, codes "NoPattern") ∷ []
 
 abbrev pub name_of_number : ℕ → List ℕ
@@ -45,7 +47,7 @@ run_fault_text Write = codes "write fault"
 run_fault_text Memory = codes "out of memory"
 run_fault_text StoreFull = codes "store full"
 
--- a fault that is no part of what a run means; no run has a store yet that could be full
+-- a fault that is no part of what a run means; that a store is full is told only of a whole text
 abbrev pub IsWant : RunFault → Type 0
 IsWant Memory = ⊤
 IsWant StoreFull = ⊥

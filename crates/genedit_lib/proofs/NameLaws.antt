@@ -14,8 +14,11 @@ use Rattle.multistate_rle.specs.RleFault.{text_fault_number, text_fault_place, t
 use Rattle.edit_stamps.specs.declared.fault.EditFault.{EditFault}
 use Rattle.edit_stamps.specs.declared.fault.EditFault.TheVariants as edits
 use Rattle.edit_stamps.specs.EditFault.{edit_fault_number, edit_fault_text}
+use Rattle.delta_exchange.specs.declared.fault.ReadFault.{ReadFault}
+use Rattle.delta_exchange.specs.declared.fault.ReadFault.TheVariants as reads
+use Rattle.delta_exchange.specs.Fault.{read_fault_number, read_fault_text}
 use Rattle.replica_core.specs.declared.fault.Fault.{Fault}
-use Rattle.replica_core.specs.declared.fault.Fault.TheVariants.{Edit, StoreFull, OtherRule, ClockFull, NoReplica, NoMessage, Memory}
+use Rattle.replica_core.specs.declared.fault.Fault.TheVariants.{Edit, StoreFull, Read, OtherRule, ClockFull, NoSuchEdit, NoReplica, NoMessage, Memory}
 use Rattle.replica_core.specs.declared.event.Stop.{Stop}
 use Rattle.replica_core.specs.declared.event.Stop.TheVariants as stops
 use Rattle.replica_core.specs.Fault.{replica_fault_number, replica_fault_text, stop_number, stop_text}
@@ -43,11 +46,29 @@ edit_names edits.StateRange refused = refl
 edit_names edits.AreaSide refused = refl
 edit_names edits.Memory refused = absurd (refused refl)
 
+read_names : (fault : ReadFault) → IsNamed (read_fault_number fault) None (read_fault_text fault)
+read_names reads.TooMany refused = refl
+read_names reads.Nothing refused = refl
+read_names reads.OutOfPlane refused = refl
+read_names reads.StateRange refused = refl
+read_names reads.AreaSide refused = refl
+read_names reads.StoreFull refused = refl
+read_names reads.Magic refused = refl
+read_names reads.Version refused = refl
+read_names reads.OtherRule refused = refl
+read_names reads.Short refused = refl
+read_names reads.StampRange refused = refl
+read_names reads.NotCanonical refused = refl
+read_names reads.Trailing refused = refl
+read_names reads.Memory refused = absurd (refused refl)
+
 replica_names : (fault : Fault) → IsNamed (replica_fault_number fault) None (replica_fault_text fault)
 replica_names (Edit fault) refused = edit_names fault refused
 replica_names StoreFull refused = refl
+replica_names (Read fault) refused = read_names fault refused
 replica_names OtherRule refused = refl
 replica_names ClockFull refused = refl
+replica_names NoSuchEdit refused = refl
 replica_names NoReplica refused = refl
 replica_names NoMessage refused = refl
 replica_names Memory refused = absurd (refused refl)
@@ -57,7 +78,7 @@ stop_names stops.StoreFull refused = refl
 stop_names stops.Memory refused = absurd (refused refl)
 
 pub names_agree : NamesAgree
-names_agree = record { rules = rule_names; texts = text_names; edits = edit_names; replicas = replica_names; stops = stop_names }
+names_agree = record { rules = rule_names; texts = text_names; edits = edit_names; reads = read_names; replicas = replica_names; stops = stop_names }
 
 -- as many numbers, and as many names, differ as stand in the table
 pub names_are_distinct : NamesAreDistinct

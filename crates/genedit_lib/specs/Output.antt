@@ -9,8 +9,9 @@ use Rattle.edit_stamps.specs.declared.write.Write.{Write}
 use Rattle.edit_stamps.specs.Stamp.{counter_in, replica_in}
 use Rattle.replica_core.specs.declared.event.Event.{Event}
 use Rattle.replica_core.specs.declared.event.Event.TheVariants.{Draw}
+use Rattle.hex.specs.Hex.{encode_lower}
 use Rattle.replica_core.specs.declared.event.Reply.{Reply}
-use Rattle.replica_core.specs.declared.event.Reply.TheVariants.{Drawn, Sent, Taken, Shown, Same, Refused}
+use Rattle.replica_core.specs.declared.event.Reply.TheVariants.{Drawn, Sent, Taken, Shown, Same, Bytes, Refused}
 use Rattle.replica_core.specs.declared.edit_spec.EditSpec.{EditSpec}
 use Rattle.replica_core.specs.declared.edit_spec.EditSpec.TheVariants.{Copy, Or}
 use Rattle.replica_core.specs.Fault.{replica_fault_number, replica_fault_text}
@@ -53,6 +54,7 @@ reply_line (Sent message) = codes "sent " ++ decimal message ++ codes "\n"
 reply_line Taken = codes "taken\n"
 reply_line (Shown write) = write_text write ++ codes "\n"
 reply_line (Same same) = if same then codes "same\n" else codes "differ\n"
+reply_line (Bytes text) = encode_lower text ++ codes "\n"
 reply_line (Refused fault) = refused_text (replica_fault_number fault) (replica_fault_text fault) ++ codes "\n"
 
 -- ---- the lines of patterns

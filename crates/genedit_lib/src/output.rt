@@ -1,6 +1,7 @@
 //! What is printed.
 
 ghost use Rattle.std.specs.Prelude.{◌≡◌, ◌++◌, OnOk, IfOk, codes, decimal, map};
+ghost use Rattle.hex.specs.Hex.{encode_lower};
 ghost use Rattle.multistate_rle.specs.RleFault.{text_fault_number, text_fault_text};
 ghost use Rattle.genedit_lib.specs.Output.{no_pattern_line, filled, pattern_line, refused_text, reply_line, stamp_text, write_text};
 ghost use Rattle.genedit_lib.specs.Plan.{line_of};
@@ -111,12 +112,24 @@ fn push_line(alloc: Global, out: &mut Vec<u8>, reply: &Reply) -> Result<(), Allo
         }
         Reply::Same(true) => out.extend_from_slice(b"same\n"),
         Reply::Same(false) => out.extend_from_slice(b"differ\n"),
+        Reply::Bytes(text) => {
+            push_hex(alloc, out, text.as_slice())?;
+            out.extend_from_slice(b"\n")
+        }
         Reply::Refused(fault) => {
             let name = fault.to_string(alloc)?;
             push_refusal(out, fault.number(), name.as_bytes())?;
             out.extend_from_slice(b"\n")
         }
     }
+}
+
+/// Two digits for each byte, in lower case.
+fn push_hex(alloc: Global, out: &mut Vec<u8>, bytes: &[u8]) -> Result<(), AllocError>
+    ensures { OnOk result (out.new.items ≡ out.old.items ++ encode_lower bytes.now) }
+{
+    let digits = hex::encode(alloc, bytes)?;
+    out.extend_from_slice(digits.as_bytes())
 }
 
 fn push_write(out: &mut Vec<u8>, write: Write) -> Result<(), AllocError>

@@ -14,7 +14,7 @@ use Rattle.multistate_rle.specs.Position.{words, signed_number}
 use Rattle.multistate_rle.specs.declared.cell.Cell.{Cell}
 use Rattle.edit_stamps.specs.declared.rect.Rect.{Rect}
 use Rattle.replica_core.specs.declared.event.Event.{Event}
-use Rattle.replica_core.specs.declared.event.Event.TheVariants.{Draw, SendState, Deliver, Show, Same}
+use Rattle.replica_core.specs.declared.event.Event.TheVariants.{Draw, SendDelta, SendState, Deliver, Show, Same, Dump}
 use Rattle.replica_core.specs.declared.edit_spec.EditSpec.TheVariants.{Cells, Clear}
 use Rattle.genedit_script.specs.declared.command.Command.{Command}
 use Rattle.genedit_script.specs.declared.command.Command.TheVariants.{Does, Names, Copies, Ors}
@@ -62,6 +62,11 @@ abbrev pub sending_spelled : List (List ℕ) → Option Event
 sending_spelled (replica ∷ []) = option_map SendState (number_spelled replica)
 sending_spelled _ = None
 
+-- R FROM COUNT
+abbrev pub delta_spelled : List (List ℕ) → Option Event
+delta_spelled (replica ∷ from ∷ count ∷ []) = number_spelled replica >=> λ replica. number_spelled from >=> λ from. option_map (SendDelta replica from) (number_spelled count)
+delta_spelled _ = None
+
 -- M R
 abbrev pub delivery_spelled : List (List ℕ) → Option Event
 delivery_spelled (message ∷ replica ∷ []) = number_spelled message >=> λ message. option_map (Deliver message) (number_spelled replica)
@@ -77,6 +82,11 @@ abbrev pub same_spelled : List (List ℕ) → Option Event
 same_spelled (one ∷ other ∷ []) = number_spelled one >=> λ one. option_map (Same one) (number_spelled other)
 same_spelled _ = None
 
+-- M
+abbrev pub dump_spelled : List (List ℕ) → Option Event
+dump_spelled (message ∷ []) = option_map Dump (number_spelled message)
+dump_spelled _ = None
+
 -- R x y w h
 abbrev pub clear_spelled : List (List ℕ) → Option Event
 clear_spelled (replica ∷ x ∷ y ∷ width ∷ height ∷ []) = number_spelled replica >=> λ replica. option_map (λ area. Draw replica (Clear area)) (area_spelled x y width height)
@@ -91,7 +101,9 @@ event_spelled (name ∷ words) =
     else (if bytes_eq name (codes "deliver") then delivery_spelled words
     else (if bytes_eq name (codes "show") then show_spelled words
     else (if bytes_eq name (codes "clear") then clear_spelled words
-    else (if bytes_eq name (codes "same") then same_spelled words else None)))))
+    else (if bytes_eq name (codes "same") then same_spelled words
+    else (if bytes_eq name (codes "delta") then delta_spelled words
+    else (if bytes_eq name (codes "dump") then dump_spelled words else None)))))))
 
 -- 1 to 16 ASCII letters and digits
 abbrev pub is_pattern_name : List ℕ → Bool

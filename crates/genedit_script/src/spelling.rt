@@ -4,7 +4,7 @@ ghost use Rattle.std.specs.Prelude.{◌≡◌, ◌∷◌, [], IfOk, IfSome, Matc
 ghost use Rattle.std.specs.Char.{is_ascii_alphanumeric};
 ghost use Rattle.std.specs.List.{list_all};
 ghost use Rattle.multistate_rle.specs.Position.{words};
-ghost use Rattle.genedit_script.specs.Script.{argument_behind, rule_spelled, replicas_spelled, cell_spelled, cells_spelled, number_spelled, draw_spelled, sending_spelled, delivery_spelled, same_spelled, show_spelled, area_spelled, clear_spelled, event_spelled, is_pattern_name, name_spelled, paste_spelled, command_spelled, opening_spelled};
+ghost use Rattle.genedit_script.specs.Script.{argument_behind, rule_spelled, replicas_spelled, cell_spelled, cells_spelled, number_spelled, draw_spelled, delta_spelled, sending_spelled, delivery_spelled, dump_spelled, same_spelled, show_spelled, area_spelled, clear_spelled, event_spelled, is_pattern_name, name_spelled, paste_spelled, command_spelled, opening_spelled};
 
 use crate::command::{Command, Paste, PatternName};
 use edit_stamps::Rect;
@@ -138,6 +138,10 @@ fn event_in(alloc: Global, name: &[u8], arguments: &[u8]) -> Result<Option<Event
         Ok(clear_in(arguments))
     } else if name == b"same".as_slice() {
         Ok(same_in(arguments))
+    } else if name == b"delta".as_slice() {
+        Ok(delta_in(arguments))
+    } else if name == b"dump".as_slice() {
+        Ok(dump_in(arguments))
     } else {
         Ok(None)
     }
@@ -171,6 +175,19 @@ fn send_in(arguments: &[u8]) -> Option<Event>
         return None;
     }
     Some(Event::SendState(unsigned(replica)?))
+}
+
+/// `R FROM COUNT`
+fn delta_in(arguments: &[u8]) -> Option<Event>
+    ensures { result ≡ delta_spelled (words arguments.now) }
+{
+    let (replica, rest) = split_word(arguments)?;
+    let (from, rest) = split_word(rest)?;
+    let (count, rest) = split_word(rest)?;
+    if !ends(rest) {
+        return None;
+    }
+    Some(Event::SendDelta(unsigned(replica)?, unsigned(from)?, unsigned(count)?))
 }
 
 /// `M R`
@@ -209,6 +226,17 @@ fn same_in(arguments: &[u8]) -> Option<Event>
         return None;
     }
     Some(Event::Same(unsigned(one)?, unsigned(other)?))
+}
+
+/// `M`
+fn dump_in(arguments: &[u8]) -> Option<Event>
+    ensures { result ≡ dump_spelled (words arguments.now) }
+{
+    let (message, rest) = split_word(arguments)?;
+    if !ends(rest) {
+        return None;
+    }
+    Some(Event::Dump(u64::from(unsigned(message)?)))
 }
 
 /// `R x y w h`

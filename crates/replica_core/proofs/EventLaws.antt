@@ -9,15 +9,17 @@ use Rattle.edit_stamps.specs.Edit.{PlaneEdit, IsEdit, greatest, greatest_counter
 use Rattle.edit_stamps.specs.Write.{AreSame}
 use Rattle.stamped_tree.specs.Plane.{map_of}
 use Rattle.replica_core.specs.declared.event.Event.{Event}
-use Rattle.replica_core.specs.declared.event.Event.TheVariants.{Draw, SendState, Deliver, Show, Same}
+use Rattle.replica_core.specs.declared.event.Event.TheVariants.{Draw, SendDelta, SendState, Deliver, Show, Same, Dump}
 use Rattle.replica_core.specs.declared.event.Reply.{Reply}
 use Rattle.replica_core.specs.declared.event.Reply.TheVariants as replies
 use Rattle.replica_core.specs.declared.fault.Fault.{Fault}
 use Rattle.replica_core.specs.declared.fault.Fault.TheVariants as faults
 use Rattle.replica_core.specs.declared.edit_spec.EditSpec.{EditSpec}
-use Rattle.delta_exchange.specs.Message.{Shared}
+use Rattle.delta_exchange.specs.Delta.{AreTellable}
+use Rattle.delta_exchange.specs.Spelling.{delta_text}
+use Rattle.replica_core.specs.Exchange.{entries}
 use Rattle.replica_core.specs.Replica.{ReplicaState, edit_drawn}
-use Rattle.replica_core.specs.World.{IsEditUnder, History, ReplicaHistory, Sent, State, AreEdits, Given, IsReply, StandSideBySide, StandsFor, StandsForSent, StandsForWorld, WorldState, after, after_drawing, after_message, changed, delivered, drawn, message, next_message, numbered, replica, with_message, with_replica}
+use Rattle.replica_core.specs.World.{IsEditUnder, History, ReplicaHistory, Sent, Delta, State, TellsBytes, named_entries, AreEdits, Given, IsReply, StandSideBySide, StandsFor, StandsForSent, StandsForWorld, WorldState, after, after_drawing, after_message, changed, delivered, drawn, message, next_message, numbered, replica, with_message, with_replica}
 use Rattle.replica_core.proofs.HistoryLaws.{edits_drawn}
 use Rattle.replica_core.proofs.SideBySide.{beside, numbered_at, numbered_past, set_same, side_set, side_push}
 
@@ -90,15 +92,15 @@ draws_nowhere w rs r spec valid side none =
 
 -- ---- deliveries
 
-pub takes_in_world : (w : History) (rs : List ReplicaState) (ms : List Shared) (m j r i : ℕ) (old new : ReplicaState) (shared : Shared) (reply : Reply)
+pub takes_in_world : (w : History) (rs : List ReplicaState) (ms : List (List ℕ)) (m j r i : ℕ) (old new : ReplicaState) (text : List ℕ) (reply : Reply)
     → StandSideBySide (StandsFor w.rule) w.replicas rs → StandSideBySide (λ k. StandsForSent w.rule) w.messages ms
-    → 1 ≤ m → j ≡ m - 1 → slice_get ms j ≡ Some shared → 1 ≤ r → i ≡ r - 1 → slice_get rs i ≡ Some old
-    → ((h : ReplicaHistory) (sent : Sent) → StandsFor w.rule old.number h old → StandsForSent w.rule sent shared
+    → 1 ≤ m → j ≡ m - 1 → slice_get ms j ≡ Some text → 1 ≤ r → i ≡ r - 1 → slice_get rs i ≡ Some old
+    → ((h : ReplicaHistory) (sent : Sent) → StandsFor w.rule old.number h old → StandsForSent w.rule sent text
     → (reply ≡ replies.Taken) × StandsFor w.rule old.number (after_message h sent) new)
     → IsReply w (Deliver m r) reply × StandSideBySide (StandsFor w.rule) (after w (Deliver m r)).replicas (slice_set rs i new)
-takes_in_world w rs ms m j r i old new shared reply side sides one_m at_m there_m one at there step =
+takes_in_world w rs ms m j r i old new text reply side sides one_m at_m there_m one at there step =
     let near = beside (StandsFor w.rule) w.replicas rs i old side there in
-    let near_m = beside (λ k. StandsForSent w.rule) w.messages ms j shared sides there_m in
+    let near_m = beside (λ k. StandsForSent w.rule) w.messages ms j text sides there_m in
     let h : ReplicaHistory = near.other in
     let sent : Sent = near_m.other in
     let is : replica w r ≡ Ok h = found w.replicas r i h faults.NoReplica one at near.there in
@@ -117,25 +119,72 @@ takes_in_world w rs ms m j r i old new shared reply side sides one_m at_m there_
     Delivers meant = Given meant reply (λ d. reply ≡ replies.Taken)
         × StandSideBySide (StandsFor w.rule) (changed w meant (λ d. with_replica w r d)).replicas (slice_set rs i new)
 
--- ---- sent maps
+-- ---- what is sent
 
-pub sends_in_world : (w : History) (rs : List ReplicaState) (ms : List Shared) (r i : ℕ) (sender : ReplicaState) (shared : Shared) (reply : Reply)
+-- the message behind the others, and its number
+abbrev pub Sends : History → Reply → List (List ℕ) → {A : Type 0} → Result A Fault → (A → Sent) → Type 0
+Sends w reply new meant sent =
+    Given meant reply (λ x. reply ≡ replies.Sent (next_message w))
+    × StandSideBySide (λ k. StandsForSent w.rule) (changed w meant (λ x. with_message w (sent x))).messages new
+
+sent_behind : (w : History) (ms : List (List ℕ)) (sent : Sent) (text : List ℕ) (reply : Reply)
+    → StandSideBySide (λ k. StandsForSent w.rule) w.messages ms → reply ≡ replies.Sent (length (ms ++ text ∷ [])) → StandsForSent w.rule sent text
+    → (reply ≡ replies.Sent (next_message w)) × StandSideBySide (λ k. StandsForSent w.rule) (with_message w sent).messages (ms ++ text ∷ [])
+sent_behind w ms sent text reply sides numbers stands = (
+  numbers ∙ ap replies.Sent (omega (arith, length-append ms (text ∷ []), sides.as_many)),
+  side_push (λ k. StandsForSent w.rule) w.messages ms sent text sides stands,
+)
+
+pub sends_in_world : (w : History) (rs : List ReplicaState) (ms : List (List ℕ)) (r i : ℕ) (sender : ReplicaState) (text : List ℕ) (reply : Reply)
     → StandSideBySide (StandsFor w.rule) w.replicas rs → StandSideBySide (λ k. StandsForSent w.rule) w.messages ms
-    → 1 ≤ r → i ≡ r - 1 → slice_get rs i ≡ Some sender → reply ≡ replies.Sent (length (ms ++ shared ∷ []))
-    → ((h : ReplicaHistory) → StandsFor w.rule (suc i) h sender → StandsForSent w.rule (State h.taken) shared)
-    → IsReply w (SendState r) reply × StandSideBySide (λ k. StandsForSent w.rule) (after w (SendState r)).messages (ms ++ shared ∷ [])
-sends_in_world w rs ms r i sender shared reply side sides one at there numbers step =
+    → 1 ≤ r → i ≡ r - 1 → slice_get rs i ≡ Some sender → reply ≡ replies.Sent (length (ms ++ text ∷ []))
+    → ((h : ReplicaHistory) → StandsFor w.rule (suc i) h sender → StandsForSent w.rule (State h.taken) text)
+    → IsReply w (SendState r) reply × StandSideBySide (λ k. StandsForSent w.rule) (after w (SendState r)).messages (ms ++ text ∷ [])
+sends_in_world w rs ms r i sender text reply side sides one at there numbers step =
     let near = beside (StandsFor w.rule) w.replicas rs i sender side there in
-    let h : ReplicaHistory = near.other in
-    let is : replica w r ≡ Ok h = found w.replicas r i h faults.NoReplica one at near.there in
-    subst (λ (o : Result ReplicaHistory Fault). Sends o) (sym is) (
-      numbers ∙ ap replies.Sent (omega (arith, length-append ms (shared ∷ []), sides.as_many)),
-      side_push (λ k. StandsForSent w.rule) w.messages ms (State h.taken) shared sides (step h near.stands),
-    )
-  where
-    Sends : Result ReplicaHistory Fault → Type 0
-    Sends meant = Given meant reply (λ d. reply ≡ replies.Sent (next_message w))
-        × StandSideBySide (λ k. StandsForSent w.rule) (changed w meant (λ d. with_message w (State d.taken))).messages (ms ++ shared ∷ [])
+    let is : replica w r ≡ Ok near.other = found w.replicas r i near.other faults.NoReplica one at near.there in
+    subst (λ (o : Result ReplicaHistory Fault). Sends w reply (ms ++ text ∷ []) o (λ h. State h.taken)) (sym is)
+    (sent_behind w ms (State near.other.taken) text reply sides numbers (step near.other near.stands))
+
+-- entries of the journal of a replica that is there
+entries_in_world : (w : History) (rs : List ReplicaState) (r i from count : ℕ) (sender : ReplicaState) → StandSideBySide (StandsFor w.rule) w.replicas rs
+    → 1 ≤ r → i ≡ r - 1 → slice_get rs i ≡ Some sender → (named_entries w r from count ≡ entries sender.journal from count) × (sender.rule ≡ w.rule)
+entries_in_world w rs r i from count sender side one at there =
+    let near = beside (StandsFor w.rule) w.replicas rs i sender side there in
+    let is : replica w r ≡ Ok near.other = found w.replicas r i near.other faults.NoReplica one at near.there in
+    (ap (λ (o : Result ReplicaHistory Fault). o >>= (λ h. entries h.journal from count)) is ∙ ap (λ j. entries j from count) (sym near.stands.journal), near.stands.same_rule)
+
+pub sends_entries_in_world : (w : History) (rs : List ReplicaState) (ms : List (List ℕ)) (r i from count : ℕ) (sender : ReplicaState) (text : List ℕ) (reply : Reply)
+    → StandSideBySide (StandsFor w.rule) w.replicas rs → StandSideBySide (λ k. StandsForSent w.rule) w.messages ms
+    → 1 ≤ r → i ≡ r - 1 → slice_get rs i ≡ Some sender → reply ≡ replies.Sent (length (ms ++ text ∷ []))
+    → (edits : List PlaneEdit) → entries sender.journal from count ≡ Ok edits → text ≡ delta_text sender.rule edits → AreTellable sender.rule.states edits
+    → IsReply w (SendDelta r from count) reply × StandSideBySide (λ k. StandsForSent w.rule) (after w (SendDelta r from count)).messages (ms ++ text ∷ [])
+sends_entries_in_world w rs ms r i from count sender text reply side sides one at there numbers edits named spelt tellable =
+    let here = entries_in_world w rs r i from count sender side one at there in
+    let is : named_entries w r from count ≡ Ok edits = here.0 ∙ named in
+    subst (λ (o : Result (List PlaneEdit) Fault). Sends w reply (ms ++ text ∷ []) o Delta) (sym is)
+    (sent_behind w ms (Delta edits) text reply sides numbers (record {
+      spelt = spelt ∙ ap (λ g. delta_text g edits) here.1;
+      tellable = subst (λ g. AreTellable g.states edits) here.1 tellable;
+    }))
+
+pub refuses_entries_in_world : (w : History) (rs : List ReplicaState) (ms : List (List ℕ)) (r i from count : ℕ) (sender : ReplicaState) (reply : Reply) (fault : Fault)
+    → StandSideBySide (StandsFor w.rule) w.replicas rs → StandSideBySide (λ k. StandsForSent w.rule) w.messages ms
+    → 1 ≤ r → i ≡ r - 1 → slice_get rs i ≡ Some sender → entries sender.journal from count ≡ Err fault → reply ≡ replies.Refused fault
+    → IsReply w (SendDelta r from count) reply × StandSideBySide (λ k. StandsForSent w.rule) (after w (SendDelta r from count)).messages ms
+refuses_entries_in_world w rs ms r i from count sender reply fault side sides one at there named replied =
+    let here = entries_in_world w rs r i from count sender side one at there in
+    let is : named_entries w r from count ≡ Err fault = here.0 ∙ named in
+    subst (λ (o : Result (List PlaneEdit) Fault). Sends w reply ms o Delta) (sym is) (replied, sides)
+
+-- ---- dumps
+
+pub dumps_in_world : (w : History) (ms : List (List ℕ)) (m j : ℕ) (text : List ℕ) → StandSideBySide (λ k. StandsForSent w.rule) w.messages ms
+    → 1 ≤ m → j ≡ m - 1 → slice_get ms j ≡ Some text → IsReply w (Dump m) (replies.Bytes text)
+dumps_in_world w ms m j text sides one at there =
+    let near = beside (λ k. StandsForSent w.rule) w.messages ms j text sides there in
+    let is : message w m ≡ Ok near.other = found w.messages m j near.other faults.NoMessage one at near.there in
+    subst (λ (o : Result Sent Fault). Given o (replies.Bytes text) (λ sent. TellsBytes w.rule sent (replies.Bytes text))) (sym is) (text, refl, near.stands.spelt)
 
 -- ---- looks
 
@@ -169,10 +218,12 @@ unchanged look w (Err fault) change same = refl
 
 pub keeps_rule : (w : History) (event : Event) → (after w event).rule ≡ w.rule
 keeps_rule w (Draw r spec) = unchanged (λ v. v.rule) w (drawn w r spec) (λ d. with_replica w r d.1) (λ d. refl)
+keeps_rule w (SendDelta r from count) = unchanged (λ v. v.rule) w (named_entries w r from count) (λ edits. with_message w (Delta edits)) (λ edits. refl)
 keeps_rule w (SendState r) = unchanged (λ v. v.rule) w (replica w r) (λ h. with_message w (State h.taken)) (λ h. refl)
 keeps_rule w (Deliver m r) = unchanged (λ v. v.rule) w (delivered w m r) (λ h. with_replica w r h) (λ h. refl)
 keeps_rule w (Show r x y) = refl
 keeps_rule w (Same a b) = refl
+keeps_rule w (Dump m) = refl
 
 draw_keeps_messages : (w : History) (r : ℕ) (spec : EditSpec) → (after w (Draw r spec)).messages ≡ w.messages
 draw_keeps_messages w r spec = unchanged (λ v. v.messages) w (drawn w r spec) (λ d. with_replica w r d.1) (λ d. refl)
@@ -182,6 +233,9 @@ delivery_keeps_messages w m r = unchanged (λ v. v.messages) w (delivered w m r)
 
 sending_keeps_replicas : (w : History) (r : ℕ) → (after w (SendState r)).replicas ≡ w.replicas
 sending_keeps_replicas w r = unchanged (λ v. v.replicas) w (replica w r) (λ h. with_message w (State h.taken)) (λ h. refl)
+
+naming_keeps_replicas : (w : History) (r from count : ℕ) → (after w (SendDelta r from count)).replicas ≡ w.replicas
+naming_keeps_replicas w r from count = unchanged (λ v. v.replicas) w (named_entries w r from count) (λ edits. with_message w (Delta edits)) (λ edits. refl)
 
 -- a world stands for what came of another of its rule
 stands_for : (w v : History) (state : WorldState) → v.rule ≡ w.rule → state.rule ≡ w.rule
@@ -226,14 +280,26 @@ goes_by_delivery w event m r reply old new is stands rule messages rs replicas t
           (subst (λ ms. StandSideBySide (λ k. StandsForSent w.rule) w.messages ms) (sym messages) stands.messages)),
     )
 
+goes_by_messages : (w : History) (event : Event) (reply : Reply) (old new : WorldState) → StandsForWorld w old → new.rule ≡ old.rule → new.replicas ≡ old.replicas
+    → (after w event).replicas ≡ w.replicas
+    → IsReply w event reply × StandSideBySide (λ k. StandsForSent w.rule) (after w event).messages new.messages → Goes w event reply new
+goes_by_messages w event reply old new stands rule replicas kept told = (
+  told.0,
+  stands_for w (after w event) new (keeps_rule w event) (rule ∙ stands.rule)
+      (subst (λ rs. StandSideBySide (StandsFor w.rule) rs new.replicas) (sym kept)
+      (subst (λ rs. StandSideBySide (StandsFor w.rule) w.replicas rs) (sym replicas) stands.replicas)) told.1,
+)
+
 pub goes_by_sending : (w : History) (event : Event) (r : ℕ) (reply : Reply) (old new : WorldState) → event ≡ SendState r
     → StandsForWorld w old → new.rule ≡ old.rule → new.replicas ≡ old.replicas
     → IsReply w (SendState r) reply × StandSideBySide (λ k. StandsForSent w.rule) (after w (SendState r)).messages new.messages
     → Goes w event reply new
 goes_by_sending w event r reply old new is stands rule replicas told =
-    subst (λ e. Goes w e reply new) (sym is) (
-      told.0,
-      stands_for w (after w (SendState r)) new (keeps_rule w (SendState r)) (rule ∙ stands.rule)
-          (subst (λ rs. StandSideBySide (StandsFor w.rule) rs new.replicas) (sym (sending_keeps_replicas w r))
-          (subst (λ rs. StandSideBySide (StandsFor w.rule) w.replicas rs) (sym replicas) stands.replicas)) told.1,
-    )
+    subst (λ e. Goes w e reply new) (sym is) (goes_by_messages w (SendState r) reply old new stands rule replicas (sending_keeps_replicas w r) told)
+
+pub goes_by_naming : (w : History) (event : Event) (r from count : ℕ) (reply : Reply) (old new : WorldState) → event ≡ SendDelta r from count
+    → StandsForWorld w old → new.rule ≡ old.rule → new.replicas ≡ old.replicas
+    → IsReply w (SendDelta r from count) reply × StandSideBySide (λ k. StandsForSent w.rule) (after w (SendDelta r from count)).messages new.messages
+    → Goes w event reply new
+goes_by_naming w event r from count reply old new is stands rule replicas told =
+    subst (λ e. Goes w e reply new) (sym is) (goes_by_messages w (SendDelta r from count) reply old new stands rule replicas (naming_keeps_replicas w r from count) told)

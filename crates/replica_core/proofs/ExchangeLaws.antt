@@ -1,9 +1,10 @@
 -- The bytes of messages, taken and given.
-use Rattle.std.proofs.Common.{◌≡◌, ℕ, zero, suc, ◌<◌, ◌^◌, List, [], ◌∷◌, refl, sym, ap, subst, arith, inl, inr}
-use Rattle.std.specs.Prelude.{IsTrue, take, drop, Result, Ok, Err}
+use Rattle.std.proofs.Common.{◌≡◌, ◌⊎◌, ℕ, zero, suc, ◌+◌, ◌<◌, ◌^◌, List, [], ◌∷◌, length, refl, sym, ap, subst, arith, inl, inr}
+use Rattle.std.specs.Prelude.{IsTrue, nat_lt, take, drop, Option, Some, None, Result, Ok, Err}
 use Rattle.std.specs.List.{AllByRecursion, Contains}
-use Rattle.std.proofs.lemmas.List.{length-take}
-use Rattle.generations_rule.specs.Refusal.{AnswersAs}
+use Rattle.std.proofs.lemmas.List.{length-take, take-append-drop}
+use Rattle.std.proofs.lemmas.List.Elements.{Contains-append_left, Contains-append_right}
+use Rattle.generations_rule.specs.Refusal.{AnswersAs, ◌>>=◌, unless, when}
 use Rattle.generations_rule.specs.Rule.{GenerationsRule}
 use Rattle.edit_stamps.specs.Edit.{HaveStatesBelow, has_states_below, IsEdit, PlaneEdit}
 use Rattle.edit_stamps.specs.Write.{Writes}
@@ -12,9 +13,11 @@ use Rattle.delta_exchange.specs.declared.message.Content.{Content}
 use Rattle.delta_exchange.specs.Delta.{AreTellable}
 use Rattle.delta_exchange.specs.Fault.{IsWantOrFull}
 use Rattle.delta_exchange.specs.Message.{Shared}
+use Rattle.delta_exchange.specs.Spelling.{delta_text}
 use Rattle.delta_exchange.specs.MessageReading.{HasContentTold, HasMap, StandsForMap, StandsForTold, Told}
 use Rattle.replica_core.specs.declared.fault.Fault.{Fault}
-use Rattle.replica_core.specs.Exchange.{IsTakingOf, IsTakingText}
+use Rattle.replica_core.specs.declared.fault.Fault.TheVariants as faults
+use Rattle.replica_core.specs.Exchange.{entries, IsTakingOf, IsTakingText}
 use Rattle.replica_core.specs.Fault.{IsWant, fault_of_read}
 use Rattle.replica_core.specs.Replica.{IsTaking, ReplicaState}
 use Rattle.replica_core.proofs.DrawLaws.{unchanged}
@@ -34,6 +37,33 @@ all_dropped P (suc n) (x ∷ xs) all = all_dropped P n xs all.1
 
 all_between : {X : Type 0} (P : X → Type 0) (from count : ℕ) (xs : List X) → AllByRecursion P xs → AllByRecursion P (take count (drop from xs))
 all_between P from count xs all = all_taken P count (drop from xs) (all_dropped P from xs all)
+
+-- what is named is so many entries from a place on
+entries_told : (fault : Option Fault) (kept edits : List PlaneEdit) → unless fault kept ≡ Ok edits → kept ≡ edits
+entries_told None kept edits is = cc
+entries_told (Some fault) kept edits is = absurd (cc)
+
+pub entries_are : (journal : List PlaneEdit) (from count : ℕ) (edits : List PlaneEdit) → entries journal from count ≡ Ok edits → take count (drop from journal) ≡ edits
+entries_are journal from count edits is = entries_told (when (nat_lt (length journal) (from + count)) faults.NoSuchEdit) (take count (drop from journal)) edits is
+
+-- the entries whose text was given
+pub entries_given : (rule : GenerationsRule) (found : Result (List PlaneEdit) Fault) (text : List ℕ) → (found >>= (λ edits. Ok (delta_text rule edits))) ≡ Ok text
+    → (edits : List PlaneEdit) × (found ≡ Ok edits) × (text ≡ delta_text rule edits)
+entries_given rule (Ok edits) text is = (edits, refl, cc)
+entries_given rule (Err fault) text is = absurd (cc)
+
+-- the entries that were refused
+pub entries_refused : (rule : GenerationsRule) (found : Result (List PlaneEdit) Fault) (fault : Fault) (Wanted : Type 0) → (¬ IsWant fault)
+    → ((fault ≡ faults.Memory) × Wanted) ⊎ ((found >>= (λ edits. Ok (delta_text rule edits))) ≡ Err fault) → found ≡ Err fault
+entries_refused rule found fault Wanted other (inl want) = absurd (other (subst IsWant (sym want.0) tt))
+entries_refused rule (Ok edits) fault Wanted other (inr is) = absurd (cc)
+entries_refused rule (Err told) fault Wanted other (inr is) = cc
+
+pub among_taken : {X : Type 0} (n : ℕ) (xs : List X) (x : X) → Contains (take n xs) x → Contains xs x
+among_taken n xs x here = subst (λ l. Contains l x) (take-append-drop n xs) (Contains-append_left (take n xs) (drop n xs) x here)
+
+pub among_dropped : {X : Type 0} (n : ℕ) (xs : List X) (x : X) → Contains (drop n xs) x → Contains xs x
+among_dropped n xs x here = subst (λ l. Contains l x) (take-append-drop n xs) (Contains-append_right (take n xs) (drop n xs) x here)
 
 -- fewer than 2^32 entries of a journal make a delta
 pub entries_tellable : (states from count : ℕ) (journal : List PlaneEdit) → count < 2 ^ 32 → ((e : PlaneEdit) → Contains journal e → IsEdit e)

@@ -1,6 +1,6 @@
 -- What holds of every world after every list of events.
 use Rattle.std.proofs.Common.{◌≡◌, ℕ, ◌<◌, ◌≤◌, List, [], ◌∷◌, ◌++◌, refl, sym, ◌∙◌, ap, subst, arith, inl, suc, zero, length, ◌-◌}
-use Rattle.std.specs.Prelude.{IsTrue, Some, slice_get, slice_index_or}
+use Rattle.std.specs.Prelude.{IsTrue, Ok, Some, slice_get, slice_index_or}
 use Rattle.generations_rule.specs.Place.{Place}
 use Rattle.generations_rule.specs.Rule.{GenerationsRule}
 use Rattle.edit_stamps.specs.Edit.{PlaneEdit, greatest, is_covered, listed, writes_of}
@@ -11,11 +11,28 @@ use Rattle.edit_stamps.proofs.GreatestWrites.{made_by_one}
 use Rattle.replica_core.specs.declared.event.Event.{Event}
 use Rattle.replica_core.specs.declared.fault.Fault.TheVariants as faults
 use Rattle.replica_core.specs.Replica.{ReplicaState}
-use Rattle.replica_core.specs.Headline.{Agrees, HasOneEditAStamp, HasOneWinner, HoldsGreatest, IsAt, IsGreatestOf, NeverGoesDown}
-use Rattle.replica_core.specs.World.{History, ReplicaHistory, after, after_all, numbered, opening, replica}
+use Rattle.replica_core.specs.Headline.{Agrees, HasOneEditAStamp, HasOneWinner, HoldsGreatest, IsAt, IsGreatestOf, NeverGoesDown, SendsTexts, WritesSameBytes}
+use Rattle.replica_core.specs.World.{History, ReplicaHistory, Sent, IsTextOfSent, after, after_all, message, numbered, opening, replica}
+use Rattle.delta_exchange.proofs.StateLaws.{has_one_state_text}
+use Rattle.delta_exchange.specs.StateText.{IsStateText}
 use Rattle.replica_core.proofs.DrawLaws.{stamp_written}
+use Rattle.replica_core.proofs.EventLaws.{keeps_rule}
 use Rattle.replica_core.proofs.HistoryLaws.{at_least_one, grows_along, same_ok, some_of_ok, sound_along, sound_opening}
 use Rattle.replica_core.proofs.SideBySide.{numbered_at}
+
+rule_along : (w : History) (events : List Event) → (after_all w events).rule ≡ w.rule
+rule_along w [] = refl
+rule_along w (event ∷ events) = rule_along (after w event) events ∙ keeps_rule w event
+
+-- the rule of a replica is that of its world
+held_rule : (rule : GenerationsRule) (n : ℕ) (events : List Event) (r : ℕ) (h : ReplicaHistory) (held : ReplicaState)
+    → IsAt rule n events r h held → held.rule ≡ rule
+held_rule rule n events r h held at =
+    let w : History = after_all (opening rule n) events in
+    let one : 1 ≤ r = at_least_one w r h at.history in
+    let left : slice_get w.replicas (r - 1) ≡ Some h = sym (numbered_at w.replicas r one) ∙ some_of_ok (numbered w.replicas r) faults.NoReplica h at.history in
+    let right : slice_get at.world.replicas (r - 1) ≡ Some held = sym (numbered_at at.world.replicas r one) ∙ at.state in
+    (at.stands.replicas.each (r - 1) h held left right).same_rule ∙ rule_along (opening rule n) events
 
 -- the map of a replica is that of the edits that it took
 held_map : (rule : GenerationsRule) (n : ℕ) (events : List Event) (r : ℕ) (h : ReplicaHistory) (held : ReplicaState)
@@ -47,6 +64,25 @@ holds_greatest rule n events r h held at c = subst (IsGreatestOf h.taken c) (sym
 pub agrees : Agrees
 agrees rule other_rule n m events others r s h k held other at there same c =
     held_map rule n events r h held at c ∙ depends_on_members h.taken k.taken same c ∙ sym (held_map other_rule m others s k other there c)
+
+pub writes_same_bytes : WritesSameBytes
+writes_same_bytes rule n m events others r s h k held other a b at there same one two =
+    has_one_state_text rule (map_of held.plane) (map_of other.plane) a b
+    (subst (λ g. IsStateText g (map_of held.plane) a) (held_rule rule n events r h held at) one)
+    (subst (λ g. IsStateText g (map_of other.plane) b) (held_rule rule m others s k other there) two)
+    (agrees rule rule n m events others r s h k held other at there same)
+
+sent_number : (w : History) (m : ℕ) (sent : Sent) → message w m ≡ Ok sent → 1 ≤ m
+sent_number w zero sent is = absurd (cc)
+sent_number w (suc i) sent is = omega arith
+
+pub sends_texts : SendsTexts
+sends_texts rule n events world m sent text stands is there =
+    let w : History = after_all (opening rule n) events in
+    let one : 1 ≤ m = sent_number w m sent is in
+    let left : slice_get w.messages (m - 1) ≡ Some sent = sym (numbered_at w.messages m one) ∙ some_of_ok (numbered w.messages m) faults.NoMessage sent is in
+    let right : slice_get world.messages (m - 1) ≡ Some text = sym (numbered_at world.messages m one) ∙ there in
+    subst (λ g. IsTextOfSent g sent text) (rule_along (opening rule n) events) (stands.messages.each (m - 1) sent text left right).spelt
 
 pub has_one_edit_a_stamp : HasOneEditAStamp
 has_one_edit_a_stamp rule n events e f few inside also same = (sound_along (opening rule n) events (sound_opening rule n few)).one e f inside also same

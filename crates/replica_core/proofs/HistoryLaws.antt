@@ -1,6 +1,6 @@
 -- What histories obey: every edit in one is an edit, has the only one of its stamp, and its replica has taken it.
 use Rattle.std.proofs.Common.{◌≡◌, ◌≢◌, ◌⊎◌, ℕ, zero, suc, ◌+◌, ◌-◌, ◌^◌, ◌<◌, ◌≤◌, Bool, true, false, List, [], ◌∷◌, ◌++◌, length, max, refl, sym, ◌∙◌, ap, subst, arith, inl, inr, length-set, append_assoc}
-use Rattle.std.specs.Prelude.{Contains, Option, Some, None, slice_get, slice_set, Result, Ok, Err, fold, nat_lt, not, slice_index_or}
+use Rattle.std.specs.Prelude.{Contains, Option, Some, None, slice_get, slice_set, Result, Ok, Err, fold, nat_lt, not, slice_index_or, drop}
 use Rattle.std.specs.Option.{ok_or}
 use Rattle.std.proofs.Math.ListN.{replicate}
 use Rattle.std.proofs.lemmas.Bool.{cases_eq}
@@ -12,13 +12,16 @@ use Rattle.generations_rule.specs.Rule.{GenerationsRule}
 use Rattle.edit_stamps.specs.Edit.{PlaneEdit, greatest_counter}
 use Rattle.edit_stamps.specs.Stamp.{counter_in, last_counter, replica_in, stamp_of}
 use Rattle.replica_core.specs.declared.event.Event.{Event}
-use Rattle.replica_core.specs.declared.event.Event.TheVariants.{Draw, SendState, Deliver, Show, Same}
+use Rattle.replica_core.specs.declared.event.Event.TheVariants.{Draw, SendDelta, SendState, Deliver, Show, Same, Dump}
 use Rattle.replica_core.specs.declared.fault.Fault.{Fault}
 use Rattle.replica_core.specs.declared.fault.Fault.TheVariants as faults
 use Rattle.replica_core.specs.declared.edit_spec.EditSpec.{EditSpec}
 use Rattle.replica_core.specs.Replica.{edit_drawn, made, or_edit_fault}
-use Rattle.replica_core.specs.World.{IsEditUnder, History, ReplicaHistory, Sent, State, AreEdits, IsIn, after, after_all, after_drawing, after_message, beginner, changed, delivered, drawn, edits_sent, message, opening, replica, with_message, with_replica}
+use Rattle.replica_core.specs.World.{IsEditUnder, History, ReplicaHistory, Sent, Delta, State, named_entries, AreEdits, IsIn, after, after_all, after_drawing, after_message, beginner, changed, delivered, drawn, edits_sent, message, opening, replica, with_message, with_replica}
+use Rattle.edit_journal.proofs.NotedLaws.{noted_members}
+use Rattle.replica_core.specs.Exchange.{entries}
 use Rattle.replica_core.proofs.DrawLaws.{made_stamp}
+use Rattle.replica_core.proofs.ExchangeLaws.{among_dropped, among_taken, entries_are}
 use Rattle.replica_core.proofs.SideBySide.{get_pushed, get_replicate, get_set_elsewhere, get_set_here, some_is}
 
 -- ---- what stands at a number
@@ -143,10 +146,38 @@ from_sending w r e (Ok h) is (inr (inr (m, sent, found, here))) = elim (message_
   | inr new ↦ in_replica w r h e is (subst (λ s. Contains (edits_sent s) e) new here)
 ]
 
+-- entries of a journal are edits of it
+in_entries : (journal : List PlaneEdit) (from count : ℕ) (edits : List PlaneEdit) (e : PlaneEdit) → entries journal from count ≡ Ok edits → Contains edits e → Contains journal e
+in_entries journal from count edits e is here =
+    among_dropped from journal e (among_taken count (drop from journal) e (subst (λ l. Contains l e) (sym (entries_are journal from count edits is)) here))
+
+from_sending_delta : (w : History) (r from count : ℕ) (e : PlaneEdit) (o : Result ReplicaHistory Fault) → replica w r ≡ o
+    → (d : Result (List PlaneEdit) Fault) (h : ReplicaHistory) → o ≡ Ok h → entries h.journal from count ≡ d
+    → IsIn (changed {A = List PlaneEdit} w d (λ edits. with_message w (Delta edits))) e → IsIn w e
+from_sending_delta w r from count e o is (Err fault) h o_is d_is inside = inside
+from_sending_delta w r from count e o is (Ok edits) h o_is d_is (inl taken) = inl taken
+from_sending_delta w r from count e o is (Ok edits) h o_is d_is (inr (inl noted_there)) = inr (inl noted_there)
+from_sending_delta w r from count e o is (Ok edits) h o_is d_is (inr (inr (m, sent, found, here))) = elim (message_added w (Delta edits) sent m found) [
+  | inl old ↦ inr (inr (m, sent, old, here))
+  | inr new ↦ in_journal w r h e (is ∙ o_is) (in_entries h.journal from count edits e d_is (subst (λ s. Contains (edits_sent s) e) new here))
+]
+
+from_sending_entries : (w : History) (r from count : ℕ) (e : PlaneEdit) (o : Result ReplicaHistory Fault) → replica w r ≡ o
+    → IsIn (changed {A = List PlaneEdit} w (o >>= (λ h. entries h.journal from count)) (λ edits. with_message w (Delta edits))) e → IsIn w e
+from_sending_entries w r from count e (Err fault) is inside = inside
+from_sending_entries w r from count e (Ok h) is inside = from_sending_delta w r from count e (Ok h) is (entries h.journal from count) h refl refl inside
+
 from_delivery : (w : History) (m r : ℕ) (e : PlaneEdit) (o : Result Sent Fault) (p : Result ReplicaHistory Fault) → message w m ≡ o → replica w r ≡ p
     → IsIn (changed w (o >>= (λ s. p >>= (λ h. Ok (after_message h s)))) (λ h. with_replica w r h)) e → IsIn w e
 from_delivery w m r e (Err fault) p sent_is is inside = inside
 from_delivery w m r e (Ok s) (Err fault) sent_is is inside = inside
+from_delivery w m r e (Ok (Delta edits)) (Ok h) sent_is is inside = elim (from_changed w r h (after_message h (Delta edits)) e ⊥ is
+    (λ here. elim (Contains-append_cases h.taken edits e here) [ inl old ↦ inl (in_replica w r h e is old) | inr more ↦ inl (inr (inr (m, Delta edits, sent_is, more))) ])
+    (λ here. elim (Contains-append_cases h.journal edits e ((noted_members h.journal edits e).0 here)) [ inl old ↦ inl (in_journal w r h e is old) | inr more ↦ inl (inr (inr (m, Delta edits, sent_is, more))) ])
+    inside) [
+      | inl there ↦ there
+      | inr never ↦ absurd never
+    ]
 from_delivery w m r e (Ok (State edits)) (Ok h) sent_is is inside = elim (from_changed w r h (after_message h (State edits)) e ⊥ is
     (λ here. elim (Contains-append_cases h.taken edits e here) [ inl old ↦ inl (in_replica w r h e is old) | inr more ↦ inl (inr (inr (m, State edits, sent_is, more))) ])
     (λ here. inl (in_journal w r h e is here)) inside) [
@@ -157,10 +188,12 @@ from_delivery w m r e (Ok (State edits)) (Ok h) sent_is is inside = elim (from_c
 -- an edit of a history after an event was in it, or is drawn at the event
 pub comes_from : (w : History) (event : Event) (e : PlaneEdit) → IsIn (after w event) e → IsIn w e ⊎ IsDrawnAt w event e
 comes_from w (Draw r spec) e inside = from_drawing w r spec e (replica w r) refl inside
+comes_from w (SendDelta r from count) e inside = inl (from_sending_entries w r from count e (replica w r) refl inside)
 comes_from w (SendState r) e inside = inl (from_sending w r e (replica w r) refl inside)
 comes_from w (Deliver m r) e inside = inl (from_delivery w m r e (message w m) (replica w r) refl refl inside)
 comes_from w (Show r x y) e inside = inl inside
 comes_from w (Same a b) e inside = inl inside
+comes_from w (Dump m) e inside = inl inside
 
 -- ---- a drawn edit
 
@@ -255,19 +288,27 @@ grows_by_sending : (w : History) (s : ℕ) (k : ReplicaHistory) (o : Result Repl
 grows_by_sending w s k (Err fault) there = kept_as_it_was w s k there
 grows_by_sending w s k (Ok h) there = kept_as_it_was (with_message w (State h.taken)) s k there
 
+grows_by_sending_entries : (w : History) (s : ℕ) (k : ReplicaHistory) (o : Result (List PlaneEdit) Fault) → replica w s ≡ Ok k
+    → IsGrown (changed w o (λ edits. with_message w (Delta edits))) s k
+grows_by_sending_entries w s k (Err fault) there = kept_as_it_was w s k there
+grows_by_sending_entries w s k (Ok edits) there = kept_as_it_was (with_message w (Delta edits)) s k there
+
 grows_by_delivery : (w : History) (r s : ℕ) (k : ReplicaHistory) (o : Result Sent Fault) (p : Result ReplicaHistory Fault) → replica w r ≡ p → replica w s ≡ Ok k
     → IsGrown (changed w (o >>= (λ sent. p >>= (λ h. Ok (after_message h sent)))) (λ h. with_replica w r h)) s k
 grows_by_delivery w r s k (Err fault) p is there = kept_as_it_was w s k there
 grows_by_delivery w r s k (Ok sent) (Err fault) is there = kept_as_it_was w s k there
+grows_by_delivery w r s k (Ok (Delta edits)) (Ok h) is there = grown_by w r s h k (after_message h (Delta edits)) edits is refl there
 grows_by_delivery w r s k (Ok (State edits)) (Ok h) is there = grown_by w r s h k (after_message h (State edits)) edits is refl there
 
 -- a replica is there behind an event, and has taken what it had, and perhaps more
 pub grows : (w : History) (event : Event) (s : ℕ) (k : ReplicaHistory) → replica w s ≡ Ok k → IsGrown (after w event) s k
 grows w (Draw r spec) s k there = grows_by_drawing w r s spec k (replica w r) refl there
+grows w (SendDelta r from count) s k there = grows_by_sending_entries w s k (named_entries w r from count) there
 grows w (SendState r) s k there = grows_by_sending w s k (replica w r) there
 grows w (Deliver m r) s k there = grows_by_delivery w r s k (message w m) (replica w r) refl there
 grows w (Show r x y) s k there = kept_as_it_was w s k there
 grows w (Same a b) s k there = kept_as_it_was w s k there
+grows w (Dump m) s k there = kept_as_it_was w s k there
 
 -- behind events too
 pub grows_along : (w : History) (events : List Event) (s : ℕ) (k : ReplicaHistory) → replica w s ≡ Ok k → IsGrown (after_all w events) s k
@@ -289,10 +330,12 @@ same_count w (Err fault) change same = refl
 
 keeps_count : (w : History) (event : Event) → length (after w event).replicas ≡ length w.replicas
 keeps_count w (Draw r spec) = same_count w (drawn w r spec) (λ d. with_replica w r d.1) (λ d. length-set w.replicas (r - 1) d.1)
+keeps_count w (SendDelta r from count) = same_count w (named_entries w r from count) (λ edits. with_message w (Delta edits)) (λ edits. refl)
 keeps_count w (SendState r) = same_count w (replica w r) (λ h. with_message w (State h.taken)) (λ h. refl)
 keeps_count w (Deliver m r) = same_count w (delivered w m r) (λ h. with_replica w r h) (λ h. length-set w.replicas (r - 1) h)
 keeps_count w (Show r x y) = refl
 keeps_count w (Same a b) = refl
+keeps_count w (Dump m) = refl
 
 -- a drawn edit is taken by its replica
 drawn_is_taken : (w : History) (event : Event) (e : PlaneEdit) (d : IsDrawnAt w event e) → Contains (after_drawing d.held e).taken e
@@ -402,6 +445,11 @@ pub edits_sent_on : (w : History) (r : ℕ) → AreEdits w → AreEdits (after w
 edits_sent_on w r valid e inside =
     subst (λ (g : GenerationsRule). IsEditUnder g e) (rule_stays w (replica w r) (λ h. with_message w (State h.taken)) (λ h. refl))
     (valid e (from_sending w r e (replica w r) refl inside))
+
+pub edits_sent_of : (w : History) (r from count : ℕ) → AreEdits w → AreEdits (after w (SendDelta r from count))
+edits_sent_of w r from count valid e inside =
+    subst (λ (g : GenerationsRule). IsEditUnder g e) (rule_stays w (named_entries w r from count) (λ edits. with_message w (Delta edits)) (λ edits. refl))
+    (valid e (from_sending_entries w r from count e (replica w r) refl inside))
 
 pub edits_delivered : (w : History) (m r : ℕ) → AreEdits w → AreEdits (after w (Deliver m r))
 edits_delivered w m r valid e inside =

@@ -1,6 +1,7 @@
 pub mod JoiningLaws
 pub mod DrawLaws
 pub mod SideBySide
+pub mod SameMaps
 pub mod StandingLaws
 pub mod ExchangeLaws
 pub mod EventLaws

@@ -15,25 +15,42 @@ use Rattle.delta_exchange.specs.declared.message.Content.{Content}
 use Rattle.delta_exchange.specs.declared.message.Content.TheVariants as contents
 use Rattle.replica_core.specs.declared.edit_spec.EditSpec.{EditSpec}
 use Rattle.edit_stamps.proofs.ClockLaws.{tells_counter}
-use Rattle.delta_exchange.specs.Message.{Shared}
+use Rattle.delta_exchange.specs.Delta.{AreTellable}
+use Rattle.delta_exchange.specs.MessageReading.{HasMap}
+use Rattle.delta_exchange.specs.Spelling.{delta_text}
+use Rattle.delta_exchange.specs.State.{IsTellableMap}
+use Rattle.delta_exchange.specs.StateText.{IsStateText}
+use Rattle.edit_journal.specs.Journal.{noted}
+use Rattle.replica_core.specs.Exchange.{IsTakingOf}
+use Rattle.replica_core.proofs.SameMaps.{same_tellable, same_text}
 use Rattle.replica_core.specs.Fault.{IsWant}
-use Rattle.replica_core.specs.Replica.{ReplicaState, DrawsAs, Takes, IsMapOf, IsSnapshot, IsDraw, edit_drawn}
-use Rattle.replica_core.specs.World.{ReplicaHistory, Sent, State, Carries, StandsFor, StandsForSent, after_drawing, after_message}
+use Rattle.replica_core.specs.Replica.{ReplicaState, DrawsAs, Takes, IsDraw, edit_drawn}
+use Rattle.replica_core.specs.World.{ReplicaHistory, Sent, Delta, State, StandsFor, StandsForSent, after_drawing, after_message}
 
 -- ---- messages
-
--- a map in the place of the same map
-pub held_of_same : (p q : Writes) (content : Content) → AreSame p q → IsMapOf p content → IsMapOf q content
-held_of_same p q (contents.State plane) same map = λ c. map c ∙ same c
-held_of_same p q (contents.Edits edits) same map = map
 
 joins_taken : (taken edits : List PlaneEdit) (old new added : Writes) → AreSame old (greatest taken) → AreSame added (greatest edits)
     → AreSame new (joined old added) → AreSame new (greatest (taken ++ edits))
 joins_taken taken edits old new added held more join c =
     join c ∙ ap (λ w. greater w (added c)) (held c) ∙ ap (greater (greatest taken c)) (more c) ∙ sym (joins_lists taken edits c)
 
+-- a content has what was sent
+abbrev pub Carries : Sent → Content → Type 0
+Carries (Delta edits) content = content ≡ contents.Edits edits
+Carries (State edits) content = HasMap content (greatest edits)
+
+takes_edits : (rule : GenerationsRule) (number : ℕ) (h : ReplicaHistory) (edits : List PlaneEdit) (old new : ReplicaState)
+    → StandsFor rule number h old → Takes old new (contents.Edits edits) → StandsFor rule number (after_message h (Delta edits)) new
+takes_edits rule number h edits old new stands takes = record {
+  same_rule = takes.one.rule ∙ stands.same_rule;
+  same_number = takes.one.number ∙ stands.same_number;
+  map = joins_taken h.taken edits (map_of old.plane) (map_of new.plane) (greatest edits) stands.map (λ c. refl) takes.map;
+  journal = takes.journal ∙ ap (λ j. noted j edits) stands.journal;
+}
+
 takes_content : (rule : GenerationsRule) (number : ℕ) (h : ReplicaHistory) (sent : Sent) (old new : ReplicaState) (content : Content)
     → StandsFor rule number h old → Carries sent content → Takes old new content → StandsFor rule number (after_message h sent) new
+takes_content rule number h (Delta edits) old new content stands carries takes = takes_edits rule number h edits old new stands (subst (Takes old new) carries takes)
 takes_content rule number h (State edits) old new (contents.State plane) stands carries takes = record {
   same_rule = takes.one.rule ∙ stands.same_rule;
   same_number = takes.one.number ∙ stands.same_number;
@@ -42,16 +59,35 @@ takes_content rule number h (State edits) old new (contents.State plane) stands 
 }
 takes_content rule number h (State edits) old new (contents.Edits given) stands carries takes = absurd carries
 
-pub takes_sent : (rule : GenerationsRule) (number : ℕ) (h : ReplicaHistory) (sent : Sent) (old new : ReplicaState) (m : Shared)
-    → StandsFor rule number h old → StandsForSent rule sent m → Takes old new m.content → StandsFor rule number (after_message h sent) new
-takes_sent rule number h sent old new m stands sends takes = takes_content rule number h sent old new m.content stands sends.content takes
+-- what comes of the bytes of what was sent, where they are taken
+abbrev pub IsTakingSent : ReplicaState → ReplicaState → List ℕ → Result (Unit {0}) Fault → Type 0
+IsTakingSent old new text result =
+    ((meant : List PlaneEdit) → AreTellable old.rule.states meant → text ≡ delta_text old.rule meant → IsTakingOf old new (λ content. content ≡ contents.Edits meant) result)
+    × ((meant : Writes) → IsTellableMap old.rule.states meant → IsStateText old.rule meant text → IsTakingOf old new (λ content. HasMap content meant) result)
 
--- a snapshot is sent as the map of what was taken
-pub sends_taken : (rule : GenerationsRule) (number : ℕ) (h : ReplicaHistory) (r : ReplicaState) (m : Shared)
-    → StandsFor rule number h r → IsSnapshot r m → StandsForSent rule (State h.taken) m
-sends_taken rule number h r m stands snapshot = record {
-  same_rule = snapshot.rule ∙ stands.same_rule;
-  content = held_of_same (map_of r.plane) (greatest h.taken) m.content stands.map snapshot.map;
+taking_sent : (old new : ReplicaState) (sent : Sent) (text : List ℕ) (result : Result (Unit {0}) Fault) → StandsForSent old.rule sent text
+    → IsTakingSent old new text result → IsTakingOf old new (Carries sent) result
+taking_sent old new (Delta edits) text result stands takes = takes.0 edits stands.tellable stands.spelt
+taking_sent old new (State edits) text result stands takes = takes.1 (greatest edits) stands.tellable stands.spelt
+
+pub takes_sent : (rule : GenerationsRule) (number : ℕ) (h : ReplicaHistory) (sent : Sent) (old new : ReplicaState) (text : List ℕ)
+    → StandsFor rule number h old → StandsForSent rule sent text → IsTakingSent old new text (Ok tt) → StandsFor rule number (after_message h sent) new
+takes_sent rule number h sent old new text stands sends takes =
+    let taken = taking_sent old new sent text (Ok tt) (subst (λ g. StandsForSent g sent text) (sym stands.same_rule) sends) takes in
+    takes_content rule number h sent old new taken.0 stands taken.1 taken.2
+
+-- the bytes of what was sent meet nothing but a want
+pub wants_only : (rule : GenerationsRule) (number : ℕ) (h : ReplicaHistory) (sent : Sent) (old new : ReplicaState) (text : List ℕ) (fault : Fault)
+    → StandsFor rule number h old → StandsForSent rule sent text → IsTakingSent old new text (Err fault) → IsWant fault
+wants_only rule number h sent old new text fault stands sends takes =
+    (taking_sent old new sent text (Err fault) (subst (λ g. StandsForSent g sent text) (sym stands.same_rule) sends) takes).0
+
+-- the state text of a replica's map is that of what it took
+pub sends_taken : (rule : GenerationsRule) (number : ℕ) (h : ReplicaHistory) (r : ReplicaState) (text : List ℕ)
+    → StandsFor rule number h r → IsStateText r.rule (map_of r.plane) text → IsTellableMap r.rule.states (map_of r.plane) → StandsForSent rule (State h.taken) text
+sends_taken rule number h r text stands spelt tellable = record {
+  spelt = same_text rule (map_of r.plane) (greatest h.taken) text stands.map (subst (λ g. IsStateText g (map_of r.plane) text) stands.same_rule spelt);
+  tellable = same_tellable rule.states (map_of r.plane) (greatest h.taken) stands.map (subst (λ g. IsTellableMap g.states (map_of r.plane)) stands.same_rule tellable);
 }
 
 -- ---- draws

@@ -6,11 +6,12 @@ use Rattle.edit_stamps.specs.declared.write.Write.{Write}
 use Rattle.edit_stamps.specs.Edit.{PlaneEdit, writes_of}
 use Rattle.stamped_tree.specs.Plane.{map_of}
 use Rattle.edit_stamps.specs.Write.{unwritten, at_most, AreSame, IsBelow}
+use Rattle.delta_exchange.specs.StateText.{IsStateText}
 use Rattle.replica_core.specs.declared.event.Event.{Event}
 use Rattle.replica_core.specs.declared.event.Reply.TheVariants.{Refused}
 use Rattle.replica_core.specs.declared.fault.Fault.{Fault}
 use Rattle.replica_core.specs.Replica.{ReplicaState}
-use Rattle.replica_core.specs.World.{History, ReplicaHistory, WorldState, IsIn, IsReply, StandsForWorld, after, after_all, numbered, opening, replica}
+use Rattle.replica_core.specs.World.{History, ReplicaHistory, Sent, WorldState, IsIn, IsReply, IsTextOfSent, StandsForWorld, after, after_all, message, numbered, opening, replica}
 
 -- a replica of a world that was run through events, and what it took
 pub record IsAt (rule : GenerationsRule) (n : ℕ) (events : List Event) (r : ℕ) (h : ReplicaHistory) (held : ReplicaState) : Type 0 where
@@ -38,6 +39,18 @@ abbrev pub Agrees : Type 0
 Agrees = (rule other_rule : GenerationsRule) (n m : ℕ) (events others : List Event) (r s : ℕ) (h k : ReplicaHistory) (held other : ReplicaState)
     → IsAt rule n events r h held → IsAt other_rule m others s k other → HaveSameEdits h.taken k.taken
     → AreSame (map_of held.plane) (map_of other.plane)
+
+-- two replicas of one rule that took the same edits write the same state bytes
+abbrev pub WritesSameBytes : Type 0
+WritesSameBytes = (rule : GenerationsRule) (n m : ℕ) (events others : List Event) (r s : ℕ) (h k : ReplicaHistory) (held other : ReplicaState) (a b : List ℕ)
+    → IsAt rule n events r h held → IsAt rule m others s k other → HaveSameEdits h.taken k.taken
+    → IsStateText held.rule (map_of held.plane) a → IsStateText other.rule (map_of other.plane) b → a ≡ b
+
+-- the bytes of each message are the text of what was sent
+abbrev pub SendsTexts : Type 0
+SendsTexts = (rule : GenerationsRule) (n : ℕ) (events : List Event) (world : WorldState) (m : ℕ) (sent : Sent) (text : List ℕ)
+    → StandsForWorld (after_all (opening rule n) events) world → message (after_all (opening rule n) events) m ≡ Ok sent → numbered world.messages m ≡ Some text
+    → IsTextOfSent rule sent text
 
 -- two edits of one stamp in one world are one edit
 abbrev pub HasOneEditAStamp : Type 0

@@ -17,10 +17,10 @@ use Rattle.replica_core.specs.declared.edit_spec.EditSpec.TheVariants.{Cells, Co
 use Rattle.replica_core.specs.declared.fault.Fault.{Fault}
 use Rattle.replica_core.specs.declared.fault.Fault.TheVariants as faults
 use Rattle.delta_exchange.specs.declared.message.Content.{Content}
-use Rattle.delta_exchange.specs.declared.message.Content.TheVariants.{Edits, State}
 use Rattle.replica_core.specs.Fault.{IsWant, fault_of_edit}
 use Rattle.edit_journal.specs.Journal.{noted}
 use Rattle.delta_exchange.specs.Message.{Shared, writes_in, edits_in}
+use Rattle.delta_exchange.specs.MessageReading.{HasMap}
 use Rattle.stamped_tree.specs.Plane.{StampedPlane, map_of}
 
 -- what contracts see of a replica
@@ -107,15 +107,10 @@ abbrev pub IsTaking : ReplicaState → ReplicaState → Shared → Result (Unit 
 IsTaking old new m (Ok done) = (m.rule ≡ old.rule) × Takes old new m.content
 IsTaking old new m (Err fault) = ((m.rule ≡ old.rule) × MeetsWant old new fault) ⊎ ((fault ≡ faults.OtherRule) × (m.rule ≢ old.rule) × (new ≡ old))
 
--- a message's content is a map equal to p at every place
-abbrev pub IsMapOf : Writes → Content → Type 0
-IsMapOf p (State plane) = AreSame (map_of plane) p
-IsMapOf p (Edits edits) = ⊥
-
 -- a message of the replica's rule with its map, whose states the rule has and whose writes have stamps
 pub record IsSnapshot (r : ReplicaState) (m : Shared) : Type 0 where
   pub rule : m.rule ≡ r.rule
-  pub map : IsMapOf (map_of r.plane) m.content
+  pub map : HasMap m.content (map_of r.plane)
   pub states : HasStatesBelow m.rule.states (map_of r.plane)
   pub stamped : HasStampedWrites (map_of r.plane)
 

@@ -10,15 +10,19 @@ use Rattle.edit_stamps.specs.Edit.{PlaneEdit, IsEdit, greatest, greatest_counter
 use Rattle.stamped_tree.specs.Plane.{map_of}
 use Rattle.edit_stamps.specs.Write.{AreSame}
 use Rattle.replica_core.specs.declared.event.Event.{Event}
-use Rattle.replica_core.specs.declared.event.Event.TheVariants.{Draw, SendState, Deliver, Show, Same}
+use Rattle.replica_core.specs.declared.event.Event.TheVariants.{Draw, SendDelta, SendState, Deliver, Show, Same, Dump}
 use Rattle.replica_core.specs.declared.event.Reply.{Reply}
 use Rattle.replica_core.specs.declared.event.Reply.TheVariants as replies
 use Rattle.replica_core.specs.declared.fault.Fault.{Fault}
 use Rattle.replica_core.specs.declared.fault.Fault.TheVariants as faults
-use Rattle.delta_exchange.specs.declared.message.Content.{Content}
 use Rattle.replica_core.specs.declared.edit_spec.EditSpec.{EditSpec}
-use Rattle.delta_exchange.specs.Message.{Shared}
-use Rattle.replica_core.specs.Replica.{ReplicaState, IsMapOf, edit_drawn}
+use Rattle.delta_exchange.specs.Delta.{AreTellable}
+use Rattle.delta_exchange.specs.Spelling.{delta_text}
+use Rattle.delta_exchange.specs.State.{IsTellableMap}
+use Rattle.delta_exchange.specs.StateText.{IsStateText}
+use Rattle.edit_journal.specs.Journal.{noted}
+use Rattle.replica_core.specs.Exchange.{entries}
+use Rattle.replica_core.specs.Replica.{ReplicaState, edit_drawn}
 
 -- ---- histories
 
@@ -27,8 +31,9 @@ pub record ReplicaHistory : Type 0 where
   pub taken : List PlaneEdit
   pub journal : List PlaneEdit
 
--- a sent message: the map of the edits that its sender had taken by then
+-- a sent message: edits of its sender's journal, or the map of the edits that its sender had taken by then
 pub data Sent : Type 0 where
+  Delta : List PlaneEdit → Sent
   State : List PlaneEdit → Sent
 
 -- what a world has been through: of replica 1, 2, .. and of message 1, 2, ..
@@ -70,8 +75,13 @@ after_drawing h e = record { taken = h.taken ++ e ∷ []; journal = h.journal ++
 abbrev pub drawn : History → ℕ → EditSpec → Result (PlaneEdit × ReplicaHistory) Fault
 drawn w r spec = replica w r >>= (λ h. edit_drawn w.rule (greatest_counter h.taken) r spec >>= (λ e. Ok (e, after_drawing h e)))
 
+-- the named entries of a replica's journal
+abbrev pub named_entries : History → ℕ → ℕ → ℕ → Result (List PlaneEdit) Fault
+named_entries w r from count = replica w r >>= (λ h. entries h.journal from count)
+
 -- what a replica has after a message; a map adds nothing to its journal
 abbrev pub after_message : ReplicaHistory → Sent → ReplicaHistory
+after_message h (Delta edits) = record { taken = h.taken ++ edits; journal = noted h.journal edits }
 after_message h (State edits) = record { taken = h.taken ++ edits; journal = h.journal }
 
 abbrev pub delivered : History → ℕ → ℕ → Result ReplicaHistory Fault
@@ -92,10 +102,12 @@ changed w (Err fault) change = w
 
 abbrev pub after : History → Event → History
 after w (Draw r spec) = changed w (drawn w r spec) (λ d. with_replica w r d.1)
+after w (SendDelta r from count) = changed w (named_entries w r from count) (λ edits. with_message w (Delta edits))
 after w (SendState r) = changed w (replica w r) (λ h. with_message w (State h.taken))
 after w (Deliver m r) = changed w (delivered w m r) (λ h. with_replica w r h)
 after w (Show r x y) = w
 after w (Same a b) = w
+after w (Dump m) = w
 
 abbrev pub after_all : History → List Event → History
 after_all w [] = w
@@ -120,13 +132,24 @@ both w a b = replica w a >>= (λ h. replica w b >>= (λ k. Ok (h, k)))
 abbrev pub TellsSame : List PlaneEdit → List PlaneEdit → Reply → Type 0
 TellsSame es fs reply = (same : Bool) × (reply ≡ replies.Same same) × (IsTrue same ↔ AreSame (greatest es) (greatest fs))
 
+-- the bytes of what was sent: the text of the edits, or of the map of the edits
+abbrev pub IsTextOfSent : GenerationsRule → Sent → List ℕ → Type 0
+IsTextOfSent rule (Delta edits) text = text ≡ delta_text rule edits
+IsTextOfSent rule (State edits) text = IsStateText rule (greatest edits) text
+
+-- the reply that tells the bytes of what was sent
+abbrev pub TellsBytes : GenerationsRule → Sent → Reply → Type 0
+TellsBytes rule sent reply = (text : List ℕ) × (reply ≡ replies.Bytes text) × IsTextOfSent rule sent text
+
 -- the reply to an event
 abbrev pub IsReply : History → Event → Reply → Type 0
 IsReply w (Draw r spec) reply = Given (drawn w r spec) reply (λ d. reply ≡ replies.Drawn d.0.stamp)
+IsReply w (SendDelta r from count) reply = Given (named_entries w r from count) reply (λ edits. reply ≡ replies.Sent (next_message w))
 IsReply w (SendState r) reply = Given (replica w r) reply (λ h. reply ≡ replies.Sent (next_message w))
 IsReply w (Deliver m r) reply = Given (delivered w m r) reply (λ h. reply ≡ replies.Taken)
 IsReply w (Show r x y) reply = Given (replica w r) reply (λ h. reply ≡ replies.Shown (greatest h.taken (at_place x y)))
 IsReply w (Same a b) reply = Given (both w a b) reply (λ hs. TellsSame hs.0.taken hs.1.taken reply)
+IsReply w (Dump m) reply = Given (message w m) reply (λ sent. TellsBytes w.rule sent reply)
 
 -- the replies to events one after another
 abbrev pub AreReplies : History → List Event → List Reply → Type 0
@@ -138,6 +161,7 @@ AreReplies w (event ∷ events) [] = ⊥
 -- ---- the edits of a history
 
 abbrev pub edits_sent : Sent → List PlaneEdit
+edits_sent (Delta edits) = edits
 edits_sent (State edits) = edits
 
 abbrev pub IsTaken : History → PlaneEdit → Type 0
@@ -163,11 +187,11 @@ AreEdits w = (e : PlaneEdit) → IsIn w e → IsEditUnder w.rule e
 
 -- ---- which worlds of replicas stand for a history
 
--- what contracts see of a world: its replicas and its messages
+-- what contracts see of a world: its replicas, and the bytes of its messages
 pub record WorldState : Type 0 where
   pub rule : GenerationsRule
   pub replicas : List ReplicaState
-  pub messages : List Shared
+  pub messages : List (List ℕ)
 
 -- a replica of this rule and number, whose map has at each place the greatest write of the edits that were taken
 pub record StandsFor (rule : GenerationsRule) (number : ℕ) (h : ReplicaHistory) (r : ReplicaState) : Type 0 where
@@ -176,14 +200,15 @@ pub record StandsFor (rule : GenerationsRule) (number : ℕ) (h : ReplicaHistory
   pub map : AreSame (map_of r.plane) (greatest h.taken)
   pub journal : r.journal ≡ h.journal
 
--- what a message carries for what was sent
-abbrev pub Carries : Sent → Content → Type 0
-Carries (State edits) content = IsMapOf (greatest edits) content
+-- a reader under this rule takes what was sent
+abbrev pub IsTellable : GenerationsRule → Sent → Type 0
+IsTellable rule (Delta edits) = AreTellable rule.states edits
+IsTellable rule (State edits) = IsTellableMap rule.states (greatest edits)
 
--- a message of this rule that carries what was sent
-pub record StandsForSent (rule : GenerationsRule) (sent : Sent) (m : Shared) : Type 0 where
-  pub same_rule : m.rule ≡ rule
-  pub content : Carries sent m.content
+-- the bytes of what was sent under this rule, which its readers take
+pub record StandsForSent (rule : GenerationsRule) (sent : Sent) (text : List ℕ) : Type 0 where
+  pub spelt : IsTextOfSent rule sent text
+  pub tellable : IsTellable rule sent
 
 -- the store of each has room for so many squares
 abbrev pub HaveRoom : ℕ → List ReplicaState → Type 0

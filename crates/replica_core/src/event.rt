@@ -3,6 +3,7 @@
 use crate::edit_spec::EditSpec;
 use crate::fault::Fault;
 use edit_stamps::{Stamp, Write};
+use lists::ListOf;
 use std::alloc::{AllocError, AllocFailed};
 use std::error::Error;
 use std::fmt;
@@ -13,6 +14,8 @@ use std::fmt;
 pub enum Event {
     /// A replica draws.
     Draw(u32, EditSpec),
+    /// A replica sends edits of its journal: from a place on, counted from 0, so many.
+    SendDelta(u32, u32, u32),
     /// A replica sends its whole map.
     SendState(u32),
     /// A sent message reaches a replica: any message, any replica, at any later time, and again and
@@ -22,10 +25,15 @@ pub enum Event {
     Show(u32, i32, i32),
     /// Somebody asks whether two replicas hold the same write at every cell.
     Same(u32, u32),
+    /// Somebody asks for the bytes of a sent message.
+    Dump(u64),
 }
 
+/// The bytes of a message.
+pub type ByteList = ListOf<u8>;
+
 /// What is answered to an event.
-#[derive(Debug, PartialEq, Eq, Drop)]
+#[derive(Debug, Drop)]
 pub enum Reply {
     /// The stamp of the edit that was drawn.
     Drawn(Stamp),
@@ -37,7 +45,9 @@ pub enum Reply {
     Shown(Write),
     /// Whether the two hold the same write at every cell.
     Same(bool),
-    /// Why nothing happened. A draw and a look are refused for want of the replica first, a
+    /// The bytes of the message.
+    Bytes(ByteList),
+    /// Why nothing happened. A draw, a look and a sending are refused for want of the replica first, a
     /// delivery for want of the message first. It is never `Fault::Memory` or `Fault::StoreFull`.
     Refused(Fault),
 }

@@ -12,7 +12,7 @@ mod world;
 pub use delta_exchange::Message;
 pub use devices::{Failed, ReadSource, Sink, Source, WriteSink};
 pub use edit_spec::{CellList, EditSpec};
-pub use event::{Event, Reply, Stop};
+pub use event::{ByteList, Event, Reply, Stop};
 pub use fault::Fault;
 pub use laws::world_laws;
 pub use replica::Replica;

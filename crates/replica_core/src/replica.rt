@@ -1,8 +1,8 @@
 //! One replica of a shared plane.
 
-ghost use Rattle.std.specs.Prelude.{List, take, drop, ◌≡◌, ◌≢◌, ◌≤◌, ◌^◌, ◌↔◌, ◌++◌, ◌∷◌, [], ℕ, false, Contains, IfOk, IfErr, IsTrue, OnOk, OnErr, length};
+ghost use Rattle.std.specs.Prelude.{List, Ok, take, drop, ◌⊎◌, ◌≡◌, ◌≢◌, ◌≤◌, ◌^◌, ◌↔◌, ◌++◌, ◌∷◌, [], ℕ, false, Contains, IfOk, IfErr, IsTrue, OnOk, OnErr, length};
 ghost use Rattle.std.specs.Result.{IsOk};
-ghost use Rattle.generations_rule.specs.Refusal.{Answers, AnswersAs};
+ghost use Rattle.generations_rule.specs.Refusal.{Answers};
 ghost use Rattle.generations_rule.specs.Place.{at_place};
 ghost use Rattle.edit_stamps.specs.Stamp.{counter_in};
 ghost use Rattle.edit_stamps.specs.PlaneMap.{HasStampedWrites, IsGreatestStamp};
@@ -60,7 +60,7 @@ impl Replica {
     ghost use Rattle.delta_exchange.specs.Spelling.{delta_text};
     ghost use Rattle.delta_exchange.specs.State.{IsTellableMap};
     ghost use Rattle.delta_exchange.specs.StateText.{IsStateText};
-    ghost use Rattle.replica_core.specs.Exchange.{delta_given, entries, IsTakingOf, IsTakingText};
+    ghost use Rattle.replica_core.specs.Exchange.{delta_given, IsTakingOf, IsTakingText};
     ghost use Rattle.replica_core.specs.Replica.{edit_drawn, IsDraw, IsJournalOf, IsNew, IsReplica, IsSnapshot, IsTaking};
 
     /// A replica that holds nothing, with room for 2^26 squares. The only error is want of memory.
@@ -204,8 +204,8 @@ impl Replica {
     /// The bytes of a message of `count` edits of the journal from place `from` on, counted from 0.
     /// Refused is `NoSuchEdit` where the journal ends before; memory is wanted only where it does not.
     pub fn delta(&self, from: u32, count: u32) -> Result<Vec<u8>, Fault>
-        ensures text { AnswersAs (λ text meant. text.items ≡ meant) IsWant result (delta_given self.now from count) }
-        ensures err { IfErr result (λ fault. IsWant fault → IsOk (entries self.now.journal from count)) }
+        ensures text { IfOk result (λ text. delta_given self.now from count ≡ Ok text.items) }
+        ensures err { IfErr result (λ fault. ((fault ≡ Fault.Memory) × IsOk (delta_given self.now from count)) ⊎ (delta_given self.now from count ≡ Err fault)) }
         ensures edits { IfOk result (λ _. AreTellable self.now.rule.states (take count (drop from self.now.journal))) }
     {
         let end = u64::from(from) + u64::from(count);

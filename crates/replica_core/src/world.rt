@@ -1,19 +1,18 @@
 //! Worlds of replicas: lists of events, and their replies.
 
-ghost use Rattle.std.specs.Prelude.{◌≡◌, ◌≤◌, ◌^◌, ◌-◌, ℕ, IfOk, IfErr, Some, SomeIff, Contains, length, MatchResult, option_copied};
+ghost use Rattle.std.specs.Prelude.{◌≡◌, ◌≤◌, ◌^◌, ◌-◌, ◌++◌, ◌∷◌, [], ℕ, IfOk, IfErr, Some, SomeIff, Contains, length, MatchResult, option_copied};
 ghost use Rattle.edit_stamps.specs.Edit.{IsEdit, PlaneEdit, greatest_counter};
 ghost use Rattle.generations_rule.specs.Rule.{GenerationsRule};
 ghost use Rattle.replica_core.specs.declared.event.Event.TheVariants as events;
 ghost use Rattle.replica_core.specs.declared.event.Reply.TheVariants as replies;
 ghost use Rattle.replica_core.specs.Fault.{IsWant, stop_of};
-ghost use Rattle.replica_core.specs.Replica.{edit_drawn, IsNew, IsSnapshot};
+ghost use Rattle.replica_core.specs.Replica.{edit_drawn, IsNew};
 ghost use Rattle.replica_core.specs.World.{History, IsEditUnder, IsThere, ReplicaHistory, Sent, opening, after, after_all, after_drawing, after_message, numbered, AreEdits, AreReplies, HaveRoom, IsReply, StandSideBySide, StandsFor, StandsForSent, StandsForWorld};
 
 use crate::edit_spec::EditSpec;
-use crate::event::{Event, Reply, Stop};
+use crate::event::{ByteList, Event, Reply, Stop};
 use crate::fault::Fault;
 use crate::replica::Replica;
-use delta_exchange::Message;
 use generations_rule::Rule;
 use std::alloc::Global;
 use std::marker::Model;
@@ -21,12 +20,13 @@ use std::marker::Model;
 /// How many squares each replica may store if nothing else is said.
 const ROOM: u32 = 0x400_0000;
 
-/// Replicas of one rule with the numbers 1, 2, .. and the messages that they sent.
+/// Replicas of one rule with the numbers 1, 2, .. and the bytes of the messages that they sent.
 #[derive(Drop)]
 pub struct World {
+    alloc: Global,
     rule: Rule,
     replicas: Vec<Replica>,
-    messages: Vec<Message>,
+    messages: Vec<ByteList>,
 }
 
 impl Model for World {
@@ -58,6 +58,7 @@ impl World {
     {
         let replicas = beginners(alloc, rule, n, nodes)?;
         Ok(World {
+            alloc,
             rule,
             replicas,
             messages: Vec::new(alloc),
@@ -70,6 +71,16 @@ impl World {
     {
         let index = index_of(u64::from(number), self.replicas.len())?;
         self.replicas.get(index)
+    }
+
+    /// The bytes of the message of a number, if there is one. Messages are numbered from 1 as they are
+    /// sent.
+    pub fn message(&self, number: u64) -> Option<&[u8]>
+        ensures { option_copied result ≡ numbered self.now.messages number }
+    {
+        let index = index_of(number, self.messages.len())?;
+        let text = self.messages.get(index)?;
+        Some(text.as_slice())
     }
 }
 
@@ -157,12 +168,20 @@ fn happen(world: &mut World, event: &Event) -> Result<Reply, Stop>
 {
     match event {
         Event::Draw(number, spec) => draw(&mut world.replicas, *number, spec),
+        Event::SendDelta(number, from, count) => send_delta(
+            &world.replicas,
+            &mut world.messages,
+            *number,
+            *from,
+            *count,
+        ),
         Event::SendState(number) => send_state(&world.replicas, &mut world.messages, *number),
         Event::Deliver(message, number) => {
             deliver(&world.messages, &mut world.replicas, *message, *number)
         }
         Event::Show(number, x, y) => Ok(show(&world.replicas, *number, *x, *y)),
         Event::Same(a, b) => same(&world.replicas, *a, *b),
+        Event::Dump(number) => dump(world.alloc, &world.messages, *number),
     }
 }
 
@@ -218,7 +237,33 @@ fn stopped(fault: Fault) -> Stop
     }
 }
 
-fn send_state(replicas: &[Replica], messages: &mut Vec<Message>, number: u32) -> Result<Reply, Stop>
+fn send_delta(
+    replicas: &[Replica],
+    messages: &mut Vec<ByteList>,
+    number: u32,
+    from: u32,
+    count: u32,
+) -> Result<Reply, Stop>
+    ensures step { IfOk result (λ reply. (w : History) → StandSideBySide (StandsFor w.rule) w.replicas replicas.now
+        → StandSideBySide (λ m. StandsForSent w.rule) w.messages messages.old.items →
+        IsReply w (events.SendDelta number from count) reply
+        × StandSideBySide (λ m. StandsForSent w.rule) (after w (events.SendDelta number from count)).messages messages.new.items) }
+    ensures err { IfErr result (λ stop. (stop ≡ Stop.Memory) × IsThere number (length replicas.now)) }
+{
+    let Some(index) = index_of(u64::from(number), replicas.len()) else {
+        return Ok(Reply::Refused(Fault::NoReplica));
+    };
+    match replicas[index].delta(from, count) {
+        Ok(text) => send(messages, text),
+        Err(fault) => refused(fault),
+    }
+}
+
+fn send_state(
+    replicas: &[Replica],
+    messages: &mut Vec<ByteList>,
+    number: u32,
+) -> Result<Reply, Stop>
     ensures step { IfOk result (λ reply. (w : History) → StandSideBySide (StandsFor w.rule) w.replicas replicas.now
         → StandSideBySide (λ m. StandsForSent w.rule) w.messages messages.old.items →
         IsReply w (events.SendState number) reply
@@ -228,25 +273,23 @@ fn send_state(replicas: &[Replica], messages: &mut Vec<Message>, number: u32) ->
     match index_of(u64::from(number), replicas.len()) {
         None => Ok(Reply::Refused(Fault::NoReplica)),
         Some(index) => {
-            let message = snapshot_of(&replicas[index])?;
-            messages.push(message)?;
-            Ok(Reply::Sent(messages.len() as u64))
+            let text = replicas[index].state()?;
+            send(messages, text)
         }
     }
 }
 
-fn snapshot_of(replica: &Replica) -> Result<Message, Stop>
-    ensures snapshot { IfOk result (λ message. IsSnapshot replica.now message) }
+/// Puts a message behind the others.
+fn send(messages: &mut Vec<ByteList>, text: Vec<u8>) -> Result<Reply, Stop>
+    ensures sent { IfOk result (λ reply. (messages.new.items ≡ messages.old.items ++ text.items ∷ []) × (reply ≡ replies.Sent (length messages.new.items))) }
     ensures err { IfErr result (λ stop. stop ≡ Stop.Memory) }
 {
-    match replica.snapshot() {
-        Ok(message) => Ok(message),
-        Err(fault) => Err(stopped(fault)),
-    }
+    messages.push(ByteList::of_vec(text))?;
+    Ok(Reply::Sent(messages.len() as u64))
 }
 
 fn deliver(
-    messages: &[Message],
+    messages: &[ByteList],
     replicas: &mut [Replica],
     message: u64,
     number: u32,
@@ -265,17 +308,17 @@ fn deliver(
     let Some(to) = index_of(u64::from(number), replicas.len()) else {
         return Ok(Reply::Refused(Fault::NoReplica));
     };
-    take_at(&mut replicas[to], &messages[from])
+    take_at(&mut replicas[to], messages[from].as_slice())
 }
 
 /// What a replica takes.
-fn take_at(replica: &mut Replica, message: &Message) -> Result<Reply, Stop>
+fn take_at(replica: &mut Replica, text: &[u8]) -> Result<Reply, Stop>
     ensures step { IfOk result (λ reply. (rule : GenerationsRule) (h : ReplicaHistory) (sent : Sent) → StandsFor rule replica.old.number h replica.old
-        → StandsForSent rule sent message.now
+        → StandsForSent rule sent text.now
         → (reply ≡ replies.Taken) × StandsFor rule replica.old.number (after_message h sent) replica.new) }
     ensures room { replica.new.plane.store.room ≡ replica.old.plane.store.room }
 {
-    match replica.take(message) {
+    match replica.take_bytes(text) {
         Ok(()) => Ok(Reply::Taken),
         Err(fault) => refused(fault),
     }
@@ -302,4 +345,17 @@ fn same(replicas: &[Replica], a: u32, b: u32) -> Result<Reply, Stop>
     };
     let same = replicas[one].holds_same(&replicas[other])?;
     Ok(Reply::Same(same))
+}
+
+fn dump(alloc: Global, messages: &[ByteList], number: u64) -> Result<Reply, Stop>
+    ensures step { IfOk result (λ reply. (w : History) → StandSideBySide (λ m. StandsForSent w.rule) w.messages messages.now → IsReply w (events.Dump number) reply) }
+    ensures err { IfErr result (λ stop. (stop ≡ Stop.Memory) × IsThere number (length messages.now)) }
+{
+    match index_of(number, messages.len()) {
+        None => Ok(Reply::Refused(Fault::NoMessage)),
+        Some(index) => {
+            let text = messages[index].as_slice().to_vec(alloc)?;
+            Ok(Reply::Bytes(ByteList::of_vec(text)))
+        }
+    }
 }

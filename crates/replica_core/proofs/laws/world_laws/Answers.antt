@@ -1,4 +1,4 @@
-use Rattle.replica_core.proofs.HeadlineLaws.{agrees, has_one_edit_a_stamp, has_one_winner, holds_greatest, never_goes_down}
+use Rattle.replica_core.proofs.HeadlineLaws.{agrees, writes_same_bytes, sends_texts, has_one_edit_a_stamp, has_one_winner, holds_greatest, never_goes_down}
 use Rattle.replica_core.proofs.laws.world_laws.Goals as goal
 
 pub returns-clause-holds : goal.returns-clause-holds
@@ -15,3 +15,9 @@ returns-clause-winner c = has_one_winner
 
 pub returns-clause-rises : goal.returns-clause-rises
 returns-clause-rises c = never_goes_down
+
+pub returns-clause-bytes : goal.returns-clause-bytes
+returns-clause-bytes c = writes_same_bytes
+
+pub returns-clause-messages : goal.returns-clause-messages
+returns-clause-messages c = sends_texts

@@ -2,8 +2,8 @@ use Rattle.std.proofs.Common.{refl, sym, subst, length, ap, ◌∙◌}
 use Rattle.std.proofs.lemmas.List.{with_items_is}
 use Rattle.std.proofs.lemmas.Result.{IfOk-weaker}
 use Rattle.replica_core.specs.World.{AreEdits, HaveRoom, after, StandSideBySide, StandsForSent, StandsFor, StandsForWorld}
-use Rattle.replica_core.proofs.HistoryLaws.{edits_delivered, edits_sent_on}
-use Rattle.replica_core.proofs.EventLaws.{goes_by_drawing, goes_by_delivery, goes_by_sending}
+use Rattle.replica_core.proofs.HistoryLaws.{edits_delivered, edits_sent_of, edits_sent_on}
+use Rattle.replica_core.proofs.EventLaws.{goes_by_drawing, goes_by_delivery, goes_by_naming, goes_by_sending}
 use Rattle.replica_core.proofs.world.happen.Goals as goal
 
 pub returns-in-Draw-clause-step : goal.returns-in-Draw-clause-step
@@ -18,7 +18,13 @@ pub returns-in-SendState-clause-step : goal.returns-in-SendState-clause-step
 returns-in-SendState-clause-step c = IfOk-weaker c.send_state.result _ _ (λ reply step w valid stands.
     let inside = subst (StandsForWorld w) (sym c.world.view_is) stands in
     goes_by_sending w c.args.event.now c.in-SendState.number reply _ _ c.in-SendState.is inside refl refl
-    (step w (subst (StandSideBySide (StandsFor w.rule) w.replicas) (sym c.deref.ensures.value) inside.replicas) inside.messages)) c.send_state.ensures.step
+    (step w (subst (StandSideBySide (StandsFor w.rule) w.replicas) (sym c.deref-in-SendState.ensures.value) inside.replicas) inside.messages)) c.send_state.ensures.step
+
+pub returns-in-SendDelta-clause-step : goal.returns-in-SendDelta-clause-step
+returns-in-SendDelta-clause-step c = IfOk-weaker c.send_delta.result _ _ (λ reply step w valid stands.
+    let inside = subst (StandsForWorld w) (sym c.world.view_is) stands in
+    goes_by_naming w c.args.event.now c.in-SendDelta.number c.in-SendDelta.from c.in-SendDelta.count reply _ _ c.in-SendDelta.is inside refl refl
+    (step w (subst (StandSideBySide (StandsFor w.rule) w.replicas) (sym c.deref.ensures.value) inside.replicas) inside.messages)) c.send_delta.ensures.step
 
 pub returns-in-Deliver-clause-step : goal.returns-in-Deliver-clause-step
 returns-in-Deliver-clause-step c = IfOk-weaker c.deliver.result _ _ (λ reply step w valid stands.
@@ -39,6 +45,14 @@ pub returns-in-SendState-clause-edits : goal.returns-in-SendState-clause-edits
 returns-in-SendState-clause-edits c = IfOk-weaker c.send_state.result _ _ (λ reply step w valid stands.
     subst (λ e. AreEdits (after w e)) (sym c.in-SendState.is) (edits_sent_on w c.in-SendState.number valid)) c.send_state.ensures.step
 
+pub returns-in-SendDelta-clause-edits : goal.returns-in-SendDelta-clause-edits
+returns-in-SendDelta-clause-edits c = IfOk-weaker c.send_delta.result _ _ (λ reply step w valid stands.
+    subst (λ e. AreEdits (after w e)) (sym c.in-SendDelta.is) (edits_sent_of w c.in-SendDelta.number c.in-SendDelta.from c.in-SendDelta.count valid)) c.send_delta.ensures.step
+
+pub returns-in-Dump-clause-edits : goal.returns-in-Dump-clause-edits
+returns-in-Dump-clause-edits c = IfOk-weaker c.dump.result _ _ (λ reply step w valid stands.
+    subst (λ e. AreEdits (after w e)) (sym c.in-Dump.is) valid) c.dump.ensures.step
+
 pub returns-in-Deliver-clause-edits : goal.returns-in-Deliver-clause-edits
 returns-in-Deliver-clause-edits c = IfOk-weaker c.deliver.result _ _ (λ reply step w valid stands.
     subst (λ e. AreEdits (after w e)) (sym c.in-Deliver.is) (edits_delivered w c.in-Deliver.message c.in-Deliver.number valid)) c.deliver.ensures.step
@@ -56,6 +70,10 @@ returns-in-Draw-clause-room c = λ nodes all.
     let replicas = c.world.inside.replicas in
     subst (HaveRoom nodes) (sym (with_items_is replicas c.draw.new.replicas (c.draw.ensures.as_many ∙ ap length c.deref_mut.ensures.value ∙ sym replicas.ok.0)))
     (c.draw.ensures.room nodes (subst (HaveRoom nodes) (sym c.deref_mut.ensures.value) (subst (λ s. HaveRoom nodes s.replicas) (sym c.world.view_is) all)))
+
+pub returns-in-SendDelta-clause-room : goal.returns-in-SendDelta-clause-room
+returns-in-SendDelta-clause-room c = λ nodes all.
+    subst (λ s. HaveRoom nodes s.replicas) (sym c.world.view_is) all
 
 pub returns-in-SendState-clause-room : goal.returns-in-SendState-clause-room
 returns-in-SendState-clause-room c = λ nodes all.
