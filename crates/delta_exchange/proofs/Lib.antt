@@ -19,3 +19,4 @@ pub mod TreeCodec
 pub mod TreeSuits
 pub mod StateLaws
 pub mod MessageLaws
+pub mod MessageTexts

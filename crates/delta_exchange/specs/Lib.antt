@@ -10,6 +10,7 @@ pub mod StateSquares
 pub mod State
 pub mod Message
 pub mod MessageReading
+pub mod MessageTexts
 pub mod Frames
 pub mod FrameLaws
 pub mod Layout

@@ -1,7 +1,9 @@
-//! What the texts of deltas, states and frames obey: the contracts of functions that do nothing.
+//! What the texts of deltas, states, messages of either kind and frames obey: the contracts of
+//! functions that do nothing.
 
 ghost use Rattle.delta_exchange.specs.Delta.{HasOwnTexts};
 ghost use Rattle.delta_exchange.specs.FrameLaws.{HasOneCut, HasTaken};
+ghost use Rattle.delta_exchange.specs.MessageTexts.{HasKindsApart, HasOwnMessageTexts};
 ghost use Rattle.delta_exchange.specs.State.{HasOneStateText, HasOwnStateTexts};
 
 /// Different rules or lists of edits have different texts, and no text begins another.
@@ -14,6 +16,13 @@ pub fn delta_laws()
 pub fn state_laws()
     ensures one_text { HasOneStateText }
     ensures own_texts { HasOwnStateTexts }
+{}
+
+/// Messages of different kinds have different texts, and so have those of different rules, edits or
+/// maps. No message's text begins another's.
+pub fn message_laws()
+    ensures kinds_apart { HasKindsApart }
+    ensures own_texts { HasOwnMessageTexts }
 {}
 
 /// The bodies of a stream of frames are those of its bytes, however these come in pieces: what was

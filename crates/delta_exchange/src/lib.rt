@@ -23,7 +23,7 @@ mod stream;
 pub use delta::{read_delta, write_delta};
 pub use fault::ReadFault;
 pub use frame_fault::FrameFault;
-pub use laws::{delta_laws, frame_laws, state_laws};
+pub use laws::{delta_laws, frame_laws, message_laws, state_laws};
 pub use message::{Content, Message};
 pub use reading::{read, read_within};
 pub use state::write_state;

@@ -8,5 +8,9 @@ mod loading;
 mod planes;
 #[cfg(test)]
 mod rooms;
+#[cfg(test)]
+mod runs;
+#[cfg(test)]
+mod soups;
 
-pub use loading::{plane_of, refuses, shows, takes, walks};
+pub use loading::{advances, plane_of, refuses, shows, takes, walks};

@@ -82,3 +82,22 @@ pub fn refuses(
     let shown = shows(engine, former)?;
     Ok(loaded == Err(StoreFault::StoreFull) && shown)
 }
+
+/// Whether an engine runs so many generations further, and has these cells then, at this generation.
+pub fn advances(
+    engine: &mut Engine,
+    generations: u32,
+    generation: u32,
+    cells: &[Cell],
+) -> Result<bool, AllocError>
+    ensures { engine.new.rule ≡ engine.old.rule }
+{
+    let run = engine.run(generations);
+    let listed = engine.cells()?;
+    Ok(
+        run == Ok(())
+            && listed.as_slice() == cells
+            && engine.population() == cells.len() as u128
+            && engine.generation() == generation,
+    )
+}

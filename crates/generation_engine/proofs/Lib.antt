@@ -9,3 +9,8 @@ pub mod Counted
 pub mod Populations
 pub mod WalkLaws
 pub mod ResultLaws
+pub mod KeptLaws
+pub mod Passes
+pub mod Blocks
+pub mod Sixteen
+pub mod Universes

@@ -31,7 +31,7 @@ column_of u = omega (arith, ints)
 in_universe : (u : ℕ) → u < 8589934592 → is_coordinate_in_universe (negsuc 4294967295 +ℤ pos u) ≡ true
 in_universe u h = grind (arith, ints, h)
 
-column_within : (x : ℤ) → is_coordinate_in_universe x ≡ true → from_universe_edge x < 8589934592
+pub column_within : (x : ℤ) → is_coordinate_in_universe x ≡ true → from_universe_edge x < 8589934592
 column_within x h =
     let parts : (int_le (negsuc 4294967295) x ≡ true) × (int_lt x (pos 4294967296) ≡ true) = and_parts _ _ h in
     omega (arith, ints, parts.0, parts.1)
@@ -48,7 +48,7 @@ population_read e x is =
     is ∙ all ∙ sym (population_same 8589934592 _ f (λ u v hu hv. state_read e u v hu hv))
 
 -- what holds of the root's states, and of 0, holds of all
-each_state : (P : ℕ → Type 0) (e : EngineValue) → ((u v : ℕ) → u < 8589934592 → v < 8589934592 → P (grid_at leaf_grid 8 e.store 30 e.root u v).state) → P 0 → (c : Place) → P (states_of e c)
+pub each_state : (P : ℕ → Type 0) (e : EngineValue) → ((u v : ℕ) → u < 8589934592 → v < 8589934592 → P (grid_at leaf_grid 8 e.store 30 e.root u v).state) → P 0 → (c : Place) → P (states_of e c)
 each_state P e inside outside c = go (is_in_universe c) refl
   where
     go : (b : Bool) → is_in_universe c ≡ b → P (if b then (grid_at leaf_grid 8 e.store 30 e.root (from_universe_edge c.x) (from_universe_edge c.y)).state else 0)

@@ -25,7 +25,7 @@ grouped n a b = omega (arith, ints)
 moves_swap : (c : Place) (a b x y : ℤ) → moved (moved c a b) x y ≡ moved (moved c x y) a b
 moves_swap c a b x y = place_is _ _ _ _ (swap c.x a x) (swap c.y b y)
 
-moves_grouped : (c : Place) (a b x y : ℕ) → moved (moved c (pos a) (pos b)) (pos x) (pos y) ≡ moved c (pos (a + x)) (pos (b + y))
+pub moves_grouped : (c : Place) (a b x y : ℕ) → moved (moved c (pos a) (pos b)) (pos x) (pos y) ≡ moved c (pos (a + x)) (pos (b + y))
 moves_grouped c a b x y = place_is _ _ _ _ (grouped c.x a x) (grouped c.y b y)
 
 -- ---- moved maps

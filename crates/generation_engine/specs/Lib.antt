@@ -4,3 +4,6 @@ pub mod Loading
 pub mod Walk
 pub mod Results
 pub mod Rows
+pub mod Kept
+pub mod Running
+pub mod EngineFault

@@ -1,5 +1,5 @@
 -- Squares of a plane, brought into the store of an engine.
-use Rattle.std.specs.Prelude.{◌≡◌, ℕ, ◌+◌, ◌-◌, ◌<◌, cond, slice_index_or, List, length, Some, eqb, ◌&&◌, nat_le, nat_lt, if◌then◌else◌}
+use Rattle.std.specs.Prelude.{◌≡◌, ℕ, ◌+◌, ◌-◌, cond, List, length, Some, eqb, ◌&&◌, nat_le, nat_lt, if◌then◌else◌}
 use Rattle.square_store.specs.Grid.{Grid, blank_grid}
 use Rattle.square_store.specs.Squares.{Held, side_at, IsAt, grid_at, four_grid, Draws}
 use Rattle.square_store.specs.Seen.{AreAt}

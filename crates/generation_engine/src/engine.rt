@@ -1,13 +1,18 @@
 //! The engine.
 
-ghost use Rattle.std.specs.Prelude.{◌≡◌, ◌^◌, ◌≤◌, length, IfOk, OnOk, OnErr};
+ghost use Rattle.std.specs.Prelude.{◌≡◌, ◌+◌, ◌^◌, ◌<◌, ◌≤◌, ◌↔◌, ℕ, length, IfOk, OnOk, OnErr, Err};
+ghost use Rattle.generations_rule.specs.Place.{Place};
+ghost use Rattle.generations_rule.specs.Evolution.{at};
 ghost use Rattle.edit_stamps.specs.PlaneMap.{HasStatesBelow};
 ghost use Rattle.stamped_tree.specs.Plane.{map_of};
+ghost use Rattle.generation_engine.specs.Loading.{IsStoreFull};
+ghost use Rattle.generation_engine.specs.Running.{HasSameCells, IsEvolutionOf};
 ghost use Rattle.generation_engine.specs.Universe.{AreSameStates, population_of, states_in_writes, states_of};
 ghost use Rattle.generation_engine.specs.Walk.{AreCellsOf};
 
-use crate::leaf_kind::EngineLeaf;
+use crate::fault::EngineFault;
 use crate::load::universe_of;
+use crate::results::ResultStore;
 use crate::walk::{middle_cells, placed_cells};
 use generations_rule::Rule;
 use multistate_rle::Cell;
@@ -19,25 +24,39 @@ use std::marker::Model;
 /// How many squares an engine may store if nothing else is said.
 const ROOM: u32 = 0x400_0000;
 
+/// The last generation.
+const LAST: u32 = 0x2000_0000;
+
 /// A universe of states under a rule: x and y from -2^32 to 2^32 - 1. It is stored as distinct squares,
 /// of which one is the root, of level 33: a square of level k has 2^k columns and rows.
-#[derive(Drop)]
 pub struct Engine {
-    rule: Rule,
-    store: Store<EngineLeaf>,
+    squares: ResultStore,
     root: Part,
     generation: u32,
     alloc: Global,
 }
 
+/// By hand, so that a caller's proof sees one step where a universe is dropped.
+impl Drop for Engine {
+    fn drop(self) {
+        let Engine {
+            squares: _,
+            root: _,
+            generation: _,
+            alloc: _,
+        } = self;
+    }
+}
+
 impl Model for Engine {
     ghost use Rattle.generation_engine.specs.Universe.{EngineValue, IsEngine};
+    ghost use Rattle.generation_engine.specs.Running.{universe};
 
     ghost Value = { EngineValue };
 
-    ghost view = { λ e. record { rule = e.rule; store = e.store; root = e.root; generation = e.generation } };
+    ghost view = { λ e. universe e.squares e.root e.generation };
 
-    ghost invariant = { λ e. IsEngine (record { rule = e.rule; store = e.store; root = e.root; generation = e.generation }) };
+    ghost invariant = { λ e. IsEngine (universe e.squares e.root e.generation) };
 }
 
 impl Engine {
@@ -63,8 +82,7 @@ impl Engine {
         let mut store = Store::new(alloc, nodes);
         match store.add_blank(0) {
             Ok(root) => Ok(Engine {
-                rule,
-                store,
+                squares: ResultStore::of_store(alloc, rule, store),
                 root,
                 generation: 0,
                 alloc,
@@ -85,11 +103,33 @@ impl Engine {
         ensures room { self.new.store.room ≡ self.old.store.room }
         ensures err { OnErr result (self.new ≡ self.old) }
     {
-        let mut store = Store::new(self.alloc, self.store.room());
+        let mut store = Store::new(self.alloc, self.squares.store().room());
         let root = universe_of(self.alloc, &mut store, plane)?;
-        self.store = store;
+        self.squares = ResultStore::of_store(self.alloc, self.squares.rule(), store);
         self.root = root;
         self.generation = 0;
+        Ok(())
+    }
+
+    /// Runs the universe so many generations further. First of all `GenRange` is answered, exactly where
+    /// the generation would be greater than 2^29. `StoreFull` is answered where the store is full; after
+    /// it and after want of memory, cells and generation are as before, and what was computed is kept.
+    pub fn run(&mut self, generations: u32) -> Result<(), EngineFault>
+        ensures states { OnOk result (AreSameStates (states_of self.new) (at self.old.rule (states_of self.old) generations)) }
+        ensures generation { OnOk result (self.new.generation ≡ self.old.generation + generations) }
+        ensures since_load { OnOk result ((f : Place → ℕ) → IsEvolutionOf f self.old → IsEvolutionOf f self.new) }
+        ensures rule { self.new.rule ≡ self.old.rule }
+        ensures room { self.new.store.room ≡ self.old.store.room }
+        ensures range { (result ≡ Err EngineFault.GenRange) ↔ (2 ^ 29 < self.old.generation + generations) }
+        ensures err { OnErr result (HasSameCells self.old self.new) }
+        ensures full { result ≡ Err EngineFault.StoreFull → IsStoreFull self.new.store }
+    {
+        if generations > LAST - self.generation {
+            return Err(EngineFault::GenRange);
+        }
+        let root = self.squares.run(self.root, generations)?;
+        self.root = root;
+        self.generation += generations;
         Ok(())
     }
 
@@ -105,7 +145,7 @@ impl Engine {
         ensures cells { IfOk result (λ cells. AreCellsOf (states_of self.now) cells.items) }
         ensures count { IfOk result (λ cells. length cells.items ≡ population_of self.now) }
     {
-        let sorted = middle_cells(self.alloc, &self.store, self.root)?;
+        let sorted = middle_cells(self.alloc, self.squares.store(), self.root)?;
         let cells = placed_cells(self.alloc, &sorted)?;
         Ok(cells)
     }
@@ -114,6 +154,6 @@ impl Engine {
     pub fn population(&self) -> u128
         ensures { result ≡ population_of self.now }
     {
-        self.store.summary(self.root)
+        self.squares.store().summary(self.root)
     }
 }

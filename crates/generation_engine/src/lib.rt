@@ -1,17 +1,21 @@
 //! Generations of a whole universe, by Gosper's HashLife (Physica D 10, 1984).
 //!
 //! A universe is a store of distinct squares of states, and one of them, of level 33, that is its root.
-//! It is filled from a plane, and its cells are counted and listed.
+//! It is filled from a plane, run for any number of generations up to 2^29, and its cells are counted and
+//! listed.
 #![tactic(auto)]
 
 mod engine;
+mod fault;
 mod laws;
 mod leaf_kind;
 mod load;
 mod quarters;
+mod results;
 mod walk;
 
 pub use engine::Engine;
+pub use fault::EngineFault;
 pub use laws::engine_laws;
 pub use leaf_kind::EngineLeaf;
 pub use square_store::StoreFault;

@@ -9,7 +9,7 @@ use generations_rule::Rule;
 use std::alloc::{AllocError, Global};
 
 /// The delta of one edit: the cells 0 to 2 of row 0, in states 2, 3 and 0.
-static TEXT: [u8; 57] = [
+pub static TEXT: [u8; 57] = [
     0x47, 0x4c, 0x57, 0x44, 1, 7, 0x33, 0x34, 0x35, 0x2f, 0x32, 0x2f, 0x34, 0, 0, 0, 1, 0, 0, 0, 0,
     0, 1, 0, 1, 0, 0, 0, 0, 3, 0x40, 0, 0, 0, 0x40, 0, 0, 0, 2, 0x40, 0, 0, 1, 0x40, 0, 0, 0, 3,
     0x40, 0, 0, 2, 0x40, 0, 0, 0, 0,

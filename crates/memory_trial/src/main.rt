@@ -4,9 +4,11 @@
 
 mod deltas;
 mod edits;
+mod engines;
 mod planes;
 mod replicas;
 mod scripts;
+mod states;
 mod texts;
 
 use std::alloc::{AllocGlobal, Global};
@@ -18,6 +20,8 @@ fn main(rt: HostRuntime) -> io::Result<()> {
     tell_edits(&rt, alloc)?;
     tell_deltas(&rt, alloc)?;
     tell_planes(&rt, alloc)?;
+    tell_states(&rt, alloc)?;
+    tell_engines(&rt, alloc)?;
     tell_replicas(&rt, alloc)?;
     tell_scripts(&rt, alloc)
 }
@@ -53,6 +57,19 @@ fn tell_planes(rt: &impl Print, alloc: Global) -> io::Result<()> {
     tell(rt, "Plane::copy", planes::plane_is_copied(alloc))?;
     tell(rt, "Journal::push", planes::edit_is_noted(alloc))?;
     tell(rt, "Journal::fresh, append", planes::edits_are_noted(alloc))
+}
+
+fn tell_states(rt: &impl Print, alloc: Global) -> io::Result<()> {
+    tell(rt, "write_state", states::state_is_written(alloc))?;
+    tell(rt, "read of a state", states::state_is_read(alloc))?;
+    tell(rt, "read of a state's fault", states::fault_is_told(alloc))?;
+    tell(rt, "read of a delta", states::delta_is_read(alloc))
+}
+
+fn tell_engines(rt: &impl Print, alloc: Global) -> io::Result<()> {
+    tell(rt, "Engine::new", engines::engine_is_new(alloc))?;
+    tell(rt, "Engine::load", engines::plane_is_loaded(alloc))?;
+    tell(rt, "Engine::cells", engines::cells_are_listed(alloc))
 }
 
 fn tell_replicas(rt: &impl Print, alloc: Global) -> io::Result<()> {

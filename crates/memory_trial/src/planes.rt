@@ -8,7 +8,7 @@ use std::alloc::{AllocError, Global};
 use tree_join::{join, same_remembered};
 
 /// The states of the cells 0 to 2 of row 0.
-fn shown(plane: &Plane) -> [u8; 3] {
+pub fn shown(plane: &Plane) -> [u8; 3] {
     [
         plane.get(0, 0).state,
         plane.get(1, 0).state,
@@ -31,7 +31,8 @@ fn plane_of(alloc: Global, edit: &Edit) -> Result<Plane, AllocError> {
     }
 }
 
-fn row(alloc: Global) -> Option<Plane> {
+/// The plane of that row.
+pub fn row(alloc: Global) -> Option<Plane> {
     let edit = edits::row(alloc, 1).ok()?;
     plane_of(alloc, &edit).ok()
 }
@@ -57,15 +58,26 @@ pub fn plane_is_joined(alloc: Global) -> bool {
     joined(alloc, &other).is_ok_and(|plane| shown(&plane) == [2, 3, 0])
 }
 
-pub fn planes_are_same(alloc: Global) -> bool {
-    let (Some(one), Some(other)) = (row(alloc), row(alloc)) else {
+fn are_same(alloc: Global, plane: &Plane, other: &Plane) -> Result<bool, AllocError> {
+    match same_remembered(alloc, plane, other) {
+        Ok(same) => Ok(same),
+        Err(AllocError) => same_remembered(alloc, plane, other),
+    }
+}
+
+/// Whether a plane is that of the row, drawn once more.
+fn is_row(alloc: Global, plane: &Plane) -> bool {
+    let Some(other) = row(alloc) else {
         return false;
     };
-    let same = match same_remembered(alloc, &one, &other) {
-        Ok(same) => Ok(same),
-        Err(AllocError) => same_remembered(alloc, &one, &other),
+    are_same(alloc, plane, &other) == Ok(true)
+}
+
+pub fn planes_are_same(alloc: Global) -> bool {
+    let Some(plane) = row(alloc) else {
+        return false;
     };
-    same == Ok(true)
+    is_row(alloc, &plane)
 }
 
 pub fn plane_is_walked(alloc: Global) -> bool {

@@ -65,8 +65,10 @@ pub fn edit_is_drawn(alloc: Global) -> bool {
 }
 
 pub fn state_is_refused(alloc: Global) -> bool {
-    let (Some(mut replica), Ok(spec)) = (replica(alloc, 1), spec(alloc, &[edits::cell(0, 4)]))
-    else {
+    let Ok(spec) = spec(alloc, &[edits::cell(0, 4)]) else {
+        return false;
+    };
+    let Some(mut replica) = replica(alloc, 1) else {
         return false;
     };
     matches!(
@@ -77,8 +79,9 @@ pub fn state_is_refused(alloc: Global) -> bool {
 
 fn snapshot(replica: &Replica) -> Result<Message, Fault> {
     match replica.snapshot() {
+        Ok(message) => Ok(message),
         Err(Fault::Memory) => replica.snapshot(),
-        answer => answer,
+        Err(fault) => Err(fault),
     }
 }
 

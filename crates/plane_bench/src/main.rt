@@ -3,6 +3,7 @@
 //! chooses one picture, so that its memory can be seen from outside.
 #![tactic(auto)]
 
+mod draws;
 mod pictures;
 mod squares;
 mod words;
@@ -27,5 +28,9 @@ fn main(rt: HostRuntime) -> Result<()> {
 fn run(rt: &(impl Clock + Print), alloc: Global, words: &Words, picture: Picture) -> Result<()> {
     let edit = picture.edit(alloc)?;
     let places = picture.places(alloc)?;
-    squares::run(rt, alloc, picture, &edit, &places, words.is_timed)
+    squares::run(rt, alloc, picture, &edit, &places, words.is_timed)?;
+    if picture == Picture::Dense {
+        draws::run(rt, alloc, picture, &edit, words.is_timed)?;
+    }
+    Ok(())
 }

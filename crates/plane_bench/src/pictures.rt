@@ -32,7 +32,7 @@ impl Picture {
     }
 
     /// How many columns and rows it has.
-    fn side(self) -> u32 {
+    pub fn side(self) -> u32 {
         match self {
             Picture::Dense => 1024,
             _ => 4096,
@@ -74,7 +74,7 @@ impl Picture {
 /// The least column and row of each picture.
 const LEAST: i32 = -1023;
 
-fn coordinate(random: &mut Pcg32, side: u32) -> i32 {
+pub fn coordinate(random: &mut Pcg32, side: u32) -> i32 {
     LEAST.wrapping_add_unsigned(random.next_word() % side.max(1))
 }
 

@@ -8,7 +8,7 @@ use std::alloc::{AllocError, Global};
 use std::test::Fail;
 
 /// The plane's corners, its middle, and a place inside a leaf.
-static CENTRES: [Corner; 6] = [
+pub(crate) static CENTRES: [Corner; 6] = [
     Corner {
         x: -0x4000_0000,
         y: -0x4000_0000,

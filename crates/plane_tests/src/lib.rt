@@ -4,6 +4,8 @@
 #[cfg(test)]
 mod drawn;
 mod edits;
+#[cfg(test)]
+mod overwritten;
 mod path;
 #[cfg(test)]
 mod rooms;

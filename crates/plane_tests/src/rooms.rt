@@ -34,8 +34,8 @@ fn a_plane_is_full_below_thirty_squares(rt: HostRuntime) -> Result<(), Fail> {
     Ok(())
 }
 
-/// The plane of a draw of the origin, and how many squares its copy has.
-fn drawn(alloc: Global) -> Result<(Write, u32, u32), EditFault> {
+/// The plane of a draw of the origin.
+fn drawn(alloc: Global) -> Result<Plane, EditFault> {
     let (Ok(rule), Some(stamp)) = (Rule::parse(b"/2/3"), Stamp::new(1, 1)) else {
         return Err(EditFault::Nothing);
     };
@@ -44,15 +44,25 @@ fn drawn(alloc: Global) -> Result<(Write, u32, u32), EditFault> {
         y: 0,
         state: 1,
     };
-    let plane = Plane::of_edit(alloc, &Edit::cells(alloc, &rule, stamp, &[cell])?)?;
+    let edit = Edit::cells(alloc, &rule, stamp, &[cell])?;
+    Ok(Plane::of_edit(alloc, &edit)?)
+}
+
+/// The write at the origin of a plane's copy, and how many squares the copy has.
+fn copied(plane: &Plane) -> Result<(Write, u32), AllocError> {
     let copy = plane.copy()?;
-    Ok((copy.get(0, 0), plane.nodes(), copy.nodes()))
+    Ok((copy.get(0, 0), copy.nodes()))
+}
+
+/// The same of that draw.
+fn drawn_and_copied(alloc: Global) -> Result<(Write, u32), EditFault> {
+    let plane = drawn(alloc)?;
+    Ok(copied(&plane)?)
 }
 
 #[test]
 fn a_copy_has_the_squares_of_the_root(rt: HostRuntime) -> Result<(), Fail> {
-    let (write, _, copied) = drawn(rt.alloc())?;
-    assert!(rt; write == LIVE && copied == 30);
+    assert!(rt; drawn_and_copied(rt.alloc())? == (LIVE, 30));
     assert_eq!(rt; Plane::new(rt.alloc())?.nodes(), 1);
     Ok(())
 }

@@ -67,15 +67,35 @@ mod tests {
         Stamp::new(1, 1).ok_or(EditFault::Nothing)
     }
 
-    /// A clear, the same cells listed, and whether the two planes, and their copies, show the same; then
-    /// how many squares each has.
+    fn cleared(alloc: Global, area: Rect) -> Result<Plane, EditFault> {
+        let clear = Edit::clear(alloc, stamp()?, area)?;
+        Ok(Plane::of_edit(alloc, &clear)?)
+    }
+
+    fn listed(alloc: Global) -> Result<Plane, EditFault> {
+        let zeros = zeros_listed(alloc, stamp()?)?;
+        Ok(Plane::of_edit(alloc, &zeros)?)
+    }
+
+    /// Whether two planes, and a copy of the second, show the same; then how many squares the first has
+    /// and how many the copy.
+    fn beside_a_copy(plane: &Plane, other: &Plane) -> Result<(bool, u32, u32), AllocError> {
+        let copy = other.copy()?;
+        let same = show_the_same(&plane.root(), &other.root(), 31)
+            && show_the_same(&plane.root(), &copy.root(), 31);
+        Ok((same, plane.nodes(), copy.nodes()))
+    }
+
+    /// The same of a plane and the zeros of the area, listed.
+    fn beside_the_listed(alloc: Global, plane: &Plane) -> Result<(bool, u32, u32), EditFault> {
+        let listed = listed(alloc)?;
+        Ok(beside_a_copy(plane, &listed)?)
+    }
+
+    /// The same of a clear and these zeros.
     fn cleared_and_listed(alloc: Global) -> Result<(bool, u32, u32), EditFault> {
-        let cleared = Plane::of_edit(alloc, &Edit::clear(alloc, stamp()?, AREA)?)?;
-        let listed = Plane::of_edit(alloc, &zeros_listed(alloc, stamp()?)?)?;
-        let copy = listed.copy()?;
-        let same = show_the_same(&cleared.root(), &listed.root(), 31)
-            && show_the_same(&cleared.root(), &copy.root(), 31);
-        Ok((same, cleared.nodes(), copy.nodes()))
+        let cleared = cleared(alloc, AREA)?;
+        beside_the_listed(alloc, &cleared)
     }
 
     /// The square of 16 by 16 is a blank, below 27 squares of four; the other blank is of stamp 0.
@@ -93,7 +113,7 @@ mod tests {
             width: 4096,
             height: 4096,
         };
-        let plane = Plane::of_edit(alloc, &Edit::clear(alloc, stamp()?, area)?)?;
+        let plane = cleared(alloc, area)?;
         Ok(plane.nodes())
     }
 

@@ -26,12 +26,22 @@ pub(crate) enum Added<'a> {
 
 /// A replica's plane. A join leaves the squares of the former root behind, which nothing names; so
 /// the plane is replaced by its copy where its squares became twice as many as in its last copy.
-#[derive(Drop)]
 pub(crate) struct HeldPlane {
     plane: Plane,
     /// How many squares stood in the last copy.
     copied: u32,
     alloc: Global,
+}
+
+/// By hand, so that a caller's proof sees one step where a plane is dropped.
+impl Drop for HeldPlane {
+    fn drop(self) {
+        let HeldPlane {
+            plane: _,
+            copied: _,
+            alloc: _,
+        } = self;
+    }
 }
 
 impl Model for HeldPlane {
@@ -140,7 +150,9 @@ fn add_edits(
     Ok(part)
 }
 
-/// Adds the square of level 31 that a given one becomes by what an edit writes.
+/// Adds the square of level 31 that a given one becomes by what an edit writes. An edit that is newer
+/// than all that stands there, as each one that is drawn here, is written over it; of another a plane
+/// is made, and joined.
 fn add_edit(alloc: Global, plane: &mut Plane, root: Part, edit: &Edit) -> Result<Part, StoreFault>
     requires { IsPart plane.old.store 31 root }
     ensures part { IfOk result (λ part. IsPart plane.new.store 31 part) }
@@ -148,6 +160,11 @@ fn add_edit(alloc: Global, plane: &mut Plane, root: Part, edit: &Edit) -> Result
     ensures grows { HasGrown plane.old plane.new }
     ensures full { result ≡ Err StoreFault.StoreFull → length plane.new.store.squares ≡ plane.new.store.room }
 {
+    // For the proof alone: the call tells that what is held is an edit.
+    let _cells = edit.listed_cells();
+    if plane.square(root).bounds().greatest < edit.stamp().number() {
+        return plane.add_overwritten(root, edit);
+    }
     let drawn = Plane::of_edit(alloc, edit)?;
     add_joined(alloc, plane, root, &drawn)
 }

@@ -4,6 +4,8 @@
 #[cfg(test)]
 mod acts;
 #[cfg(test)]
+mod exchanges;
+#[cfg(test)]
 mod journals;
 #[cfg(test)]
 mod pastes;

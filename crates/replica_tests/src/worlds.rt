@@ -2,7 +2,7 @@
 
 ghost use Rattle.std.specs.Prelude.{◌≤◌, ◌<◌};
 
-use edit_stamps::Cell;
+use edit_stamps::{Cell, Write};
 use generations_rule::Rule;
 use replica_core::{CellList, EditSpec, Event, Reply, Stop, World, replay, replay_within};
 use std::alloc::{AllocError, Global};
@@ -11,10 +11,12 @@ use std::alloc::{AllocError, Global};
 #[derive(Clone, Copy)]
 enum Step {
     Draw(u32, i32, i32, u8),
+    SendDelta(u32, u32, u32),
     Send(u32),
     Deliver(u64, u32),
     Show(u32, i32, i32),
     Same(u32, u32),
+    Dump(u64),
 }
 
 fn event(alloc: Global, step: Step) -> Result<Event, AllocError> {
@@ -23,10 +25,12 @@ fn event(alloc: Global, step: Step) -> Result<Event, AllocError> {
             let cells = Vec::from_slice(alloc, &[Cell { x, y, state }])?;
             Event::Draw(number, EditSpec::Cells(CellList::of_vec(cells)))
         }
+        Step::SendDelta(number, from, count) => Event::SendDelta(number, from, count),
         Step::Send(number) => Event::SendState(number),
         Step::Deliver(message, number) => Event::Deliver(message, number),
         Step::Show(number, x, y) => Event::Show(number, x, y),
         Step::Same(a, b) => Event::Same(a, b),
+        Step::Dump(message) => Event::Dump(message),
     })
 }
 
@@ -50,6 +54,7 @@ fn reply_told(alloc: Global, reply: &Reply) -> Result<String, AllocError> {
         Reply::Taken => "taken".to_string(alloc),
         Reply::Shown(write) => format!(in alloc; "shown {} {}", write.stamp, write.state),
         Reply::Same(same) => format!(in alloc; "same {same}"),
+        Reply::Bytes(text) => format!(in alloc; "{} bytes", text.as_slice().len()),
         Reply::Refused(fault) => fault.to_string(alloc),
     }
 }
@@ -177,8 +182,54 @@ fn raises_the_clock(rt: HostRuntime) {
     assert!(rt; is_answered(rt.alloc(), 2, &RAISING, lines) == Ok(true));
 }
 
+/// A map that is behind a delta, and a delta that came twice; the bytes of each message.
+static EXCHANGED: [Step; 12] = [
+    Step::Draw(1, 0, 0, 1),
+    Step::SendDelta(1, 0, 1),
+    Step::Send(1),
+    Step::Deliver(1, 2),
+    Step::Send(2),
+    Step::Deliver(2, 2),
+    Step::Deliver(1, 2),
+    Step::Deliver(1, 2),
+    Step::Send(2),
+    Step::Same(1, 2),
+    Step::SendDelta(2, 1, 1),
+    Step::Dump(4),
+];
+
+#[test]
+fn exchanges_bytes(rt: HostRuntime) {
+    let lines = "drawn 1 1\nsent 1\nsent 2\ntaken\nsent 3\ntaken\ntaken\ntaken\nsent 4\nsame true\n\
+        NoSuchEdit\n1371 bytes\n";
+    assert!(rt; is_answered(rt.alloc(), 2, &EXCHANGED, lines) == Ok(true));
+}
+
+/// Whether a world holds messages of these numbers of bytes, and no more.
+fn are_message_sizes(alloc: Global, steps: &[Step], sizes: &[usize]) -> Result<bool, Stop> {
+    let (world, _) = replay(alloc, rule()?, 2, &events(alloc, steps)?)?;
+    let mut number = 1u64;
+    for size in sizes {
+        match world.message(number) {
+            Some(text) if text.len() == *size => (),
+            _ => return Ok(false),
+        }
+        number = number.wrapping_add(1);
+    }
+    Ok(world.message(number).is_none() && world.message(0).is_none())
+}
+
+#[test]
+fn keeps_each_message(rt: HostRuntime) {
+    assert!(rt; are_message_sizes(rt.alloc(), &EXCHANGED, &[36, 1371, 1371, 1371]) == Ok(true));
+    assert!(rt; are_message_sizes(rt.alloc(), &OLDER, &[19, 1371]) == Ok(true));
+}
+
+/// A message keeps the map that was sent, whatever is drawn later.
+static OLDER: [Step; 3] = [Step::Send(1), Step::Draw(1, 0, 0, 1), Step::Send(1)];
+
 /// Each refusal, the first of two where both stand.
-static REFUSED: [Step; 11] = [
+static REFUSED: [Step; 18] = [
     Step::Draw(0, 0, 0, 9),
     Step::Draw(2, 0x4000_0000, 0, 1),
     Step::Draw(1, 0x4000_0000, 0, 9),
@@ -190,12 +241,20 @@ static REFUSED: [Step; 11] = [
     Step::Send(1),
     Step::Deliver(1, 2),
     Step::Show(1, 0, 0),
+    Step::SendDelta(2, 1, 0),
+    Step::SendDelta(1, 1, 0),
+    Step::SendDelta(1, 0, 1),
+    Step::SendDelta(1, u32::MAX, u32::MAX),
+    Step::SendDelta(1, 0, 0),
+    Step::Dump(0),
+    Step::Dump(3),
 ];
 
 #[test]
 fn refuses(rt: HostRuntime) {
     let lines = "NoReplica\nNoReplica\nOutOfPlane\nStateRange\nNoReplica\nNoMessage\nNoMessage\n\
-        NoReplica\nsent 1\nNoReplica\nshown 0 0\n";
+        NoReplica\nsent 1\nNoReplica\nshown 0 0\nNoReplica\nNoSuchEdit\nNoSuchEdit\nNoSuchEdit\nsent 2\n\
+        NoMessage\nNoMessage\n";
     assert!(rt; is_answered(rt.alloc(), 1, &REFUSED, lines) == Ok(true));
 }
 
@@ -221,17 +280,18 @@ impl Dice {
 /// An event among three replicas on a field of 4 by 4 cells; there are some messages.
 fn by_chance(dice: &mut Dice, messages: u32) -> Step {
     let number = 1 + dice.roll(3);
-    match dice.roll(4) {
-        0 | 1 => {
+    match dice.roll(6) {
+        0 | 1 | 2 => {
             let (x, y) = (dice.roll(4) as i32, dice.roll(4) as i32);
             Step::Draw(number, x, y, dice.roll(3) as u8)
         }
-        2 if messages > 0 => Step::Deliver(u64::from(1 + dice.roll(messages)), number),
+        3 if messages > 0 => Step::Deliver(u64::from(1 + dice.roll(messages)), number),
+        4 => Step::SendDelta(number, dice.roll(8), dice.roll(8)),
         _ => Step::Send(number),
     }
 }
 
-/// 200 events by chance, and then a map of each replica; the number of messages that were sent.
+/// 200 events by chance, and then a map of each replica; there are at most so many messages then.
 fn scattered(alloc: Global) -> Result<(Vec<Event>, u32), AllocError> {
     let mut dice = Dice { state: 2026 };
     let mut events = Vec::new(alloc);
@@ -242,7 +302,7 @@ fn scattered(alloc: Global) -> Result<(Vec<Event>, u32), AllocError> {
         } else {
             Step::Send(i - 199)
         };
-        if let Step::Send(_) = step {
+        if let Step::Send(_) | Step::SendDelta(..) = step {
             messages = messages.saturating_add(1);
         }
         events.push(event(alloc, step)?)?;
@@ -280,16 +340,22 @@ fn gathered(alloc: Global, are_turned: bool) -> Result<Vec<Event>, AllocError> {
 }
 
 /// What is shown in the end: three fields of 16 cells.
-fn fields(alloc: Global, are_turned: bool) -> Result<Vec<Reply>, Stop> {
-    let mut replies = run(alloc, 3, &gathered(alloc, are_turned)?)?;
-    Ok(replies.split_off(replies.len().saturating_sub(48))?)
+fn fields(alloc: Global, are_turned: bool) -> Result<Vec<Write>, Stop> {
+    let replies = run(alloc, 3, &gathered(alloc, are_turned)?)?;
+    let mut shown = Vec::new(alloc);
+    for reply in &replies {
+        if let Reply::Shown(write) = reply {
+            shown.push(*write)?;
+        }
+    }
+    Ok(shown)
 }
 
-/// How many replies are the same as the one at their place in the first field.
-fn same_as_first(shown: &[Reply]) -> usize {
+/// How many writes are the same as the one at their place in the first field.
+fn same_as_first(shown: &[Write]) -> usize {
     let mut same = 0usize;
-    for (i, reply) in shown.iter().enumerate() {
-        if shown.get(i % 16) == Some(reply) {
+    for (i, write) in shown.iter().enumerate() {
+        if shown.get(i % 16) == Some(write) {
             same = same.wrapping_add(1);
         }
     }
@@ -305,6 +371,32 @@ fn agree(alloc: Global) -> Result<bool, Stop> {
     let shown = fields(alloc, false)?;
     let turned = fields(alloc, true)?;
     Ok(shown.as_slice() == turned.as_slice())
+}
+
+/// The bytes of a replica's map, and none where it is not there.
+fn state_of(alloc: Global, world: &World, number: u32) -> Result<Vec<u8>, AllocError> {
+    match world.replica(number) {
+        Some(replica) => replica.state(),
+        None => Ok(Vec::new(alloc)),
+    }
+}
+
+/// The number of bytes of a state, where each replica writes the same bytes in the end.
+fn state_of_all(alloc: Global, are_turned: bool) -> Result<Option<usize>, Stop> {
+    let (world, _) = replay(alloc, rule()?, 3, &gathered(alloc, are_turned)?)?;
+    let first = state_of(alloc, &world, 1)?;
+    for number in 2..=3 {
+        if state_of(alloc, &world, number)?.as_slice() != first.as_slice() {
+            return Ok(None);
+        }
+    }
+    Ok(Some(first.len()))
+}
+
+#[test]
+fn each_writes_the_same_bytes(rt: HostRuntime) {
+    assert!(rt; state_of_all(rt.alloc(), false) == Ok(Some(1371)));
+    assert!(rt; state_of_all(rt.alloc(), true) == Ok(Some(1371)));
 }
 
 fn count_of_scattered(alloc: Global) -> Result<usize, AllocError> {

@@ -1,10 +1,9 @@
 -- What is drawn, from its quarters.
-use Rattle.std.proofs.Common.{◌≡◌, ℕ, zero, suc, ◌+◌, ◌-◌, ◌<◌, ◌==◌, Bool, true, false, List, [], ◌∷◌, inl, inr, refl, sym, ap, ◌∙◌, subst, arith}
-use Rattle.std.specs.Prelude.{◌&&◌, length, IsTrue, Option, None, Some}
-use Rattle.std.specs.HashMap.{HashMap}
+use Rattle.std.proofs.Common.{◌≡◌, ℕ, zero, suc, ◌+◌, ◌-◌, ◌<◌, ◌==◌, Bool, true, false, List, [], ◌∷◌, inl, inr, refl, sym, ap, ◌∙◌, arith}
+use Rattle.std.specs.Prelude.{◌&&◌, IsTrue, Option, None, Some}
 use Rattle.std.proofs.lemmas.Bool.{cases_lt}
 use Rattle.std.proofs.lemmas.Bool.Decides.{nat_tests}
-use Rattle.square_store.specs.Grid.{Grid, blank_grid, quartered, AreSameWithin}
+use Rattle.square_store.specs.Grid.{Grid, quartered, AreSameWithin}
 use Rattle.square_store.specs.Squares.{Held, IsAt, side_at, grid_at, four_grid, Draws}
 use Rattle.square_store.specs.Seen.{AreAt}
 use Rattle.edit_stamps.specs.Edit.{write_by}
@@ -15,11 +14,8 @@ use Rattle.square_store.proofs.Quarters.{twice, quarter_nw, quarter_ne, quarter_
 use Rattle.stamped_tree.specs.declared.leaf_kind.PlaneLeaf.{PlaneLeaf}
 use Rattle.stamped_tree.specs.declared.area.Area.{Area}
 use Rattle.stamped_tree.specs.declared.cells.ListedCell.{ListedCell}
-use Rattle.stamped_tree.specs.declared.filled.AreaKey.{AreaKey}
-use Rattle.stamped_tree.specs.LeafKind.{plane_grid}
-use Rattle.stamped_tree.specs.Area.{is_in_area, area_grid, IsAreaOfPart, IsEmptyArea, IsWholeArea}
+use Rattle.stamped_tree.specs.Area.{is_in_area, IsAreaOfPart}
 use Rattle.stamped_tree.specs.Drawing.{state_listed, edit_grid, is_cell_in, moved_cell, cells_in}
-use Rattle.stamped_tree.specs.Filled.{AreFilled}
 
 -- ---- the cells and the area of a part
 
@@ -44,15 +40,6 @@ part_listed (c ∷ cells) left top side u v hu hv = go (part_listed cells left t
 -- the writes of an edit on a part
 pub part_writes : (stamp : ℕ) (a x : Area) (cells : List ListedCell) (left top side : ℕ) → IsAreaOfPart a left top side x → AreSameWithin side (edit_grid stamp x (cells_in cells left top side)) (λ u v. edit_grid stamp a cells (left + u) (top + v))
 part_writes stamp a x cells left top side part u v hu hv = rw (part_listed cells left top side u v hu hv, part u v hu hv) refl
-
--- ---- areas that are blanks
-
-pub empty_area : (stamp : ℕ) (a : Area) (n : ℕ) → IsEmptyArea a → AreSameWithin n (area_grid stamp a) (blank_grid 0)
-empty_area stamp a n (inl h) u v hu hv = let e : is_in_area a u v ≡ false = grind (arith, nat_tests, h) in rw e refl
-empty_area stamp a n (inr h) u v hu hv = let e : is_in_area a u v ≡ false = grind (arith, nat_tests, h) in rw e refl
-
-pub whole_area : (stamp : ℕ) (a : Area) (n : ℕ) → IsWholeArea n a → AreSameWithin n (area_grid stamp a) (blank_grid stamp)
-whole_area stamp a n h u v hu hv = let l = h.0 in let r = h.1 in let t = h.2 in let b = h.3 in let e : is_in_area a u v ≡ true = grind (arith, nat_tests, l, r, t, b) in rw e refl
 
 -- ---- four squares
 
@@ -109,18 +96,6 @@ module _ {L : Type 0} (writes : L → Grid) (side : ℕ) where
       (λ u v hu hv. dc.same u v (within u hu) (within v hv) ∙ ec u v hu hv) (λ u v hu hv. dd.same u v (within u hu) (within v hv) ∙ ed u v hu hv)
       u v (omega (arith, hu, w)) (omega (arith, hv, w)))
       whole
-
-pub none_of : (cells : List ListedCell) → length cells ≡ 0 → cells ≡ []
-none_of [] h = refl
-none_of (c ∷ cells) h = absurd (omega (arith, h))
-
--- a blank, where no cell is listed
-pub blank_drawn : (s : Held PlaneLeaf) (k stamp t p : ℕ) (a : Area) (cells : List ListedCell) → cells ≡ [] → AreSameWithin (side_at 8 k) (area_grid stamp a) (blank_grid t) → Draws plane_grid 8 s k (blank_grid t) p → Draws plane_grid 8 s k (edit_grid stamp a cells) p
-blank_drawn s k stamp t p a cells none alike drawn = subst (λ cells. Draws plane_grid 8 s k (edit_grid stamp a cells) p) (sym none) (draws_as plane_grid 8 s k (blank_grid t) (area_grid stamp a) p (λ u v hu hv. sym (alike u v hu hv)) drawn)
-
--- what was kept is right in a store that grew
-pub filled_later : {S : Type 0} (s t : Held PlaneLeaf) (stamp : ℕ) (kept : HashMap AreaKey ℕ S) → IsGrown plane_grid 8 s t → AreFilled s stamp kept → AreFilled t stamp kept
-filled_later s t stamp kept g are = record { each = λ key p e. draws_later plane_grid 8 s t key.level (area_grid stamp key.area) p g (are.each key p e) }
 
 -- ---- writes that a plane may have
 

@@ -7,7 +7,9 @@ pub mod Shown
 pub mod Copying
 pub mod Cutting
 pub mod Kept
+pub mod Listing
 pub mod Drawing
 pub mod OnPlaneLaws
+pub mod Overwriting
 pub mod Gathering
 pub mod WalkLaws

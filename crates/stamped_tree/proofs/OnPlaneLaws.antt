@@ -1,5 +1,5 @@
 -- An edit, by the columns and rows of the plane.
-use Rattle.std.proofs.Common.{◌≡◌, ℕ, ◌+◌, ◌<◌, ◌==◌, Bool, true, false, List, [], ◌∷◌, map, inl, inr, refl, sym, ap, ◌∙◌, ◌<◌, arith, ℤ, pos, ◌+ℤ◌}
+use Rattle.std.proofs.Common.{◌≡◌, ℕ, ◌+◌, ◌<◌, ◌==◌, Bool, true, false, List, [], ◌∷◌, map, inl, inr, refl, ap, ◌∙◌, ◌<◌, arith, ℤ, pos, ◌+ℤ◌}
 use Rattle.std.specs.Prelude.{◌&&◌, IsTrue, IfSome, Option, None, Some, int_le, int_lt, nat_le, nat_lt}
 use Rattle.std.specs.List.{list_all}
 use Rattle.std.proofs.lemmas.Bool.{cases_Bool, and_parts}
@@ -13,16 +13,12 @@ use Rattle.edit_stamps.specs.Edit.{PlaneEdit, IsEdit, listed, is_covered, fits_a
 use Rattle.edit_stamps.specs.Plane.{least, past, is_in, is_in_plane, is_coordinate_in_plane, is_area_in_plane}
 use Rattle.edit_stamps.specs.PlaneMap.{LiesInPlane}
 use Rattle.square_store.specs.Grid.{AreSameWithin}
-use Rattle.edit_stamps.specs.Write.{AreSame}
-use Rattle.square_store.specs.Squares.{Held, Draws}
-use Rattle.stamped_tree.specs.declared.leaf_kind.PlaneLeaf.{PlaneLeaf}
-use Rattle.stamped_tree.specs.LeafKind.{plane_grid}
 use Rattle.stamped_tree.specs.declared.area.Area.{Area}
 use Rattle.stamped_tree.specs.declared.cells.ListedCell.{ListedCell}
 use Rattle.stamped_tree.specs.Area.{is_in_area}
 use Rattle.stamped_tree.specs.Drawing.{state_listed, edit_grid}
 use Rattle.stamped_tree.specs.OnPlane.{cell_on_plane, plane_writes}
-use Rattle.stamped_tree.specs.Plane.{from_edge, map_of}
+use Rattle.stamped_tree.specs.Plane.{from_edge}
 use Rattle.stamped_tree.specs.Tree.{plane_corner}
 
 -- ---- areas
@@ -102,21 +98,17 @@ not_listed (c ∷ cells) at h out =
 pub edit_inside : (e : PlaneEdit) → IsEdit e → LiesInPlane (writes_of e)
 edit_inside e is at out = rw (not_listed e.cells at is.in_plane out, not_covered e at is out) refl
 
--- ---- what is read of the plane of an edit
+-- ---- places by their columns and rows
 
 coordinate_is : (n : ℤ) → is_coordinate_in_plane n ≡ true → (least +ℤ pos (from_edge n) ≡ n) × (from_edge n < 2147483648)
 coordinate_is n h =
     let parts : (int_le least n ≡ true) × (int_lt n past ≡ true) = and_parts _ _ h in
     (omega (arith, ints, parts.0), omega (arith, ints, parts.0, parts.1))
 
-pub edit_read : (s : Held PlaneLeaf) (root : ℕ) (e : PlaneEdit) → Draws plane_grid 8 s 28 (plane_writes e) root → LiesInPlane (writes_of e) → AreSame (map_of (record { store = s; root = root })) (writes_of e)
-edit_read s root e drawn inside at = go (is_in_plane at) refl
-  where
-    go : (b : Bool) → is_in_plane at ≡ b → map_of (record { store = s; root = root }) at ≡ writes_of e at
-    go false out = rw out (sym (inside at out))
-    go true in_plane =
-        let parts : (is_coordinate_in_plane at.x ≡ true) × (is_coordinate_in_plane at.y ≡ true) = and_parts _ _ in_plane in
-        let x = coordinate_is at.x parts.0 in
-        let y = coordinate_is at.y parts.1 in
-        let hu = x.1 in let hv = y.1 in
-        rw in_plane (drawn.same (from_edge at.x) (from_edge at.y) (omega (arith, hu)) (omega (arith, hv)) ∙ ap (λ z. writes_of e (record { x = z; y = least +ℤ pos (from_edge at.y) })) x.0 ∙ ap (λ z. writes_of e (record { x = at.x; y = z })) y.0)
+-- a place of the plane, by its column and row
+pub placed : (at : Place) → is_in_plane at ≡ true → (moved plane_corner (pos (from_edge at.x)) (pos (from_edge at.y)) ≡ at) × (from_edge at.x < 2147483648) × (from_edge at.y < 2147483648)
+placed at inside =
+    let parts : (is_coordinate_in_plane at.x ≡ true) × (is_coordinate_in_plane at.y ≡ true) = and_parts _ _ inside in
+    let x = coordinate_is at.x parts.0 in
+    let y = coordinate_is at.y parts.1 in
+    (ap (λ (z : ℤ). record { x = z; y = least +ℤ pos (from_edge at.y) }) x.0 ∙ ap (λ (z : ℤ). record { x = at.x; y = z }) y.0, x.1, y.1)

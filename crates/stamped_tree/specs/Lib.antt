@@ -8,6 +8,7 @@ pub mod View
 pub mod Area
 pub mod Drawing
 pub mod Filled
+pub mod Overwriting
 pub mod OnPlane
 pub mod Walk
 pub mod Rows

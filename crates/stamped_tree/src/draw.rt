@@ -1,37 +1,40 @@
-//! Squares that are drawn from an edit.
+//! Squares over which an edit is written.
 
 ghost use Rattle.std.specs.Prelude.{◌≡◌, ◌≤◌, ◌<◌, IfOk, IsTrue, Err};
-ghost use Rattle.square_store.specs.Squares.{Draws};
+ghost use Rattle.square_store.specs.Squares.{Draws, IsAt, grid_at};
 ghost use Rattle.square_store.specs.Store.{IsGrown};
-ghost use Rattle.edit_stamps.specs.Edit.{writes_of};
-ghost use Rattle.edit_stamps.specs.PlaneMap.{LiesInPlane};
+ghost use Rattle.edit_stamps.specs.Edit.{IsEdit};
 ghost use Rattle.edit_stamps.specs.Stamp.{is_stamp};
 ghost use Rattle.stamped_tree.specs.OnPlane.{plane_writes};
 ghost use Rattle.stamped_tree.specs.Plane.{HoldPlaneWrites};
 ghost use Rattle.stamped_tree.specs.Drawing.{edit_grid};
 ghost use Rattle.stamped_tree.specs.Filled.{AreFilled, IsFull};
 ghost use Rattle.stamped_tree.specs.LeafKind.{plane_grid};
+ghost use Rattle.stamped_tree.specs.Overwriting.{overwritten_grid};
 
 use crate::area::{Area, side_of};
 use crate::cells::{CellQuarters, ListedCell, quartered_cells};
 use crate::filled::{AreaKey, filled, keep};
-use crate::leaf_draw::drawn_leaf;
+use crate::leaf_draw::{leaf_at, overwritten_leaf};
 use crate::leaf_kind::PlaneLeaf;
 use crate::on_plane::{area_on_plane, cells_on_plane};
+use crate::quarters::quarter_parts;
 use edit_stamps::Edit;
 use indexmap::IndexMap;
 use square_store::{Part, Store, StoreFault};
 use std::alloc::Global;
 
-/// The square of the whole plane that an edit draws. On the way down its cells are parted, so that a
-/// list of n cells costs at most n times the levels.
+/// The square of the whole plane that an edit makes of one. On the way down its cells are parted, so
+/// that a list of n cells costs at most n times the levels.
 pub(crate) fn draw_edit(
     alloc: Global,
     store: &mut Store<PlaneLeaf>,
+    root: Part,
     edit: &Edit,
 ) -> Result<Part, StoreFault>
-    ensures draws { IfOk result (Draws plane_grid 8 store.new 28 (plane_writes edit.now)) }
-    ensures inside { IfOk result (λ _. LiesInPlane (writes_of edit.now)) }
+    requires root { IsAt store.old 28 root }
+    ensures draws { IfOk result (Draws plane_grid 8 store.new 28 (overwritten_grid (grid_at plane_grid 8 store.old 28 root) (plane_writes edit.now))) }
+    ensures edit { IsEdit edit.now }
     ensures grows { IsGrown plane_grid 8 store.old store.new }
     ensures writes { HoldPlaneWrites store.old → HoldPlaneWrites store.new }
     ensures full { result ≡ Err StoreFault.StoreFull → IsFull store.new }
@@ -40,52 +43,52 @@ pub(crate) fn draw_edit(
     let cells = cells_on_plane(alloc, edit.listed_cells())?;
     let area = area_on_plane(edit.area());
     let mut kept = IndexMap::new(alloc);
-    let part = draw(store, &mut kept, 28, stamp, area, cells)?;
+    let part = draw(store, &mut kept, 28, root, stamp, &area, cells)?;
     Ok(part)
 }
 
-/// The square of a level with the listed states at the listed cells, state 0 elsewhere in the area,
-/// both written with a stamp, and unwritten elsewhere.
+/// What becomes of the square of a level at a part: the listed states at the listed cells and state 0
+/// elsewhere in the area, both written with a stamp, and elsewhere what it had.
 ///
-/// What no cell is listed in is made once for each level and area. At each level the border of an
-/// area crosses squares in eight ways at most, however long it is.
+/// What no cell is listed in is made once for each level, area and part: where an area lies over few
+/// squares, as over a blank, its border crosses them in eight ways a level, however long it is.
 #[cycle(draw)]
 pub(crate) fn draw(
     store: &mut Store<PlaneLeaf>,
     kept: &mut IndexMap<AreaKey, Part>,
     level: u32,
+    part: Part,
     stamp: u64,
-    area: Area,
+    area: &Area,
     cells: Vec<ListedCell>,
 ) -> Result<Part, StoreFault>
     requires level { level ≤ 28 }
+    requires part { IsAt store.old level part }
     requires stamp { IsTrue (is_stamp stamp) }
     requires kept { AreFilled store.old stamp kept.old }
-    ensures draws { IfOk result (Draws plane_grid 8 store.new level (edit_grid stamp area cells.items)) }
+    ensures draws { IfOk result (Draws plane_grid 8 store.new level (overwritten_grid (grid_at plane_grid 8 store.old level part) (edit_grid stamp area.now cells.items))) }
     ensures grows { IsGrown plane_grid 8 store.old store.new }
     ensures writes { HoldPlaneWrites store.old → HoldPlaneWrites store.new }
     ensures kept { AreFilled store.new stamp kept.new }
     ensures full { result ≡ Err StoreFault.StoreFull → IsFull store.new }
 {
     if !cells.is_empty() {
-        let part = draw_anew(store, kept, level, stamp, area, cells)?;
-        return Ok(part);
+        let drawn = draw_anew(store, kept, level, part, stamp, area, cells)?;
+        return Ok(drawn);
     }
     if area.is_empty() {
-        let part = store.add_blank(0)?;
         return Ok(part);
     }
     if area.is_whole(side_of(level)) {
-        let part = store.add_blank(stamp)?;
-        return Ok(part);
+        let blank = store.add_blank(stamp)?;
+        return Ok(blank);
     }
-    let key = AreaKey { level, area };
-    if let Some(part) = filled(kept, store, stamp, key) {
-        return Ok(part);
+    if let Some(drawn) = filled(kept, store, level, part, stamp, *area) {
+        return Ok(drawn);
     }
-    let part = draw_anew(store, kept, level, stamp, area, cells)?;
-    keep(kept, store, stamp, key, part)?;
-    Ok(part)
+    let drawn = draw_anew(store, kept, level, part, stamp, area, cells)?;
+    keep(kept, store, level, part, stamp, *area, drawn)?;
+    Ok(drawn)
 }
 
 /// The same, by its leaf or its quarters.
@@ -94,51 +97,84 @@ fn draw_anew(
     store: &mut Store<PlaneLeaf>,
     kept: &mut IndexMap<AreaKey, Part>,
     level: u32,
+    part: Part,
     stamp: u64,
-    area: Area,
+    area: &Area,
     cells: Vec<ListedCell>,
 ) -> Result<Part, StoreFault>
     requires level { level ≤ 28 }
+    requires part { IsAt store.old level part }
     requires stamp { IsTrue (is_stamp stamp) }
     requires kept { AreFilled store.old stamp kept.old }
-    ensures draws { IfOk result (Draws plane_grid 8 store.new level (edit_grid stamp area cells.items)) }
+    ensures draws { IfOk result (Draws plane_grid 8 store.new level (overwritten_grid (grid_at plane_grid 8 store.old level part) (edit_grid stamp area.now cells.items))) }
     ensures grows { IsGrown plane_grid 8 store.old store.new }
     ensures writes { HoldPlaneWrites store.old → HoldPlaneWrites store.new }
     ensures kept { AreFilled store.new stamp kept.new }
     ensures full { result ≡ Err StoreFault.StoreFull → IsFull store.new }
 {
     if level == 0 {
-        let part = store.add_leaf(drawn_leaf(stamp, area, &cells))?;
-        return Ok(part);
+        let drawn = draw_leaf(store, part, stamp, *area, &cells)?;
+        return Ok(drawn);
     }
     let half = side_of(level - 1);
+    let parts = quarter_parts(store, level, part);
     let quarters = quartered_cells(cells, half)?;
     let CellQuarters { nw, ne, sw, se } = quarters;
-    let nw = draw(store, kept, level - 1, stamp, area.of_part(0, 0, half), nw)?;
+    let nw = draw(
+        store,
+        kept,
+        level - 1,
+        parts[0],
+        stamp,
+        &area.of_part(0, 0, half),
+        nw,
+    )?;
     let ne = draw(
         store,
         kept,
         level - 1,
+        parts[1],
         stamp,
-        area.of_part(half, 0, half),
+        &area.of_part(half, 0, half),
         ne,
     )?;
     let sw = draw(
         store,
         kept,
         level - 1,
+        parts[2],
         stamp,
-        area.of_part(0, half, half),
+        &area.of_part(0, half, half),
         sw,
     )?;
     let se = draw(
         store,
         kept,
         level - 1,
+        parts[3],
         stamp,
-        area.of_part(half, half, half),
+        &area.of_part(half, half, half),
         se,
     )?;
-    let part = store.add_four(level, [nw, ne, sw, se])?;
-    Ok(part)
+    let drawn = store.add_four(level, [nw, ne, sw, se])?;
+    Ok(drawn)
+}
+
+fn draw_leaf(
+    store: &mut Store<PlaneLeaf>,
+    part: Part,
+    stamp: u64,
+    area: Area,
+    cells: &[ListedCell],
+) -> Result<Part, StoreFault>
+    requires part { IsAt store.old 0 part }
+    requires stamp { IsTrue (is_stamp stamp) }
+    ensures draws { IfOk result (Draws plane_grid 8 store.new 0 (overwritten_grid (grid_at plane_grid 8 store.old 0 part) (edit_grid stamp area cells.now))) }
+    ensures grows { IsGrown plane_grid 8 store.old store.new }
+    ensures writes { HoldPlaneWrites store.old → HoldPlaneWrites store.new }
+    ensures full { result ≡ Err StoreFault.StoreFull → IsFull store.new }
+{
+    let leaf = overwritten_leaf(leaf_at(store, part), stamp, area, cells);
+    let drawn = store.add_leaf(leaf)?;
+    Ok(drawn)
 }

@@ -45,7 +45,9 @@ impl LeafKind for PlaneLeaf {
     ghost IsSummary = { AreStampBounds };
 
     fn blank_stamp(&self) -> Option<u64> {
-        let _first = self.leaf.get(0);
+        if self.leaf.get(0).state != 0 {
+            return None;
+        }
         self.leaf.is_blank()
     }
 

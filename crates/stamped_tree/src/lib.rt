@@ -15,6 +15,7 @@ mod leaf_kind;
 mod lookup;
 mod on_plane;
 mod plane;
+mod quarters;
 mod square;
 mod walk;
 

@@ -11,7 +11,8 @@ ghost use Rattle.square_store.specs.Grid.{blank_grid};
 ghost use Rattle.square_store.specs.Seen.{IsBlankAt};
 ghost use Rattle.square_store.specs.Store.{IsAdded, IsFullFor, IsHeld, IsOnePartEach, IsRoomFor, IsStore};
 ghost use Rattle.stamped_tree.specs.LeafKind.{IsPlaneLeaf, plane_grid};
-ghost use Rattle.stamped_tree.specs.Plane.{ArePlaneWrites, AreQuarterParts, DrawsPart, HasGrown, HasRoomForPart, IsFullForPart, IsPart, IsPartAdded, IsPlane, StoresRootAlone, grid_of_leaf, map_of, grid_of_parts};
+ghost use Rattle.stamped_tree.specs.Plane.{ArePlaneWrites, AreQuarterParts, DrawsPart, HasGrown, HasRoomForPart, IsFullForPart, IsPart, IsPartAdded, IsPlane, StoresRootAlone, grid_of_leaf, map_of, grid_of_parts, rooted};
+ghost use Rattle.stamped_tree.specs.Overwriting.{overwritten};
 ghost use Rattle.stamped_tree.specs.Tree.{OneMap, OneTree};
 ghost use Rattle.stamped_tree.specs.Walk.{AreNonzeroCells};
 ghost use Rattle.stamped_tree.specs.View.{ShowSameWhereSame, ShowsItsTree, square_at};
@@ -44,11 +45,21 @@ const ROOT_SIDE: u32 = 0x8000_0000;
 
 /// A map from coordinates to writes: x and y from -2^30 to 2^30 - 1. It is stored as distinct squares,
 /// of which one is the root, of level 31: a square of level k has 2^k columns and rows.
-#[derive(Drop)]
 pub struct Plane {
     store: Store<PlaneLeaf>,
     root: Part,
     alloc: Global,
+}
+
+/// By hand, so that a caller's proof sees one step where a plane is dropped.
+impl Drop for Plane {
+    fn drop(self) {
+        let Plane {
+            store: _,
+            root: _,
+            alloc: _,
+        } = self;
+    }
 }
 
 impl Model for Plane {
@@ -93,7 +104,10 @@ impl Plane {
         ensures room { IfOk result (λ plane. plane.store.room ≡ 2 ^ 32 - 1) }
     {
         let mut store = Store::new(alloc, u32::MAX);
-        let Ok(root) = draw_edit(alloc, &mut store, edit) else {
+        let Ok(unwritten) = store.add_blank(0) else {
+            return Err(AllocError);
+        };
+        let Ok(root) = draw_edit(alloc, &mut store, unwritten, edit) else {
             return Err(AllocError);
         };
         Ok(Plane { store, root, alloc })
@@ -202,6 +216,25 @@ impl Plane {
     {
         let _ = &self.root;
         let part = self.store.add_four(level - LEAF_LEVEL, parts)?;
+        Ok(part)
+    }
+
+    /// Adds the square of level 31 that a given one becomes where an edit is written over it: were it the
+    /// root, each place would read what the edit writes there, and where it writes nothing what the given
+    /// square has. No stamps are compared, so this is a join only where the edit's stamp is above those of
+    /// the square. The map is as before.
+    ///
+    /// `StoreFull` comes only where the plane has no room for a square of it; what was added by then is
+    /// stored until `copy`.
+    pub fn add_overwritten(&mut self, root: Part, edit: &Edit) -> Result<Part, StoreFault>
+        requires { IsPart self.old.store 31 root }
+        ensures part { IfOk result (λ part. IsPart self.new.store 31 part) }
+        ensures overwrites { IfOk result (λ part. AreSame (map_of (rooted self.new part)) (overwritten (map_of (rooted self.old root)) (writes_of edit.now))) }
+        ensures grows { HasGrown self.old self.new }
+        ensures full { result ≡ Err StoreFault.StoreFull → length self.new.store.squares ≡ self.new.store.room }
+    {
+        let _ = &self.root;
+        let part = draw_edit(self.alloc, &mut self.store, root, edit)?;
         Ok(part)
     }
 

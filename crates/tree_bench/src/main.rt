@@ -6,13 +6,15 @@ mod planes;
 mod times;
 
 use crate::planes::{at, dense, one_cell};
-use crate::times::{quickest_comparison, quickest_copy_of_leaves, quickest_join, quickest_steps};
+use crate::times::{
+    join_all, quickest_comparison, quickest_copy_of_leaves, quickest_join, quickest_steps,
+};
 use anyhow::Result;
 use stamped_tree::Plane;
-use std::alloc::Global;
-use std::env;
+use std::alloc::{AllocError, Global};
 use std::rt::Clock;
 use std::time::Duration;
+use std::{env, io};
 use tree_join::{at_most, join, same, same_remembered};
 
 fn main(rt: HostRuntime) -> Result<()> {
@@ -42,16 +44,50 @@ fn joins_of_dense_planes(rt: &(impl Clock + Print), alloc: Global, is_timed: boo
     Ok(())
 }
 
+/// What comes of two planes joined in either order.
+#[derive(Clone, Copy)]
+struct Joins {
+    /// How many squares a copy of the first join has.
+    nodes: u32,
+    is_same: bool,
+}
+
 fn tell_of_joins(rt: &impl Print, alloc: Global, plane: &Plane, other: &Plane) -> Result<()> {
+    let joins = joined_both_ways(alloc, plane, other)?;
+    Ok(tell_joins(rt, plane.nodes(), other.nodes(), joins)?)
+}
+
+fn tell_joins(rt: &impl Print, nodes: u32, others: u32, joins: Joins) -> io::Result<()> {
+    print!(rt; "two planes of 2^20 cells, half of them shared: {nodes} and {others} squares; ")?;
+    tell_joined(rt, joins.nodes, joins.is_same)
+}
+
+fn tell_joined(rt: &impl Print, nodes: u32, is_same: bool) -> io::Result<()> {
+    println!(rt; "joined {nodes}, the other way round the same: {is_same}")
+}
+
+fn joined_both_ways(alloc: Global, plane: &Plane, other: &Plane) -> Result<Joins> {
     let there = joined(alloc, plane, other)?;
+    beside_the_other_way(alloc, &there, plane, other)
+}
+
+fn beside_the_other_way(
+    alloc: Global,
+    there: &Plane,
+    plane: &Plane,
+    other: &Plane,
+) -> Result<Joins> {
+    let nodes = nodes_of_a_copy(there)?;
     let back = joined(alloc, other, plane)?;
-    let nodes = there.copy()?.nodes();
-    let is_same = same(&there, &back);
-    Ok(println!(rt;
-        "two planes of 2^20 cells, half of them shared: {} and {} squares; joined {nodes}, the other way round the same: {is_same}",
-        plane.nodes(),
-        other.nodes()
-    )?)
+    Ok(Joins {
+        nodes,
+        is_same: same(there, &back),
+    })
+}
+
+fn nodes_of_a_copy(plane: &Plane) -> Result<u32> {
+    let copy = plane.copy()?;
+    Ok(copy.nodes())
 }
 
 fn joined(alloc: Global, plane: &Plane, other: &Plane) -> Result<Plane> {
@@ -85,14 +121,37 @@ fn equal_planes(rt: &(impl Clock + Print), alloc: Global, is_timed: bool) -> Res
     Ok(())
 }
 
+/// What the comparisons of two planes say.
+#[derive(Clone, Copy)]
+struct Comparisons {
+    is_same: bool,
+    is_found_same: bool,
+    is_at_most: bool,
+}
+
 fn tell_of_equals(rt: &impl Print, alloc: Global, plane: &Plane, equal: &Plane) -> Result<()> {
-    let is_same = same(plane, equal);
-    let is_found_same = same_remembered(alloc, plane, equal)?;
-    let is_at_most = at_most(plane, equal);
-    Ok(println!(rt;
-        "a plane of {} squares and its copy: same {is_same}, the same with pairs kept {is_found_same}, at most {is_at_most}",
-        plane.nodes()
-    )?)
+    let comparisons = compared(alloc, plane, equal)?;
+    Ok(tell_comparisons(rt, plane.nodes(), comparisons)?)
+}
+
+fn compared(alloc: Global, plane: &Plane, equal: &Plane) -> Result<Comparisons, AllocError> {
+    Ok(Comparisons {
+        is_same: same(plane, equal),
+        is_found_same: same_remembered(alloc, plane, equal)?,
+        is_at_most: at_most(plane, equal),
+    })
+}
+
+fn tell_comparisons(rt: &impl Print, nodes: u32, comparisons: Comparisons) -> io::Result<()> {
+    print!(rt;
+        "a plane of {nodes} squares and its copy: same {}, ",
+        comparisons.is_same
+    )?;
+    tell_others(rt, comparisons.is_found_same, comparisons.is_at_most)
+}
+
+fn tell_others(rt: &impl Print, is_found_same: bool, is_at_most: bool) -> io::Result<()> {
+    println!(rt; "the same with pairs kept {is_found_same}, at most {is_at_most}")
 }
 
 fn time_equals(
@@ -131,9 +190,7 @@ fn tell_of_edits(rt: &impl Print, alloc: Global, plane: &Plane, edits: &[Plane])
 
 fn with_edits(alloc: Global, plane: &Plane, edits: &[Plane]) -> Result<Plane> {
     let mut drawn = plane.copy()?;
-    for edit in edits {
-        join(alloc, &mut drawn, edit)?;
-    }
+    join_all(alloc, &mut drawn, edits)?;
     Ok(drawn)
 }
 

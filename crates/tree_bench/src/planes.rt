@@ -6,12 +6,18 @@ use generations_rule::Rule;
 use rand_core::utils::NextWord;
 use rand_pcg::Pcg32;
 use stamped_tree::Plane;
-use std::alloc::Global;
+use std::alloc::{AllocError, Global};
 
 /// Cells of 1024 by 1024 in states 1 and 2 from a column on, drawn at a counter.
 pub fn dense(alloc: Global, counter: u64, left: i32) -> Result<Plane> {
     let rule = Rule::parse(b"/2/3")?;
     let stamp = Stamp::new(counter, 1).context("a stamp in range")?;
+    let cells = dense_cells(alloc, counter, left)?;
+    let edit = Edit::cells(alloc, &rule, stamp, &cells)?;
+    Ok(Plane::of_edit(alloc, &edit)?)
+}
+
+fn dense_cells(alloc: Global, counter: u64, left: i32) -> Result<Vec<Cell>, AllocError> {
     let mut random = Pcg32::new(2026, counter);
     let mut cells = Vec::with_capacity(alloc, 1 << 20)?;
     for place in 0..1_u32 << 20 {
@@ -21,7 +27,7 @@ pub fn dense(alloc: Global, counter: u64, left: i32) -> Result<Plane> {
             state: 1 + (random.next_word() % 2) as u8,
         })?;
     }
-    Ok(Plane::of_edit(alloc, &Edit::cells(alloc, &rule, stamp, &cells)?)?)
+    Ok(cells)
 }
 
 /// Where the cell of a number is drawn.

@@ -2,9 +2,10 @@
 
 use anyhow::Result;
 use leaf_merge_lanes::Leaf;
-use stamped_tree::Plane;
+use stamped_tree::{Plane, StoreFault};
 use std::alloc::Global;
 use std::rt::Clock;
+use std::slice;
 use std::time::{Duration, Instant};
 use tree_join::{at_most, join, same, same_remembered};
 
@@ -27,10 +28,7 @@ pub fn quickest_join(
 ) -> Result<Duration> {
     let mut best = Duration::MAX;
     for _ in 0..ROUNDS {
-        let mut joined = plane.copy()?;
-        let start = Instant::now(clock)?;
-        join(alloc, &mut joined, other)?;
-        best = best.min(start.elapsed(clock)?);
+        best = best.min(time_of_steps(clock, alloc, plane, slice::from_ref(other))?);
     }
     Ok(best)
 }
@@ -44,14 +42,39 @@ pub fn quickest_steps(
 ) -> Result<Duration> {
     let mut best = Duration::MAX;
     for _ in 0..ROUNDS {
-        let mut joined = plane.copy()?;
-        let start = Instant::now(clock)?;
-        for other in others {
-            join(alloc, &mut joined, other)?;
-        }
-        best = best.min(start.elapsed(clock)?);
+        best = best.min(time_of_steps(clock, alloc, plane, others)?);
     }
     Ok(best)
+}
+
+/// The time of such joins into a copy.
+fn time_of_steps(
+    clock: &impl Clock,
+    alloc: Global,
+    plane: &Plane,
+    others: &[Plane],
+) -> Result<Duration> {
+    let mut joined = plane.copy()?;
+    time_of_joins(clock, alloc, &mut joined, others)
+}
+
+fn time_of_joins(
+    clock: &impl Clock,
+    alloc: Global,
+    plane: &mut Plane,
+    others: &[Plane],
+) -> Result<Duration> {
+    let start = Instant::now(clock)?;
+    join_all(alloc, plane, others)?;
+    Ok(start.elapsed(clock)?)
+}
+
+/// Joins planes into one, one after another.
+pub fn join_all(alloc: Global, plane: &mut Plane, others: &[Plane]) -> Result<(), StoreFault> {
+    for other in others {
+        join(alloc, plane, other)?;
+    }
+    Ok(())
 }
 
 pub fn quickest_comparison(

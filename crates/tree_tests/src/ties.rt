@@ -1,5 +1,6 @@
 //! Two edits of one cell with one counter, and what a plane of one square can take of them.
 
+use crate::boxes::{boxed, plane_of_edit};
 use edit_stamps::{Cell, Edit, EditFault, Stamp, Write};
 use generations_rule::Rule;
 use stamped_tree::{Plane, StoreFault};
@@ -8,16 +9,17 @@ use std::test::Fail;
 use tree_join::{add_joined, at_most, join, same, same_remembered};
 
 /// The plane of a draw of the origin at counter 1.
-pub fn one_cell(alloc: Global, replica: u16, state: u8) -> Result<Plane, EditFault> {
+pub fn one_cell(alloc: Global, replica: u16, state: u8) -> Result<Box<Plane>, EditFault> {
     let (Ok(rule), Some(stamp)) = (Rule::parse(b"/2/3"), Stamp::new(1, replica)) else {
         return Err(EditFault::Nothing);
     };
     let cell = Cell { x: 0, y: 0, state };
-    Ok(Plane::of_edit(alloc, &Edit::cells(alloc, &rule, stamp, &[cell])?)?)
+    let edit = Edit::cells(alloc, &rule, stamp, &[cell])?;
+    Ok(plane_of_edit(alloc, &edit)?)
 }
 
 /// Replica 1 draws state 1, and replica 2 state 2.
-pub fn two_draws(alloc: Global) -> Result<Plane, EditFault> {
+pub fn two_draws(alloc: Global) -> Result<Box<Plane>, EditFault> {
     let mut plane = one_cell(alloc, 1, 1)?;
     let other = one_cell(alloc, 2, 2)?;
     match join(alloc, &mut plane, &other) {
@@ -36,38 +38,58 @@ pub const LATER: Write = Write {
 /// squares it has.
 fn joined(
     alloc: Global,
-    mut plane: Plane,
+    plane: &mut Plane,
 ) -> Result<(Result<(), StoreFault>, Write, u32), EditFault> {
     let draws = two_draws(alloc)?;
-    let answer = join(alloc, &mut plane, &draws);
+    let answer = join(alloc, plane, &draws);
     Ok((answer, plane.get(0, 0), plane.nodes()))
+}
+
+/// The same of a plane with room for one square.
+fn joined_full(alloc: Global) -> Result<(Result<(), StoreFault>, Write, u32), EditFault> {
+    let mut plane = boxed(alloc, Plane::with_room(alloc, 1)?)?;
+    joined(alloc, &mut plane)
 }
 
 #[test]
 fn a_full_plane_keeps_its_map(rt: HostRuntime) -> Result<(), Fail> {
-    let plane = Plane::with_room(rt.alloc(), 1)?;
-    assert!(rt; joined(rt.alloc(), plane)? == (Err(StoreFault::StoreFull), Write::UNWRITTEN, 1));
+    assert!(rt; joined_full(rt.alloc())? == (Err(StoreFault::StoreFull), Write::UNWRITTEN, 1));
     Ok(())
+}
+
+/// The same of a new plane.
+fn joined_new(alloc: Global) -> Result<(Result<(), StoreFault>, Write, u32), EditFault> {
+    let mut plane = boxed(alloc, Plane::new(alloc)?)?;
+    joined(alloc, &mut plane)
 }
 
 /// 28 squares of four, a leaf and the blank of stamp 0.
 #[test]
 fn the_later_replica_wins(rt: HostRuntime) -> Result<(), Fail> {
-    let plane = Plane::new(rt.alloc())?;
-    assert!(rt; joined(rt.alloc(), plane)? == (Ok(()), LATER, 30));
+    assert!(rt; joined_new(rt.alloc())? == (Ok(()), LATER, 30));
     Ok(())
 }
 
 /// Two replicas of one number drew state 1 and state 2 with one stamp.
 fn of_one_stamp(alloc: Global, first: u8, second: u8) -> Result<(Write, bool, bool), EditFault> {
     let mut plane = one_cell(alloc, 1, first)?;
+    compared_and_joined(alloc, &mut plane, second)
+}
+
+/// Whether a plane is at most that of the second state, and the other way round; and its write at the
+/// origin once that is joined.
+fn compared_and_joined(
+    alloc: Global,
+    plane: &mut Plane,
+    second: u8,
+) -> Result<(Write, bool, bool), EditFault> {
     let other = one_cell(alloc, 1, second)?;
-    let below = at_most(&plane, &other);
-    let above = at_most(&other, &plane);
-    if join(alloc, &mut plane, &other).is_err() {
-        return Err(EditFault::Memory);
+    let below = at_most(plane, &other);
+    let above = at_most(&other, plane);
+    match join(alloc, plane, &other) {
+        Ok(()) => Ok((plane.get(0, 0), below, above)),
+        Err(_) => Err(EditFault::Memory),
     }
-    Ok((plane.get(0, 0), below, above))
 }
 
 #[test]
@@ -85,14 +107,21 @@ fn the_greater_state_of_one_stamp_wins(rt: HostRuntime) -> Result<(), Fail> {
 /// The origin of a plane before and after a joined square is made the root.
 fn added(alloc: Global) -> Result<(Write, Write), EditFault> {
     let mut plane = one_cell(alloc, 1, 1)?;
+    add_second(alloc, &mut plane)
+}
+
+/// The same of a plane that the draw of replica 2 is joined with.
+fn add_second(alloc: Global, plane: &mut Plane) -> Result<(Write, Write), EditFault> {
     let other = one_cell(alloc, 2, 2)?;
     let root = plane.root().part();
-    let Ok(part) = add_joined(alloc, &mut plane, root, &other) else {
-        return Err(EditFault::Memory);
-    };
-    let before = plane.get(0, 0);
-    plane.set_root(part);
-    Ok((before, plane.get(0, 0)))
+    match add_joined(alloc, plane, root, &other) {
+        Ok(part) => {
+            let before = plane.get(0, 0);
+            plane.set_root(part);
+            Ok((before, plane.get(0, 0)))
+        }
+        Err(_) => Err(EditFault::Memory),
+    }
 }
 
 #[test]
@@ -113,8 +142,15 @@ fn compared(alloc: Global, plane: &Plane, other: &Plane) -> Result<(bool, bool),
 /// The same of the cell of replica 1 in two states, the second in a plane of its own.
 fn compared_cells(alloc: Global, first: u8, second: u8) -> Result<(bool, bool), EditFault> {
     let plane = one_cell(alloc, 1, first)?;
-    let other = one_cell(alloc, 1, second)?;
-    Ok(compared(alloc, &plane, &other)?)
+    compared_with_cell(alloc, &plane, second)
+}
+
+fn compared_with_cell(alloc: Global, plane: &Plane, state: u8) -> Result<(bool, bool), EditFault> {
+    let other = one_cell(alloc, 1, state)?;
+    match compared(alloc, plane, &other) {
+        Ok(answers) => Ok(answers),
+        Err(AllocError) => Err(EditFault::Memory),
+    }
 }
 
 #[test]

@@ -1,0 +1,160 @@
+//! Universes of random cells beside the rule, applied cell by cell.
+
+ghost use Rattle.std.specs.Prelude.{◌≡◌};
+
+use crate::loading::{advances, takes};
+use edit_stamps::{Cell, EditFault};
+use generation_engine::Engine;
+use generations_rule::Rule;
+use std::alloc::{AllocError, Global};
+use std::test::Fail;
+
+/// How many columns and rows a board has.
+const SIDE: usize = 128;
+
+/// How many cells it has.
+const CELLS: usize = 16384;
+
+/// How far the soup is from the board's edge: further than the last generation looked at.
+const MARGIN: usize = 40;
+
+/// From a cell to its neighbours, in places of a board.
+static NEIGHBOURS: [usize; 8] = [
+    0usize.wrapping_sub(129),
+    0usize.wrapping_sub(128),
+    0usize.wrapping_sub(127),
+    0usize.wrapping_sub(1),
+    1,
+    127,
+    128,
+    129,
+];
+
+/// The generations that are looked at, and how many each is after the one before.
+static GENERATIONS: [(u32, u32); 6] = [(1, 1), (1, 2), (1, 3), (4, 7), (9, 16), (17, 33)];
+
+/// The next number of Knuth's generator MMIX.
+fn next(number: &mut u64) -> u64 {
+    *number = number
+        .wrapping_mul(6_364_136_223_846_793_005)
+        .wrapping_add(1_442_695_040_888_963_407);
+    *number >> 33
+}
+
+fn is_in_soup(place: usize) -> bool {
+    let column = place % SIDE;
+    let row = place / SIDE;
+    column >= MARGIN && column < SIDE - MARGIN && row >= MARGIN && row < SIDE - MARGIN
+}
+
+/// A board whose middle is half dead, the other cells in any state.
+fn soup(alloc: Global, rule: &Rule, seed: u64) -> Result<Vec<u8>, AllocError> {
+    let states = u64::from(rule.states());
+    let mut number = seed;
+    let mut board = Vec::with_capacity(alloc, CELLS)?;
+    for place in 0..CELLS {
+        let drawn = next(&mut number);
+        let is_dead = !is_in_soup(place) || drawn % 2 == 0;
+        let state = if states == 0 { 0 } else { drawn / 2 % states };
+        board.push(if is_dead { 0 } else { state as u8 })?;
+    }
+    Ok(board)
+}
+
+fn live_around(board: &[u8], place: usize) -> u8 {
+    let mut live = 0u8;
+    for offset in NEIGHBOURS {
+        if board.get(place.wrapping_add(offset)) == Some(&1) {
+            live = live.saturating_add(1);
+        }
+    }
+    live
+}
+
+fn later_state(rule: &Rule, state: u8, live: u8) -> u8 {
+    if u16::from(state) < rule.states() && live <= 8 {
+        rule.next(state, live)
+    } else {
+        0
+    }
+}
+
+/// The board one generation later.
+fn stepped(alloc: Global, rule: &Rule, board: &[u8]) -> Result<Vec<u8>, AllocError> {
+    let mut later = Vec::with_capacity(alloc, CELLS)?;
+    for place in 0..board.len() {
+        later.push(later_state(rule, board[place], live_around(board, place)))?;
+    }
+    Ok(later)
+}
+
+/// The cells that are not dead, a board's middle at the origin.
+fn cells_of(alloc: Global, board: &[u8]) -> Result<Vec<Cell>, AllocError> {
+    let mut cells = Vec::new(alloc);
+    for place in 0..board.len() {
+        if board[place] != 0 {
+            cells.push(Cell {
+                x: (place % SIDE) as i32 - 64,
+                y: (place / SIDE % SIDE) as i32 - 64,
+                state: board[place],
+            })?;
+        }
+    }
+    Ok(cells)
+}
+
+/// The cells of a soup so many generations later.
+fn run(alloc: Global, rule: &Rule, seed: u64, generation: u32) -> Result<Vec<Cell>, AllocError> {
+    let mut board = soup(alloc, rule, seed)?;
+    for _ in 0..generation {
+        board = stepped(alloc, rule, &board)?;
+    }
+    let cells = cells_of(alloc, &board)?;
+    Ok(cells)
+}
+
+/// At how many of the generations an engine has the cells that the rule makes.
+fn agreed(alloc: Global, rule: Rule, seed: u64) -> Result<u32, EditFault> {
+    let mut engine = Engine::new(alloc, rule)?;
+    agreed_in(alloc, &mut engine, &rule, seed)
+}
+
+fn agreed_in(alloc: Global, engine: &mut Engine, rule: &Rule, seed: u64) -> Result<u32, EditFault>
+    requires { engine.old.rule ≡ rule.now }
+{
+    let cells = run(alloc, rule, seed, 0)?;
+    let loaded = takes(alloc, engine, rule, &cells)?;
+    let mut agreed = 0_u32;
+    for (more, generation) in GENERATIONS {
+        if loaded && agrees_at(alloc, engine, rule, seed, more, generation)? {
+            agreed = agreed.saturating_add(1);
+        }
+    }
+    Ok(agreed)
+}
+
+fn agrees_at(
+    alloc: Global,
+    engine: &mut Engine,
+    rule: &Rule,
+    seed: u64,
+    more: u32,
+    generation: u32,
+) -> Result<bool, EditFault> {
+    let later = run(alloc, rule, seed, generation)?;
+    let agrees = advances(engine, more, generation, &later)?;
+    Ok(agrees)
+}
+
+#[test]
+fn soups_evolve_as_the_rule_says(rt: HostRuntime) -> Result<(), Fail> {
+    assert_eq!(rt; agreed(rt.alloc(), Rule::parse(b"23/3/2")?, 1)?, 6);
+    assert_eq!(rt; agreed(rt.alloc(), Rule::parse(b"/2/3")?, 2)?, 6);
+    assert_eq!(rt; agreed(rt.alloc(), Rule::parse(b"345/2/4")?, 3)?, 6);
+    assert_eq!(rt; agreed(rt.alloc(), Rule::parse(b"12/34/256")?, 4)?, 6);
+    assert_eq!(rt;
+        agreed(rt.alloc(), Rule::parse(b"012345678/12345678/37")?, 5)?,
+        6
+    );
+    Ok(())
+}
