@@ -21,13 +21,15 @@ pattern's block it is part of the pattern's text.
   replicas N             second: how many replicas there are, 0 to 64
   cells R x y s ..       replica R draws cells, each a coordinate and a state
   state R                replica R sends its whole map as the next message
+  delta R FROM COUNT     replica R sends edits of its journal, the first is 0, as the next message
   deliver M R            message M reaches replica R
   show R x y             prints a cell of replica R: state, counter and replica of its stamp
   pattern NAME           the lines up to a line `end` are an RLE text; keeps its pattern by name
   copy R NAME x y        replica R draws the pattern's whole box there, dead cells too
   or R NAME x y          replica R draws the pattern's live and dying cells there
   clear R x y w h        replica R draws an area of dead cells, w wide and h high
-  same A B               prints whether replicas A and B hold the same at every cell: same or differ";
+  same A B               prints whether replicas A and B hold the same at every cell: same or differ
+  dump M                 prints the bytes of message M in hexadecimal";
 
 const FORM_HELP: &str = "\
 The text has an optional line `#CXRLE Pos=x,y Gen=n`, a header `x = w, y = h`, and runs of cells up to

@@ -66,6 +66,74 @@ fn replicas_are_the_same_or_differ(rt: HostRuntime) -> Result<(), AllocError> {
     Ok(())
 }
 
+#[test]
+fn messages_are_dumped(rt: HostRuntime) -> Result<(), AllocError> {
+    let script = b"rule /2/3\nreplicas 1\nstate 1\ncells 1 0 0 1\ndelta 1 0 1\ndump 1\ndump 2\ndump 3\n";
+    assert_eq!(rt;
+        run(rt.alloc(), script)?.as_str(),
+        "sent 1\ndrawn 1 1\nsent 2\n474c575301042f322f33000000000000000000\n\
+        474c574401042f322f330000000100000000000100010000000001400000004000000001\n\
+        refused 27 NoMessage\n"
+    );
+    Ok(())
+}
+
+/// What a script prints, where of a line of over 100 bytes only the number of bytes is told that its
+/// digits stand for, and whether it is the line before once more.
+fn shortened(alloc: Global, script: &[u8]) -> Result<String, AllocError> {
+    let printed = run(alloc, script)?;
+    let mut told = String::new(alloc);
+    let mut before = "";
+    for line in printed.as_str().lines() {
+        told = if line.len() <= 100 {
+            format!(in alloc; "{told}{line}\n")?
+        } else if line == before {
+            format!(in alloc; "{told}again\n")?
+        } else {
+            format!(in alloc; "{told}{} bytes\n", line.len() / 2)?
+        };
+        before = line;
+    }
+    Ok(told)
+}
+
+#[test]
+fn a_clear_comes_after_what_it_cleared(rt: HostRuntime) -> Result<(), AllocError> {
+    let script = b"rule /2/3\nreplicas 2\ncells 1 0 0 1\nclear 1 0 0 8 8\ndelta 1 0 1\ndelta 1 1 1\n\
+        deliver 2 2\nstate 2\ndeliver 1 2\nstate 2\nstate 1\nshow 2 0 0\nshow 2 8 8\nsame 1 2\n\
+        dump 3\ndump 4\ndump 5\n";
+    assert_eq!(rt;
+        shortened(rt.alloc(), script)?.as_str(),
+        "drawn 1 1\ndrawn 2 1\nsent 1\nsent 2\ntaken\nsent 3\ntaken\nsent 4\nsent 5\ncell 0 2 1\n\
+        cell 0 0 0\nsame\n803 bytes\nagain\nagain\n"
+    );
+    Ok(())
+}
+
+#[test]
+fn a_delta_comes_after_its_map(rt: HostRuntime) -> Result<(), AllocError> {
+    let script = b"rule /2/3\nreplicas 2\ncells 1 0 0 1\ndelta 1 0 1\nstate 1\ndeliver 1 2\nstate 2\n\
+        deliver 2 2\ndeliver 1 2\ndeliver 1 2\nstate 2\nsame 1 2\ndelta 2 1 1\ndump 2\ndump 3\ndump 4\n";
+    assert_eq!(rt;
+        shortened(rt.alloc(), script)?.as_str(),
+        "drawn 1 1\nsent 1\nsent 2\ntaken\nsent 3\ntaken\ntaken\ntaken\nsent 4\nsame\n\
+        refused 25 NoSuchEdit\n1371 bytes\nagain\nagain\n"
+    );
+    Ok(())
+}
+
+#[test]
+fn areas_are_refused(rt: HostRuntime) -> Result<(), AllocError> {
+    let script = b"rule /2/3\nreplicas 1\nclear 1 -4 -4 9 9\nshow 1 4 4\nshow 1 5 5\nclear 1 0 0 0 3\n\
+        clear 1 0 0 4097 1\nclear 1 1073741823 0 2 1\ncopy 1 q 0 0\n";
+    assert_eq!(rt;
+        run(rt.alloc(), script)?.as_str(),
+        "drawn 1 1\ncell 0 1 1\ncell 0 0 0\nrefused 9 Nothing\nrefused 12 AreaSide\n\
+        refused 10 OutOfPlane\nrefused 38 NoPattern\n"
+    );
+    Ok(())
+}
+
 /// How the run of a script ends whose replicas have so much room.
 fn end_within(alloc: Global, script: &str, nodes: u32) -> Result<String, AllocError>
     requires { 1 ≤ nodes }
@@ -126,7 +194,11 @@ rule /2/3|replicas 1|show 1 -2147483649 0| -> 3
 rule /2/3|replicas 1|state 4294967296| -> 3
 rule /2/3|replicas 1|state 1|state -1 -> 4
 rule /2/3\r|replicas 1\r|state 1\r -> 3
-rule /2/3|replicas 1|delta 1 0 1| -> 3
+rule /2/3|replicas 1|delta 1 0| -> 3
+rule /2/3|replicas 1|delta 1 0 1 1| -> 3
+rule /2/3|replicas 1|delta 1 -1 1| -> 3
+rule /2/3|replicas 1|dump| -> 3
+rule /2/3|replicas 1|dump 4294967296| -> 3
 rule /2/3|replicas 1|state 1|pattern p|x = 1, y = 1|o!| -> 4
 rule /2/3\r|replicas 1\r|pattern p\r|end\r -> 3
 rule /2/3|replicas 1|pattern p q|end| -> 3
