@@ -68,7 +68,8 @@ fn replicas_are_the_same_or_differ(rt: HostRuntime) -> Result<(), AllocError> {
 
 #[test]
 fn messages_are_dumped(rt: HostRuntime) -> Result<(), AllocError> {
-    let script = b"rule /2/3\nreplicas 1\nstate 1\ncells 1 0 0 1\ndelta 1 0 1\ndump 1\ndump 2\ndump 3\n";
+    let script =
+        b"rule /2/3\nreplicas 1\nstate 1\ncells 1 0 0 1\ndelta 1 0 1\ndump 1\ndump 2\ndump 3\n";
     assert_eq!(rt;
         run(rt.alloc(), script)?.as_str(),
         "sent 1\ndrawn 1 1\nsent 2\n474c575301042f322f33000000000000000000\n\
@@ -83,23 +84,24 @@ fn messages_are_dumped(rt: HostRuntime) -> Result<(), AllocError> {
 fn shortened(alloc: Global, script: &[u8]) -> Result<String, AllocError> {
     let printed = run(alloc, script)?;
     let mut told = String::new(alloc);
-    let mut before = "";
+    let mut before: &[u8] = b"";
     for line in printed.as_str().lines() {
         told = if line.len() <= 100 {
             format!(in alloc; "{told}{line}\n")?
-        } else if line == before {
+        } else if line.as_bytes() == before {
             format!(in alloc; "{told}again\n")?
         } else {
             format!(in alloc; "{told}{} bytes\n", line.len() / 2)?
         };
-        before = line;
+        before = line.as_bytes();
     }
     Ok(told)
 }
 
 #[test]
 fn a_clear_comes_after_what_it_cleared(rt: HostRuntime) -> Result<(), AllocError> {
-    let script = b"rule /2/3\nreplicas 2\ncells 1 0 0 1\nclear 1 0 0 8 8\ndelta 1 0 1\ndelta 1 1 1\n\
+    let script =
+        b"rule /2/3\nreplicas 2\ncells 1 0 0 1\nclear 1 0 0 8 8\ndelta 1 0 1\ndelta 1 1 1\n\
         deliver 2 2\nstate 2\ndeliver 1 2\nstate 2\nstate 1\nshow 2 0 0\nshow 2 8 8\nsame 1 2\n\
         dump 3\ndump 4\ndump 5\n";
     assert_eq!(rt;
@@ -112,7 +114,8 @@ fn a_clear_comes_after_what_it_cleared(rt: HostRuntime) -> Result<(), AllocError
 
 #[test]
 fn a_delta_comes_after_its_map(rt: HostRuntime) -> Result<(), AllocError> {
-    let script = b"rule /2/3\nreplicas 2\ncells 1 0 0 1\ndelta 1 0 1\nstate 1\ndeliver 1 2\nstate 2\n\
+    let script =
+        b"rule /2/3\nreplicas 2\ncells 1 0 0 1\ndelta 1 0 1\nstate 1\ndeliver 1 2\nstate 2\n\
         deliver 2 2\ndeliver 1 2\ndeliver 1 2\nstate 2\nsame 1 2\ndelta 2 1 1\ndump 2\ndump 3\ndump 4\n";
     assert_eq!(rt;
         shortened(rt.alloc(), script)?.as_str(),
@@ -124,7 +127,8 @@ fn a_delta_comes_after_its_map(rt: HostRuntime) -> Result<(), AllocError> {
 
 #[test]
 fn areas_are_refused(rt: HostRuntime) -> Result<(), AllocError> {
-    let script = b"rule /2/3\nreplicas 1\nclear 1 -4 -4 9 9\nshow 1 4 4\nshow 1 5 5\nclear 1 0 0 0 3\n\
+    let script =
+        b"rule /2/3\nreplicas 1\nclear 1 -4 -4 9 9\nshow 1 4 4\nshow 1 5 5\nclear 1 0 0 0 3\n\
         clear 1 0 0 4097 1\nclear 1 1073741823 0 2 1\ncopy 1 q 0 0\n";
     assert_eq!(rt;
         run(rt.alloc(), script)?.as_str(),
