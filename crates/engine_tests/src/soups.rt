@@ -31,7 +31,21 @@ static NEIGHBOURS: [usize; 8] = [
 ];
 
 /// The generations that are looked at, and how many each is after the one before.
-static GENERATIONS: [(u32, u32); 6] = [(1, 1), (1, 2), (1, 3), (4, 7), (9, 16), (17, 33)];
+static GENERATIONS: [(u32, u32); 6] = [(1, 1), (1, 2), (1, 3), (4, 7), (5, 12), (21, 33)];
+
+/// One run in place of several.
+static AT_ONCE: [(u32, u32); 1] = [(33, 33)];
+
+/// The middle of the plane.
+static MIDDLE: (i32, i32) = (0, 0);
+
+/// The board's middle where the soup touches a corner of the plane.
+static CORNERS: [(i32, i32); 4] = [
+    (-0x4000_0000 + 24, -0x4000_0000 + 24),
+    (0x4000_0000 - 24, -0x4000_0000 + 24),
+    (-0x4000_0000 + 24, 0x4000_0000 - 24),
+    (0x4000_0000 - 24, 0x4000_0000 - 24),
+];
 
 /// The next number of Knuth's generator MMIX.
 fn next(number: &mut u64) -> u64 {
@@ -48,7 +62,7 @@ fn is_in_soup(place: usize) -> bool {
 }
 
 /// A board whose middle is half dead, the other cells in any state.
-fn soup(alloc: Global, rule: &Rule, seed: u64) -> Result<Vec<u8>, AllocError> {
+fn board_of(alloc: Global, rule: &Rule, seed: u64) -> Result<Vec<u8>, AllocError> {
     let states = u64::from(rule.states());
     let mut number = seed;
     let mut board = Vec::with_capacity(alloc, CELLS)?;
@@ -88,14 +102,14 @@ fn stepped(alloc: Global, rule: &Rule, board: &[u8]) -> Result<Vec<u8>, AllocErr
     Ok(later)
 }
 
-/// The cells that are not dead, a board's middle at the origin.
-fn cells_of(alloc: Global, board: &[u8]) -> Result<Vec<Cell>, AllocError> {
+/// The cells that are not dead, by where the board's middle lies.
+fn cells_of(alloc: Global, board: &[u8], middle: (i32, i32)) -> Result<Vec<Cell>, AllocError> {
     let mut cells = Vec::new(alloc);
     for place in 0..board.len() {
         if board[place] != 0 {
             cells.push(Cell {
-                x: (place % SIDE) as i32 - 64,
-                y: (place / SIDE % SIDE) as i32 - 64,
+                x: middle.0.saturating_add((place % SIDE) as i32 - 64),
+                y: middle.1.saturating_add((place / SIDE % SIDE) as i32 - 64),
                 state: board[place],
             })?;
         }
@@ -103,30 +117,44 @@ fn cells_of(alloc: Global, board: &[u8]) -> Result<Vec<Cell>, AllocError> {
     Ok(cells)
 }
 
+/// A soup under a rule, from a seed, and where its middle lies.
+#[derive(Clone, Copy)]
+struct Soup {
+    rule: Rule,
+    seed: u64,
+    middle: (i32, i32),
+}
+
 /// The cells of a soup so many generations later.
-fn run(alloc: Global, rule: &Rule, seed: u64, generation: u32) -> Result<Vec<Cell>, AllocError> {
-    let mut board = soup(alloc, rule, seed)?;
+fn run(alloc: Global, soup_of: Soup, generation: u32) -> Result<Vec<Cell>, AllocError> {
+    let mut board = board_of(alloc, &soup_of.rule, soup_of.seed)?;
     for _ in 0..generation {
-        board = stepped(alloc, rule, &board)?;
+        board = stepped(alloc, &soup_of.rule, &board)?;
     }
-    let cells = cells_of(alloc, &board)?;
+    let cells = cells_of(alloc, &board, soup_of.middle)?;
     Ok(cells)
 }
 
-/// At how many of the generations an engine has the cells that the rule makes.
-fn agreed(alloc: Global, rule: Rule, seed: u64) -> Result<u32, EditFault> {
-    let mut engine = Engine::new(alloc, rule)?;
-    agreed_in(alloc, &mut engine, &rule, seed)
+/// At how many generations an engine has the cells that the rule makes: each step is how many more,
+/// and how many that is in all.
+fn agreed(alloc: Global, soup_of: Soup, steps: &[(u32, u32)]) -> Result<usize, EditFault> {
+    let mut engine = Engine::new(alloc, soup_of.rule)?;
+    agreed_in(alloc, &mut engine, soup_of, steps)
 }
 
-fn agreed_in(alloc: Global, engine: &mut Engine, rule: &Rule, seed: u64) -> Result<u32, EditFault>
-    requires { engine.old.rule ≡ rule.now }
+fn agreed_in(
+    alloc: Global,
+    engine: &mut Engine,
+    soup_of: Soup,
+    steps: &[(u32, u32)],
+) -> Result<usize, EditFault>
+    requires { engine.old.rule ≡ soup_of.rule }
 {
-    let cells = run(alloc, rule, seed, 0)?;
-    let loaded = takes(alloc, engine, rule, &cells)?;
-    let mut agreed = 0_u32;
-    for (more, generation) in GENERATIONS {
-        if loaded && agrees_at(alloc, engine, rule, seed, more, generation)? {
+    let cells = run(alloc, soup_of, 0)?;
+    let loaded = takes(alloc, engine, &soup_of.rule, &cells)?;
+    let mut agreed = 0_usize;
+    for (more, generation) in steps {
+        if loaded && agrees_at(alloc, engine, soup_of, *more, *generation)? {
             agreed = agreed.saturating_add(1);
         }
     }
@@ -136,25 +164,59 @@ fn agreed_in(alloc: Global, engine: &mut Engine, rule: &Rule, seed: u64) -> Resu
 fn agrees_at(
     alloc: Global,
     engine: &mut Engine,
-    rule: &Rule,
-    seed: u64,
+    soup_of: Soup,
     more: u32,
     generation: u32,
 ) -> Result<bool, EditFault> {
-    let later = run(alloc, rule, seed, generation)?;
+    let later = run(alloc, soup_of, generation)?;
     let agrees = advances(engine, more, generation, &later)?;
     Ok(agrees)
 }
 
+/// Rules of 2, 3, 4, 25 and 256 states.
+static RULES: [&[u8]; 5] = [
+    b"23/3/2",
+    b"/2/3",
+    b"345/2/4",
+    b"012345678/12345678/25",
+    b"12/34/256",
+];
+
+fn in_the_middle(rule: &[u8], seed: u64) -> Result<Soup, Fail> {
+    Ok(Soup {
+        rule: Rule::parse(rule)?,
+        seed,
+        middle: MIDDLE,
+    })
+}
+
 #[test]
 fn soups_evolve_as_the_rule_says(rt: HostRuntime) -> Result<(), Fail> {
-    assert_eq!(rt; agreed(rt.alloc(), Rule::parse(b"23/3/2")?, 1)?, 6);
-    assert_eq!(rt; agreed(rt.alloc(), Rule::parse(b"/2/3")?, 2)?, 6);
-    assert_eq!(rt; agreed(rt.alloc(), Rule::parse(b"345/2/4")?, 3)?, 6);
-    assert_eq!(rt; agreed(rt.alloc(), Rule::parse(b"12/34/256")?, 4)?, 6);
-    assert_eq!(rt;
-        agreed(rt.alloc(), Rule::parse(b"012345678/12345678/37")?, 5)?,
-        6
-    );
+    for (seed, rule) in RULES.iter().enumerate() {
+        let soup_of = in_the_middle(rule, seed as u64)?;
+        assert_eq!(rt; agreed(rt.alloc(), soup_of, &GENERATIONS)?, 6);
+    }
+    Ok(())
+}
+
+#[test]
+fn one_run_comes_to_what_several_come_to(rt: HostRuntime) -> Result<(), Fail> {
+    for (seed, rule) in RULES.iter().enumerate() {
+        let soup_of = in_the_middle(rule, seed as u64)?;
+        assert_eq!(rt; agreed(rt.alloc(), soup_of, &AT_ONCE)?, 1);
+    }
+    Ok(())
+}
+
+#[test]
+fn soups_evolve_alike_at_the_corners_of_the_plane(rt: HostRuntime) -> Result<(), Fail> {
+    for middle in CORNERS {
+        let soup_of = Soup {
+            rule: Rule::parse(b"345/2/4")?,
+            seed: 7,
+            middle,
+        };
+        assert_eq!(rt; agreed(rt.alloc(), soup_of, &GENERATIONS)?, 6);
+    }
     Ok(())
 }

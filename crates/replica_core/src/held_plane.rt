@@ -15,6 +15,10 @@ use tree_join::add_joined;
 /// Below so many squares a plane is never copied.
 const FEW: u32 = 4096;
 
+/// How many times the squares of its last copy a plane may store before it is copied again: a copied
+/// square costs some three new ones, so that copies take at most a third of the time.
+const GROWTH: u32 = 8;
+
 /// What is joined into a plane.
 #[derive(Clone, Copy)]
 pub(crate) enum Added<'a> {
@@ -25,7 +29,7 @@ pub(crate) enum Added<'a> {
 }
 
 /// A replica's plane. A join leaves the squares of the former root behind, which nothing names; so
-/// the plane is replaced by its copy where its squares became twice as many as in its last copy.
+/// the plane is replaced by its copy where its squares became eight times as many as in its last copy.
 pub(crate) struct HeldPlane {
     plane: Plane,
     /// How many squares stood in the last copy.
@@ -100,7 +104,7 @@ impl HeldPlane {
         ensures room { self.new.store.room ≡ self.old.store.room }
     {
         self.plane.set_root(part);
-        if self.plane.nodes() > FEW.max(self.copied.saturating_mul(2)) {
+        if self.plane.nodes() > FEW.max(self.copied.saturating_mul(GROWTH)) {
             let _ = self.put_copy();
         }
     }
