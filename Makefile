@@ -14,7 +14,7 @@ run: crates/genedit/out/genedit
 # What is proved and built with the program: all that the gate reads of the crates, tests and programs
 # that measure aside.
 SOURCES := $(shell find crates -name out -prune -o -name trials -prune -o -name must-fail -prune \
-	-o -path '*_tests/*' -prune -o -path 'crates/bench/*' -prune -o -path 'crates/plane_bench/*' -prune -o -path 'crates/tree_bench/*' -prune -o -path 'crates/message_bench/*' -prune -o -path 'crates/replica_bench/*' -prune -o -path 'crates/engine_bench/*' -prune -o -path 'crates/memory_trial/*' -prune \
+	-o -path '*_tests/*' -prune -o -path '*bench/*' -prune -o -path 'crates/memory_trial/*' -prune \
 	-o \( -name '*.rt' -o -name '*.antt' -o -name src -o -name specs -o -name proofs \) -print)
 
 crates/genedit/out/genedit: $(SOURCES) crates.txt HANDLES
