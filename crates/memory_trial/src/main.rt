@@ -5,6 +5,7 @@
 mod deltas;
 mod edits;
 mod engines;
+mod exchanges;
 mod planes;
 mod replicas;
 mod scripts;
@@ -23,6 +24,7 @@ fn main(rt: HostRuntime) -> io::Result<()> {
     tell_states(&rt, alloc)?;
     tell_engines(&rt, alloc)?;
     tell_replicas(&rt, alloc)?;
+    tell_exchanges(&rt, alloc)?;
     tell_scripts(&rt, alloc)
 }
 
@@ -87,6 +89,29 @@ fn tell_replicas(rt: &impl Print, alloc: Global) -> io::Result<()> {
     )?;
     tell(rt, "World::new", replicas::world_is_new(alloc))?;
     tell(rt, "replay", replicas::events_are_run(alloc))
+}
+
+fn tell_exchanges(rt: &impl Print, alloc: Global) -> io::Result<()> {
+    tell(
+        rt,
+        "Replica::state, take_bytes",
+        exchanges::state_is_taken(alloc),
+    )?;
+    tell(
+        rt,
+        "Replica::delta, take_bytes",
+        exchanges::delta_is_taken(alloc),
+    )?;
+    tell(
+        rt,
+        "Replica::delta refused",
+        exchanges::entry_is_refused(alloc),
+    )?;
+    tell(
+        rt,
+        "Replica::take_bytes refused",
+        exchanges::fault_is_told(alloc),
+    )
 }
 
 fn tell_scripts(rt: &impl Print, alloc: Global) -> io::Result<()> {

@@ -21,7 +21,7 @@ fn spec(alloc: Global, cells: &[Cell]) -> Result<EditSpec, AllocError> {
     Ok(EditSpec::Cells(CellList::of_vec(list)))
 }
 
-fn replica(alloc: Global, number: u16) -> Option<Replica> {
+pub fn replica(alloc: Global, number: u16) -> Option<Replica> {
     if number == 0 {
         return None;
     }
@@ -32,12 +32,12 @@ fn replica(alloc: Global, number: u16) -> Option<Replica> {
     }
 }
 
-fn shown(replica: &Replica) -> [u8; 2] {
+pub fn shown(replica: &Replica) -> [u8; 2] {
     [replica.get(0, 0).state, replica.get(1, 0).state]
 }
 
 /// Whether a refused call has left nothing behind.
-fn is_new(replica: &Replica) -> bool {
+pub fn is_new(replica: &Replica) -> bool {
     shown(replica) == [0, 0] && replica.journal().is_empty()
 }
 
@@ -50,7 +50,7 @@ fn draw(replica: &mut Replica, spec: &EditSpec) -> Result<Edit, Fault> {
 }
 
 /// A replica that drew states 2 and 3.
-fn drawn(alloc: Global) -> Option<Replica> {
+pub fn drawn(alloc: Global) -> Option<Replica> {
     let mut replica = replica(alloc, 1)?;
     let spec = spec(alloc, &[edits::cell(0, 2), edits::cell(1, 3)]).ok()?;
     let edit = draw(&mut replica, &spec).ok()?;
