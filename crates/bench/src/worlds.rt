@@ -1,5 +1,6 @@
 //! Worlds: 64 replicas and random events, of which 3 in 10 are draws of 4 cells, 1 in 100 sends a whole
-//! map and 9 in 100 deliver one; 100,000 of them where they are timed, and else 1,000.
+//! map and 5 in 100 one to four edits, and 9 in 100 deliver a message; 100,000 of them where they are
+//! timed, and else 1,000.
 
 use crate::random::{Part, cells, coordinate};
 use anyhow::Result;
@@ -35,6 +36,7 @@ fn random_event(alloc: Global, random: &mut Pcg32, sent: u32) -> Result<Event, A
             replica,
         ),
         10..=39 => Event::Draw(replica, cells(alloc, random, PART, CELLS)?),
+        40..=44 => { Event::SendDelta(replica, random.next_word() % 8, 1 + random.next_word() % 4) }
         _ => Event::Show(replica, coordinate(random, PART), coordinate(random, PART)),
     })
 }
@@ -45,7 +47,7 @@ fn random_events(alloc: Global, count: u32) -> Result<Vec<Event>, AllocError> {
     let mut sent = 0u32;
     for _ in 0..count {
         let event = random_event(alloc, &mut random, sent)?;
-        if let Event::SendState(_) = event {
+        if let Event::SendState(_) | Event::SendDelta(..) = event {
             sent = sent.saturating_add(1);
         }
         events.push(event)?;
