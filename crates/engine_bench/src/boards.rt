@@ -1,79 +1,73 @@
 //! The rule, applied cell by cell.
 
+use crate::GENERATIONS;
+use crate::figures::tell_time;
 use crate::patterns::SOUP;
-use anyhow::Result;
+use anyhow::{Result, bail};
 use edit_stamps::Cell;
+use engine_tests::Board;
 use generations_rule::Rule;
 use std::alloc::Global;
+use std::rt::Clock;
+use std::time::Instant;
 
-/// How many generations a board has room for.
-pub const GENERATIONS: u32 = 64;
-
-/// How many columns and rows it has: a soup, and round it as many as a cell can reach.
-const SIDE: usize = (SOUP + 2 * GENERATIONS) as usize;
-
-/// How many cells it has.
-const CELLS: usize = SIDE * SIDE;
-
-/// From a cell to its neighbours, in places of a board.
-static NEIGHBOURS: [usize; 8] = [
-    0usize.wrapping_sub(SIDE + 1),
-    0usize.wrapping_sub(SIDE),
-    0usize.wrapping_sub(SIDE - 1),
-    0usize.wrapping_sub(1),
-    1,
-    SIDE - 1,
-    SIDE,
-    SIDE + 1,
-];
+/// How many generations later a board is widened, by as many columns and rows beyond each edge: cells
+/// come no further.
+const MARGIN: u32 = 64;
 
 /// The board of a soup.
-pub fn board_of(alloc: Global, cells: &[Cell]) -> Result<Vec<u8>> {
-    let mut board = vec![in alloc; 0u8; CELLS]?;
+fn board_of(alloc: Global, cells: &[Cell]) -> Result<Board> {
+    let mut board = Board::dead(alloc, SOUP as usize)?;
     for cell in cells {
-        let column = cell.x.wrapping_add(GENERATIONS as i32).unsigned_abs() as usize;
-        let row = cell.y.wrapping_add(GENERATIONS as i32).unsigned_abs() as usize;
-        if let Some(state) = board.get_mut(row.wrapping_mul(SIDE).wrapping_add(column)) {
-            *state = cell.state;
-        }
+        let column = cell.x.unsigned_abs() as usize;
+        let row = cell.y.unsigned_abs() as usize;
+        board.put(column, row, cell.state);
     }
     Ok(board)
 }
 
-fn live_around(board: &[u8], place: usize) -> u8 {
-    let mut live = 0u8;
-    for offset in NEIGHBOURS {
-        if board.get(place.wrapping_add(offset)) == Some(&1) {
-            live = live.saturating_add(1);
+/// Runs a soup cell by cell, and tells where there are as many cells as an engine has. Without the time
+/// it goes no further than the first generation that is looked at.
+pub fn compare(
+    rt: &(impl Clock + Print),
+    alloc: Global,
+    is_timed: bool,
+    rule: &Rule,
+    cells: &[Cell],
+    populations: &[u128],
+) -> Result<()> {
+    let compared = if is_timed { GENERATIONS.len() } else { 1 };
+    let mut board = board_of(alloc, cells)?;
+    let mut former = 0u32;
+    let start = Instant::now(rt)?;
+    for (generation, population) in GENERATIONS.iter().zip(populations).take(compared) {
+        board = later(alloc, rule, board, former, *generation)?;
+        former = *generation;
+        println!(rt;
+            "  cell by cell to generation {generation}: {} cells",
+            board.population()
+        )?;
+        tell_time(rt, is_timed, "cell by cell", start.elapsed(rt)?)?;
+        if board.population() != *population {
+            bail!("not as many cells as the engine has");
         }
     }
-    live
+    Ok(())
 }
 
-fn later_state(rule: &Rule, state: u8, live: u8) -> u8 {
-    if u16::from(state) < rule.states() && live <= 8 {
-        rule.next(state, live)
-    } else {
-        0
-    }
-}
-
-/// The board one generation later.
-pub fn stepped(alloc: Global, rule: &Rule, board: &[u8]) -> Result<Vec<u8>> {
-    let mut later = Vec::with_capacity(alloc, board.len())?;
-    for place in 0..board.len() {
-        later.push(later_state(rule, board[place], live_around(board, place)))?;
-    }
-    Ok(later)
-}
-
-/// How many of its cells are not dead.
-pub fn population(board: &[u8]) -> u128 {
-    let mut count = 0u128;
-    for state in board {
-        if *state != 0 {
-            count = count.saturating_add(1);
+/// A board of a generation at a later one.
+fn later(
+    alloc: Global,
+    rule: &Rule,
+    mut board: Board,
+    generation: u32,
+    later: u32,
+) -> Result<Board> {
+    for passed in generation..later {
+        if passed % MARGIN == 0 {
+            board = board.widened(alloc, MARGIN as usize)?;
         }
+        board = board.stepped(alloc, rule)?;
     }
-    count
+    Ok(board)
 }

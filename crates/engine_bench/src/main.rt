@@ -1,24 +1,26 @@
-//! Measures generations of universes, and asserts nothing. Prints what came of each run, which is the
-//! same on every machine; with the word `--time` it is also told how fast.
+//! Measures generations of universes, beside the rule applied cell by cell; where the two differ it
+//! ends with an error. Prints what came of each run, which is the same on every machine. With the word
+//! `--time` it is also told how fast, and how much memory the program took at most, and the cell-by-cell
+//! runs go on to the last generation of the soups.
 #![tactic(auto)]
 
 mod boards;
+mod figures;
 mod patterns;
+mod runs;
 
-use crate::boards::{GENERATIONS, board_of, population, stepped};
+use crate::boards::compare;
 use crate::patterns::{glider, gun, soup};
+use crate::runs::run_all;
 use anyhow::Result;
-use edit_stamps::Cell;
-use engine_tests::takes;
-use generation_engine::Engine;
 use generations_rule::Rule;
-use std::alloc::Global;
 use std::env;
-use std::rt::Clock;
-use std::time::{Duration, Instant};
+
+/// The generations at which soups are looked at.
+static GENERATIONS: [u32; 3] = [64, 256, 1024];
 
 /// The last generation that an engine has.
-const LAST: u32 = 0x2000_0000;
+static LAST: [u32; 1] = [0x2000_0000];
 
 fn main(rt: HostRuntime) -> Result<()> {
     let is_timed = is_timed(&rt)?;
@@ -26,28 +28,15 @@ fn main(rt: HostRuntime) -> Result<()> {
         let rule = Rule::parse(name.as_bytes())?;
         let cells = soup(rt.alloc(), rule.states())?;
         println!(&rt; "{name}, a soup of {} cells", cells.len())?;
-        tell_runs(
-            &rt,
-            rt.alloc(),
-            is_timed,
-            rule,
-            &cells,
-            &[GENERATIONS, 192, 768],
-        )?;
-        tell_of_board(&rt, rt.alloc(), is_timed, &rule, &cells)?;
+        let populations = run_all(&rt, rt.alloc(), is_timed, rule, &cells, &GENERATIONS)?;
+        compare(&rt, rt.alloc(), is_timed, &rule, &cells, &populations)?;
     }
     let life = Rule::parse(b"23/3/2")?;
     println!(&rt; "a glider")?;
-    tell_runs(
-        &rt,
-        rt.alloc(),
-        is_timed,
-        life,
-        &glider(rt.alloc())?,
-        &[LAST],
-    )?;
+    let _cells = run_all(&rt, rt.alloc(), is_timed, life, &glider(rt.alloc())?, &LAST)?;
     println!(&rt; "a Gosper gun")?;
-    tell_runs(&rt, rt.alloc(), is_timed, life, &gun(rt.alloc())?, &[LAST])
+    let _cells = run_all(&rt, rt.alloc(), is_timed, life, &gun(rt.alloc())?, &LAST)?;
+    Ok(())
 }
 
 fn is_timed(rt: &(impl env::Env + Alloc)) -> Result<bool> {
@@ -57,67 +46,4 @@ fn is_timed(rt: &(impl env::Env + Alloc)) -> Result<bool> {
         }
     }
     Ok(false)
-}
-
-/// Loads some cells into an engine, and runs it so many generations further each time.
-fn tell_runs(
-    rt: &(impl Clock + Print),
-    alloc: Global,
-    is_timed: bool,
-    rule: Rule,
-    cells: &[Cell],
-    runs: &[u32],
-) -> Result<()> {
-    let mut engine = Engine::new(alloc, rule)?;
-    let is_taken = takes(alloc, &mut engine, &rule, cells)?;
-    println!(rt; "  loaded: {is_taken}")?;
-    run_each(rt, is_timed, &mut engine, runs)
-}
-
-fn run_each(
-    rt: &(impl Clock + Print),
-    is_timed: bool,
-    engine: &mut Engine,
-    runs: &[u32],
-) -> Result<()> {
-    for generations in runs {
-        let start = Instant::now(rt)?;
-        engine.run(*generations)?;
-        let time = start.elapsed(rt)?;
-        println!(rt;
-            "  generation {}: {} cells",
-            engine.generation(),
-            engine.population()
-        )?;
-        tell(rt, is_timed, "run", time)?;
-    }
-    Ok(())
-}
-
-/// The same, cell by cell.
-fn tell_of_board(
-    rt: &(impl Clock + Print),
-    alloc: Global,
-    is_timed: bool,
-    rule: &Rule,
-    cells: &[Cell],
-) -> Result<()> {
-    let mut board = board_of(alloc, cells)?;
-    let start = Instant::now(rt)?;
-    for _ in 0..GENERATIONS {
-        board = stepped(alloc, rule, &board)?;
-    }
-    let time = start.elapsed(rt)?;
-    println!(rt;
-        "  cell by cell to generation {GENERATIONS}: {} cells",
-        population(&board)
-    )?;
-    tell(rt, is_timed, "cell by cell", time)
-}
-
-fn tell(rt: &impl Print, is_timed: bool, what: &str, time: Duration) -> Result<()> {
-    if is_timed {
-        println!(rt; "    {what}: {} us", time.as_micros())?;
-    }
-    Ok(())
 }

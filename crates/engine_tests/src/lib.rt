@@ -1,6 +1,8 @@
-//! Tests of `generation_engine`: universes filled from planes beside the planes' own walks, and room.
+//! Tests of `generation_engine`: universes filled from planes beside the planes' own walks, universes
+//! run beside boards of cells, and room.
 #![tactic(auto)]
 
+mod boards;
 #[cfg(test)]
 mod calls;
 mod loading;
@@ -13,4 +15,5 @@ mod runs;
 #[cfg(test)]
 mod soups;
 
+pub use boards::Board;
 pub use loading::{advances, plane_of, refuses, shows, takes, walks};

@@ -2,6 +2,7 @@
 
 ghost use Rattle.std.specs.Prelude.{◌≡◌};
 
+use crate::boards::Board;
 use crate::loading::{advances, takes};
 use edit_stamps::{Cell, EditFault};
 use generation_engine::Engine;
@@ -17,18 +18,6 @@ const CELLS: usize = 16384;
 
 /// How far the soup is from the board's edge: further than the last generation looked at.
 const MARGIN: usize = 40;
-
-/// From a cell to its neighbours, in places of a board.
-static NEIGHBOURS: [usize; 8] = [
-    0usize.wrapping_sub(129),
-    0usize.wrapping_sub(128),
-    0usize.wrapping_sub(127),
-    0usize.wrapping_sub(1),
-    1,
-    127,
-    128,
-    129,
-];
 
 /// The generations that are looked at, and how many each is after the one before.
 static GENERATIONS: [(u32, u32); 6] = [(1, 1), (1, 2), (1, 3), (4, 7), (5, 12), (21, 33)];
@@ -62,55 +51,31 @@ fn is_in_soup(place: usize) -> bool {
 }
 
 /// A board whose middle is half dead, the other cells in any state.
-fn board_of(alloc: Global, rule: &Rule, seed: u64) -> Result<Vec<u8>, AllocError> {
+fn board_of(alloc: Global, rule: &Rule, seed: u64) -> Result<Board, AllocError> {
     let states = u64::from(rule.states());
     let mut number = seed;
-    let mut board = Vec::with_capacity(alloc, CELLS)?;
+    let mut drawn_states = Vec::with_capacity(alloc, CELLS)?;
     for place in 0..CELLS {
         let drawn = next(&mut number);
         let is_dead = !is_in_soup(place) || drawn % 2 == 0;
         let state = if states == 0 { 0 } else { drawn / 2 % states };
-        board.push(if is_dead { 0 } else { state as u8 })?;
+        drawn_states.push(if is_dead { 0 } else { state as u8 })?;
     }
-    Ok(board)
-}
-
-fn live_around(board: &[u8], place: usize) -> u8 {
-    let mut live = 0u8;
-    for offset in NEIGHBOURS {
-        if board.get(place.wrapping_add(offset)) == Some(&1) {
-            live = live.saturating_add(1);
-        }
-    }
-    live
-}
-
-fn later_state(rule: &Rule, state: u8, live: u8) -> u8 {
-    if u16::from(state) < rule.states() && live <= 8 {
-        rule.next(state, live)
-    } else {
-        0
-    }
-}
-
-/// The board one generation later.
-fn stepped(alloc: Global, rule: &Rule, board: &[u8]) -> Result<Vec<u8>, AllocError> {
-    let mut later = Vec::with_capacity(alloc, CELLS)?;
-    for place in 0..board.len() {
-        later.push(later_state(rule, board[place], live_around(board, place)))?;
-    }
-    Ok(later)
+    Ok(Board {
+        side: SIDE,
+        states: drawn_states,
+    })
 }
 
 /// The cells that are not dead, by where the board's middle lies.
-fn cells_of(alloc: Global, board: &[u8], middle: (i32, i32)) -> Result<Vec<Cell>, AllocError> {
+fn cells_of(alloc: Global, board: &Board, middle: (i32, i32)) -> Result<Vec<Cell>, AllocError> {
     let mut cells = Vec::new(alloc);
-    for place in 0..board.len() {
-        if board[place] != 0 {
+    for (place, state) in board.states.iter().enumerate() {
+        if *state != 0 {
             cells.push(Cell {
                 x: middle.0.saturating_add((place % SIDE) as i32 - 64),
                 y: middle.1.saturating_add((place / SIDE % SIDE) as i32 - 64),
-                state: board[place],
+                state: *state,
             })?;
         }
     }
@@ -129,7 +94,7 @@ struct Soup {
 fn run(alloc: Global, soup_of: Soup, generation: u32) -> Result<Vec<Cell>, AllocError> {
     let mut board = board_of(alloc, &soup_of.rule, soup_of.seed)?;
     for _ in 0..generation {
-        board = stepped(alloc, &soup_of.rule, &board)?;
+        board = board.stepped(alloc, &soup_of.rule)?;
     }
     let cells = cells_of(alloc, &board, soup_of.middle)?;
     Ok(cells)

@@ -1,6 +1,6 @@
 -- Results that are kept, in a store that grows.
-use Rattle.std.proofs.Common.{◌≡◌, ℕ, ◌+◌, ◌-◌, ◌*◌, ◌<◌, ◌≤◌, ◌^◌, pos, Bool, true, false, cond, rules, refl, sym, ◌∙◌, ap, subst, arith}
-use Rattle.std.specs.Prelude.{Option, None, Some, IfSome}
+use Rattle.std.proofs.Common.{◌≡◌, ℕ, zero, suc, ◌⊎◌, inl, inr, List, [], ◌∷◌, ◌++◌, ◌+◌, ◌-◌, ◌*◌, ◌<◌, ◌≤◌, ◌^◌, pos, Bool, true, false, cond, rules, refl, sym, ◌∙◌, ap, subst, arith}
+use Rattle.std.specs.Prelude.{Option, None, Some, IfSome, slice_get, slice_set, take, replicate}
 use Rattle.std.specs.HashMap.{HashMap, get}
 use Rattle.generations_rule.specs.Place.{Place, moved}
 use Rattle.generations_rule.specs.Rule.{GenerationsRule, IsRule}
@@ -9,6 +9,7 @@ use Rattle.square_store.specs.Squares.{Held, side_at, IsAt, grid_at}
 use Rattle.square_store.specs.Store.{IsGrown}
 use Rattle.edit_stamps.specs.declared.write.Write.{Write}
 use Rattle.generation_engine.specs.declared.leaf_kind.EngineLeaf.{EngineLeaf}
+use Rattle.generation_engine.specs.declared.results.FirstResult.{FirstResult}
 use Rattle.generation_engine.specs.declared.results.ResultKey.{ResultKey}
 use Rattle.generation_engine.specs.EngineLeaf.{leaf_grid}
 use Rattle.generation_engine.specs.Results.{IsResult}
@@ -40,13 +41,17 @@ later_since r s t u k n p q grown at later = record {
   result = subst (λ (g : Grid). IsResult r (side_at 4 (k - 1)) n g (grid_at leaf_grid 8 u (k - 1) q)) (sym (grown.same k p at)) later.result;
 }
 
-pub kept_grown : {S : Type 0} (r : GenerationsRule) (s t : Held EngineLeaf) (kept : HashMap ResultKey ℕ S) → IsGrown leaf_grid 8 s t → AreKept r s kept → AreKept r t kept
-kept_grown r s t kept grown are = record {
+key_kept_grown : (r : GenerationsRule) (s t : Held EngineLeaf) (key : ResultKey) (q : ℕ) → IsGrown leaf_grid 8 s t → IsKept r s key q → IsKept r t key q
+key_kept_grown r s t key q grown old = record {
+  stands = grown.stands key.level key.part old.stands;
+  later = later_since r s t t key.level _ key.part q grown old.stands (later_after r s s t key.level _ key.part q grown old.later);
+}
+
+pub kept_grown : {S : Type 0} (r : GenerationsRule) (s t : Held EngineLeaf) (firsts : List (Option FirstResult)) (others : HashMap ResultKey ℕ S) → IsGrown leaf_grid 8 s t → AreKept r s firsts others → AreKept r t firsts others
+kept_grown r s t firsts others grown are = record {
   rule = are.rule;
-  each = λ key q e. (let old = are.each key q e in record {
-    stands = grown.stands key.level key.part old.stands;
-    later = later_since r s t t key.level _ key.part q grown old.stands (later_after r s s t key.level _ key.part q grown old.later);
-  });
+  first = λ p x e. key_kept_grown r s t _ _ grown (are.first p x e);
+  other = λ key q e. key_kept_grown r s t key q grown (are.other key q e);
 }
 
 -- ---- what is found
@@ -61,14 +66,58 @@ key_is k q h = search (rules, h)
 some_is : (w v : ℕ) → Some w ≡ Some v → w ≡ v
 some_is w v e = cc
 
--- one result more
-pub kept_more : {S : Type 0} (r : GenerationsRule) (s : Held EngineLeaf) (old new : HashMap ResultKey ℕ S) (key : ResultKey) (later : ℕ) → AreKept r s old → IsKept r s key later
-    → ((q : ResultKey) → get is_result_key new q ≡ cond (is_result_key key q) (Some later) (get is_result_key old q)) → AreKept r s new
-kept_more r s old new key later are is updates = record { rule = are.rule; each = λ q v got. go q v (is_result_key key q) refl (sym (updates q) ∙ got) }
+no_first : (m p : ℕ) (x : FirstResult) → slice_get (replicate m None) p ≡ Some (Some x) → ⊥
+no_first zero p x e = cc
+no_first (suc m) zero x e = cc
+no_first (suc m) (suc p) x e = no_first m p x e
+
+-- places that are new have no result
+pub widened : (n m : ℕ) (firsts : List (Option FirstResult)) (p : ℕ) (x : FirstResult) → slice_get (take n firsts ++ replicate m None) p ≡ Some (Some x) → slice_get firsts p ≡ Some (Some x)
+widened zero m firsts p x e = absurd (no_first m p x e)
+widened (suc n) m [] p x e = absurd (no_first m p x e)
+widened (suc n) m (y ∷ ys) zero x e = e
+widened (suc n) m (y ∷ ys) (suc p) x e = widened n m ys p x e
+
+set_one : (firsts : List (Option FirstResult)) (i p : ℕ) (x y : FirstResult) → slice_get (slice_set firsts i (Some y)) p ≡ Some (Some x) → (slice_get firsts p ≡ Some (Some x)) ⊎ ((p ≡ i) × (y ≡ x))
+set_one [] i p x y e = inl e
+set_one (z ∷ zs) zero zero x y e = inr (refl, one e)
+  where
+    one : Some (Some y) ≡ Some (Some x) → y ≡ x
+    one e = cc
+set_one (z ∷ zs) zero (suc p) x y e = inl e
+set_one (z ∷ zs) (suc i) zero x y e = inl e
+set_one (z ∷ zs) (suc i) (suc p) x y e = elim (set_one zs i p x y e) [
+  | inl there ↦ inl there
+  | inr new ↦ inr (ap suc new.0, new.1)
+]
+
+pub kept_widened : {S : Type 0} (r : GenerationsRule) (s : Held EngineLeaf) (n m : ℕ) (firsts : List (Option FirstResult)) (others : HashMap ResultKey ℕ S) → AreKept r s firsts others → AreKept r s (take n firsts ++ replicate m None) others
+kept_widened r s n m firsts others are = record { rule = are.rule; first = λ p x e. are.first p x (widened n m firsts p x e); other = are.other }
+
+-- one result more, at the place of its square
+pub kept_first : {S : Type 0} (r : GenerationsRule) (s : Held EngineLeaf) (firsts : List (Option FirstResult)) (others : HashMap ResultKey ℕ S) (i : ℕ) (y : FirstResult) → AreKept r s firsts others
+    → IsKept r s (record { level = y.level; part = i; exponent = y.exponent }) y.later → AreKept r s (slice_set firsts i (Some y)) others
+kept_first r s firsts others i y are is = record { rule = are.rule; first = go; other = are.other }
+  where
+    go : (p : ℕ) (x : FirstResult) → slice_get (slice_set firsts i (Some y)) p ≡ Some (Some x) → IsKept r s (record { level = x.level; part = p; exponent = x.exponent }) x.later
+    go p x e = elim (set_one firsts i p x y e) [
+      | inl there ↦ are.first p x there
+      | inr new ↦ rw (new.0, ← new.1) is
+    ]
+
+-- what stands at the place of a square, if it is that of the level and the exponent
+pub first_is : {S : Type 0} (r : GenerationsRule) (s : Held EngineLeaf) (firsts : List (Option FirstResult)) (others : HashMap ResultKey ℕ S) → AreKept r s firsts others → (p k j : ℕ) (x : FirstResult)
+    → slice_get firsts p ≡ Some (Some x) → x.level ≡ k → x.exponent ≡ j → IsLater r s s k (2 ^ j) p x.later
+first_is r s firsts others are p k j x e level exponent = rw (← level, ← exponent) (are.first p x e).later
+
+-- one result more, under its key
+pub kept_more : {S : Type 0} (r : GenerationsRule) (s : Held EngineLeaf) (firsts : List (Option FirstResult)) (old new : HashMap ResultKey ℕ S) (key : ResultKey) (later : ℕ) → AreKept r s firsts old → IsKept r s key later
+    → ((q : ResultKey) → get is_result_key new q ≡ cond (is_result_key key q) (Some later) (get is_result_key old q)) → AreKept r s firsts new
+kept_more r s firsts old new key later are is updates = record { rule = are.rule; first = are.first; other = λ q v got. go q v (is_result_key key q) refl (sym (updates q) ∙ got) }
   where
     go : (q : ResultKey) (v : ℕ) (t : Bool) → is_result_key key q ≡ t → cond t (Some later) (get is_result_key old q) ≡ Some v → IsKept r s q v
     go q v true h g = subst (λ n. IsKept r s q n) (some_is later v g) (subst (λ z. IsKept r s z later) (key_is key q h) is)
-    go q v false h g = are.each q v g
+    go q v false h g = are.other q v g
 
 -- ---- dead squares
 

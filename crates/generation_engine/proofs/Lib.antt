@@ -5,6 +5,7 @@ pub mod Squares
 pub mod Bringing
 pub mod Reading
 pub mod Gathering
+pub mod Spots
 pub mod Counted
 pub mod Populations
 pub mod WalkLaws

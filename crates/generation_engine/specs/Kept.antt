@@ -1,11 +1,12 @@
 -- Squares, and the results that are kept of them.
-use Rattle.std.specs.Prelude.{◌≡◌, ℕ, ◌+◌, ◌-◌, ◌*◌, ◌^◌, ◌<◌, ◌==◌, ◌&&◌, Bool, List, length, slice_index_or, Some}
+use Rattle.std.specs.Prelude.{◌≡◌, ℕ, ◌+◌, ◌-◌, ◌*◌, ◌^◌, ◌<◌, ◌==◌, ◌&&◌, Bool, List, length, slice_get, slice_index_or, Option, Some}
 use Rattle.std.specs.HashMap.{HashMap, get}
 use Rattle.generations_rule.specs.Rule.{GenerationsRule, IsRule}
 use Rattle.square_store.specs.Grid.{Grid, quartered}
 use Rattle.square_store.specs.Squares.{Held, side_at, IsAt, grid_at, Draws}
 use Rattle.square_store.specs.Store.{IsGrown}
 use Rattle.generation_engine.specs.declared.leaf_kind.EngineLeaf.{EngineLeaf}
+use Rattle.generation_engine.specs.declared.results.FirstResult.{FirstResult}
 use Rattle.generation_engine.specs.declared.results.ResultKey.{ResultKey}
 use Rattle.generation_engine.specs.EngineLeaf.{leaf_grid}
 use Rattle.generation_engine.specs.Results.{IsResult}
@@ -29,10 +30,11 @@ pub record IsKept (r : GenerationsRule) (s : Held EngineLeaf) (key : ResultKey) 
   pub stands : IsAt s key.level key.part
   pub later : IsLater r s s key.level (2 ^ key.exponent) key.part q
 
--- the rule is one, and each result that is kept is that of its square
-pub record AreKept {S : Type 0} (r : GenerationsRule) (s : Held EngineLeaf) (kept : HashMap ResultKey ℕ S) : Type 0 where
+-- the rule is one, and each result that is kept is that of its square: the first of each at the place of the square, the others under their keys
+pub record AreKept {S : Type 0} (r : GenerationsRule) (s : Held EngineLeaf) (firsts : List (Option FirstResult)) (others : HashMap ResultKey ℕ S) : Type 0 where
   pub rule : IsRule r
-  pub each : (key : ResultKey) (q : ℕ) → get is_result_key kept key ≡ Some q → IsKept r s key q
+  pub first : (p : ℕ) (x : FirstResult) → slice_get firsts p ≡ Some (Some x) → IsKept r s (record { level = x.level; part = p; exponent = x.exponent }) x.later
+  pub other : (key : ResultKey) (q : ℕ) → get is_result_key others key ≡ Some q → IsKept r s key q
 
 -- the squares that stood stand, under the same rule
 pub record HasGrown (old new : RuledSquares) : Type 0 where

@@ -48,6 +48,18 @@ middle_order c = c.row * 4294967296 + c.column
 abbrev pub cell_of_middle : ListedCell → Cell
 cell_of_middle c = record { x = negsuc (2 ^ 31 - 1) +ℤ pos c.column; y = negsuc (2 ^ 31 - 1) +ℤ pos c.row; state = c.state }
 
+-- a cell by its column and row
+abbrev pub spot_of : Cell → ListedCell
+spot_of c = record { column = from_middle_edge c.x; row = from_middle_edge c.y; state = c.state }
+
+-- its place in the order of rows
+abbrev pub row_order : Cell → ℕ
+row_order c = middle_order (spot_of c)
+
+-- each cell is told by its column and row
+abbrev pub AreInMiddle : List Cell → Type 0
+AreInMiddle cells = (c : Cell) → Contains cells c → cell_of_middle (spot_of c) ≡ c
+
 -- the states of the middle of a root, by columns and rows
 abbrev pub middle_grid : Held EngineLeaf → ℕ → Grid
 middle_grid s root u v = grid_at leaf_grid 8 s 30 root (2147483648 + u) (2147483648 + v)

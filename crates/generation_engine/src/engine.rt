@@ -13,7 +13,7 @@ ghost use Rattle.generation_engine.specs.Walk.{AreCellsOf};
 use crate::fault::EngineFault;
 use crate::load::universe_of;
 use crate::results::ResultStore;
-use crate::walk::{middle_cells, placed_cells};
+use crate::walk::middle_cells;
 use generations_rule::Rule;
 use multistate_rle::Cell;
 use square_store::{Part, Store, StoreFault};
@@ -145,8 +145,7 @@ impl Engine {
         ensures cells { IfOk result (λ cells. AreCellsOf (states_of self.now) cells.items) }
         ensures count { IfOk result (λ cells. length cells.items ≡ population_of self.now) }
     {
-        let sorted = middle_cells(self.alloc, self.squares.store(), self.root)?;
-        let cells = placed_cells(self.alloc, &sorted)?;
+        let cells = middle_cells(self.alloc, self.squares.store(), self.root)?;
         Ok(cells)
     }
 
@@ -155,5 +154,21 @@ impl Engine {
         ensures { result ≡ population_of self.now }
     {
         self.squares.store().summary(self.root)
+    }
+
+    /// How many squares the engine stores, of its room. The dead square counts once, whatever its level,
+    /// and squares that are no longer in use count until `load`.
+    pub fn nodes(&self) -> u32
+        ensures { result ≡ length self.now.store.squares }
+    {
+        let _ = &self.root;
+        self.squares.store().len()
+    }
+
+    /// How many results of squares are kept until `load`. That is no part of what contracts see of an
+    /// engine, so none says how many there are.
+    pub fn kept_results(&self) -> u64 {
+        let _ = &self.root;
+        self.squares.kept_len()
     }
 }

@@ -7,6 +7,7 @@
 
 mod engine;
 mod fault;
+mod gathered;
 mod laws;
 mod leaf_kind;
 mod load;

@@ -30,12 +30,24 @@ pub(crate) struct ResultKey {
     pub exponent: u32,
 }
 
-/// Squares, and under each the results that were computed of it under one rule.
+/// The result of a square of a level.
+#[derive(Clone, Copy)]
+pub(crate) struct FirstResult {
+    pub level: u32,
+    pub exponent: u32,
+    pub later: Part,
+}
+
+/// Squares, and the results that were computed of each under one rule.
 #[derive(Drop)]
 pub(crate) struct ResultStore {
     rule: Rule,
     store: Store<EngineLeaf>,
-    kept: IndexMap<ResultKey, Part>,
+    /// The first result that was kept of each square, at its place. Most squares have no other, and it
+    /// is found without a hash.
+    firsts: Vec<Option<FirstResult>>,
+    /// All other results.
+    others: IndexMap<ResultKey, Part>,
 }
 
 impl Model for ResultStore {
@@ -45,7 +57,7 @@ impl Model for ResultStore {
 
     ghost view = { λ s. record { rule = s.rule; store = s.store } };
 
-    ghost invariant = { λ s. AreKept s.rule s.store s.kept };
+    ghost invariant = { λ s. AreKept s.rule s.store s.firsts.items s.others };
 }
 
 impl ResultStore {
@@ -57,7 +69,8 @@ impl ResultStore {
         ResultStore {
             rule,
             store,
-            kept: IndexMap::new(alloc),
+            firsts: Vec::new(alloc),
+            others: IndexMap::new(alloc),
         }
     }
 
@@ -72,6 +85,12 @@ impl ResultStore {
     {
         let _rule = &self.rule;
         &self.store
+    }
+
+    /// How many results are kept.
+    pub(crate) fn kept_len(&self) -> u64 {
+        let firsts = self.firsts.iter().filter(|first| first.is_some()).count();
+        (firsts as u64).saturating_add(self.others.len() as u64)
     }
 
     /// Whether a square is a blank: what is dead stays so.
@@ -90,7 +109,20 @@ impl ResultStore {
     fn kept(&self, level: u32, part: Part, exponent: u32) -> Option<Part>
         ensures { IfSome result (IsLater self.now.rule self.now.store self.now.store level (2 ^ exponent) part) }
     {
-        self.kept
+        let Some(Some(first)) = self.firsts.get(part.place() as usize) else {
+            return None;
+        };
+        if first.level == level && first.exponent == exponent {
+            return Some(first.later);
+        }
+        self.kept_other(level, part, exponent)
+    }
+
+    /// The same, which was kept under its key.
+    fn kept_other(&self, level: u32, part: Part, exponent: u32) -> Option<Part>
+        ensures { IfSome result (IsLater self.now.rule self.now.store self.now.store level (2 ^ exponent) part) }
+    {
+        self.others
             .get(&ResultKey {
                 level,
                 part,
@@ -106,12 +138,40 @@ impl ResultStore {
         ensures same { self.new ≡ self.old }
         ensures full { result ≡ Err StoreFault.StoreFull → IsStoreFull self.new.store }
     {
+        let place = part.place() as usize;
+        if place >= self.firsts.len() {
+            self.firsts.resize(place + 1, None)?;
+        }
+        if self.firsts[place].is_some() {
+            return self.keep_other(level, part, exponent, later);
+        }
+        self.firsts[place] = Some(FirstResult {
+            level,
+            exponent,
+            later,
+        });
+        Ok(())
+    }
+
+    /// The same, under its key.
+    fn keep_other(
+        &mut self,
+        level: u32,
+        part: Part,
+        exponent: u32,
+        later: Part,
+    ) -> Result<(), StoreFault>
+        requires stands { IsAt self.old.store level part }
+        requires later { IsLater self.old.rule self.old.store self.old.store level (2 ^ exponent) part later }
+        ensures same { self.new ≡ self.old }
+        ensures full { result ≡ Err StoreFault.StoreFull → IsStoreFull self.new.store }
+    {
         let key = ResultKey {
             level,
             part,
             exponent,
         };
-        match self.kept.insert(key, later) {
+        match self.others.insert(key, later) {
             Ok(_) => Ok(()),
             Err(_) => Err(StoreFault::Memory),
         }

@@ -85,6 +85,22 @@ module _ {T : Type 0} (eq : T → T → Bool) (same : (a b : T) → Decides (eq 
     missing_entry [] v h = refl
     missing_entry (e ∷ es) v h = rw (fails e.0 (λ z. h 0 (ap (λ z. Some z) (sym z)))) (ap (λ l. e ∷ l) (missing_entry es v (λ p at. h (suc p) at)))
 
+    found_here : (y : T) → Some y ≡ Some x → eq x y ≡ true
+    found_here y e = (same x y).1 (sym (some_inj e))
+
+    none_true : true ≡ false → ⊥
+    none_true z = cc
+
+    rest : (y : T) (ks : List T) (b : Bool) → eq x y ≡ b → list_any (eq x) (y ∷ ks) ≡ false → list_any (eq x) ks ≡ false
+    rest y ks true e h = absurd (none_true (rw e at h))
+    rest y ks false e h = rw e at h
+
+    -- a test that fails at all keys finds none
+    pub any_missing : (ks : List T) → list_any (eq x) ks ≡ false → IsMissing ks
+    any_missing [] h p at = cc
+    any_missing (y ∷ ks) h zero at = none_true (rw (found_here y at) at h)
+    any_missing (y ∷ ks) h (suc p) at = any_missing ks (rest y ks (eq x y) refl h) p at
+
     -- what a search finds
     pub found : (ks : List T) (i : ℕ) → Some i ≡ position (eq x) ks → slice_get ks i ≡ Some x
     found ks i e =

@@ -7,7 +7,7 @@ use Rattle.square_store.specs.declared.node.Node.TheVariants.{Blank, Leaf, Four}
 use Rattle.square_store.specs.Grid.{Grid, blank_grid, quartered, AreSameWithin, IsBlankWithin, IsSpeltWithin}
 use Rattle.square_store.specs.Squares.{Held, side_at, IsAt, grid_at, quarters_grid, Draws}
 use Rattle.square_store.specs.Store.{HasParts, IsCanonical, IsStore, IsAbsent, IsGrown, IsAdded, Stood, Added, IsFullFor, IsRoomFor}
-use Rattle.square_store.specs.Steps.{node_grid, IsBlankNode, IsOneBlank, IsAbsentNode, IsAbsentLeaf, IsPlaceOfLeaf, IsWanted, IsPushed, IsLeafPushed}
+use Rattle.square_store.specs.Steps.{node_grid, IsBlankNode, IsOneBlank, IsAbsentNode, IsAbsentLeaf, IsPlaceOfLeaf, IsWanted, IsPushed, IsLeafPushed, IsLeafEntered, LeafStood, LeafAdded}
 use Rattle.square_store.specs.Seen.{IsBlankAt, IsLeafAt, IsFourAt}
 use Rattle.square_store.proofs.Lists.{got_last}
 use Rattle.square_store.proofs.Quarters.{twice, quarters_of, same_quarters, blank_quarters}
@@ -215,6 +215,20 @@ module _ {L : Type 0} (writes : L → Grid) (side : ℕ) (old new : Held L) (l :
 
   pub leaf_pushed_added : (k : ℕ) (f : Grid) → IsAbsent writes side old k f → IsAdded writes side old new k f p
   leaf_pushed_added k f absent = Added absent pushed.place (ap (λ s. length s.squares) pushed.whole ∙ longer old.squares (Leaf (length old.leaves)))
+
+-- a leaf that stood, or went last with its square
+module _ {L : Type 0} (writes : L → Grid) (side : ℕ) (old new : Held L) (l : L) (p : ℕ) where
+  pub entered_there : IsLeafEntered old new l p → IsPlaceOfLeaf new l p
+  entered_there (LeafStood same there) = subst (λ s. IsPlaceOfLeaf s l p) (sym same) there
+  entered_there (LeafAdded absent pushed) = leaf_pushed_there writes side old new l p pushed
+
+  pub entered_added : IsLeafEntered old new l p → (k : ℕ) (f : Grid) → (IsAbsentLeaf old l → IsAbsent writes side old k f) → IsAdded writes side old new k f p
+  entered_added (LeafStood same there) k f absent_as = Stood same
+  entered_added (LeafAdded absent pushed) k f absent_as = leaf_pushed_added writes side old new l p pushed k f (absent_as absent)
+
+  pub entered_grown : IsLeafEntered old new l p → (IsLeaf : L → Type 0) → IsStore writes side IsLeaf old → IsGrown writes side old new
+  entered_grown (LeafStood same there) IsLeaf is = subst (λ s. IsGrown writes side old s) (sym same) (record { room = refl; held = λ p h. h; stands = λ k p h. h; same = λ k p h. refl })
+  entered_grown (LeafAdded absent pushed) IsLeaf is = leaf_pushed_grown writes side old new l p pushed IsLeaf is
 
 -- what a fault that was passed on says
 pub told : {A F : Type 0} (r : Result A F) (x y : F) → IsErrAnd r (λ e. e ≡ x) → r ≡ Err y → x ≡ y

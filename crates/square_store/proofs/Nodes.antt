@@ -1,7 +1,7 @@
 -- Nodes are told apart exactly; what a search in the store finds; entries and one more.
 use Rattle.std.proofs.Common.{inl, inr, arith, ◌≤◌, false, rules, ◌≡◌, ℕ, ◌<◌, Bool, true, List, [], ◌∷◌, ◌++◌, length, sym, ap, ◌∙◌, subst, refl}
 use Rattle.std.proofs.lemmas.Bool.{cases_lt}
-use Rattle.std.specs.Prelude.{Option, None, Some, Decides, IfSome, IfNone, IsTrue, ◌↔◌, nat_eq, if◌then◌else◌}
+use Rattle.std.specs.Prelude.{Option, None, Some, Decides, IfSome, IfNone, IsTrue, ◌↔◌, nat_eq, not, if◌then◌else◌}
 use Rattle.std.specs.Map.{keys_of, values_of}
 use Rattle.std.specs.List.{list_any, position_or_len}
 use Rattle.indexmap.specs.IndexMap.{insert_entry}
@@ -114,3 +114,12 @@ last_held {L} {S} leaves new_leaves room es new_es l summary place last =
     let keys : keys_of new_es ≡ keys_of es ++ Leaf (length leaves) ∷ [] = ap keys_of last.squares_are ∙ keys_more es (Leaf (length leaves)) summary in
     let whole : Held L = record { leaves = new_leaves; squares = keys_of new_es; room = room } in
     record { place = last.place_is; whole = rw (last.leaves_are, keys) refl }
+
+-- an insertion tells whether a key was there
+pub was_absent : (new any : Bool) → new ≡ not any → new ≡ true → any ≡ false
+was_absent new true e h = cc
+was_absent new false e h = refl
+
+pub was_there : (new any : Bool) → new ≡ not any → new ≡ false → any ≡ true
+was_there new true e h = refl
+was_there new false e h = cc

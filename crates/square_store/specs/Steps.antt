@@ -56,3 +56,8 @@ pub record IsPushed {L : Type 0} (old new : Held L) (x : Node) (p : ℕ) : Type 
 pub record IsLeafPushed {L : Type 0} (old new : Held L) (l : L) (p : ℕ) : Type 0 where
   pub place : p ≡ length old.squares
   pub whole : new ≡ record { leaves = old.leaves ++ l ∷ []; squares = old.squares ++ Leaf (length old.leaves) ∷ []; room = old.room }
+
+-- a leaf has its square at p: it stood there, or went last
+pub data IsLeafEntered {L : Type 0} (old new : Held L) (l : L) (p : ℕ) : Type 0 where
+  LeafStood : new ≡ old → IsPlaceOfLeaf old l p → IsLeafEntered old new l p
+  LeafAdded : IsAbsentLeaf old l → IsLeafPushed old new l p → IsLeafEntered old new l p

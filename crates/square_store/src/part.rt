@@ -1,6 +1,6 @@
 //! Places in a store.
 
-ghost use Rattle.std.specs.Prelude.{◌==◌, refl};
+ghost use Rattle.std.specs.Prelude.{◌≡◌, ◌==◌, refl};
 ghost use Rattle.std.specs.Cmp.{nat_eq_equiv, partial_equiv_from_equiv};
 
 use std::marker::Model;
@@ -20,6 +20,15 @@ impl Model for Part {
     ghost view = { λ part. part.place };
 
     ghost inverse = { λ place. record { place = place } };
+}
+
+impl Part {
+    /// How many squares of its store were added before this one.
+    pub fn place(self) -> u32
+        ensures { result ≡ self }
+    {
+        self.place
+    }
 }
 
 impl PartialEq for Part {

@@ -4,7 +4,7 @@ ghost use Rattle.std.specs.Prelude.{◌≡◌, ◌-◌, ◌<◌, ◌↔◌, ◌�
 ghost use Rattle.square_store.specs.Grid.{Grid, blank_grid, IsSpeltWithin};
 ghost use Rattle.square_store.specs.Squares.{Held, IsAt, grid_at, side_at, four_grid, quarters_grid, Draws};
 ghost use Rattle.square_store.specs.Store.{nothing_held, IsHeld, HasParts, IsGrown, IsAdded, IsFullFor, IsRoomFor, IsOnePartEach, IsStore};
-ghost use Rattle.square_store.specs.Steps.{IsWanted, IsSummed, IsAbsentNode, IsAbsentLeaf, IsPushed, IsLeafPushed, IsPlaceOfLeaf, IsOneBlank};
+ghost use Rattle.square_store.specs.Steps.{IsWanted, IsSummed, IsAbsentNode, IsAbsentLeaf, IsPushed, IsLeafEntered, IsPlaceOfLeaf, IsOneBlank};
 ghost use Rattle.square_store.specs.Seen.{AreAt, IsSeen};
 
 use crate::fault::StoreFault;
@@ -161,10 +161,7 @@ impl<L: LeafKind> Store<L> {
             let part = self.add_blank(stamp)?;
             return Ok(part);
         }
-        if let Some(part) = self.find_leaf(&leaf) {
-            return Ok(part);
-        }
-        let part = self.push_leaf(leaf)?;
+        let part = self.enter_leaf(leaf)?;
         Ok(part)
     }
 
@@ -302,32 +299,41 @@ impl<L: LeafKind> Store<L> {
         })
     }
 
-    /// Puts a leaf and its square last.
-    fn push_leaf(&mut self, leaf: L) -> Result<Part, StoreFault>
-        requires absent { IsAbsentLeaf self.old leaf }
+    /// The part of a leaf that is no blank: that of its square, which goes last where it is new. The leaf
+    /// is looked up once, but where there is no room or no memory for one more.
+    fn enter_leaf(&mut self, leaf: L) -> Result<Part, StoreFault>
         requires leaf { L.IsLeaf leaf }
         requires spelt { IsSpeltWithin L.side (L.write leaf) }
-        ensures pushed { IfOk result (λ p. IsLeafPushed self.old self.new leaf p) }
+        ensures entered { IfOk result (IsLeafEntered self.old self.new leaf) }
         ensures err { OnErr result (self.new ≡ self.old) }
+        ensures absent { OnErr result (IsAbsentLeaf self.old leaf) }
         ensures full { result ≡ Err StoreFault.StoreFull → length self.old.squares ≡ self.old.room }
         ensures memory { result ≡ Err StoreFault.Memory → length self.old.squares < self.old.room }
     {
         if self.is_full() {
-            return Err(StoreFault::StoreFull);
+            return self.find_leaf(&leaf).ok_or(StoreFault::StoreFull);
         }
         // With room made first, no leaf stays without its square.
-        self.squares.reserve(1)?;
-        let Ok((at, _)) = self.leaves.insert_full(leaf) else {
+        if self.squares.reserve(1).is_err() {
+            return self.find_leaf(&leaf).ok_or(StoreFault::Memory);
+        }
+        let Ok((at, is_new)) = self.leaves.insert_full(leaf) else {
             return Err(StoreFault::Memory);
         };
-        let Ok((place, _)) = self
-            .squares
-            .insert_full(Node::Leaf(at as u32), leaf.summary())
-        else {
+        if is_new {
+            let Ok((place, _)) = self
+                .squares
+                .insert_full(Node::Leaf(at as u32), leaf.summary())
+            else {
+                unreachable!()
+            };
+            return Ok(Part {
+                place: place as u32,
+            });
+        }
+        let Some(part) = self.find(Node::Leaf(at as u32)) else {
             unreachable!()
         };
-        Ok(Part {
-            place: place as u32,
-        })
+        Ok(part)
     }
 }

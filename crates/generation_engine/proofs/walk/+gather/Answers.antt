@@ -2,24 +2,72 @@ use Rattle.std.proofs.Common.{◌∙◌, ap, ◌+◌, length}
 use Rattle.square_store.proofs.Places.{at_within}
 use Rattle.generation_engine.proofs.Counted.{leaf_counted, parts_counted, square_blank}
 use Rattle.generation_engine.proofs.Gathering.{gathers_leaf_at}
+use Rattle.std.proofs.Common.{◌≡◌, ℕ, ◌-◌, ◌<◌, List, sym, subst, arith, slice_index_or}
+use Rattle.std.specs.Prelude.{length}
+use Rattle.square_store.specs.Squares.{Held, IsAt, side_at}
+use Rattle.square_store.specs.Seen.{IsFourAt}
+use Rattle.stamped_tree.proofs.Parts.{same_default}
+use Rattle.generation_engine.specs.declared.leaf_kind.EngineLeaf.{EngineLeaf}
+use Rattle.generation_engine.specs.EngineLeaf.{leaf_grid}
+use Rattle.generation_engine.proofs.Squares.{wide}
 use Rattle.generation_engine.proofs.walk.+gather.Goals as goal
+
+-- each part is a square of the level below, half as wide
+record IsBelow (s : Held EngineLeaf) (k p : ℕ) : Type 0 where
+  some : 0 < k
+  half : side_at 8 k ≡ side_at 8 (k - 1) + side_at 8 (k - 1)
+  stands : IsAt s (k - 1) p
+
+below : (s : Held EngineLeaf) (k j p i r : ℕ) (parts : List ℕ) → IsFourAt leaf_grid 8 s j parts p → IsAt s k p → i < 4 → IsBelow s k (slice_index_or parts i r)
+below s k j p i r parts four stands few =
+    let level : k ≡ j = four.level k stands in
+    let some : 0 < k = (let h = four.positive in omega (arith, h, level)) in
+    record {
+      some = some;
+      half = wide k some;
+      stands = subst (λ q. IsAt s (k - 1) q) (sym (same_default parts i r 0 (let h = four.four in omega (arith, few, h)))) (subst (λ l. IsAt s (l - 1) (slice_index_or parts i 0)) (sym level) (four.parts_stand i few));
+    }
 
 pub square-requires : goal.square-requires
 square-requires t c = at_within c.args.store.now c.args.level c.args.part c.requires.stands
 
 pub returns-in-Blank : goal.returns-in-Blank
-returns-in-Blank t c = square_blank c.args.store.now c.args.level c.args.part c.in-Blank.field-0 c.args.left c.args.top c.args.found.now.items c.in-Blank.ensures
+returns-in-Blank t c = square_blank c.args.store.now c.args.level c.args.part c.in-Blank.field-0 c.args.left c.args.top c.args.found.now c.in-Blank.ensures
 
 pub returns-in_ok-gather-in-Four-4 : goal.returns-in_ok-gather-in-Four-4
 returns-in_ok-gather-in-Four-4 t c =
     let a = c.args in
     parts_counted a.store.now a.level c.in-Four.level a.part a.left a.top c.side_of-half.result c.in-Four.parts c.index-parts-0.result c.index-parts-1.result c.index-parts-2.result c.index-parts-3.result
-    a.found.now.items c.gather.new.found.items c.gather-in-Four.new.found.items c.gather-in-Four-2.new.found.items c.gather-in-Four-3.new.found.items
+    a.found.now c.gather.new.found c.gather-in-Four.new.found c.gather-in-Four-2.new.found c.gather-in-Four-3.new.found
     c.in-Four.ensures c.requires.stands c.side_of-half.ensures
     c.in_ok-gather-in-Four.ensures c.in_ok-gather-in-Four-2.ensures c.in_ok-gather-in-Four-3.ensures c.in_ok-gather-in-Four-4.ensures
 
 pub returns-in_ok-gather_leaf-in-Leaf : goal.returns-in_ok-gather_leaf-in-Leaf
 returns-in_ok-gather_leaf-in-Leaf t c = record {
-  gathers = gathers_leaf_at c.args.store.now c.args.level c.args.part c.args.left c.args.top c.in-Leaf.leaf.now c.args.found.now.items c.gather_leaf.new.found.items c.in-Leaf.ensures c.requires.stands c.in_ok-gather_leaf-in-Leaf.ensures.gathers;
-  count = c.in_ok-gather_leaf-in-Leaf.ensures.count ∙ ap (λ n. length c.args.found.now.items + n) (leaf_counted c.args.store.now c.args.level c.args.part c.in-Leaf.leaf.now c.in-Leaf.ensures c.requires.stands);
+  gathers = gathers_leaf_at c.args.store.now c.args.level c.args.part c.args.left c.args.top c.in-Leaf.leaf.now c.args.found.now c.gather_leaf.new.found c.in-Leaf.ensures c.requires.stands c.in_ok-gather_leaf-in-Leaf.ensures.gathers;
+  count = c.in_ok-gather_leaf-in-Leaf.ensures.count ∙ ap (λ n. length c.args.found.now + n) (leaf_counted c.args.store.now c.args.level c.args.part c.in-Leaf.leaf.now c.in-Leaf.ensures c.requires.stands);
 }
+
+pub gather-requires : goal.gather-requires
+gather-requires t c =
+    let b = below c.args.store.now c.args.level c.in-Four.level c.args.part 0 c.index-parts-0.result c.in-Four.parts c.in-Four.ensures c.requires.stands (omega arith) in
+    let some = b.some in let half = b.half in let level = c.requires.level in let left = c.requires.left in let top = c.requires.top in let wide_half = c.side_of-half.ensures in let down = c.decreases in
+    (omega (arith, some, down), (omega (arith, level), (b.stands, (omega (arith, half, left, wide_half), omega (arith, half, top, wide_half)))))
+
+pub gather-requires-in-Four : goal.gather-requires-in-Four
+gather-requires-in-Four t c =
+    let b = below c.args.store.now c.args.level c.in-Four.level c.args.part 1 c.index-parts-1.result c.in-Four.parts c.in-Four.ensures c.requires.stands (omega arith) in
+    let some = b.some in let half = b.half in let level = c.requires.level in let left = c.requires.left in let top = c.requires.top in let wide_half = c.side_of-half.ensures in let down = c.decreases in
+    (omega (arith, some, down), (omega (arith, level), (b.stands, (omega (arith, half, left, wide_half), omega (arith, half, top, wide_half)))))
+
+pub gather-requires-in-Four-2 : goal.gather-requires-in-Four-2
+gather-requires-in-Four-2 t c =
+    let b = below c.args.store.now c.args.level c.in-Four.level c.args.part 2 c.index-parts-2.result c.in-Four.parts c.in-Four.ensures c.requires.stands (omega arith) in
+    let some = b.some in let half = b.half in let level = c.requires.level in let left = c.requires.left in let top = c.requires.top in let wide_half = c.side_of-half.ensures in let down = c.decreases in
+    (omega (arith, some, down), (omega (arith, level), (b.stands, (omega (arith, half, left, wide_half), omega (arith, half, top, wide_half)))))
+
+pub gather-requires-in-Four-3 : goal.gather-requires-in-Four-3
+gather-requires-in-Four-3 t c =
+    let b = below c.args.store.now c.args.level c.in-Four.level c.args.part 3 c.index-parts-3.result c.in-Four.parts c.in-Four.ensures c.requires.stands (omega arith) in
+    let some = b.some in let half = b.half in let level = c.requires.level in let left = c.requires.left in let top = c.requires.top in let wide_half = c.side_of-half.ensures in let down = c.decreases in
+    (omega (arith, some, down), (omega (arith, level), (b.stands, (omega (arith, half, left, wide_half), omega (arith, half, top, wide_half)))))

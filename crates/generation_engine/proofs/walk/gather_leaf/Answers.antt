@@ -5,7 +5,7 @@ use Rattle.generation_engine.proofs.Gathering.{IsNonzeroBefore, gathers_place, g
 use Rattle.generation_engine.proofs.walk.gather_leaf.Goals as goal
 
 pub loop-place-init : goal.loop-place-init
-loop-place-init c = (gathers_nothing c.args.leaf.now c.args.left c.args.top c.args.found.now.items, (let none = first_none c.args.leaf.now in omega (arith, none)))
+loop-place-init c = (gathers_nothing c.args.leaf.now c.args.left c.args.top c.args.found.now, (let none = first_none c.args.leaf.now in omega (arith, none)))
 
 pub loop-place-preserved : goal.loop-place-preserved
 loop-place-preserved c =
@@ -15,7 +15,7 @@ loop-place-preserved c =
     let more = first_more c.args.leaf.now i in
     let so_far = c.loop-place.invariant.1 in
     let own = pushed.count in (
-      gathers_place c.args.leaf.now c.args.left c.args.top i small c.args.found.now.items c.loop-place.found.items c.push_live.new.found.items c.loop-place.invariant.0 pushed.gathers,
+      gathers_place c.args.leaf.now c.args.left c.args.top i small c.args.found.now c.loop-place.found c.push_live.new.found c.loop-place.invariant.0 pushed.gathers,
       omega (arith, more, so_far, own),
     )
 
@@ -25,6 +25,6 @@ returns c =
     let count = ap (first_count c.args.leaf.now) all ∙ first_all c.args.leaf.now in
     let so_far = c.loop-place.invariant.1 in
     record {
-      gathers = gathers_leaf c.args.leaf.now c.args.left c.args.top c.args.found.now.items c.loop-place.found.items (subst (λ i. Gathers (IsNonzeroBefore c.args.leaf.now c.args.left c.args.top i) c.args.found.now.items c.loop-place.found.items) all c.loop-place.invariant.0);
+      gathers = gathers_leaf c.args.leaf.now c.args.left c.args.top c.args.found.now c.loop-place.found (subst (λ i. Gathers (IsNonzeroBefore c.args.leaf.now c.args.left c.args.top i) c.args.found.now c.loop-place.found) all c.loop-place.invariant.0);
       count = omega (arith, so_far, count);
     }

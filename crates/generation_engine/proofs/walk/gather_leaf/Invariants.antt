@@ -5,4 +5,4 @@ use Rattle.generation_engine.proofs.Gathering.{IsNonzeroBefore}
 use Rattle.generation_engine.proofs.walk.gather_leaf.Given as goal
 
 abbrev pub invariant-loop-place : goal.invariant-loop-place
-invariant-loop-place l = Gathers (IsNonzeroBefore l.leaf l.left l.top l.place) l.fn.found.items l.found.items × (length l.found.items ≡ length l.fn.found.items + first_count l.leaf l.place)
+invariant-loop-place l = Gathers (IsNonzeroBefore l.leaf l.left l.top l.place) l.fn.found l.found × (length l.found ≡ length l.fn.found + first_count l.leaf l.place)

@@ -7,6 +7,6 @@ pub returns-in_ok-push : goal.returns-in_ok-push
 returns-in_ok-push c =
     let live : c.args.cell.state ≢ 0 = search (arith, c.if-cell-ne0.true) in
     record {
-      gathers = rw c.in_ok-push.ensures.items (gathers_one c.args.cell c.args.found.now.items live);
-      count = counted_live c.args.cell c.args.found.now.items _ c.in_ok-push.ensures.items live;
+      gathers = rw c.in_ok-push.ensures (gathers_one c.args.cell c.args.found.now live);
+      count = counted_live c.args.cell c.args.found.now _ c.in_ok-push.ensures live;
     }

@@ -1,14 +1,16 @@
-use Rattle.generation_engine.specs.Kept.{AreKept, IsKept}
-use Rattle.generation_engine.proofs.KeptLaws.{kept_more}
-use Rattle.generation_engine.proofs.results.ResultStore.keep.Goals.{in-Ok, in-Err}
+use Rattle.generation_engine.specs.Kept.{IsKept}
+use Rattle.generation_engine.proofs.KeptLaws.{kept_first, kept_widened}
+use Rattle.generation_engine.proofs.results.ResultStore.keep.Goals.{then-place-len+in_ok-resize, else-place-len}
 use Rattle.generation_engine.proofs.results.ResultStore.keep.Goals as goal
 
-pub invariant_of-self : goal.invariant_of-self
-invariant_of-self c =
+pub invariant_of-self-2 : goal.invariant_of-self-2
+invariant_of-self-2 c =
     let asked : IsKept c.args.self.now.rule c.args.self.now.store (record { level = c.args.level; part = c.args.part; exponent = c.args.exponent }) c.args.later =
     record { stands = c.requires.stands; later = c.requires.later } in
-    let is : IsKept c.self.inside.rule c.self.inside.store (record { level = c.args.level; part = c.args.part; exponent = c.args.exponent }) c.args.later = rw (← c.self.view_is) at asked in
-    elim c.match-insert.branch [
-      | in-Ok w ↦ kept_more _ _ _ _ (record { level = c.args.level; part = c.args.part; exponent = c.args.exponent }) c.args.later c.self.invariant is w.in-Ok.ensures.updates.0
-      | in-Err w ↦ (let same = w.in-Err.ensures.err in let are : AreKept c.self.inside.rule c.self.inside.store c.insert.new.self = record { rule = c.self.invariant.rule; each = λ key q e. c.self.invariant.each key q (rw same at e) } in are)
+    let there : IsKept c.self.inside.rule c.self.inside.store (record { level = c.args.level; part = c.args.part; exponent = c.args.exponent }) c.args.later = rw (← c.self.view_is) at asked in
+    let is : IsKept c.self.inside.rule c.self.inside.store (record { level = c.args.level; part = c.place-place.result; exponent = c.args.exponent }) c.args.later = rw c.place-place.ensures there in
+    elim c.if-place-len.branch [
+      | then-place-len+in_ok-resize w ↦ rw (w.self-inside-is, w.in_ok-resize.ensures.items) (kept_first _ _ _ _ _ (record { level = c.args.level; exponent = c.args.exponent; later = c.args.later })
+          (kept_widened _ _ _ _ _ _ c.self.invariant) is)
+      | else-place-len w ↦ rw w.self-inside-is (kept_first _ _ _ _ _ (record { level = c.args.level; exponent = c.args.exponent; later = c.args.later }) c.self.invariant is)
     ]
