@@ -1,0 +1,97 @@
+-- A map has one export, and what is listed of it may be written.
+use Rattle.std.proofs.Common.{◌≡◌, ◌≢◌, ℕ, ◌<◌, List, [], ◌∷◌, refl, sym, ◌∙◌, ap, subst, arith, inl, inr}
+use Rattle.std.proofs.lemmas.Bool.{and_parts, cases_Bool, lt-ltb}
+use Rattle.std.proofs.lemmas.Bool.Decides.{nat_tests}
+use Rattle.edit_stamps.proofs.PlaceOrder.{same_itself}
+use Rattle.std.specs.Prelude.{Some, None, Option, Ok, Err, Result, not, ◌==◌, unwrap_or, true}
+use Rattle.generations_rule.specs.Place.{Place, is_place}
+use Rattle.generations_rule.specs.Rule.{GenerationsRule, IsRule}
+use Rattle.generations_rule.specs.Evolution.{at}
+use Rattle.generations_rule.proofs.EvolutionLaws.{stays_in_range}
+use Rattle.multistate_rle.specs.declared.cell.Cell.{Cell}
+use Rattle.multistate_rle.specs.Cells.{place_of, are_nonzero, are_states_below, is_sorted}
+use Rattle.multistate_rle.specs.Writing.{text_of_cells}
+use Rattle.edit_stamps.specs.Edit.{listed}
+use Rattle.edit_stamps.proofs.SortedCells.{listed_behind, listed_here, listed_there, sorted_tail, told_by_reads}
+use Rattle.generation_engine.specs.Universe.{AreSameStates}
+use Rattle.generation_engine.specs.Walk.{AreCellsOf}
+use Rattle.export.specs.declared.fault.ExportFault.{ExportFault}
+use Rattle.export.specs.declared.fault.ExportFault.TheVariants.{GenRange, TooManyCells, StoreFull, Memory}
+use Rattle.export.specs.Export.{IsExport}
+use Rattle.export.specs.Laws.{HasOneExport}
+
+-- ---- maps of states
+
+-- maps that read the same are one
+pub one_map : (f h : Place → ℕ) → AreSameStates f h → f ≡ h
+one_map f h same = λ i c. same c i
+
+-- what an engine shows that was loaded with a map and run
+pub shown : (r s : GenerationsRule) (f loaded run : Place → ℕ) (g : ℕ) → s ≡ r → AreSameStates loaded f → AreSameStates run (at s loaded g) → run ≡ at r f g
+shown r s f loaded run g rule load later = one_map run (at s loaded g) later ∙ ap (λ h. at s h g) (one_map loaded f load) ∙ ap (λ t. at t f g) rule
+
+-- ---- lists of cells
+
+-- no cell of a list without dead cells is listed as dead
+listed_alive : (cells : List Cell) (c : Place) (s : ℕ) → are_nonzero cells ≡ true → listed cells c ≡ Some s → s ≢ 0
+listed_alive [] c s alive h = absurd (cc)
+listed_alive (a ∷ cells) c s alive h =
+    let parts = and_parts (not (a.state == 0)) (are_nonzero cells) alive in
+    elim (cases_Bool (is_place (place_of a) c)) [
+      | inl here ↦ (let e : Some a.state ≡ Some s = sym (listed_here a cells c here) ∙ h in grind (arith, nat_tests, parts.0, e))
+      | inr there ↦ listed_alive cells c s parts.1 (sym (listed_there a cells c there) ∙ h)
+    ]
+
+-- what is listed is told by its state, 0 for none
+same_option : (a b : Option ℕ) → ((s : ℕ) → a ≡ Some s → s ≢ 0) → ((s : ℕ) → b ≡ Some s → s ≢ 0) → unwrap_or a 0 ≡ unwrap_or b 0 → a ≡ b
+same_option None None alive_a alive_b same = refl
+same_option (Some s) None alive_a alive_b same = absurd (alive_a s refl same)
+same_option None (Some t) alive_a alive_b same = absurd (alive_b t refl (sym same))
+same_option (Some s) (Some t) alive_a alive_b same = ap Some same
+
+-- the sorted list of the cells that are not dead is one
+pub one_list : (f : Place → ℕ) (xs ys : List Cell) → AreCellsOf f xs → AreCellsOf f ys → xs ≡ ys
+one_list f xs ys is other = told_by_reads xs ys is.sorted other.sorted (λ c. same_option (listed xs c) (listed ys c)
+    (λ s. listed_alive xs c s is.nonzero) (λ s. listed_alive ys c s other.nonzero) (is.states c ∙ sym (other.states c)))
+
+-- where all that is listed of a sorted list is below a number, its states are
+below_all : (n : ℕ) (cells : List Cell) → is_sorted cells ≡ true → ((c : Place) → unwrap_or (listed cells c) 0 < n) → are_states_below n cells ≡ true
+below_all n [] sorted below = refl
+below_all n (a ∷ cells) sorted below =
+    let first : a.state < n = subst (λ s. unwrap_or s 0 < n) (listed_here a cells (place_of a) (same_itself (place_of a))) (below (place_of a)) in
+    let some : 0 < n = omega (arith, first) in
+    let rest : (c : Place) → unwrap_or (listed cells c) 0 < n = λ c. elim (cases_Bool (is_place (place_of a) c)) [
+      | inl here ↦ subst (λ s. unwrap_or s 0 < n) (sym (listed_behind a cells c sorted here)) some
+      | inr there ↦ subst (λ s. unwrap_or s 0 < n) (listed_there a cells c there) (below c)
+    ] in
+    rw (lt-ltb a.state n first) (below_all n cells (sorted_tail a cells sorted) rest)
+
+-- of the cells that an engine shows all states are below the rule's number of states
+pub cells_below : (r : GenerationsRule) (f : Place → ℕ) (g : ℕ) (cells : List Cell) → IsRule r → ((c : Place) → f c < r.states) → AreCellsOf (at r f g) cells → are_states_below r.states cells ≡ true
+cells_below r f g cells rule below are = below_all r.states cells are.sorted
+    (λ c. subst (λ s. s < r.states) (sym (are.states c)) (stays_in_range r f g c rule below))
+
+-- ---- the law
+
+one_text : (r : GenerationsRule) (g : ℕ) (xs ys : List Cell) (a b : List ℕ) → xs ≡ ys → a ≡ text_of_cells r g xs → b ≡ text_of_cells r g ys → a ≡ b
+one_text r g xs ys a b same is other = is ∙ ap (λ cells. text_of_cells r g cells) same ∙ sym other
+
+-- one map has one export
+one_export : (r : GenerationsRule) (f : Place → ℕ) (g limit : ℕ) (a b : Result (List ℕ) ExportFault) → IsExport r f g limit a → IsExport r f g limit b → a ≡ b
+one_export r f g limit (Ok a) (Ok b) is other =
+    ap Ok (one_text r g is.2.cells other.2.cells a b (one_list (at r f g) is.2.cells other.2.cells is.2.are_cells other.2.are_cells) is.2.is_text other.2.is_text)
+one_export r f g limit (Ok a) (Err GenRange) is other = absurd (omega (arith, is.0, other))
+one_export r f g limit (Ok a) (Err TooManyCells) is other = absurd (omega (arith, is.1, other.1))
+one_export r f g limit (Err GenRange) (Ok b) is other = absurd (omega (arith, is, other.0))
+one_export r f g limit (Err GenRange) (Err GenRange) is other = refl
+one_export r f g limit (Err GenRange) (Err TooManyCells) is other = absurd (omega (arith, is, other.0))
+one_export r f g limit (Err TooManyCells) (Ok b) is other = absurd (omega (arith, is.1, other.1))
+one_export r f g limit (Err TooManyCells) (Err GenRange) is other = absurd (omega (arith, is.0, other))
+one_export r f g limit (Err TooManyCells) (Err TooManyCells) is other = refl
+one_export r f g limit (Err StoreFull) b is other = absurd is
+one_export r f g limit (Err Memory) b is other = absurd is
+one_export r f g limit a (Err StoreFull) is other = absurd other
+one_export r f g limit a (Err Memory) is other = absurd other
+
+pub has_one_export : HasOneExport
+has_one_export r f h g limit a b same is other = one_export r f g limit a b is (subst (λ k. IsExport r k g limit b) (sym (one_map f h same)) other)

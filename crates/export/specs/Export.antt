@@ -1,0 +1,58 @@
+-- The text of a plane's cells some generations on.
+use Rattle.std.specs.Prelude.{◌≡◌, true, ◌⊎◌, ⊤, ℕ, ◌^◌, ◌<◌, ◌≤◌, pos, List, Result, Ok, Err}
+use Rattle.generations_rule.specs.Place.{Place, moved}
+use Rattle.generations_rule.specs.Rule.{GenerationsRule}
+use Rattle.generations_rule.specs.Evolution.{at}
+use Rattle.multistate_rle.specs.declared.cell.Cell.{Cell}
+use Rattle.multistate_rle.specs.Cells.{are_states_below}
+use Rattle.multistate_rle.specs.Writing.{text_of_cells}
+use Rattle.bitplane_kernel.specs.Population.{population}
+use Rattle.generation_engine.specs.Universe.{universe_corner}
+use Rattle.generation_engine.specs.Walk.{AreCellsOf}
+use Rattle.export.specs.declared.fault.ExportFault.{ExportFault}
+use Rattle.export.specs.declared.fault.ExportFault.TheVariants.{GenRange, TooManyCells, StoreFull, Memory}
+
+-- the last generation that is run to
+abbrev pub last_generation : ℕ
+last_generation = 2 ^ 29
+
+-- how many cells are exported at most
+abbrev pub most_cells : ℕ
+most_cells = 2 ^ 24
+
+-- How many cells of a map of states are not dead g generations later. A map on the plane has none outside the universe,
+-- x and y from -2^32 to 2^32 - 1, up to the last generation.
+abbrev pub population_at : GenerationsRule → (Place → ℕ) → ℕ → ℕ
+population_at r f g = population (2 ^ 33) (λ u v. at r f g (moved universe_corner (pos u) (pos v)))
+
+-- the RLE text of the cells that are not dead then, the rule being applied cell by cell
+pub record IsTextAt (r : GenerationsRule) (f : Place → ℕ) (g : ℕ) (text : List ℕ) : Type 0 where
+  pub cells : List Cell
+  pub are_cells : AreCellsOf (at r f g) cells
+  pub is_text : text ≡ text_of_cells r g cells
+
+-- the cells that are not dead then, at most so many, as they may be written
+pub record AreExported (r : GenerationsRule) (f : Place → ℕ) (g limit : ℕ) (cells : List Cell) : Type 0 where
+  pub few : population_at r f g ≤ limit
+  pub are_cells : AreCellsOf (at r f g) cells
+  pub below : are_states_below r.states cells ≡ true
+
+-- The answer of an export of a map of states at generation g, of at most so many cells: first whether the generation is one, then
+-- whether the cells are too many, then the text.
+abbrev pub IsExport : GenerationsRule → (Place → ℕ) → ℕ → ℕ → Result (List ℕ) ExportFault → Type 0
+IsExport r f g limit (Ok text) = (g ≤ last_generation) × (population_at r f g ≤ limit) × IsTextAt r f g text
+IsExport r f g limit (Err GenRange) = last_generation < g
+IsExport r f g limit (Err TooManyCells) = (g ≤ last_generation) × (limit < population_at r f g)
+IsExport r f g limit (Err StoreFull) = ⊥
+IsExport r f g limit (Err Memory) = ⊥
+
+-- a want of memory or of room: no part of what a call means
+abbrev pub IsWant : ExportFault → Type 0
+IsWant Memory = ⊤
+IsWant StoreFull = ⊤
+IsWant GenRange = ⊥
+IsWant TooManyCells = ⊥
+
+-- An export is refused as it is meant to be, or meets a want, but only at a generation that is one.
+abbrev pub IsExportRefused : GenerationsRule → (Place → ℕ) → ℕ → ℕ → ExportFault → Type 0
+IsExportRefused r f g limit fault = (IsWant fault × (g ≤ last_generation)) ⊎ IsExport r f g limit (Err fault)

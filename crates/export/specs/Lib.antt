@@ -1,0 +1,3 @@
+pub mod ExportFault
+pub mod Export
+pub mod Laws

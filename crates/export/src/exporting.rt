@@ -1,0 +1,105 @@
+//! Exports.
+
+ghost use Rattle.std.specs.Prelude.{◌^◌, ◌≤◌, IfErr, IfOk, Ok};
+ghost use Rattle.edit_stamps.specs.PlaneMap.{HasStatesBelow};
+ghost use Rattle.stamped_tree.specs.Plane.{map_of};
+ghost use Rattle.generation_engine.specs.Universe.{states_in_writes};
+ghost use Rattle.export.specs.Export.{AreExported, IsExport, IsExportRefused, most_cells};
+
+use crate::fault::ExportFault;
+use generation_engine::Engine;
+use generations_rule::Rule;
+use multistate_rle::{Cell, write};
+use stamped_tree::Plane;
+use std::alloc::Global;
+
+/// How many squares the universe that is run may store if nothing else is said.
+const ROOM: u32 = 0x400_0000;
+
+/// The last generation.
+const LAST: u32 = 0x2000_0000;
+
+/// How many cells are exported at most if nothing else is said.
+const MOST_CELLS: u64 = 0x100_0000;
+
+/// The cells of a plane `generation` generations later, in Golly's multi-state RLE under the rule. First
+/// of all `GenRange` is answered, exactly where the generation is greater than 2^29, then `TooManyCells`,
+/// exactly where more than 2^24 cells are not dead. Memory, and room for 2^26 squares, are wanted only
+/// for a generation that is one.
+pub fn export(
+    alloc: Global,
+    rule: &Rule,
+    plane: &Plane,
+    generation: u32,
+) -> Result<Vec<u8>, ExportFault>
+    requires { HasStatesBelow rule.now.states (map_of plane.now) }
+    ensures text { IfOk result (λ text. IsExport rule.now (states_in_writes (map_of plane.now)) generation most_cells (Ok text.items)) }
+    ensures err { IfErr result (IsExportRefused rule.now (states_in_writes (map_of plane.now)) generation most_cells) }
+{
+    export_within(alloc, rule, plane, generation, MOST_CELLS)
+}
+
+/// `export` of at most so many cells.
+pub fn export_within(
+    alloc: Global,
+    rule: &Rule,
+    plane: &Plane,
+    generation: u32,
+    limit: u64,
+) -> Result<Vec<u8>, ExportFault>
+    requires { HasStatesBelow rule.now.states (map_of plane.now) }
+    ensures text { IfOk result (λ text. IsExport rule.now (states_in_writes (map_of plane.now)) generation limit (Ok text.items)) }
+    ensures err { IfErr result (IsExportRefused rule.now (states_in_writes (map_of plane.now)) generation limit) }
+{
+    export_in_room(alloc, rule, plane, generation, limit, ROOM)
+}
+
+/// `export` of at most so many cells, with room for so many squares.
+pub fn export_in_room(
+    alloc: Global,
+    rule: &Rule,
+    plane: &Plane,
+    generation: u32,
+    limit: u64,
+    nodes: u32,
+) -> Result<Vec<u8>, ExportFault>
+    requires states { HasStatesBelow rule.now.states (map_of plane.now) }
+    requires nodes { 64 ≤ nodes }
+    ensures text { IfOk result (λ text. IsExport rule.now (states_in_writes (map_of plane.now)) generation limit (Ok text.items)) }
+    ensures err { IfErr result (IsExportRefused rule.now (states_in_writes (map_of plane.now)) generation limit) }
+{
+    if generation > LAST {
+        return Err(ExportFault::GenRange);
+    }
+    let cells = cells_at(alloc, rule, plane, generation, limit, nodes)?;
+    let text = write(alloc, rule, u64::from(generation), &cells)?;
+    Ok(text)
+}
+
+/// The cells that are not dead some generations later. They are counted before they are listed, and the
+/// universe is given back before they are written.
+fn cells_at(
+    alloc: Global,
+    rule: &Rule,
+    plane: &Plane,
+    generation: u32,
+    limit: u64,
+    nodes: u32,
+) -> Result<Vec<Cell>, ExportFault>
+    requires states { HasStatesBelow rule.now.states (map_of plane.now) }
+    requires nodes { 64 ≤ nodes }
+    requires generation { generation ≤ 2 ^ 29 }
+    ensures cells { IfOk result (λ cells. AreExported rule.now (states_in_writes (map_of plane.now)) generation limit cells.items) }
+    ensures err { IfErr result (IsExportRefused rule.now (states_in_writes (map_of plane.now)) generation limit) }
+{
+    // For the proof alone: the call tells that what is held is a rule.
+    let _states = rule.states();
+    let mut engine = Engine::with_room(alloc, *rule, nodes)?;
+    engine.load(plane)?;
+    engine.run(generation)?;
+    if engine.population() > u128::from(limit) {
+        return Err(ExportFault::TooManyCells);
+    }
+    let cells = engine.cells()?;
+    Ok(cells)
+}

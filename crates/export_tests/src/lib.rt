@@ -1,0 +1,5 @@
+//! Tests of `export`.
+#![tactic(auto)]
+
+#[cfg(test)]
+mod exports;
