@@ -78,7 +78,9 @@ fn counted(replies: &[Reply]) -> Counts {
             Reply::Drawn(_) => &mut counts.drawn,
             Reply::Sent(_) => &mut counts.sent,
             Reply::Taken => &mut counts.taken,
-            Reply::Shown(_) | Reply::Same(_) | Reply::Bytes(_) => &mut counts.shown,
+            Reply::Shown(_) | Reply::Same(_) | Reply::Bytes(_) | Reply::Text(_) => {
+                &mut counts.shown
+            }
             Reply::Refused(_) => &mut counts.refused,
         };
         *count = count.saturating_add(1);

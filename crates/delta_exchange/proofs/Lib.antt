@@ -20,3 +20,4 @@ pub mod TreeSuits
 pub mod StateLaws
 pub mod MessageLaws
 pub mod MessageTexts
+pub mod DeltaFaults

@@ -1,6 +1,6 @@
 //! Messages of either kind, read.
 
-ghost use Rattle.std.specs.Prelude.{◌≡◌, ◌≤◌, ◌^◌, IfOk, List, Ok};
+ghost use Rattle.std.specs.Prelude.{◌≡◌, ◌≤◌, ◌^◌, IfOk, List, Ok, Err, false};
 ghost use Rattle.edit_stamps.specs.Edit.{PlaneEdit};
 ghost use Rattle.edit_stamps.specs.Write.{Writes};
 ghost use Rattle.generations_rule.specs.Refusal.{AnswersAs};
@@ -37,6 +37,8 @@ pub fn read(alloc: Global, rule: &Rule, text: &[u8]) -> Result<Message, ReadFaul
     ensures only_map { (meant : Writes) → IsTellableMap rule.now.states meant → IsStateText rule.now meant text.now
         → AnswersAs (StandsForMap rule.now) IsWantOrFull result (Ok meant) }
     ensures room { IfOk result (λ message. HasRoom (2 ^ 26) message.content) }
+    // Room is wanted for a map alone.
+    ensures full { result ≡ Err ReadFault.StoreFull → begins_as_delta text.now ≡ Ok false }
 {
     read_within(alloc, rule, text, ROOM)
 }
@@ -56,6 +58,7 @@ pub fn read_within(
     ensures only_map { (meant : Writes) → IsTellableMap rule.now.states meant → IsStateText rule.now meant text.now
         → AnswersAs (StandsForMap rule.now) IsWantOrFull result (Ok meant) }
     ensures room { IfOk result (λ message. HasRoom nodes message.content) }
+    ensures full { result ≡ Err ReadFault.StoreFull → begins_as_delta text.now ≡ Ok false }
 {
     if is_delta(text)? {
         let edits = read_delta(alloc, rule, text)?;

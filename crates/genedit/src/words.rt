@@ -29,7 +29,8 @@ pattern's block it is part of the pattern's text.
   or R NAME x y          replica R draws the pattern's live and dying cells there
   clear R x y w h        replica R draws an area of dead cells, w wide and h high
   same A B               prints whether replicas A and B hold the same at every cell: same or differ
-  dump M                 prints the bytes of message M in hexadecimal";
+  dump M                 prints the bytes of message M in hexadecimal
+  export R G             prints replica R's cells G generations later, as an RLE text";
 
 const FORM_HELP: &str = "\
 The text has an optional line `#CXRLE Pos=x,y Gen=n`, a header `x = w, y = h`, and runs of cells up to

@@ -66,6 +66,12 @@ not_canonical = refl
 pub trailing : name_of_number 20 ≡ codes "Trailing"
 trailing = refl
 
+pub gen_range : name_of_number 22 ≡ codes "GenRange"
+gen_range = refl
+
+pub too_many_cells : name_of_number 23 ≡ codes "TooManyCells"
+too_many_cells = refl
+
 pub clock_full : name_of_number 24 ≡ codes "ClockFull"
 clock_full = refl
 

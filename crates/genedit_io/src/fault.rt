@@ -114,6 +114,8 @@ impl fmt::Display for FaultName {
             18 => write!(f, "StampRange"),
             19 => write!(f, "NotCanonical"),
             20 => write!(f, "Trailing"),
+            22 => write!(f, "GenRange"),
+            23 => write!(f, "TooManyCells"),
             24 => write!(f, "ClockFull"),
             25 => write!(f, "NoSuchEdit"),
             26 => write!(f, "NoReplica"),

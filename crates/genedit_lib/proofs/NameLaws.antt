@@ -17,8 +17,11 @@ use Rattle.edit_stamps.specs.EditFault.{edit_fault_number, edit_fault_text}
 use Rattle.delta_exchange.specs.declared.fault.ReadFault.{ReadFault}
 use Rattle.delta_exchange.specs.declared.fault.ReadFault.TheVariants as reads
 use Rattle.delta_exchange.specs.Fault.{read_fault_number, read_fault_text}
+use Rattle.export.specs.declared.fault.ExportFault.{ExportFault}
+use Rattle.export.specs.declared.fault.ExportFault.TheVariants as exports
+use Rattle.export.specs.ExportFault.{export_fault_number, export_fault_text}
 use Rattle.replica_core.specs.declared.fault.Fault.{Fault}
-use Rattle.replica_core.specs.declared.fault.Fault.TheVariants.{Edit, StoreFull, Read, OtherRule, ClockFull, NoSuchEdit, NoReplica, NoMessage, Memory}
+use Rattle.replica_core.specs.declared.fault.Fault.TheVariants.{Edit, StoreFull, Read, Export, OtherRule, ClockFull, NoSuchEdit, NoReplica, NoMessage, Memory}
 use Rattle.replica_core.specs.declared.event.Stop.{Stop}
 use Rattle.replica_core.specs.declared.event.Stop.TheVariants as stops
 use Rattle.replica_core.specs.Fault.{replica_fault_number, replica_fault_text, stop_number, stop_text}
@@ -62,10 +65,17 @@ read_names reads.NotCanonical refused = refl
 read_names reads.Trailing refused = refl
 read_names reads.Memory refused = absurd (refused refl)
 
+export_names : (fault : ExportFault) → IsNamed (export_fault_number fault) None (export_fault_text fault)
+export_names exports.GenRange refused = refl
+export_names exports.TooManyCells refused = refl
+export_names exports.StoreFull refused = refl
+export_names exports.Memory refused = absurd (refused refl)
+
 replica_names : (fault : Fault) → IsNamed (replica_fault_number fault) None (replica_fault_text fault)
 replica_names (Edit fault) refused = edit_names fault refused
 replica_names StoreFull refused = refl
 replica_names (Read fault) refused = read_names fault refused
+replica_names (Export fault) refused = export_names fault refused
 replica_names OtherRule refused = refl
 replica_names ClockFull refused = refl
 replica_names NoSuchEdit refused = refl
@@ -78,7 +88,7 @@ stop_names stops.StoreFull refused = refl
 stop_names stops.Memory refused = absurd (refused refl)
 
 pub names_agree : NamesAgree
-names_agree = record { rules = rule_names; texts = text_names; edits = edit_names; reads = read_names; replicas = replica_names; stops = stop_names }
+names_agree = record { rules = rule_names; texts = text_names; edits = edit_names; reads = read_names; exports = export_names; replicas = replica_names; stops = stop_names }
 
 -- as many numbers, and as many names, differ as stand in the table
 pub names_are_distinct : NamesAreDistinct

@@ -10,6 +10,8 @@ use Rattle.edit_stamps.specs.declared.fault.EditFault.{EditFault}
 use Rattle.edit_stamps.specs.EditFault.{edit_fault_number, edit_fault_text}
 use Rattle.delta_exchange.specs.declared.fault.ReadFault.{ReadFault}
 use Rattle.delta_exchange.specs.Fault.{read_fault_number, read_fault_text}
+use Rattle.export.specs.declared.fault.ExportFault.{ExportFault}
+use Rattle.export.specs.ExportFault.{export_fault_number, export_fault_text}
 use Rattle.replica_core.specs.declared.fault.Fault.{Fault}
 use Rattle.replica_core.specs.declared.event.Stop.{Stop}
 use Rattle.replica_core.specs.Fault.{replica_fault_number, replica_fault_text, stop_number, stop_text}
@@ -25,6 +27,7 @@ pub record NamesAgree : Type 0 where
   pub texts : (fault : RleFault) → IsNamed (text_fault_number fault) (text_fault_place fault) (text_fault_text fault)
   pub edits : (fault : EditFault) → IsNamed (edit_fault_number fault) None (edit_fault_text fault)
   pub reads : (fault : ReadFault) → IsNamed (read_fault_number fault) None (read_fault_text fault)
+  pub exports : (fault : ExportFault) → IsNamed (export_fault_number fault) None (export_fault_text fault)
   pub replicas : (fault : Fault) → IsNamed (replica_fault_number fault) None (replica_fault_text fault)
   pub stops : (stop : Stop) → IsNamed (stop_number stop) None (stop_text stop)
 

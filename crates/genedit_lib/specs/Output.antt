@@ -11,7 +11,7 @@ use Rattle.replica_core.specs.declared.event.Event.{Event}
 use Rattle.replica_core.specs.declared.event.Event.TheVariants.{Draw}
 use Rattle.hex.specs.Hex.{encode_lower}
 use Rattle.replica_core.specs.declared.event.Reply.{Reply}
-use Rattle.replica_core.specs.declared.event.Reply.TheVariants.{Drawn, Sent, Taken, Shown, Same, Bytes, Refused}
+use Rattle.replica_core.specs.declared.event.Reply.TheVariants.{Drawn, Sent, Taken, Shown, Same, Bytes, Text, Refused}
 use Rattle.replica_core.specs.declared.edit_spec.EditSpec.{EditSpec}
 use Rattle.replica_core.specs.declared.edit_spec.EditSpec.TheVariants.{Copy, Or}
 use Rattle.replica_core.specs.Fault.{replica_fault_number, replica_fault_text}
@@ -47,7 +47,7 @@ write_text write = codes "cell " ++ decimal write.state ++ codes " " ++ stamp_te
 abbrev pub refused_text : ℕ → List ℕ → List ℕ
 refused_text number name = codes "refused " ++ decimal number ++ codes " " ++ name
 
--- what is printed of a reply, with the end of its line
+-- what is printed of a reply, with the end of its line; an RLE text has its own
 abbrev pub reply_line : Reply → List ℕ
 reply_line (Drawn stamp) = codes "drawn " ++ stamp_text stamp ++ codes "\n"
 reply_line (Sent message) = codes "sent " ++ decimal message ++ codes "\n"
@@ -55,6 +55,7 @@ reply_line Taken = codes "taken\n"
 reply_line (Shown write) = write_text write ++ codes "\n"
 reply_line (Same same) = if same then codes "same\n" else codes "differ\n"
 reply_line (Bytes text) = encode_lower text ++ codes "\n"
+reply_line (Text text) = text
 reply_line (Refused fault) = refused_text (replica_fault_number fault) (replica_fault_text fault) ++ codes "\n"
 
 -- ---- the lines of patterns

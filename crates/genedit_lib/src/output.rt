@@ -90,7 +90,7 @@ fn push_text(out: &mut Vec<u8>, text: &Text) -> Result<(), AllocError>
     Ok(())
 }
 
-/// The text of a reply, with the end of its line.
+/// What is printed of a reply, with the end of its line.
 fn push_line(alloc: Global, out: &mut Vec<u8>, reply: &Reply) -> Result<(), AllocError>
     ensures { OnOk result (out.new.items ≡ out.old.items ++ reply_line reply.now) }
 {
@@ -116,6 +116,7 @@ fn push_line(alloc: Global, out: &mut Vec<u8>, reply: &Reply) -> Result<(), Allo
             push_hex(alloc, out, text.as_slice())?;
             out.extend_from_slice(b"\n")
         }
+        Reply::Text(text) => out.extend_from_slice(text.as_slice()),
         Reply::Refused(fault) => {
             let name = fault.to_string(alloc)?;
             push_refusal(out, fault.number(), name.as_bytes())?;

@@ -14,7 +14,7 @@ use Rattle.multistate_rle.specs.Position.{words, signed_number}
 use Rattle.multistate_rle.specs.declared.cell.Cell.{Cell}
 use Rattle.edit_stamps.specs.declared.rect.Rect.{Rect}
 use Rattle.replica_core.specs.declared.event.Event.{Event}
-use Rattle.replica_core.specs.declared.event.Event.TheVariants.{Draw, SendDelta, SendState, Deliver, Show, Same, Dump}
+use Rattle.replica_core.specs.declared.event.Event.TheVariants.{Draw, SendDelta, SendState, Deliver, Show, Same, Dump, Export}
 use Rattle.replica_core.specs.declared.edit_spec.EditSpec.TheVariants.{Cells, Clear}
 use Rattle.genedit_script.specs.declared.command.Command.{Command}
 use Rattle.genedit_script.specs.declared.command.Command.TheVariants.{Does, Names, Copies, Ors}
@@ -87,6 +87,11 @@ abbrev pub dump_spelled : List (List ℕ) → Option Event
 dump_spelled (message ∷ []) = option_map Dump (number_spelled message)
 dump_spelled _ = None
 
+-- R G
+abbrev pub export_spelled : List (List ℕ) → Option Event
+export_spelled (replica ∷ generation ∷ []) = number_spelled replica >=> λ replica. option_map (Export replica) (number_spelled generation)
+export_spelled _ = None
+
 -- R x y w h
 abbrev pub clear_spelled : List (List ℕ) → Option Event
 clear_spelled (replica ∷ x ∷ y ∷ width ∷ height ∷ []) = number_spelled replica >=> λ replica. option_map (λ area. Draw replica (Clear area)) (area_spelled x y width height)
@@ -103,7 +108,8 @@ event_spelled (name ∷ words) =
     else (if bytes_eq name (codes "clear") then clear_spelled words
     else (if bytes_eq name (codes "same") then same_spelled words
     else (if bytes_eq name (codes "delta") then delta_spelled words
-    else (if bytes_eq name (codes "dump") then dump_spelled words else None)))))))
+    else (if bytes_eq name (codes "dump") then dump_spelled words
+    else (if bytes_eq name (codes "export") then export_spelled words else None))))))))
 
 -- 1 to 16 ASCII letters and digits
 abbrev pub is_pattern_name : List ℕ → Bool

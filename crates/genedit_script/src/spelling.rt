@@ -4,7 +4,7 @@ ghost use Rattle.std.specs.Prelude.{◌≡◌, ◌∷◌, [], IfOk, IfSome, Matc
 ghost use Rattle.std.specs.Char.{is_ascii_alphanumeric};
 ghost use Rattle.std.specs.List.{list_all};
 ghost use Rattle.multistate_rle.specs.Position.{words};
-ghost use Rattle.genedit_script.specs.Script.{argument_behind, rule_spelled, replicas_spelled, cell_spelled, cells_spelled, number_spelled, draw_spelled, delta_spelled, sending_spelled, delivery_spelled, dump_spelled, same_spelled, show_spelled, area_spelled, clear_spelled, event_spelled, is_pattern_name, name_spelled, paste_spelled, command_spelled, opening_spelled};
+ghost use Rattle.genedit_script.specs.Script.{argument_behind, rule_spelled, replicas_spelled, cell_spelled, cells_spelled, number_spelled, draw_spelled, delta_spelled, sending_spelled, delivery_spelled, dump_spelled, export_spelled, same_spelled, show_spelled, area_spelled, clear_spelled, event_spelled, is_pattern_name, name_spelled, paste_spelled, command_spelled, opening_spelled};
 
 use crate::command::{Command, Paste, PatternName};
 use edit_stamps::Rect;
@@ -142,6 +142,8 @@ fn event_in(alloc: Global, name: &[u8], arguments: &[u8]) -> Result<Option<Event
         Ok(delta_in(arguments))
     } else if name == b"dump".as_slice() {
         Ok(dump_in(arguments))
+    } else if name == b"export".as_slice() {
+        Ok(export_in(arguments))
     } else {
         Ok(None)
     }
@@ -237,6 +239,18 @@ fn dump_in(arguments: &[u8]) -> Option<Event>
         return None;
     }
     Some(Event::Dump(u64::from(unsigned(message)?)))
+}
+
+/// `R G`
+fn export_in(arguments: &[u8]) -> Option<Event>
+    ensures { result ≡ export_spelled (words arguments.now) }
+{
+    let (replica, rest) = split_word(arguments)?;
+    let (generation, rest) = split_word(rest)?;
+    if !ends(rest) {
+        return None;
+    }
+    Some(Event::Export(unsigned(replica)?, unsigned(generation)?))
 }
 
 /// `R x y w h`

@@ -4,6 +4,8 @@
 #[cfg(test)]
 mod canonical;
 #[cfg(test)]
+mod exports;
+#[cfg(test)]
 mod faulty;
 #[cfg(test)]
 mod patterns;

@@ -203,6 +203,10 @@ rule /2/3|replicas 1|delta 1 0 1 1| -> 3
 rule /2/3|replicas 1|delta 1 -1 1| -> 3
 rule /2/3|replicas 1|dump| -> 3
 rule /2/3|replicas 1|dump 4294967296| -> 3
+rule /2/3|replicas 1|export 1| -> 3
+rule /2/3|replicas 1|export 1 -1| -> 3
+rule /2/3|replicas 1|export 1 0 0| -> 3
+rule /2/3|replicas 1|export 1 4294967296| -> 3
 rule /2/3|replicas 1|state 1|pattern p|x = 1, y = 1|o!| -> 4
 rule /2/3\r|replicas 1\r|pattern p\r|end\r -> 3
 rule /2/3|replicas 1|pattern p q|end| -> 3

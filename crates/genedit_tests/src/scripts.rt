@@ -9,7 +9,7 @@ use std::alloc::{AllocError, Global};
 const EVERY_COMMAND: &[u8] = b"# three replicas\r\nrule 345/2/4\nreplicas 03\n\npattern Glider7\r\n\
     # a comment of the pattern\r\n\r\nx = 3, y = 3\r\nbob$2bo$\n end\n3o!\nend\ncells 1 0 -1 3 2 3 1\n\
     \tclear 1 -4 5 9 8\ncopy 2 Glider7 -1 7\nor 3 Glider7 8 -2\nstate 1\ndeliver 4294967295 2\n\
-    show 2 0 -1\nsame 1 4294967295\ndelta 2 0 4294967295\ndump 007\n";
+    show 2 0 -1\nsame 1 4294967295\ndelta 2 0 4294967295\ndump 007\nexport 2 536870913\n";
 
 /// What a replica draws.
 fn draw_told(alloc: Global, replica: u32, spec: &EditSpec) -> Result<String, AllocError> {
@@ -45,6 +45,7 @@ fn event_told(alloc: Global, event: &Event) -> Result<String, AllocError> {
         Event::Show(replica, x, y) => format!(in alloc; "show {replica} {x} {y}"),
         Event::Same(one, other) => format!(in alloc; "same {one} {other}"),
         Event::Dump(message) => format!(in alloc; "dump {message}"),
+        Event::Export(replica, generation) => { format!(in alloc; "export {replica} {generation}") }
     }
 }
 
@@ -91,7 +92,7 @@ fn every_command_is_read(rt: HostRuntime) -> Result<(), AllocError> {
         "rule 345/2/4\nreplicas 3\npattern Glider7\n# a comment of the pattern\n\nx = 3, y = 3\n\
         bob$2bo$\n end\n3o!\nend\ncells 1 0 -1 3 2 3 1\nclear 1 -4 5 9 8\ncopy 2 Glider7 -1 7\n\
         or 3 Glider7 8 -2\nstate 1\ndeliver 4294967295 2\nshow 2 0 -1\nsame 1 4294967295\n\
-        delta 2 0 4294967295\ndump 7\n"
+        delta 2 0 4294967295\ndump 7\nexport 2 536870913\n"
     );
     Ok(())
 }

@@ -12,7 +12,7 @@ use std::rt::Clock;
 use std::time::{Duration, Instant};
 
 /// How many columns and rows are drawn on.
-const SIDE: u32 = 1024;
+pub const SIDE: u32 = 1024;
 
 /// A replica under Brian's Brain with cells of 1024 by 1024 from a column on.
 pub fn dense(alloc: Global, number: u16, left: i32) -> Result<Replica> {
@@ -22,7 +22,8 @@ pub fn dense(alloc: Global, number: u16, left: i32) -> Result<Replica> {
     Ok(replica)
 }
 
-fn draw_dense(alloc: Global, replica: &mut Replica, left: i32) -> Result<()> {
+/// Draws such cells from a column on.
+pub fn draw_dense(alloc: Global, replica: &mut Replica, left: i32) -> Result<()> {
     let mut random = Pcg32::new(2026, 5);
     let mut cells = Vec::with_capacity(alloc, 1 << 20)?;
     for place in 0..1_u32 << 20 {

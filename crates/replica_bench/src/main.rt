@@ -5,6 +5,7 @@
 
 mod drawing;
 mod exchange;
+mod exports;
 
 use anyhow::Result;
 use std::alloc::Global;
@@ -24,7 +25,8 @@ fn run(rt: &(impl Clock + Print), alloc: Global, is_timed: bool) -> Result<()> {
     drawing::blocks(rt, alloc, is_timed)?;
     drawing::same_cell(rt, alloc, if is_timed { 1_000_000 } else { 1000 }, is_timed)?;
     exchange::maps(rt, alloc, is_timed)?;
-    exchange::clears(rt, alloc, is_timed)
+    exchange::clears(rt, alloc, is_timed)?;
+    exports::dense_map(rt, alloc, is_timed)
 }
 
 /// What the words ask for.

@@ -1,5 +1,5 @@
 -- The bytes of messages, taken and given.
-use Rattle.std.proofs.Common.{◌≡◌, ◌⊎◌, ℕ, zero, suc, ◌+◌, ◌<◌, ◌^◌, List, [], ◌∷◌, length, refl, sym, ap, subst, arith, inl, inr}
+use Rattle.std.proofs.Common.{◌≡◌, ◌⊎◌, ℕ, zero, suc, ◌+◌, ◌<◌, ◌^◌, List, [], ◌∷◌, length, Bool, false, refl, sym, ap, subst, arith, inl, inr}
 use Rattle.std.specs.Prelude.{IsTrue, nat_lt, take, drop, Option, Some, None, Result, Ok, Err}
 use Rattle.std.specs.List.{AllByRecursion, Contains}
 use Rattle.std.proofs.lemmas.List.{length-take, take-append-drop}
@@ -9,17 +9,19 @@ use Rattle.generations_rule.specs.Rule.{GenerationsRule}
 use Rattle.edit_stamps.specs.Edit.{HaveStatesBelow, has_states_below, IsEdit, PlaneEdit}
 use Rattle.edit_stamps.specs.Write.{Writes}
 use Rattle.delta_exchange.specs.declared.fault.ReadFault.{ReadFault}
+use Rattle.delta_exchange.specs.declared.fault.ReadFault.TheVariants as read_faults
 use Rattle.delta_exchange.specs.declared.message.Content.{Content}
 use Rattle.delta_exchange.specs.Delta.{AreTellable}
 use Rattle.delta_exchange.specs.Fault.{IsWantOrFull}
 use Rattle.delta_exchange.specs.Message.{Shared}
 use Rattle.delta_exchange.specs.Spelling.{delta_text}
-use Rattle.delta_exchange.specs.MessageReading.{HasContentTold, HasMap, StandsForMap, StandsForTold, Told}
+use Rattle.delta_exchange.specs.MessageReading.{HasContentTold, HasMap, StandsForMap, StandsForTold, Told, ToldEdits, begins_as_delta}
+use Rattle.delta_exchange.proofs.MessageLaws.{both_kinds, delta_begins}
 use Rattle.replica_core.specs.declared.fault.Fault.{Fault}
 use Rattle.replica_core.specs.declared.fault.Fault.TheVariants as faults
-use Rattle.replica_core.specs.Exchange.{entries, IsTakingOf, IsTakingText}
+use Rattle.replica_core.specs.Exchange.{entries, IsTakingMap, IsTakingOf, IsTakingText, MeetsWantReading}
 use Rattle.replica_core.specs.Fault.{IsWant, fault_of_read}
-use Rattle.replica_core.specs.Replica.{IsTaking, ReplicaState}
+use Rattle.replica_core.specs.Replica.{IsTaking, MeetsWant, ReplicaState}
 use Rattle.replica_core.proofs.DrawLaws.{unchanged}
 use Rattle.replica_core.proofs.StandingLaws.{all_recursively}
 
@@ -77,37 +79,57 @@ entries_tellable states from count journal few edits below = record {
 -- ---- what is taken
 
 -- a want of the reader is one of the replica
-want_read : (fault : ReadFault) → IsWantOrFull fault → IsWant (fault_of_read fault)
-want_read fault (inl memory) = subst (λ f. IsWant (fault_of_read f)) (sym memory) tt
-want_read fault (inr full) = subst (λ f. IsWant (fault_of_read f)) (sym full) tt
+want_read : (r : ReplicaState) (text : List ℕ) (fault : ReadFault) → (fault ≡ read_faults.StoreFull → begins_as_delta text ≡ Ok false) → IsWantOrFull fault
+    → MeetsWantReading r r text (fault_of_read fault)
+want_read r text fault room (inl memory) =
+    subst (λ f. MeetsWantReading r r text (fault_of_read f)) (sym memory) (record { want = tt; same = refl; full = λ is. absurd (cc) })
+want_read r text fault room (inr full) =
+    subst (λ f. MeetsWantReading r r text (fault_of_read f)) (sym full) (record { want = tt; same = refl; full = λ is. room full })
+
+memory_read : (r : ReplicaState) (fault : ReadFault) → fault ≡ read_faults.Memory → MeetsWant r r (fault_of_read fault)
+memory_read r fault memory =
+    subst (λ f. MeetsWant r r (fault_of_read f)) (sym memory) (record { want = tt; unchanged = unchanged r; full = λ is. absurd (cc) })
 
 -- a text that is refused, or whose reading meets a want
-pub refuses_text : (r : ReplicaState) (rule : GenerationsRule) (meant : Result Told ReadFault) (refusal : ReadFault)
-    → AnswersAs (StandsForTold rule) IsWantOrFull (Err refusal) meant → IsTakingText r r meant (Err (fault_of_read refusal))
-refuses_text r rule (Ok told) refusal want = inl (want_read refusal want, unchanged r)
-refuses_text r rule (Err fault) refusal (inl want) = inl (want_read refusal want, unchanged r)
-refuses_text r rule (Err fault) refusal (inr same) = inr (refusal, ap Err (sym same), refl, refl)
+pub refuses_text : (r : ReplicaState) (rule : GenerationsRule) (text : List ℕ) (meant : Result Told ReadFault) (refusal : ReadFault)
+    → (refusal ≡ read_faults.StoreFull → begins_as_delta text ≡ Ok false)
+    → AnswersAs (StandsForTold rule) IsWantOrFull (Err refusal) meant → IsTakingText {A = Bool} r r text meant (Err (fault_of_read refusal))
+refuses_text r rule text (Ok told) refusal room want = inl (want_read r text refusal room want)
+refuses_text r rule text (Err fault) refusal room (inl want) = inl (want_read r text refusal room want)
+refuses_text r rule text (Err fault) refusal room (inr same) = inr (inr (refusal, ap Err (sym same), refl, refl))
+
+-- the text of edits whose reading meets a want: it takes no room
+pub refuses_edits : (r : ReplicaState) (rule : GenerationsRule) (edits : List PlaneEdit) (refusal : ReadFault) (P : Content → Type 0)
+    → (refusal ≡ read_faults.StoreFull → begins_as_delta (delta_text rule edits) ≡ Ok false)
+    → AnswersAs (StandsForTold rule) IsWantOrFull (Err refusal) (Ok (ToldEdits edits)) → IsTakingOf {A = Bool} r r P (Err (fault_of_read refusal))
+refuses_edits r rule edits refusal P room (inl memory) = memory_read r refusal memory
+refuses_edits r rule edits refusal P room (inr full) = absurd (both_kinds (begins_as_delta (delta_text rule edits)) (delta_begins rule edits) (room full))
 
 -- the text of a map whose reading meets a want
 pub refuses_map : (r : ReplicaState) (rule : GenerationsRule) (p : Writes) (refusal : ReadFault)
-    → AnswersAs (StandsForMap rule) IsWantOrFull (Err refusal) (Ok p) → IsTakingOf r r (λ content. HasMap content p) (Err (fault_of_read refusal))
-refuses_map r rule p refusal want = (want_read refusal want, unchanged r)
+    → AnswersAs (StandsForMap rule) IsWantOrFull (Err refusal) (Ok p) → IsTakingMap {A = Bool} r r p (Err (fault_of_read refusal))
+refuses_map r rule p refusal (inl memory) = inl (memory_read r refusal memory)
+refuses_map r rule p refusal (inr full) = inr (ap fault_of_read full, refl)
 
 -- a message of the replica's rule
-pub takes_some : (old new : ReplicaState) (m : Shared) (P : Content → Type 0) (result : Result (Unit {0}) Fault)
+pub takes_some : {A : Type 0} (old new : ReplicaState) (m : Shared) (P : Content → Type 0) (result : Result A Fault)
     → m.rule ≡ old.rule → P m.content → IsTaking old new m result → IsTakingOf old new P result
 takes_some old new m P (Ok done) same is taking = (m.content, is, taking.1)
-takes_some old new m P (Err fault) same is (inl want) = (want.1.want, want.1.unchanged)
+takes_some old new m P (Err fault) same is (inl want) = want.1
 takes_some old new m P (Err fault) same is (inr other) = absurd (other.1 same)
 
--- what a text tells, as the message that was read of it is taken
-takes_told : (old new : ReplicaState) (told : Told) (result : Result (Unit {0}) Fault)
-    → IsTakingOf old new (λ content. HasContentTold content told) result → IsTakingText old new (Ok told) result
-takes_told old new told (Ok done) takes = (told, refl, takes)
-takes_told old new told (Err fault) want = inl want
+pub takes_map : {A : Type 0} (old new : ReplicaState) (p : Writes) (result : Result A Fault) → IsTakingOf old new (λ content. HasMap content p) result → IsTakingMap old new p result
+takes_map old new p (Ok done) takes = takes
+takes_map old new p (Err fault) want = inl want
 
-pub takes_text : (old new : ReplicaState) (m : Shared) (meant : Result Told ReadFault) (result : Result (Unit {0}) Fault)
-    → AnswersAs (StandsForTold old.rule) IsWantOrFull (Ok m) meant → IsTaking old new m result → IsTakingText old new meant result
-takes_text old new m (Ok told) result stands taking =
-    takes_told old new told result (takes_some old new m (λ content. HasContentTold content told) result stands.0 stands.1 taking)
-takes_text old new m (Err fault) result stands taking = absurd stands
+-- what a text tells, as the message that was read of it is taken
+takes_told : {A : Type 0} (old new : ReplicaState) (text : List ℕ) (told : Told) (result : Result A Fault)
+    → IsTakingOf old new (λ content. HasContentTold content told) result → IsTakingText old new text (Ok told) result
+takes_told old new text told (Ok done) takes = (told, refl, takes)
+takes_told old new text told (Err fault) want = inr (inl (refl, want))
+
+pub takes_text : {A : Type 0} (old new : ReplicaState) (m : Shared) (text : List ℕ) (meant : Result Told ReadFault) (result : Result A Fault)
+    → AnswersAs (StandsForTold old.rule) IsWantOrFull (Ok m) meant → IsTaking old new m result → IsTakingText old new text meant result
+takes_text old new m text (Ok told) result stands taking =
+    takes_told old new text told result (takes_some old new m (λ content. HasContentTold content told) result stands.0 stands.1 taking)
+takes_text old new m text (Err fault) result stands taking = absurd stands

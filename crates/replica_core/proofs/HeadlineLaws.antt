@@ -11,7 +11,10 @@ use Rattle.edit_stamps.proofs.GreatestWrites.{made_by_one}
 use Rattle.replica_core.specs.declared.event.Event.{Event}
 use Rattle.replica_core.specs.declared.fault.Fault.TheVariants as faults
 use Rattle.replica_core.specs.Replica.{ReplicaState}
-use Rattle.replica_core.specs.Headline.{Agrees, HasOneEditAStamp, HasOneWinner, HoldsGreatest, IsAt, IsGreatestOf, NeverGoesDown, SendsTexts, WritesSameBytes}
+use Rattle.generation_engine.specs.Universe.{states_in_writes}
+use Rattle.export.specs.Export.{IsExport, most_cells}
+use Rattle.export.proofs.ExportLaws.{has_one_export}
+use Rattle.replica_core.specs.Headline.{Agrees, ExportsGreatest, ExportsSameBytes, HasOneEditAStamp, HasOneWinner, HoldsGreatest, IsAt, IsGreatestOf, NeverGoesDown, SendsTexts, WritesSameBytes}
 use Rattle.replica_core.specs.World.{History, ReplicaHistory, Sent, IsTextOfSent, after, after_all, message, numbered, opening, replica}
 use Rattle.delta_exchange.proofs.StateLaws.{has_one_state_text}
 use Rattle.delta_exchange.specs.StateText.{IsStateText}
@@ -64,6 +67,17 @@ holds_greatest rule n events r h held at c = subst (IsGreatestOf h.taken c) (sym
 pub agrees : Agrees
 agrees rule other_rule n m events others r s h k held other at there same c =
     held_map rule n events r h held at c ∙ depends_on_members h.taken k.taken same c ∙ sym (held_map other_rule m others s k other there c)
+
+pub exports_greatest : ExportsGreatest
+exports_greatest rule n events r h held g answer at is =
+    subst (λ t. IsExport t (states_in_writes (greatest h.taken)) g most_cells answer) (held_rule rule n events r h held at)
+    (subst (λ f. IsExport held.rule f g most_cells answer) (λ i c. (held_map rule n events r h held at c i).state) is)
+
+pub exports_same_bytes : ExportsSameBytes
+exports_same_bytes rule n m events others r s h k held other g a b at at_other same is is_other =
+    has_one_export rule (states_in_writes (greatest h.taken)) (states_in_writes (greatest k.taken)) g most_cells a b
+    (λ c. ap (λ w. w.state) (depends_on_members h.taken k.taken same c))
+    (exports_greatest rule n events r h held g a at is) (exports_greatest rule m others s k other g b at_other is_other)
 
 pub writes_same_bytes : WritesSameBytes
 writes_same_bytes rule n m events others r s h k held other a b at there same one two =

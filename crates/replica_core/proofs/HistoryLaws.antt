@@ -12,7 +12,7 @@ use Rattle.generations_rule.specs.Rule.{GenerationsRule}
 use Rattle.edit_stamps.specs.Edit.{PlaneEdit, greatest_counter}
 use Rattle.edit_stamps.specs.Stamp.{counter_in, last_counter, replica_in, stamp_of}
 use Rattle.replica_core.specs.declared.event.Event.{Event}
-use Rattle.replica_core.specs.declared.event.Event.TheVariants.{Draw, SendDelta, SendState, Deliver, Show, Same, Dump}
+use Rattle.replica_core.specs.declared.event.Event.TheVariants.{Draw, SendDelta, SendState, Deliver, Show, Same, Dump, Export}
 use Rattle.replica_core.specs.declared.fault.Fault.{Fault}
 use Rattle.replica_core.specs.declared.fault.Fault.TheVariants as faults
 use Rattle.replica_core.specs.declared.edit_spec.EditSpec.{EditSpec}
@@ -194,6 +194,7 @@ comes_from w (Deliver m r) e inside = inl (from_delivery w m r e (message w m) (
 comes_from w (Show r x y) e inside = inl inside
 comes_from w (Same a b) e inside = inl inside
 comes_from w (Dump m) e inside = inl inside
+comes_from w (Export r g) e inside = inl inside
 
 -- ---- a drawn edit
 
@@ -309,6 +310,7 @@ grows w (Deliver m r) s k there = grows_by_delivery w r s k (message w m) (repli
 grows w (Show r x y) s k there = kept_as_it_was w s k there
 grows w (Same a b) s k there = kept_as_it_was w s k there
 grows w (Dump m) s k there = kept_as_it_was w s k there
+grows w (Export r g) s k there = kept_as_it_was w s k there
 
 -- behind events too
 pub grows_along : (w : History) (events : List Event) (s : ℕ) (k : ReplicaHistory) → replica w s ≡ Ok k → IsGrown (after_all w events) s k
@@ -336,6 +338,7 @@ keeps_count w (Deliver m r) = same_count w (delivered w m r) (λ h. with_replica
 keeps_count w (Show r x y) = refl
 keeps_count w (Same a b) = refl
 keeps_count w (Dump m) = refl
+keeps_count w (Export r g) = refl
 
 -- a drawn edit is taken by its replica
 drawn_is_taken : (w : History) (event : Event) (e : PlaneEdit) (d : IsDrawnAt w event e) → Contains (after_drawing d.held e).taken e

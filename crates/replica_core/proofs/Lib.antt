@@ -1,9 +1,11 @@
+pub mod RootLaws
 pub mod JoiningLaws
 pub mod DrawLaws
 pub mod SideBySide
 pub mod SameMaps
 pub mod StandingLaws
 pub mod ExchangeLaws
+pub mod CurrentLaws
 pub mod EventLaws
 pub mod HistoryLaws
 pub mod HeadlineLaws

@@ -21,11 +21,11 @@ use Rattle.delta_exchange.specs.Spelling.{delta_text}
 use Rattle.delta_exchange.specs.State.{IsTellableMap}
 use Rattle.delta_exchange.specs.StateText.{IsStateText}
 use Rattle.edit_journal.specs.Journal.{noted}
-use Rattle.replica_core.specs.Exchange.{IsTakingOf}
+use Rattle.replica_core.specs.Exchange.{IsTakingMap, IsTakingOf, TakesSome}
 use Rattle.replica_core.proofs.SameMaps.{same_tellable, same_text}
 use Rattle.replica_core.specs.Fault.{IsWant}
 use Rattle.replica_core.specs.Replica.{ReplicaState, DrawsAs, Takes, IsDraw, edit_drawn}
-use Rattle.replica_core.specs.World.{ReplicaHistory, Sent, Delta, State, StandsFor, StandsForSent, after_drawing, after_message}
+use Rattle.replica_core.specs.World.{IsStateOf, ReplicaHistory, Sent, Delta, State, StandsFor, StandsForSent, after_drawing, after_message}
 
 -- ---- messages
 
@@ -60,34 +60,28 @@ takes_content rule number h (State edits) old new (contents.State plane) stands 
 takes_content rule number h (State edits) old new (contents.Edits given) stands carries takes = absurd carries
 
 -- what comes of the bytes of what was sent, where they are taken
-abbrev pub IsTakingSent : ReplicaState → ReplicaState → List ℕ → Result (Unit {0}) Fault → Type 0
+abbrev pub IsTakingSent : {A : Type 0} → ReplicaState → ReplicaState → List ℕ → Result A Fault → Type 0
 IsTakingSent old new text result =
     ((meant : List PlaneEdit) → AreTellable old.rule.states meant → text ≡ delta_text old.rule meant → IsTakingOf old new (λ content. content ≡ contents.Edits meant) result)
-    × ((meant : Writes) → IsTellableMap old.rule.states meant → IsStateText old.rule meant text → IsTakingOf old new (λ content. HasMap content meant) result)
+    × ((meant : Writes) → IsTellableMap old.rule.states meant → IsStateText old.rule meant text → IsTakingMap old new meant result)
 
-taking_sent : (old new : ReplicaState) (sent : Sent) (text : List ℕ) (result : Result (Unit {0}) Fault) → StandsForSent old.rule sent text
-    → IsTakingSent old new text result → IsTakingOf old new (Carries sent) result
-taking_sent old new (Delta edits) text result stands takes = takes.0 edits stands.tellable stands.spelt
-taking_sent old new (State edits) text result stands takes = takes.1 (greatest edits) stands.tellable stands.spelt
+taking_sent : {A : Type 0} (old new : ReplicaState) (sent : Sent) (text : List ℕ) (done : A) → StandsForSent old.rule sent text
+    → IsTakingSent old new text (Ok done) → TakesSome old new (Carries sent)
+taking_sent old new (Delta edits) text done stands takes = takes.0 edits stands.tellable stands.spelt
+taking_sent old new (State edits) text done stands takes = takes.1 (greatest edits) stands.tellable stands.spelt
 
-pub takes_sent : (rule : GenerationsRule) (number : ℕ) (h : ReplicaHistory) (sent : Sent) (old new : ReplicaState) (text : List ℕ)
-    → StandsFor rule number h old → StandsForSent rule sent text → IsTakingSent old new text (Ok tt) → StandsFor rule number (after_message h sent) new
-takes_sent rule number h sent old new text stands sends takes =
-    let taken = taking_sent old new sent text (Ok tt) (subst (λ g. StandsForSent g sent text) (sym stands.same_rule) sends) takes in
+pub takes_sent : {A : Type 0} (rule : GenerationsRule) (number : ℕ) (h : ReplicaHistory) (sent : Sent) (old new : ReplicaState) (text : List ℕ) (done : A)
+    → StandsFor rule number h old → StandsForSent rule sent text → IsTakingSent old new text (Ok done) → StandsFor rule number (after_message h sent) new
+takes_sent rule number h sent old new text done stands sends takes =
+    let taken = taking_sent old new sent text done (subst (λ g. StandsForSent g sent text) (sym stands.same_rule) sends) takes in
     takes_content rule number h sent old new taken.0 stands taken.1 taken.2
-
--- the bytes of what was sent meet nothing but a want
-pub wants_only : (rule : GenerationsRule) (number : ℕ) (h : ReplicaHistory) (sent : Sent) (old new : ReplicaState) (text : List ℕ) (fault : Fault)
-    → StandsFor rule number h old → StandsForSent rule sent text → IsTakingSent old new text (Err fault) → IsWant fault
-wants_only rule number h sent old new text fault stands sends takes =
-    (taking_sent old new sent text (Err fault) (subst (λ g. StandsForSent g sent text) (sym stands.same_rule) sends) takes).0
 
 -- the state text of a replica's map is that of what it took
 pub sends_taken : (rule : GenerationsRule) (number : ℕ) (h : ReplicaHistory) (r : ReplicaState) (text : List ℕ)
-    → StandsFor rule number h r → IsStateText r.rule (map_of r.plane) text → IsTellableMap r.rule.states (map_of r.plane) → StandsForSent rule (State h.taken) text
-sends_taken rule number h r text stands spelt tellable = record {
-  spelt = same_text rule (map_of r.plane) (greatest h.taken) text stands.map (subst (λ g. IsStateText g (map_of r.plane) text) stands.same_rule spelt);
-  tellable = same_tellable rule.states (map_of r.plane) (greatest h.taken) stands.map (subst (λ g. IsTellableMap g.states (map_of r.plane)) stands.same_rule tellable);
+    → StandsFor rule number h r → IsStateOf r text → StandsForSent rule (State h.taken) text
+sends_taken rule number h r text stands state = record {
+  spelt = same_text rule (map_of r.plane) (greatest h.taken) text stands.map (subst (λ g. IsStateText g (map_of r.plane) text) stands.same_rule state.spelt);
+  tellable = same_tellable rule.states (map_of r.plane) (greatest h.taken) stands.map (subst (λ g. IsTellableMap g.states (map_of r.plane)) stands.same_rule state.tellable);
 }
 
 -- ---- draws

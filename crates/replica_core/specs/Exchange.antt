@@ -1,36 +1,48 @@
 -- What a replica does to the bytes of messages, and they to it.
-use Rattle.std.specs.Prelude.{◌≡◌, ◌⊎◌, ℕ, ◌+◌, nat_lt, List, length, take, drop, Result, Ok, Err}
+use Rattle.std.specs.Prelude.{◌≡◌, ◌⊎◌, ℕ, ◌+◌, nat_lt, false, List, length, take, drop, Result, Ok, Err}
+use Rattle.std.specs.Result.{IsOk}
 use Rattle.generations_rule.specs.Refusal.{when, unless, ◌>>=◌}
 use Rattle.edit_stamps.specs.Edit.{PlaneEdit}
+use Rattle.edit_stamps.specs.Write.{Writes}
 use Rattle.delta_exchange.specs.declared.fault.ReadFault.{ReadFault}
 use Rattle.delta_exchange.specs.declared.message.Content.{Content}
-use Rattle.delta_exchange.specs.MessageReading.{Told, HasContentTold}
+use Rattle.delta_exchange.specs.MessageReading.{Told, HasContentTold, HasMap, begins_as_delta}
 use Rattle.delta_exchange.specs.Spelling.{delta_text}
 use Rattle.replica_core.specs.declared.fault.Fault.{Fault}
 use Rattle.replica_core.specs.declared.fault.Fault.TheVariants as faults
 use Rattle.replica_core.specs.Fault.{IsWant, fault_of_read}
-use Rattle.replica_core.specs.Replica.{ReplicaState, Takes, IsUnchanged}
+use Rattle.replica_core.specs.Replica.{ReplicaState, MeetsWant, Takes}
 
 -- ---- what is taken
-
--- a want, which leaves map and journal as they were
-abbrev pub IsWantOnly : ReplicaState → ReplicaState → Fault → Type 0
-IsWantOnly old new fault = IsWant fault × IsUnchanged old new
 
 -- some content that is as P says is taken whole
 abbrev pub TakesSome : ReplicaState → ReplicaState → (Content → Type 0) → Type 0
 TakesSome old new P = (content : Content) × P content × Takes old new content
 
--- A text is taken as what it tells, whole; or refused by its first fault, which leaves all as it was; or a want is met,
--- as it is read or joined, which leaves map and journal as they were.
-abbrev pub IsTakingText : ReplicaState → ReplicaState → Result Told ReadFault → Result (Unit {0}) Fault → Type 0
-IsTakingText old new meant (Ok done) = (told : Told) × (meant ≡ Ok told) × TakesSome old new (λ content. HasContentTold content told)
-IsTakingText old new meant (Err fault) = IsWantOnly old new fault ⊎ ((refusal : ReadFault) × (meant ≡ Err refusal) × (fault ≡ fault_of_read refusal) × (new ≡ old))
+-- a want met as a text is read, which leaves all as it was; room is wanted for the map of a state alone
+pub record MeetsWantReading (old new : ReplicaState) (text : List ℕ) (fault : Fault) : Type 0 where
+  pub want : IsWant fault
+  pub same : new ≡ old
+  pub full : fault ≡ faults.StoreFull → begins_as_delta text ≡ Ok false
 
--- The text of a content that is as P says is taken, or a want is met.
-abbrev pub IsTakingOf : ReplicaState → ReplicaState → (Content → Type 0) → Result (Unit {0}) Fault → Type 0
+-- A text is taken as what it means, whole; or a want is met, as it is read, or as what it means is joined; or it is
+-- refused by its first fault, which leaves all as it was.
+abbrev pub IsTakingText : {A : Type 0} → ReplicaState → ReplicaState → List ℕ → Result Told ReadFault → Result A Fault → Type 0
+IsTakingText old new text meant (Ok done) = (told : Told) × (meant ≡ Ok told) × TakesSome old new (λ content. HasContentTold content told)
+IsTakingText old new text meant (Err fault) =
+    MeetsWantReading old new text fault
+    ⊎ ((IsOk meant × MeetsWant old new fault)
+    ⊎ ((refusal : ReadFault) × (meant ≡ Err refusal) × (fault ≡ fault_of_read refusal) × (new ≡ old)))
+
+-- Some content that is as P says is taken, or a want is met: room is wanted only where the replica's store is full.
+abbrev pub IsTakingOf : {A : Type 0} → ReplicaState → ReplicaState → (Content → Type 0) → Result A Fault → Type 0
 IsTakingOf old new P (Ok done) = TakesSome old new P
-IsTakingOf old new P (Err fault) = IsWantOnly old new fault
+IsTakingOf old new P (Err fault) = MeetsWant old new fault
+
+-- A map is taken, or a want is met: the plane that it is read into may be full too, which leaves all as it was.
+abbrev pub IsTakingMap : {A : Type 0} → ReplicaState → ReplicaState → Writes → Result A Fault → Type 0
+IsTakingMap old new map (Ok done) = TakesSome old new (λ content. HasMap content map)
+IsTakingMap old new map (Err fault) = MeetsWant old new fault ⊎ ((fault ≡ faults.StoreFull) × (new ≡ old))
 
 -- ---- what is given
 

@@ -6,18 +6,22 @@ use Rattle.delta_exchange.specs.declared.fault.ReadFault.TheVariants as read_fau
 use Rattle.edit_stamps.specs.EditFault.{edit_fault_number, edit_fault_text}
 use Rattle.edit_stamps.specs.declared.fault.EditFault.{EditFault}
 use Rattle.edit_stamps.specs.declared.fault.EditFault.TheVariants as edit_faults
+use Rattle.export.specs.ExportFault.{export_fault_number, export_fault_text}
+use Rattle.export.specs.declared.fault.ExportFault.{ExportFault}
+use Rattle.export.specs.declared.fault.ExportFault.TheVariants as export_faults
 use Rattle.square_store.specs.declared.fault.StoreFault.{StoreFault}
 use Rattle.square_store.specs.declared.fault.StoreFault.TheVariants as store_faults
 use Rattle.replica_core.specs.declared.event.Stop.{Stop}
 use Rattle.replica_core.specs.declared.event.Stop.TheVariants as stops
 use Rattle.replica_core.specs.declared.fault.Fault.{Fault}
-use Rattle.replica_core.specs.declared.fault.Fault.TheVariants.{Edit, StoreFull, Read, OtherRule, ClockFull, NoSuchEdit, NoReplica, NoMessage, Memory}
+use Rattle.replica_core.specs.declared.fault.Fault.TheVariants.{Edit, StoreFull, Read, Export, OtherRule, ClockFull, NoSuchEdit, NoReplica, NoMessage, Memory}
 
 -- its number in the table of faults
 abbrev pub replica_fault_number : Fault → ℕ
 replica_fault_number (Edit fault) = edit_fault_number fault
 replica_fault_number StoreFull = 13
 replica_fault_number (Read fault) = read_fault_number fault
+replica_fault_number (Export fault) = export_fault_number fault
 replica_fault_number OtherRule = 16
 replica_fault_number ClockFull = 24
 replica_fault_number NoSuchEdit = 25
@@ -29,6 +33,7 @@ abbrev pub replica_fault_text : Fault → List ℕ
 replica_fault_text (Edit fault) = edit_fault_text fault
 replica_fault_text StoreFull = codes "StoreFull"
 replica_fault_text (Read fault) = read_fault_text fault
+replica_fault_text (Export fault) = export_fault_text fault
 replica_fault_text OtherRule = codes "OtherRule"
 replica_fault_text ClockFull = codes "ClockFull"
 replica_fault_text NoSuchEdit = codes "NoSuchEdit"
@@ -42,6 +47,7 @@ IsWant Memory = ⊤
 IsWant StoreFull = ⊤
 IsWant (Edit fault) = ⊥
 IsWant (Read fault) = ⊥
+IsWant (Export fault) = ⊥
 IsWant OtherRule = ⊥
 IsWant ClockFull = ⊥
 IsWant NoSuchEdit = ⊥
@@ -54,6 +60,7 @@ stop_of Memory = Some stops.Memory
 stop_of StoreFull = Some stops.StoreFull
 stop_of (Edit fault) = None
 stop_of (Read fault) = None
+stop_of (Export fault) = None
 stop_of OtherRule = None
 stop_of ClockFull = None
 stop_of NoSuchEdit = None
@@ -90,6 +97,13 @@ fault_of_read read_faults.Short = Read read_faults.Short
 fault_of_read read_faults.StampRange = Read read_faults.StampRange
 fault_of_read read_faults.NotCanonical = Read read_faults.NotCanonical
 fault_of_read read_faults.Trailing = Read read_faults.Trailing
+
+-- an export's refusal as a replica's
+abbrev pub fault_of_export : ExportFault → Fault
+fault_of_export export_faults.Memory = Memory
+fault_of_export export_faults.StoreFull = StoreFull
+fault_of_export export_faults.GenRange = Export export_faults.GenRange
+fault_of_export export_faults.TooManyCells = Export export_faults.TooManyCells
 
 -- ---- why a list of events is not run to its end
 

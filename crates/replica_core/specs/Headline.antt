@@ -1,15 +1,19 @@
 -- What holds of every world after every list of events: whatever is sent, lost, repeated or reordered.
-use Rattle.std.specs.Prelude.{◌≡◌, ◌⊎◌, ◌↔◌, ℕ, ◌^◌, ◌<◌, IsTrue, List, ◌++◌, Contains, Ok, Some}
+use Rattle.std.specs.Prelude.{◌≡◌, ◌⊎◌, ◌↔◌, ℕ, ◌^◌, ◌<◌, IsTrue, List, ◌++◌, Contains, Result, Ok, Some}
 use Rattle.generations_rule.specs.Place.{Place}
 use Rattle.generations_rule.specs.Rule.{GenerationsRule}
 use Rattle.edit_stamps.specs.declared.write.Write.{Write}
-use Rattle.edit_stamps.specs.Edit.{PlaneEdit, writes_of}
+use Rattle.edit_stamps.specs.Edit.{PlaneEdit, greatest, writes_of}
 use Rattle.stamped_tree.specs.Plane.{map_of}
 use Rattle.edit_stamps.specs.Write.{unwritten, at_most, AreSame, IsBelow}
 use Rattle.delta_exchange.specs.StateText.{IsStateText}
+use Rattle.generation_engine.specs.Universe.{states_in_writes}
+use Rattle.export.specs.declared.fault.ExportFault.{ExportFault}
+use Rattle.export.specs.Export.{IsExport, most_cells}
 use Rattle.replica_core.specs.declared.event.Event.{Event}
 use Rattle.replica_core.specs.declared.event.Reply.TheVariants.{Refused}
 use Rattle.replica_core.specs.declared.fault.Fault.{Fault}
+use Rattle.replica_core.specs.Exporting.{IsExportOf}
 use Rattle.replica_core.specs.Replica.{ReplicaState}
 use Rattle.replica_core.specs.World.{History, ReplicaHistory, Sent, WorldState, IsIn, IsReply, IsTextOfSent, StandsForWorld, after, after_all, message, numbered, opening, replica}
 
@@ -45,6 +49,18 @@ abbrev pub WritesSameBytes : Type 0
 WritesSameBytes = (rule : GenerationsRule) (n m : ℕ) (events others : List Event) (r s : ℕ) (h k : ReplicaHistory) (held other : ReplicaState) (a b : List ℕ)
     → IsAt rule n events r h held → IsAt rule m others s k other → HaveSameEdits h.taken k.taken
     → IsStateText held.rule (map_of held.plane) a → IsStateText other.rule (map_of other.plane) b → a ≡ b
+
+-- Each replica exports what the rule, applied cell by cell, makes of the greatest writes of the edits that it took, at
+-- every generation.
+abbrev pub ExportsGreatest : Type 0
+ExportsGreatest = (rule : GenerationsRule) (n : ℕ) (events : List Event) (r : ℕ) (h : ReplicaHistory) (held : ReplicaState) (g : ℕ) (answer : Result (List ℕ) ExportFault)
+    → IsAt rule n events r h held → IsExportOf held g answer → IsExport rule (states_in_writes (greatest h.taken)) g most_cells answer
+
+-- two replicas of one rule that took the same edits export the same RLE bytes of every generation, or refuse it alike
+abbrev pub ExportsSameBytes : Type 0
+ExportsSameBytes = (rule : GenerationsRule) (n m : ℕ) (events others : List Event) (r s : ℕ) (h k : ReplicaHistory) (held other : ReplicaState) (g : ℕ) (a b : Result (List ℕ) ExportFault)
+    → IsAt rule n events r h held → IsAt rule m others s k other → HaveSameEdits h.taken k.taken
+    → IsExportOf held g a → IsExportOf other g b → a ≡ b
 
 -- the bytes of each message are the text of what was sent
 abbrev pub SendsTexts : Type 0

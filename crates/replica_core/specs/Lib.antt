@@ -2,6 +2,7 @@ pub mod Fault
 pub mod HeldPlane
 pub mod Replica
 pub mod Exchange
+pub mod Exporting
 pub mod World
 pub mod Headline
 pub mod Rows

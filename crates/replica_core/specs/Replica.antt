@@ -103,7 +103,7 @@ IsDraw old new meant (Err fault) = (IsOk meant × MeetsWant old new fault) ⊎ (
 
 -- A message is taken whole; one of another rule is refused, which leaves all as it was; nothing else is refused, and
 -- only a message of the replica's own rule meets a want, which leaves map and journal as they were.
-abbrev pub IsTaking : ReplicaState → ReplicaState → Shared → Result (Unit {0}) Fault → Type 0
+abbrev pub IsTaking : {A : Type 0} → ReplicaState → ReplicaState → Shared → Result A Fault → Type 0
 IsTaking old new m (Ok done) = (m.rule ≡ old.rule) × Takes old new m.content
 IsTaking old new m (Err fault) = ((m.rule ≡ old.rule) × MeetsWant old new fault) ⊎ ((fault ≡ faults.OtherRule) × (m.rule ≢ old.rule) × (new ≡ old))
 

@@ -10,7 +10,7 @@ use Rattle.edit_stamps.specs.Edit.{PlaneEdit, IsEdit, greatest, greatest_counter
 use Rattle.stamped_tree.specs.Plane.{map_of}
 use Rattle.edit_stamps.specs.Write.{AreSame}
 use Rattle.replica_core.specs.declared.event.Event.{Event}
-use Rattle.replica_core.specs.declared.event.Event.TheVariants.{Draw, SendDelta, SendState, Deliver, Show, Same, Dump}
+use Rattle.replica_core.specs.declared.event.Event.TheVariants.{Draw, SendDelta, SendState, Deliver, Show, Same, Dump, Export}
 use Rattle.replica_core.specs.declared.event.Reply.{Reply}
 use Rattle.replica_core.specs.declared.event.Reply.TheVariants as replies
 use Rattle.replica_core.specs.declared.fault.Fault.{Fault}
@@ -21,6 +21,10 @@ use Rattle.delta_exchange.specs.Spelling.{delta_text}
 use Rattle.delta_exchange.specs.State.{IsTellableMap}
 use Rattle.delta_exchange.specs.StateText.{IsStateText}
 use Rattle.edit_journal.specs.Journal.{noted}
+use Rattle.generation_engine.specs.Universe.{states_in_writes}
+use Rattle.export.specs.declared.fault.ExportFault.{ExportFault}
+use Rattle.export.specs.Export.{IsExport, most_cells}
+use Rattle.replica_core.specs.Fault.{fault_of_export}
 use Rattle.replica_core.specs.Exchange.{entries}
 use Rattle.replica_core.specs.Replica.{ReplicaState, edit_drawn}
 
@@ -108,6 +112,7 @@ after w (Deliver m r) = changed w (delivered w m r) (λ h. with_replica w r h)
 after w (Show r x y) = w
 after w (Same a b) = w
 after w (Dump m) = w
+after w (Export r g) = w
 
 abbrev pub after_all : History → List Event → History
 after_all w [] = w
@@ -141,6 +146,15 @@ IsTextOfSent rule (State edits) text = IsStateText rule (greatest edits) text
 abbrev pub TellsBytes : GenerationsRule → Sent → Reply → Type 0
 TellsBytes rule sent reply = (text : List ℕ) × (reply ≡ replies.Bytes text) × IsTextOfSent rule sent text
 
+-- what an export answers, as a reply
+abbrev pub export_reply : Result (List ℕ) ExportFault → Reply
+export_reply (Ok text) = replies.Text text
+export_reply (Err fault) = replies.Refused (fault_of_export fault)
+
+-- the reply that tells the text of a generation of the greatest writes of edits, or why there is none
+abbrev pub TellsExport : GenerationsRule → List PlaneEdit → ℕ → Reply → Type 0
+TellsExport rule taken g reply = (answer : Result (List ℕ) ExportFault) × IsExport rule (states_in_writes (greatest taken)) g most_cells answer × (reply ≡ export_reply answer)
+
 -- the reply to an event
 abbrev pub IsReply : History → Event → Reply → Type 0
 IsReply w (Draw r spec) reply = Given (drawn w r spec) reply (λ d. reply ≡ replies.Drawn d.0.stamp)
@@ -150,6 +164,7 @@ IsReply w (Deliver m r) reply = Given (delivered w m r) reply (λ h. reply ≡ r
 IsReply w (Show r x y) reply = Given (replica w r) reply (λ h. reply ≡ replies.Shown (greatest h.taken (at_place x y)))
 IsReply w (Same a b) reply = Given (both w a b) reply (λ hs. TellsSame hs.0.taken hs.1.taken reply)
 IsReply w (Dump m) reply = Given (message w m) reply (λ sent. TellsBytes w.rule sent reply)
+IsReply w (Export r g) reply = Given (replica w r) reply (λ h. TellsExport w.rule h.taken g reply)
 
 -- the replies to events one after another
 abbrev pub AreReplies : History → List Event → List Reply → Type 0
@@ -223,3 +238,25 @@ pub record StandsForWorld (w : History) (state : WorldState) : Type 0 where
   pub rule : state.rule ≡ w.rule
   pub replicas : StandSideBySide (StandsFor w.rule) w.replicas state.replicas
   pub messages : StandSideBySide (λ m. StandsForSent w.rule) w.messages state.messages
+
+-- ---- what a world remembers
+
+-- a text is the state text of a replica's map, which readers under its rule take
+pub record IsStateOf (r : ReplicaState) (text : List ℕ) : Type 0 where
+  pub spelt : IsStateText r.rule (map_of r.plane) text
+  pub tellable : IsTellableMap r.rule.states (map_of r.plane)
+
+-- a message, by its place counted from 0, has the state text of a replica's map
+pub record IsStateMessage (r : ReplicaState) (messages : List (List ℕ)) (place : ℕ) : Type 0 where
+  pub text : List ℕ
+  pub there : slice_get messages place ≡ Some text
+  pub state : IsStateOf r text
+
+-- for each replica the place of a message with the state text of its map, or none
+pub record AreCurrent (replicas : List ReplicaState) (messages : List (List ℕ)) (current : List (Option ℕ)) : Type 0 where
+  pub as_many : length current ≡ length replicas
+  pub each : (i place : ℕ) (r : ReplicaState) → slice_get replicas i ≡ Some r → slice_get current i ≡ Some (Some place) → IsStateMessage r messages place
+
+-- a place that is remembered of a replica was remembered before, and what was a state text of its map is one
+abbrev pub IsRemembered : ReplicaState → ReplicaState → Option ℕ → Option ℕ → Type 0
+IsRemembered was is before now = (place : ℕ) → now ≡ Some place → (before ≡ Some place) × ((text : List ℕ) → IsStateOf was text → IsStateOf is text)

@@ -27,9 +27,11 @@ pub enum Event {
     Same(u32, u32),
     /// Somebody asks for the bytes of a sent message.
     Dump(u64),
+    /// Somebody asks for the text of a replica's cells so many generations later.
+    Export(u32, u32),
 }
 
-/// The bytes of a message.
+/// The bytes of a message or of a text.
 pub type ByteList = ListOf<u8>;
 
 /// What is answered to an event.
@@ -47,8 +49,10 @@ pub enum Reply {
     Same(bool),
     /// The bytes of the message.
     Bytes(ByteList),
-    /// Why nothing happened. A draw, a look and a sending are refused for want of the replica first, a
-    /// delivery for want of the message first. It is never `Fault::Memory` or `Fault::StoreFull`.
+    /// The cells of the generation, in Golly's multi-state RLE.
+    Text(ByteList),
+    /// Why nothing happened. All that names a replica is refused for want of it first, a delivery for
+    /// want of the message before. It is never `Fault::Memory` or `Fault::StoreFull`.
     Refused(Fault),
 }
 
@@ -57,7 +61,7 @@ pub enum Reply {
 pub enum Stop {
     /// The system refused memory.
     Memory,
-    /// A replica's store held as many squares as it has room for.
+    /// A replica's store, or that of a universe that was run, held as many squares as it has room for.
     StoreFull,
 }
 

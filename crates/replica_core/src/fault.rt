@@ -5,6 +5,7 @@ ghost use Rattle.std.specs.Prelude.{◌≡◌};
 use crate::event::Stop;
 use delta_exchange::ReadFault;
 use edit_stamps::EditFault;
+use export::ExportFault;
 use stamped_tree::StoreFault;
 use std::alloc::AllocError;
 use std::error::Error;
@@ -15,11 +16,15 @@ use std::fmt;
 pub enum Fault {
     /// The edit's own refusal; never its want of memory, which is `Memory`.
     Edit(EditFault),
-    /// The store of the replica, or of the map that it reads, holds as many squares as it has room for.
+    /// The store of the replica, of the map that it reads, or of the universe that it runs, holds as many
+    /// squares as it has room for.
     StoreFull,
     /// The bytes are no message; never that the rule is another one, that the store is full, or want of
     /// memory, which are faults of their own here.
     Read(ReadFault),
+    /// The generation is not exported; never that the store is full, or want of memory, which are faults
+    /// of their own here.
+    Export(ExportFault),
     /// The message has another rule than the replica.
     OtherRule,
     /// The greatest counter of the plane is the last one, 2^48 - 1.
@@ -45,6 +50,7 @@ impl Fault {
             Fault::Edit(fault) => fault.number(),
             Fault::StoreFull => 13,
             Fault::Read(fault) => fault.number(),
+            Fault::Export(fault) => fault.number(),
             Fault::OtherRule => 16,
             Fault::ClockFull => 24,
             Fault::NoSuchEdit => 25,
@@ -78,6 +84,7 @@ impl fmt::Display for Fault {
             Fault::Edit(fault) => write!(f, "{fault}"),
             Fault::StoreFull => write!(f, "StoreFull"),
             Fault::Read(fault) => write!(f, "{fault}"),
+            Fault::Export(fault) => write!(f, "{fault}"),
             Fault::OtherRule => write!(f, "OtherRule"),
             Fault::ClockFull => write!(f, "ClockFull"),
             Fault::NoSuchEdit => write!(f, "NoSuchEdit"),
@@ -141,6 +148,21 @@ impl From<ReadFault> for Fault {
             ReadFault::StoreFull => Fault::StoreFull,
             ReadFault::OtherRule => Fault::OtherRule,
             refusal => Fault::Read(refusal),
+        }
+    }
+}
+
+impl From<ExportFault> for Fault {
+    ghost use Rattle.std.specs.Prelude.{◌≡◌};
+    ghost use Rattle.replica_core.specs.Fault.{fault_of_export};
+
+    ghost from_gives = { λ from fault. fault ≡ fault_of_export from };
+
+    fn from(fault: ExportFault) -> Fault {
+        match fault {
+            ExportFault::Memory => Fault::Memory,
+            ExportFault::StoreFull => Fault::StoreFull,
+            refusal => Fault::Export(refusal),
         }
     }
 }

@@ -1,6 +1,6 @@
 //! The plane of a replica, which is copied where most of what it stores is no longer in use.
 
-ghost use Rattle.std.specs.Prelude.{◌≡◌, ◌≤◌, IfOk, OnErr, Err, length};
+ghost use Rattle.std.specs.Prelude.{◌≡◌, ◌≤◌, ◌↔◌, IfOk, OnErr, Err, false, length};
 ghost use Rattle.edit_stamps.specs.Edit.{greatest, writes_of};
 ghost use Rattle.edit_stamps.specs.Write.{unwritten, AreSame, joined};
 ghost use Rattle.replica_core.specs.HeldPlane.{IsAsBefore, IsJoinedAt, added_writes};
@@ -97,16 +97,22 @@ impl HeldPlane {
     }
 
     /// Makes a square of level 31 the root, and then copies the plane where most of its squares are no
-    /// longer in use; where that finds no memory, the plane stays as it is.
-    pub(crate) fn set_root(&mut self, part: Part)
+    /// longer in use; where that finds no memory, the plane stays as it is. Answers whether the map is
+    /// another one than before.
+    pub(crate) fn set_root(&mut self, part: Part) -> bool
         requires { IsPart self.old.store 31 part }
         ensures map { AreSame (map_of self.new) (map_of (rooted self.old part)) }
         ensures room { self.new.store.room ≡ self.old.store.room }
+        ensures kept { (result ≡ false) ↔ AreSame (map_of self.new) (map_of self.old) }
     {
+        // For the proof alone: the call tells that equal squares are equal parts.
+        self.plane.plane_laws(&self.plane);
+        let is_another = self.plane.root().part() != part;
         self.plane.set_root(part);
         if self.plane.nodes() > FEW.max(self.copied.saturating_mul(GROWTH)) {
             let _ = self.put_copy();
         }
+        is_another
     }
 
     /// Puts a copy in the plane's place.

@@ -21,6 +21,7 @@ use crate::held_plane::{Added, HeldPlane};
 use delta_exchange::{Content, Message, read, write_delta, write_state};
 use edit_journal::Journal;
 use edit_stamps::{Edit, Stamp, Write, counter_of};
+use export::export;
 use generations_rule::Rule;
 use stamped_tree::Plane;
 use std::alloc::{AllocError, Global};
@@ -68,11 +69,12 @@ impl Replica {
     ghost use Rattle.edit_stamps.specs.Plane.{is_in_plane};
     ghost use Rattle.delta_exchange.specs.declared.message.Content.TheVariants.{Edits};
     ghost use Rattle.delta_exchange.specs.Delta.{AreTellable};
-    ghost use Rattle.delta_exchange.specs.MessageReading.{message_of, HasMap};
+    ghost use Rattle.delta_exchange.specs.MessageReading.{message_of};
     ghost use Rattle.delta_exchange.specs.Spelling.{delta_text};
     ghost use Rattle.delta_exchange.specs.State.{IsTellableMap};
     ghost use Rattle.delta_exchange.specs.StateText.{IsStateText};
-    ghost use Rattle.replica_core.specs.Exchange.{delta_given, IsTakingOf, IsTakingText};
+    ghost use Rattle.replica_core.specs.Exchange.{delta_given, IsTakingMap, IsTakingOf, IsTakingText};
+    ghost use Rattle.replica_core.specs.Exporting.{IsExportFault, IsExportOf};
     ghost use Rattle.replica_core.specs.Replica.{edit_drawn, IsDraw, IsJournalOf, IsNew, IsReplica, IsSnapshot, IsTaking};
 
     /// A replica that holds nothing, with room for 2^26 squares. The only error is want of memory.
@@ -180,27 +182,55 @@ impl Replica {
     pub fn take(&mut self, message: &Message) -> Result<(), Fault>
         ensures { IsTaking self.old self.new message.now result }
     {
-        if !self.rule.same(&message.rule()) {
-            return Err(Fault::OtherRule);
+        match self.take_noting_change(message) {
+            Ok(_) => Ok(()),
+            Err(fault) => Err(fault),
         }
-        take_into(&mut self.plane, &mut self.journal, message.content())?;
-        Ok(())
     }
 
     /// Takes the bytes of a message: reads them, and takes what they tell, whole or not at all. Refused
     /// are bytes that are no message under this replica's rule, by their first fault. After any refusal
-    /// the replica is as it was.
+    /// the replica is as it was. Want of memory may be told though a fault stands further on; `StoreFull`
+    /// where this replica's store is full, or the plane that a map is read into, of 2^26 squares.
     pub fn take_bytes(&mut self, text: &[u8]) -> Result<(), Fault>
         // What is taken, or which fault.
-        ensures told { IsTakingText self.old self.new (message_of self.old.rule text.now) result }
+        ensures told { IsTakingText self.old self.new text.now (message_of self.old.rule text.now) result }
         // The text of edits, and of a map, is taken.
         ensures edits { (meant : List PlaneEdit) → AreTellable self.old.rule.states meant → text.now ≡ delta_text self.old.rule meant
             → IsTakingOf self.old self.new (λ content. content ≡ Edits meant) result }
         ensures map { (meant : Writes) → IsTellableMap self.old.rule.states meant → IsStateText self.old.rule meant text.now
-            → IsTakingOf self.old self.new (λ content. HasMap content meant) result }
+            → IsTakingMap self.old self.new meant result }
+    {
+        match self.take_bytes_noting_change(text) {
+            Ok(_) => Ok(()),
+            Err(fault) => Err(fault),
+        }
+    }
+
+    /// Takes the bytes of a message, as `take_bytes`, and answers whether the map is another one than
+    /// before.
+    pub(crate) fn take_bytes_noting_change(&mut self, text: &[u8]) -> Result<bool, Fault>
+        ensures told { IsTakingText self.old self.new text.now (message_of self.old.rule text.now) result }
+        ensures edits { (meant : List PlaneEdit) → AreTellable self.old.rule.states meant → text.now ≡ delta_text self.old.rule meant
+            → IsTakingOf self.old self.new (λ content. content ≡ Edits meant) result }
+        ensures map { (meant : Writes) → IsTellableMap self.old.rule.states meant → IsStateText self.old.rule meant text.now
+            → IsTakingMap self.old self.new meant result }
+        ensures change { IfOk result (λ changed. (changed ≡ false) ↔ AreSame (map_of self.new.plane) (map_of self.old.plane)) }
     {
         let message = read(self.alloc, &self.rule, text)?;
-        self.take(&message)
+        self.take_noting_change(&message)
+    }
+
+    /// Takes a message, as `take`, and answers whether the map is another one than before.
+    fn take_noting_change(&mut self, message: &Message) -> Result<bool, Fault>
+        ensures taking { IsTaking self.old self.new message.now result }
+        ensures change { IfOk result (λ changed. (changed ≡ false) ↔ AreSame (map_of self.new.plane) (map_of self.old.plane)) }
+    {
+        if !self.rule.same(&message.rule()) {
+            return Err(Fault::OtherRule);
+        }
+        let changed = take_into(&mut self.plane, &mut self.journal, message.content())?;
+        Ok(changed)
     }
 
     /// The bytes of a message of this replica's map. The only error is want of memory.
@@ -218,7 +248,7 @@ impl Replica {
     pub fn delta(&self, from: u32, count: u32) -> Result<Vec<u8>, Fault>
         ensures text { IfOk result (λ text. delta_given self.now from count ≡ Ok text.items) }
         ensures err { IfErr result (λ fault. ((fault ≡ Fault.Memory) × IsOk (delta_given self.now from count)) ⊎ (delta_given self.now from count ≡ Err fault)) }
-        ensures edits { IfOk result (λ _. AreTellable self.now.rule.states (take count (drop from self.now.journal))) }
+        ensures edits { AreTellable self.now.rule.states (take count (drop from self.now.journal)) }
     {
         let end = u64::from(from) + u64::from(count);
         let journal = self.journal.as_slice();
@@ -227,6 +257,16 @@ impl Replica {
         }
         let edits = &journal[from as usize..end as usize];
         Ok(write_delta(self.alloc, &self.rule, edits)?)
+    }
+
+    /// The cells of this replica's map so many generations later, in Golly's multi-state RLE. Refused are
+    /// `GenRange` where the generation is greater than 2^29, then `TooManyCells` where more than 2^24
+    /// cells are not dead then; memory and room are wanted only for a generation that is one.
+    pub fn export(&self, generation: u32) -> Result<Vec<u8>, Fault>
+        ensures text { IfOk result (λ text. IsExportOf self.now generation (Ok text.items)) }
+        ensures err { IfErr result (IsExportFault self.now generation) }
+    {
+        Ok(export(self.alloc, &self.rule, self.plane.plane(), generation)?)
     }
 }
 
@@ -268,13 +308,14 @@ fn draw_into(plane: &mut HeldPlane, journal: &mut Journal, edit: &Edit) -> Resul
     let noted = edit.copy()?;
     let root = plane.add(Added::Edits(slice::from_ref(edit)))?;
     journal.push(noted)?;
-    plane.set_root(root);
+    let _ = plane.set_root(root);
     Ok(())
 }
 
-/// Joins what a message shares, and notes its edits.
-fn take_into(plane: &mut HeldPlane, journal: &mut Journal, content: &Content) -> Result<(), Fault>
+/// Joins what a message shares, and notes its edits; answers whether the map is another one than before.
+fn take_into(plane: &mut HeldPlane, journal: &mut Journal, content: &Content) -> Result<bool, Fault>
     ensures map { OnOk result (AreSame (map_of plane.new) (joined (map_of plane.old) (writes_in content.now))) }
+    ensures change { IfOk result (λ changed. (changed ≡ false) ↔ AreSame (map_of plane.new) (map_of plane.old)) }
     ensures room { plane.new.store.room ≡ plane.old.store.room }
     ensures noted { OnOk result (journal.new ≡ noted journal.old (edits_in content.now)) }
     ensures before { OnErr result (IsAsBefore plane.old plane.new) }
@@ -289,9 +330,10 @@ fn take_into(plane: &mut HeldPlane, journal: &mut Journal, content: &Content) ->
     }
 }
 
-/// Joins what edits write, and notes them. All that may be refused is done before anything changes.
-fn take_edits(plane: &mut HeldPlane, journal: &mut Journal, edits: &[Edit]) -> Result<(), Fault>
+/// Joins what edits write, and notes them, and answers the same. All that may be refused is done before anything changes.
+fn take_edits(plane: &mut HeldPlane, journal: &mut Journal, edits: &[Edit]) -> Result<bool, Fault>
     ensures map { OnOk result (AreSame (map_of plane.new) (joined (map_of plane.old) (greatest edits.now))) }
+    ensures change { IfOk result (λ changed. (changed ≡ false) ↔ AreSame (map_of plane.new) (map_of plane.old)) }
     ensures room { plane.new.store.room ≡ plane.old.store.room }
     ensures noted { OnOk result (journal.new ≡ noted journal.old edits.now) }
     ensures edits { OnOk result ((e : PlaneEdit) → Contains edits.now e → IsEdit e) }
@@ -303,19 +345,18 @@ fn take_edits(plane: &mut HeldPlane, journal: &mut Journal, edits: &[Edit]) -> R
     let fresh = journal.fresh(edits)?;
     let root = plane.add(Added::Edits(edits))?;
     journal.append(fresh)?;
-    plane.set_root(root);
-    Ok(())
+    Ok(plane.set_root(root))
 }
 
-/// Joins a map.
-fn take_map(plane: &mut HeldPlane, other: &Plane) -> Result<(), Fault>
+/// Joins a map, and answers the same.
+fn take_map(plane: &mut HeldPlane, other: &Plane) -> Result<bool, Fault>
     ensures map { OnOk result (AreSame (map_of plane.new) (joined (map_of plane.old) (map_of other.now))) }
+    ensures change { IfOk result (λ changed. (changed ≡ false) ↔ AreSame (map_of plane.new) (map_of plane.old)) }
     ensures room { plane.new.store.room ≡ plane.old.store.room }
     ensures before { OnErr result (IsAsBefore plane.old plane.new) }
     ensures err { IfErr result IsWant }
     ensures full { IfErr result (λ fault. fault ≡ Fault.StoreFull → length plane.new.store.squares ≡ plane.new.store.room) }
 {
     let root = plane.add(Added::Map(other))?;
-    plane.set_root(root);
-    Ok(())
+    Ok(plane.set_root(root))
 }

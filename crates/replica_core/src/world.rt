@@ -1,20 +1,21 @@
 //! Worlds of replicas: lists of events, and their replies.
 
-ghost use Rattle.std.specs.Prelude.{◌≡◌, ◌≤◌, ◌^◌, ◌-◌, ◌++◌, ◌∷◌, [], ℕ, IfOk, IfErr, Some, SomeIff, Contains, length, MatchResult, option_copied};
+ghost use Rattle.std.specs.Prelude.{◌≡◌, ◌≤◌, ◌^◌, ◌-◌, ◌++◌, ◌∷◌, [], ℕ, List, Option, IfOk, IfErr, OnErr, Some, SomeIff, Contains, length, MatchResult, option_copied};
 ghost use Rattle.edit_stamps.specs.Edit.{IsEdit, PlaneEdit, greatest_counter};
 ghost use Rattle.generations_rule.specs.Rule.{GenerationsRule};
+ghost use Rattle.export.specs.Export.{last_generation};
 ghost use Rattle.replica_core.specs.declared.event.Event.TheVariants as events;
 ghost use Rattle.replica_core.specs.declared.event.Reply.TheVariants as replies;
 ghost use Rattle.replica_core.specs.Fault.{IsWant, stop_of};
 ghost use Rattle.replica_core.specs.Replica.{edit_drawn, IsNew};
-ghost use Rattle.replica_core.specs.World.{History, IsEditUnder, IsThere, ReplicaHistory, Sent, opening, after, after_all, after_drawing, after_message, numbered, AreEdits, AreReplies, HaveRoom, IsReply, StandSideBySide, StandsFor, StandsForSent, StandsForWorld};
+ghost use Rattle.replica_core.specs.World.{History, IsEditUnder, IsThere, ReplicaHistory, Sent, opening, after, after_all, after_drawing, after_message, numbered, AreCurrent, AreEdits, AreReplies, HaveRoom, IsRemembered, IsReply, IsStateMessage, IsStateOf, StandSideBySide, StandsFor, StandsForSent, StandsForWorld};
 
 use crate::edit_spec::EditSpec;
 use crate::event::{ByteList, Event, Reply, Stop};
 use crate::fault::Fault;
 use crate::replica::Replica;
 use generations_rule::Rule;
-use std::alloc::Global;
+use std::alloc::{AllocError, Global};
 use std::marker::Model;
 
 /// How many squares each replica may store if nothing else is said.
@@ -26,6 +27,9 @@ pub struct World {
     rule: Rule,
     replicas: Vec<Replica>,
     messages: Vec<ByteList>,
+    /// For each replica the place of a message with the state text of its map as it is now, where one
+    /// was sent: it need not be written again.
+    current: Vec<Option<usize>>,
 }
 
 /// By hand, so that a caller's proof sees one step where a world is dropped.
@@ -36,16 +40,19 @@ impl Drop for World {
             rule: _,
             replicas: _,
             messages: _,
+            current: _,
         } = self;
     }
 }
 
 impl Model for World {
-    ghost use Rattle.replica_core.specs.World.{WorldState};
+    ghost use Rattle.replica_core.specs.World.{AreCurrent, WorldState};
 
     ghost Value = { WorldState };
 
     ghost view = { λ w. record { rule = w.rule; replicas = w.replicas.items; messages = w.messages.items } };
+
+    ghost invariant = { λ w. AreCurrent w.replicas.items w.messages.items w.current.items };
 }
 
 impl World {
@@ -68,11 +75,13 @@ impl World {
         ensures err { IfErr result (λ stop. stop ≡ Stop.Memory) }
     {
         let replicas = beginners(alloc, rule, n, nodes)?;
+        let current = vec![in alloc; None; usize::from(n)]?;
         Ok(World {
             alloc,
             rule,
             replicas,
             messages: Vec::new(alloc),
+            current,
         })
     }
 
@@ -178,7 +187,9 @@ fn happen(world: &mut World, event: &Event) -> Result<Reply, Stop>
     ensures room { (nodes : ℕ) → HaveRoom nodes world.old.replicas → HaveRoom nodes world.new.replicas }
 {
     match event {
-        Event::Draw(number, spec) => draw(&mut world.replicas, *number, spec),
+        Event::Draw(number, spec) => {
+            draw(&mut world.replicas, &mut world.current, *number, spec)
+        }
         Event::SendDelta(number, from, count) => send_delta(
             &world.replicas,
             &mut world.messages,
@@ -186,40 +197,65 @@ fn happen(world: &mut World, event: &Event) -> Result<Reply, Stop>
             *from,
             *count,
         ),
-        Event::SendState(number) => send_state(&world.replicas, &mut world.messages, *number),
-        Event::Deliver(message, number) => {
-            deliver(&world.messages, &mut world.replicas, *message, *number)
-        }
+        Event::SendState(number) => send_state(
+            world.alloc,
+            &world.replicas,
+            &mut world.messages,
+            &mut world.current,
+            *number,
+        ),
+        Event::Deliver(message, number) => deliver(
+            &world.messages,
+            &mut world.replicas,
+            &mut world.current,
+            *message,
+            *number,
+        ),
         Event::Show(number, x, y) => Ok(show(&world.replicas, *number, *x, *y)),
         Event::Same(a, b) => same(&world.replicas, *a, *b),
         Event::Dump(number) => dump(world.alloc, &world.messages, *number),
+        Event::Export(number, generation) => export(&world.replicas, *number, *generation),
     }
 }
 
-fn draw(replicas: &mut [Replica], number: u32, spec: &EditSpec) -> Result<Reply, Stop>
+fn draw(
+    replicas: &mut [Replica],
+    current: &mut [Option<usize>],
+    number: u32,
+    spec: &EditSpec,
+) -> Result<Reply, Stop>
+    requires { length current.old ≡ length replicas.old }
     ensures step { IfOk result (λ reply. (w : History) → AreEdits w → StandSideBySide (StandsFor w.rule) w.replicas replicas.old →
         IsReply w (events.Draw number spec.now) reply
         × StandSideBySide (StandsFor w.rule) (after w (events.Draw number spec.now)).replicas replicas.new) }
     ensures edits { IfOk result (λ _. (w : History) → AreEdits w → StandSideBySide (StandsFor w.rule) w.replicas replicas.old → AreEdits (after w (events.Draw number spec.now))) }
     ensures as_many { length replicas.new ≡ length replicas.old }
     ensures room { (nodes : ℕ) → HaveRoom nodes replicas.old → HaveRoom nodes replicas.new }
+    ensures remembered { (messages : List (List ℕ)) → AreCurrent replicas.old messages current.old → AreCurrent replicas.new messages current.new }
+    ensures length { length current.new ≡ length current.old }
     ensures err { IfErr result (λ _. IsThere number (length replicas.old)) }
 {
     match index_of(u64::from(number), replicas.len()) {
         None => Ok(Reply::Refused(Fault::NoReplica)),
-        Some(index) => draw_at(&mut replicas[index], spec),
+        Some(index) => draw_at(&mut replicas[index], &mut current[index], spec),
     }
 }
 
-/// What a replica draws.
-fn draw_at(replica: &mut Replica, spec: &EditSpec) -> Result<Reply, Stop>
+/// What a replica draws; no message is remembered of it.
+fn draw_at(
+    replica: &mut Replica,
+    current: &mut Option<usize>,
+    spec: &EditSpec,
+) -> Result<Reply, Stop>
     ensures step { IfOk result (λ reply. (rule : GenerationsRule) (h : ReplicaHistory) → ((e : PlaneEdit) → Contains h.taken e → IsEdit e)
         → StandsFor rule replica.old.number h replica.old
         → MatchResult (edit_drawn rule (greatest_counter h.taken) replica.old.number spec.now)
         (λ e. (reply ≡ replies.Drawn e.stamp) × StandsFor rule replica.old.number (after_drawing h e) replica.new × IsEditUnder rule e)
         (λ fault. (reply ≡ replies.Refused fault) × (replica.new ≡ replica.old))) }
     ensures room { replica.new.plane.store.room ≡ replica.old.plane.store.room }
+    ensures remembered { IsRemembered replica.old replica.new current.old current.new }
 {
+    *current = None;
     match replica.draw_as(spec) {
         Ok(edit) => Ok(Reply::Drawn(edit.stamp())),
         Err(fault) => refused(fault),
@@ -259,6 +295,7 @@ fn send_delta(
         → StandSideBySide (λ m. StandsForSent w.rule) w.messages messages.old.items →
         IsReply w (events.SendDelta number from count) reply
         × StandSideBySide (λ m. StandsForSent w.rule) (after w (events.SendDelta number from count)).messages messages.new.items) }
+    ensures remembered { (current : List (Option ℕ)) → AreCurrent replicas.now messages.old.items current → AreCurrent replicas.now messages.new.items current }
     ensures err { IfErr result (λ stop. (stop ≡ Stop.Memory) × IsThere number (length replicas.now)) }
 {
     let Some(index) = index_of(u64::from(number), replicas.len()) else {
@@ -271,28 +308,55 @@ fn send_delta(
 }
 
 fn send_state(
+    alloc: Global,
     replicas: &[Replica],
     messages: &mut Vec<ByteList>,
+    current: &mut [Option<usize>],
     number: u32,
 ) -> Result<Reply, Stop>
+    requires { AreCurrent replicas.now messages.old.items current.old }
     ensures step { IfOk result (λ reply. (w : History) → StandSideBySide (StandsFor w.rule) w.replicas replicas.now
         → StandSideBySide (λ m. StandsForSent w.rule) w.messages messages.old.items →
         IsReply w (events.SendState number) reply
         × StandSideBySide (λ m. StandsForSent w.rule) (after w (events.SendState number)).messages messages.new.items) }
+    ensures remembered { AreCurrent replicas.now messages.new.items current.new }
+    ensures length { length current.new ≡ length current.old }
     ensures err { IfErr result (λ stop. (stop ≡ Stop.Memory) × IsThere number (length replicas.now)) }
 {
-    match index_of(u64::from(number), replicas.len()) {
-        None => Ok(Reply::Refused(Fault::NoReplica)),
-        Some(index) => {
-            let text = replicas[index].state()?;
-            send(messages, text)
-        }
-    }
+    let Some(index) = index_of(u64::from(number), replicas.len()) else {
+        return Ok(Reply::Refused(Fault::NoReplica));
+    };
+    let text = state_text(alloc, &replicas[index], messages, current[index])?;
+    let place = messages.len();
+    let reply = send(messages, text)?;
+    current[index] = Some(place);
+    Ok(reply)
+}
+
+/// The state text of a replica's map: a copy of the message that has it, or else written.
+fn state_text(
+    alloc: Global,
+    replica: &Replica,
+    messages: &[ByteList],
+    current: Option<usize>,
+) -> Result<Vec<u8>, AllocError>
+    requires { (place : ℕ) → current ≡ Some place → IsStateMessage replica.now messages.now place }
+    ensures { IfOk result (λ text. IsStateOf replica.now text.items) }
+{
+    let Some(place) = current else {
+        return replica.state();
+    };
+    let Some(message) = messages.get(place) else {
+        return replica.state();
+    };
+    let text = message.as_slice().to_vec(alloc)?;
+    Ok(text)
 }
 
 /// Puts a message behind the others.
 fn send(messages: &mut Vec<ByteList>, text: Vec<u8>) -> Result<Reply, Stop>
     ensures sent { IfOk result (λ reply. (messages.new.items ≡ messages.old.items ++ text.items ∷ []) × (reply ≡ replies.Sent (length messages.new.items))) }
+    ensures unsent { OnErr result (messages.new.items ≡ messages.old.items) }
     ensures err { IfErr result (λ stop. stop ≡ Stop.Memory) }
 {
     messages.push(ByteList::of_vec(text))?;
@@ -302,15 +366,19 @@ fn send(messages: &mut Vec<ByteList>, text: Vec<u8>) -> Result<Reply, Stop>
 fn deliver(
     messages: &[ByteList],
     replicas: &mut [Replica],
+    current: &mut [Option<usize>],
     message: u64,
     number: u32,
 ) -> Result<Reply, Stop>
+    requires { length current.old ≡ length replicas.old }
     ensures step { IfOk result (λ reply. (w : History) → StandSideBySide (StandsFor w.rule) w.replicas replicas.old
         → StandSideBySide (λ m. StandsForSent w.rule) w.messages messages.now →
         IsReply w (events.Deliver message number) reply
         × StandSideBySide (StandsFor w.rule) (after w (events.Deliver message number)).replicas replicas.new) }
     ensures as_many { length replicas.new ≡ length replicas.old }
     ensures room { (nodes : ℕ) → HaveRoom nodes replicas.old → HaveRoom nodes replicas.new }
+    ensures remembered { AreCurrent replicas.old messages.now current.old → AreCurrent replicas.new messages.now current.new }
+    ensures length { length current.new ≡ length current.old }
     ensures err { IfErr result (λ _. IsThere message (length messages.now) × IsThere number (length replicas.old)) }
 {
     let Some(from) = index_of(message, messages.len()) else {
@@ -319,18 +387,25 @@ fn deliver(
     let Some(to) = index_of(u64::from(number), replicas.len()) else {
         return Ok(Reply::Refused(Fault::NoReplica));
     };
-    take_at(&mut replicas[to], messages[from].as_slice())
+    let text = messages[from].as_slice();
+    take_at(&mut replicas[to], &mut current[to], text)
 }
 
-/// What a replica takes.
-fn take_at(replica: &mut Replica, text: &[u8]) -> Result<Reply, Stop>
+/// What a replica takes; no message is remembered of it where its map becomes another one.
+fn take_at(replica: &mut Replica, current: &mut Option<usize>, text: &[u8]) -> Result<Reply, Stop>
     ensures step { IfOk result (λ reply. (rule : GenerationsRule) (h : ReplicaHistory) (sent : Sent) → StandsFor rule replica.old.number h replica.old
         → StandsForSent rule sent text.now
         → (reply ≡ replies.Taken) × StandsFor rule replica.old.number (after_message h sent) replica.new) }
     ensures room { replica.new.plane.store.room ≡ replica.old.plane.store.room }
+    ensures remembered { IsRemembered replica.old replica.new current.old current.new }
 {
-    match replica.take_bytes(text) {
-        Ok(()) => Ok(Reply::Taken),
+    match replica.take_bytes_noting_change(text) {
+        Ok(changed) => {
+            if changed {
+                *current = None;
+            }
+            Ok(Reply::Taken)
+        }
         Err(fault) => refused(fault),
     }
 }
@@ -356,6 +431,19 @@ fn same(replicas: &[Replica], a: u32, b: u32) -> Result<Reply, Stop>
     };
     let same = replicas[one].holds_same(&replicas[other])?;
     Ok(Reply::Same(same))
+}
+
+fn export(replicas: &[Replica], number: u32, generation: u32) -> Result<Reply, Stop>
+    ensures step { IfOk result (λ reply. (w : History) → StandSideBySide (StandsFor w.rule) w.replicas replicas.now → IsReply w (events.Export number generation) reply) }
+    ensures err { IfErr result (λ _. IsThere number (length replicas.now) × (generation ≤ last_generation)) }
+{
+    let Some(index) = index_of(u64::from(number), replicas.len()) else {
+        return Ok(Reply::Refused(Fault::NoReplica));
+    };
+    match replicas[index].export(generation) {
+        Ok(text) => Ok(Reply::Text(ByteList::of_vec(text))),
+        Err(fault) => refused(fault),
+    }
 }
 
 fn dump(alloc: Global, messages: &[ByteList], number: u64) -> Result<Reply, Stop>

@@ -17,6 +17,7 @@ enum Step {
     Show(u32, i32, i32),
     Same(u32, u32),
     Dump(u64),
+    Export(u32, u32),
 }
 
 fn event(alloc: Global, step: Step) -> Result<Event, AllocError> {
@@ -31,6 +32,7 @@ fn event(alloc: Global, step: Step) -> Result<Event, AllocError> {
         Step::Show(number, x, y) => Event::Show(number, x, y),
         Step::Same(a, b) => Event::Same(a, b),
         Step::Dump(message) => Event::Dump(message),
+        Step::Export(number, generation) => Event::Export(number, generation),
     })
 }
 
@@ -55,6 +57,7 @@ fn reply_told(alloc: Global, reply: &Reply) -> Result<String, AllocError> {
         Reply::Shown(write) => format!(in alloc; "shown {} {}", write.stamp, write.state),
         Reply::Same(same) => format!(in alloc; "same {same}"),
         Reply::Bytes(text) => format!(in alloc; "{} bytes", text.as_slice().len()),
+        Reply::Text(text) => String::from_utf8_lossy(alloc, text.as_slice()),
         Reply::Refused(fault) => fault.to_string(alloc),
     }
 }
@@ -228,8 +231,64 @@ fn keeps_each_message(rt: HostRuntime) {
 /// A message keeps the map that was sent, whatever is drawn later.
 static OLDER: [Step; 3] = [Step::Send(1), Step::Draw(1, 0, 0, 1), Step::Send(1)];
 
+/// Maps that are sent again: at once, behind deliveries that change nothing, behind a draw, behind
+/// what happens at another replica, behind a delivery that changes the map, and behind a refused draw.
+static SENT_AGAIN: [Step; 18] = [
+    Step::Draw(1, 0, 0, 1),
+    Step::Send(1),
+    Step::Send(1),
+    Step::SendDelta(1, 0, 1),
+    Step::Deliver(2, 1),
+    Step::Deliver(3, 1),
+    Step::Send(1),
+    Step::Draw(1, 0, 0, 2),
+    Step::Send(1),
+    Step::Draw(2, 1, 0, 1),
+    Step::Send(2),
+    Step::Send(1),
+    Step::Deliver(6, 1),
+    Step::Send(1),
+    Step::Deliver(8, 2),
+    Step::Send(2),
+    Step::Draw(1, 0x4000_0000, 0, 1),
+    Step::Send(1),
+];
+
+/// The number of the first message with the bytes of this one.
+fn first_alike(world: &World, number: u64) -> u64 {
+    for earlier in 1..number {
+        if world.message(earlier) == world.message(number) {
+            return earlier;
+        }
+    }
+    number
+}
+
+/// For each of 10 messages the first with its bytes, and whether the last two are the bytes that the
+/// replicas write.
+fn sent_again(alloc: Global) -> Result<(Vec<u64>, bool), Stop> {
+    let (world, _) = replay(alloc, rule()?, 2, &events(alloc, &SENT_AGAIN)?)?;
+    let mut alike = Vec::new(alloc);
+    for number in 1..=10u64 {
+        alike.push(first_alike(&world, number))?;
+    }
+    let first = state_of(alloc, &world, 1)?;
+    let second = state_of(alloc, &world, 2)?;
+    let are_written = world.message(10) == Some(first.as_slice())
+        && world.message(9) == Some(second.as_slice());
+    Ok((alike, are_written))
+}
+
+#[test]
+fn sends_each_map_as_it_is_then(rt: HostRuntime) -> Result<(), Stop> {
+    let (alike, are_written) = sent_again(rt.alloc())?;
+    assert!(rt; alike.as_slice() == [1, 1, 3, 1, 5, 6, 5, 8, 8, 8].as_slice());
+    assert!(rt; are_written);
+    Ok(())
+}
+
 /// Each refusal, the first of two where both stand.
-static REFUSED: [Step; 18] = [
+static REFUSED: [Step; 22] = [
     Step::Draw(0, 0, 0, 9),
     Step::Draw(2, 0x4000_0000, 0, 1),
     Step::Draw(1, 0x4000_0000, 0, 9),
@@ -248,13 +307,18 @@ static REFUSED: [Step; 18] = [
     Step::SendDelta(1, 0, 0),
     Step::Dump(0),
     Step::Dump(3),
+    Step::Export(0, 0),
+    Step::Export(2, 0x2000_0001),
+    Step::Export(1, 0x2000_0001),
+    Step::Export(1, 0x2000_0000),
 ];
 
 #[test]
 fn refuses(rt: HostRuntime) {
     let lines = "NoReplica\nNoReplica\nOutOfPlane\nStateRange\nNoReplica\nNoMessage\nNoMessage\n\
         NoReplica\nsent 1\nNoReplica\nshown 0 0\nNoReplica\nNoSuchEdit\nNoSuchEdit\nNoSuchEdit\nsent 2\n\
-        NoMessage\nNoMessage\n";
+        NoMessage\nNoMessage\nNoReplica\nNoReplica\nGenRange\n\
+        #CXRLE Pos=0,0 Gen=536870912\nx = 0, y = 0, rule = /2/3\n!\n\n";
     assert!(rt; is_answered(rt.alloc(), 1, &REFUSED, lines) == Ok(true));
 }
 
@@ -397,6 +461,46 @@ fn state_of_all(alloc: Global, are_turned: bool) -> Result<Option<usize>, Stop> 
 fn each_writes_the_same_bytes(rt: HostRuntime) {
     assert!(rt; state_of_all(rt.alloc(), false) == Ok(Some(1371)));
     assert!(rt; state_of_all(rt.alloc(), true) == Ok(Some(1371)));
+}
+
+/// Generations that are exported.
+static EXPORTED: [u32; 10] = [0, 1, 2, 3, 4, 5, 6, 7, 12, 30];
+
+/// The text of a replica's generation.
+fn exported(world: &World, number: u32, generation: u32) -> Option<Vec<u8>> {
+    let replica = world.replica(number)?;
+    replica.export(generation).ok()
+}
+
+/// Whether each replica of two worlds exports the same text of a generation.
+fn export_alike(world: &World, other: &World, generation: u32) -> bool {
+    let Some(first) = exported(world, 1, generation) else {
+        return false;
+    };
+    for number in 1..=3 {
+        let here = exported(world, number, generation);
+        let there = exported(other, number, generation);
+        if here.as_deref() != Some(first.as_slice()) || there.as_deref() != Some(first.as_slice()) {
+            return false;
+        }
+    }
+    true
+}
+
+/// Whether that is so of all these generations, where messages came in two orders.
+fn exports_agree(alloc: Global) -> Result<bool, Stop> {
+    let (world, _) = replay(alloc, rule()?, 3, &gathered(alloc, false)?)?;
+    let (turned, _) = replay(alloc, rule()?, 3, &gathered(alloc, true)?)?;
+    Ok(
+        EXPORTED
+            .iter()
+            .all(|generation| export_alike(&world, &turned, *generation)),
+    )
+}
+
+#[test]
+fn each_exports_the_same_bytes(rt: HostRuntime) {
+    assert!(rt; exports_agree(rt.alloc()) == Ok(true));
 }
 
 fn count_of_scattered(alloc: Global) -> Result<usize, AllocError> {

@@ -1,6 +1,7 @@
-use Rattle.std.proofs.Common.{Ok, sym, ap, ◌∙◌}
+use Rattle.std.proofs.Common.{Ok, Err, sym, ap, ◌∙◌}
 use Rattle.std.proofs.lemmas.Result.{err_from_is_err_and}
 use Rattle.delta_exchange.specs.MessageReading.{begins_as_delta}
+use Rattle.delta_exchange.proofs.DeltaFaults.{edits_have_room, kind_has_room}
 use Rattle.delta_exchange.proofs.MessageLaws.{both_kinds, delta_begins, plane_stands, some_kind, state_begins, state_fails_as_message}
 use Rattle.delta_exchange.proofs.reading.read_within.Goals as goal
 
@@ -29,3 +30,13 @@ returns-clause-only_edits c = λ meant are e. absurd (both_kinds (begins_as_delt
 
 pub returns-clause-only_map : goal.returns-clause-only_map
 returns-clause-only_map c = λ meant are s. plane_stands c.args.rule.now c.of_plane.result c.in_ok-plane.plane meant c.of_plane.ensures (c.in_ok-plane.ensures.only meant are s)
+
+pub returns-in_err-is_delta-clause-full : goal.returns-in_err-is_delta-clause-full
+returns-in_err-is_delta-clause-full c = λ full.
+    let p = err_from_is_err_and c.from_residual.result c.from_residual.ensures.1 in
+    absurd (kind_has_room c.args.text.now c.from_residual.result c.in_err-is_delta.field-0.0 (p.1 ∙ ap Err p.2) full (sym c.in_err-is_delta.ensures))
+
+pub returns-in_err-edits-clause-full : goal.returns-in_err-edits-clause-full
+returns-in_err-edits-clause-full c = λ full.
+    let p = err_from_is_err_and c.from_residual-in_err-edits.result c.from_residual-in_err-edits.ensures.1 in
+    absurd (edits_have_room c.args.rule.now c.args.text.now c.from_residual-in_err-edits.result c.in_err-edits.field-0.0 (p.1 ∙ ap Err p.2) full c.in_err-edits.ensures.exact)

@@ -1,6 +1,5 @@
-use Rattle.std.proofs.Common.{◌≡◌, ◌<◌, ◌∙◌, subst, arith}
+use Rattle.std.proofs.Common.{◌∙◌, subst, arith}
 use Rattle.std.proofs.lemmas.Result.{IfOk-weaker}
-use Rattle.edit_stamps.specs.Edit.{writes_of}
 use Rattle.square_store.proofs.Places.{at_within}
 use Rattle.stamped_tree.specs.Plane.{map_of, rooted}
 use Rattle.stamped_tree.specs.PlaneSquare.{PlaneSquare}

@@ -1,4 +1,4 @@
-use Rattle.replica_core.proofs.HeadlineLaws.{agrees, writes_same_bytes, sends_texts, has_one_edit_a_stamp, has_one_winner, holds_greatest, never_goes_down}
+use Rattle.replica_core.proofs.HeadlineLaws.{agrees, exports_greatest, exports_same_bytes, writes_same_bytes, sends_texts, has_one_edit_a_stamp, has_one_winner, holds_greatest, never_goes_down}
 use Rattle.replica_core.proofs.laws.world_laws.Goals as goal
 
 pub returns-clause-holds : goal.returns-clause-holds
@@ -21,3 +21,9 @@ returns-clause-bytes c = writes_same_bytes
 
 pub returns-clause-messages : goal.returns-clause-messages
 returns-clause-messages c = sends_texts
+
+pub returns-clause-exports : goal.returns-clause-exports
+returns-clause-exports c = exports_greatest
+
+pub returns-clause-same_exports : goal.returns-clause-same_exports
+returns-clause-same_exports c = exports_same_bytes

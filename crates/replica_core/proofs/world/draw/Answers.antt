@@ -1,6 +1,7 @@
-use Rattle.std.proofs.Common.{◌≡◌, ◌≤◌, ◌-◌, ◌∙◌, ap, get_or, arith}
+use Rattle.std.proofs.Common.{None, ◌≡◌, ◌≤◌, ◌-◌, ◌∙◌, ap, get_or, arith}
 use Rattle.std.proofs.lemmas.Option.{slice_get-get_or}
 use Rattle.std.proofs.lemmas.Result.{IfOk-weaker}
+use Rattle.replica_core.proofs.CurrentLaws.{current_set}
 use Rattle.replica_core.proofs.EventLaws.{draws_in_world, draws_nowhere}
 use Rattle.replica_core.proofs.world.draw.Goals as goal
 
@@ -32,3 +33,13 @@ pub returns-in-None-clause-edits : goal.returns-in-None-clause-edits
 returns-in-None-clause-edits c = λ w valid side.
     (draws_nowhere w c.args.replicas.now c.args.number c.args.spec.now valid side
     (λ one within. c.in-None.ensures (omega (arith, one, c.from.ensures), omega (arith, within, c.from.ensures)))).2
+
+pub returns-in-Some-clause-remembered : goal.returns-in-Some-clause-remembered
+returns-in-Some-clause-remembered c = λ messages are.
+    let old = get_or c.args.replicas.now c.in-Some.index c.index-replicas-index.result in
+    let entry = get_or c.args.current.now c.in-Some.index None in
+    let r = c.in-Some.ensures in
+    current_set c.args.replicas.now messages c.args.current.now c.in-Some.index old c.draw_at.new.replica entry c.draw_at.new.current
+    (slice_get-get_or c.args.replicas.now c.in-Some.index c.index-replicas-index.result (omega (arith, r.0.0, r.0.1, r.1)))
+    (slice_get-get_or c.args.current.now c.in-Some.index None (omega (arith, r.0.0, r.0.1, r.1, c.requires)))
+    c.draw_at.ensures.remembered are

@@ -3,6 +3,7 @@ use Rattle.std.proofs.lemmas.List.{with_items_is}
 use Rattle.std.proofs.lemmas.Result.{IfOk-weaker}
 use Rattle.replica_core.specs.World.{AreEdits, HaveRoom, after, StandSideBySide, StandsForSent, StandsFor, StandsForWorld}
 use Rattle.replica_core.proofs.HistoryLaws.{edits_delivered, edits_sent_of, edits_sent_on}
+use Rattle.replica_core.proofs.CurrentLaws.{current_same}
 use Rattle.replica_core.proofs.EventLaws.{goes_by_drawing, goes_by_delivery, goes_by_naming, goes_by_sending}
 use Rattle.replica_core.proofs.world.happen.Goals as goal
 
@@ -84,3 +85,17 @@ returns-in-Deliver-clause-room c = λ nodes all.
     let replicas = c.world.inside.replicas in
     subst (HaveRoom nodes) (sym (with_items_is replicas c.deliver.new.replicas (c.deliver.ensures.as_many ∙ ap length c.deref_mut-in-Deliver.ensures.value ∙ sym replicas.ok.0)))
     (c.deliver.ensures.room nodes (subst (HaveRoom nodes) (sym c.deref_mut-in-Deliver.ensures.value) (subst (λ s. HaveRoom nodes s.replicas) (sym c.world.view_is) all)))
+
+pub returns-in-Export-clause-edits : goal.returns-in-Export-clause-edits
+returns-in-Export-clause-edits c = IfOk-weaker c.export.result _ _ (λ reply step w valid stands.
+    subst (λ e. AreEdits (after w e)) (sym c.in-Export.is) valid) c.export.ensures.step
+
+pub invariant_of-world : goal.invariant_of-world
+invariant_of-world c =
+    let replicas = c.world.inside.replicas in
+    let current = c.world.inside.current in
+    let messages = c.world.inside.messages.items in
+    current_same c.draw.new.replicas _ messages messages c.draw.new.current _
+    (with_items_is replicas c.draw.new.replicas (c.draw.ensures.as_many ∙ ap length c.deref_mut.ensures.value ∙ sym replicas.ok.0)) refl
+    (with_items_is current c.draw.new.current (c.draw.ensures.length ∙ ap length c.deref_mut-in-Draw.ensures.value ∙ sym current.ok.0))
+    (c.draw.ensures.remembered messages (current_same replicas.items _ messages messages current.items _ c.deref_mut.ensures.value refl c.deref_mut-in-Draw.ensures.value c.world.invariant))

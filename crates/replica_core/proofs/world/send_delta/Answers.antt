@@ -6,6 +6,7 @@ use Rattle.replica_core.specs.declared.event.Event.TheVariants.{SendDelta}
 use Rattle.replica_core.specs.declared.event.Reply.TheVariants as replies
 use Rattle.replica_core.specs.Exchange.{entries}
 use Rattle.replica_core.specs.World.{IsReply, StandSideBySide, StandsForSent, after}
+use Rattle.replica_core.proofs.CurrentLaws.{current_sent}
 use Rattle.replica_core.proofs.EventLaws.{refuses_entries_in_world, sends_entries_in_world}
 use Rattle.replica_core.proofs.ExchangeLaws.{entries_are, entries_given, entries_refused}
 use Rattle.replica_core.proofs.world.send_delta.Goals as goal
@@ -37,3 +38,8 @@ returns-in-Err-clause-step c = IfOk-weaker c.refused.result _ _ (λ reply told w
     (slice_get_read c.args.replicas.now (length c.args.replicas.now) c.in-Some.index sender refl (omega (arith, r.0.0, r.0.1, r.1)) c.index-replicas-index.is)
     (entries_refused sender.rule (entries sender.journal c.args.from c.args.count) c.in-Err.fault _ told.0 c.in-Err.ensures.err)
     told.1) c.refused.ensures.reply
+
+pub returns-in-Ok-clause-remembered : goal.returns-in-Ok-clause-remembered
+returns-in-Ok-clause-remembered c = λ current are.
+    current_sent c.args.replicas.now c.args.messages.now.items c.send.new.messages.items current c.in-Ok.text.items c.send.result
+    (λ reply. reply ≡ replies.Sent (length c.send.new.messages.items)) c.send.ensures.sent c.send.ensures.unsent are

@@ -9,3 +9,9 @@ returns-clause-edits c =
     subst (λ r. AreTellable r.rule.states (take c.args.count (drop c.args.from r.journal))) c.self.view_is
     (entries_tellable c.self.inside.rule.states c.args.from c.args.count c.self.inside.journal c.ranges.count.fits
     c.self.invariant.journal.edits c.self.invariant.noted)
+
+pub returns-in_err-write_delta-clause-edits : goal.returns-in_err-write_delta-clause-edits
+returns-in_err-write_delta-clause-edits c =
+    subst (λ r. AreTellable r.rule.states (take c.args.count (drop c.args.from r.journal))) c.self.view_is
+    (entries_tellable c.self.inside.rule.states c.args.from c.args.count c.self.inside.journal c.ranges.count.fits
+    c.self.invariant.journal.edits c.self.invariant.noted)

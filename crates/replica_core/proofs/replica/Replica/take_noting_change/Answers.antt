@@ -5,11 +5,11 @@ use Rattle.stamped_tree.specs.Plane.{map_of}
 use Rattle.replica_core.specs.Replica.{IsJournalOf}
 use Rattle.replica_core.proofs.NotedEdits.{below_same, below_taken, kept, taken_journal}
 use Rattle.replica_core.proofs.StateLaws.{states_kept, states_taken}
-use Rattle.replica_core.proofs.replica.Replica.take.Goals as goal
+use Rattle.replica_core.proofs.replica.Replica.take_noting_change.Goals as goal
 
 pub invariant_of-self : goal.invariant_of-self
 invariant_of-self c =
-    let err = c.in_err-take_into.ensures in
+    let err = c.in_err-changed.ensures in
     let before = map_of c.self.inside.plane in
     let behind = map_of c.take_into.new.plane in
     record {
@@ -23,7 +23,7 @@ invariant_of-self c =
 pub invariant_of-self-2 : goal.invariant_of-self-2
 invariant_of-self-2 c =
     let same : IsTrue c.same.result = (cc) in
-    let told = c.in_ok-take_into.ensures in
+    let told = c.in_ok-changed.ensures in
     let before = map_of c.self.inside.plane in
     let behind = map_of c.take_into.new.plane in
     let below = below_same c.self.inside.rule c.args.message.now.rule c.content.result.now c.args.message.now.content
