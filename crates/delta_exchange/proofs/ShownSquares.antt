@@ -17,7 +17,7 @@ use Rattle.stamped_tree.specs.LeafKind.{plane_grid}
 use Rattle.stamped_tree.specs.Plane.{grid_of_leaf}
 use Rattle.stamped_tree.specs.Tree.{Tree, Blank, Leaf, Four}
 use Rattle.stamped_tree.specs.View.{ShowsTree}
-use Rattle.stamped_tree.proofs.Drawing.{draws_later}
+use Rattle.square_store.proofs.Drawn.{draws_later}
 use Rattle.stamped_tree.proofs.Held.{side_some}
 use Rattle.delta_exchange.specs.StateReading.{are_one_stamp, is_spelt_out, stamp_if_blank}
 

@@ -13,7 +13,7 @@ use Rattle.stamped_tree.specs.declared.leaf_kind.PlaneLeaf.{PlaneLeaf}
 use Rattle.stamped_tree.specs.LeafKind.{plane_grid}
 use Rattle.stamped_tree.specs.Tree.{Tree, Leaf, Four}
 use Rattle.square_store.specs.Seen.{AreAt}
-use Rattle.stamped_tree.proofs.Drawing.{grown_more}
+use Rattle.square_store.proofs.Drawn.{grown_more}
 use Rattle.byte_codec.specs.Reading.{Reading, unrefused}
 use Rattle.delta_exchange.specs.Fault.{IsWantOrFull}
 use Rattle.delta_exchange.specs.declared.fault.ReadFault.{ReadFault}

@@ -1,3 +1,4 @@
 pub mod ExportFault
 pub mod Export
 pub mod Laws
+pub mod Rows

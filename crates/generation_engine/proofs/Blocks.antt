@@ -16,7 +16,7 @@ use Rattle.generation_engine.specs.Kept.{IsLater}
 use Rattle.generation_engine.specs.Results.{part_from}
 use Rattle.generation_engine.specs.Walk.{AreMiddleParts}
 use Rattle.generation_engine.proofs.ResultLaws.{centre_is_result, moves_grouped}
-use Rattle.generation_engine.proofs.Squares.{wide}
+use Rattle.square_store.proofs.Drawn.{twice_below}
 use Rattle.generation_engine.proofs.Passes.{result_same}
 
 all_of : (z n i : ℕ) → get_or (replicate n z) i z ≡ z
@@ -77,7 +77,7 @@ middle_later r s0 s1 k p q parts more mid drawn = record {
   stands = drawn.stands;
   result =
       (let x = 2 ^ (k - 1 - 1) in let x' = 2 ^ (k - 1) in
-      let w : 8 * x' ≡ 8 * x + 8 * x = wide (k - 1) (omega (arith, more)) in
+      let w : 8 * x' ≡ 8 * x + 8 * x = twice_below 8 (k - 1) (omega (arith, more)) in
       let n : 8 * x ≡ 4 * x' = omega (arith, w) in
       let m : 2 * (8 * x) ≡ 8 * x' = omega (arith, w) in
       result_same r (8 * x) (4 * x') 0 (grid_at leaf_grid 8 s0 k p) (part_from (grid_at leaf_grid 8 s0 k p) (8 * x) (8 * x)) (grid_at leaf_grid 8 s0 k p) (grid_at leaf_grid 8 s1 (k - 1) q) n (λ u v hu hv. refl)

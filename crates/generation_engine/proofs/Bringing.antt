@@ -10,6 +10,7 @@ use Rattle.square_store.specs.Squares.{Held, side_at, IsAt, grid_at, four_grid, 
 use Rattle.square_store.specs.Store.{IsGrown}
 use Rattle.square_store.specs.Seen.{AreAt, IsBlankAt, IsLeafAt}
 use Rattle.square_store.proofs.Nodes.{nat_same}
+use Rattle.square_store.proofs.Drawn.{draws_later, each_of_four, twice_below}
 use Rattle.stamped_tree.specs.Copy.{Copies, copy_of}
 use Rattle.stamped_tree.specs.PlaneSquare.{PlaneSquare}
 use Rattle.stamped_tree.specs.View.{AreQuartersSeen}
@@ -19,10 +20,9 @@ use Rattle.generation_engine.specs.declared.leaf_kind.EngineLeaf.{EngineLeaf}
 use Rattle.generation_engine.specs.EngineLeaf.{leaf_grid, states_on, unstamped}
 use Rattle.generation_engine.specs.Loading.{AreBrought, IsBrought, IsBroughtNoted}
 use Rattle.generation_engine.proofs.Grids.{quartered_same}
-use Rattle.generation_engine.proofs.Squares.{drawn_later, each_of_four, wide}
 
 pub brought_later : (source : Held PlaneLeaf) (old new : Held EngineLeaf) (a b : ℕ) → IsGrown leaf_grid 8 old new → IsBrought source old a b → IsBrought source new a b
-brought_later source old new a b grown copy = record { draws = λ k at. drawn_later old new k b _ grown (copy.draws k at) }
+brought_later source old new a b grown copy = record { draws = λ k at. draws_later leaf_grid 8 old new k _ b grown (copy.draws k at) }
 
 pub all_later : (source : Held PlaneLeaf) (old new : Held EngineLeaf) (copies : Copies) → IsGrown leaf_grid 8 old new → AreBrought source old copies → AreBrought source new copies
 all_later source old new copies grown are = record { each = λ a b e. brought_later source old new a b grown (are.each a b e) }
@@ -76,13 +76,13 @@ module _ (q nw ne sw se : PlaneSquare) (s1 s2 s3 s4 s5 : Held EngineLeaf) (k a b
   stands i h = subst (λ j. IsAt q.store (j - 1) (slice_index_or (nw.part ∷ ne.part ∷ sw.part ∷ se.part ∷ []) i 0)) (sym level) (seen.four.parts_stand i h)
 
   da : Draws leaf_grid 8 s4 (k - 1) (states_on (grid_at plane_grid 8 q.store (k - 1) nw.part)) a
-  da = drawn_later s3 s4 (k - 1) a _ g4 (drawn_later s2 s3 (k - 1) a _ g3 (drawn_later s1 s2 (k - 1) a _ g2 (ba.draws (k - 1) (stands 0 (omega arith)))))
+  da = draws_later leaf_grid 8 s3 s4 (k - 1) _ a g4 (draws_later leaf_grid 8 s2 s3 (k - 1) _ a g3 (draws_later leaf_grid 8 s1 s2 (k - 1) _ a g2 (ba.draws (k - 1) (stands 0 (omega arith)))))
 
   db : Draws leaf_grid 8 s4 (k - 1) (states_on (grid_at plane_grid 8 q.store (k - 1) ne.part)) b
-  db = drawn_later s3 s4 (k - 1) b _ g4 (drawn_later s2 s3 (k - 1) b _ g3 (bb.draws (k - 1) (stands 1 (omega arith))))
+  db = draws_later leaf_grid 8 s3 s4 (k - 1) _ b g4 (draws_later leaf_grid 8 s2 s3 (k - 1) _ b g3 (bb.draws (k - 1) (stands 1 (omega arith))))
 
   dc : Draws leaf_grid 8 s4 (k - 1) (states_on (grid_at plane_grid 8 q.store (k - 1) sw.part)) c
-  dc = drawn_later s3 s4 (k - 1) c _ g4 (bc.draws (k - 1) (stands 2 (omega arith)))
+  dc = draws_later leaf_grid 8 s3 s4 (k - 1) _ c g4 (bc.draws (k - 1) (stands 2 (omega arith)))
 
   dd : Draws leaf_grid 8 s4 (k - 1) (states_on (grid_at plane_grid 8 q.store (k - 1) se.part)) d
   dd = bd.draws (k - 1) (stands 3 (omega arith))
@@ -99,7 +99,7 @@ module _ (q nw ne sw se : PlaneSquare) (s1 s2 s3 s4 s5 : Held EngineLeaf) (k a b
       whole =
           let n = side_at 8 (k - 1) in
           let some : 0 < k = (let h = seen.four.positive in omega (arith, h, level)) in
-          let e = wide k some in
+          let e = twice_below 8 k some in
           let fa = grid_at plane_grid 8 q.store (k - 1) nw.part in let fb = grid_at plane_grid 8 q.store (k - 1) ne.part in
           let fc = grid_at plane_grid 8 q.store (k - 1) sw.part in let fd = grid_at plane_grid 8 q.store (k - 1) se.part in
           let source : AreSameWithin (side_at 8 k) (grid_at plane_grid 8 q.store k q.part) (quartered n fa fb fc fd) =

@@ -17,7 +17,7 @@ use Rattle.generation_engine.specs.EngineLeaf.{leaf_grid}
 use Rattle.generation_engine.specs.Walk.{AreMiddleParts, GathersSquare, middle_grid}
 use Rattle.generation_engine.proofs.Counting.{sum_split, population_same, population_none, population_four}
 use Rattle.generation_engine.proofs.Gathering.{gathers_middle, gathers_parts}
-use Rattle.generation_engine.proofs.Squares.{wide}
+use Rattle.square_store.proofs.Drawn.{twice_below}
 
 states : Grid → ℕ → ℕ → ℕ
 states f u v = (f u v).state
@@ -96,7 +96,7 @@ parts_counted s k j p left top n parts ra rb rc rd l0 l1 l2 l3 l4 four stands is
       let listed = λ (i r : ℕ) (l : i < 4). same_default parts i r 0 (let h = four.four in omega (arith, l, h)) in
       let m = side_at 8 (k - 1) in
       let at = λ (q : ℕ). grid_at leaf_grid 8 s (k - 1) q in
-      let e = wide k (let h = four.positive in omega (arith, h, level)) in
+      let e = twice_below 8 k (let h = four.positive in omega (arith, h, level)) in
       let drawn : AreSameWithin (side_at 8 k) (grid_at leaf_grid 8 s k p) (four_grid leaf_grid 8 s (k - 1) parts) = subst (λ i. AreSameWithin (side_at 8 i) (grid_at leaf_grid 8 s i p) (four_grid leaf_grid 8 s (i - 1) parts)) (sym level) four.draws.same in
       let same : AreSameWithin (m + m) (grid_at leaf_grid 8 s k p) (quartered m (at (slice_index_or parts 0 ra)) (at (slice_index_or parts 1 rb)) (at (slice_index_or parts 2 rc)) (at (slice_index_or parts 3 rd))) = λ u v hu hv.
       rw (listed 0 ra (omega arith), listed 1 rb (omega arith), listed 2 rc (omega arith), listed 3 rd (omega arith)) (drawn u v (omega (arith, hu, e)) (omega (arith, hv, e))) in

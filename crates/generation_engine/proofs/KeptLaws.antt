@@ -19,7 +19,7 @@ use Rattle.std.proofs.Math.Nat.{pow-le-pow_right}
 use Rattle.generations_rule.proofs.EvolutionLaws.{stays_empty}
 use Rattle.square_store.specs.Seen.{IsBlankAt}
 use Rattle.generation_engine.proofs.ResultLaws.{has_one_result}
-use Rattle.generation_engine.proofs.Squares.{wide}
+use Rattle.square_store.proofs.Drawn.{twice_below}
 
 -- the result of a square in a store that has grown before, and since
 pub later_before : (r : GenerationsRule) (s t u : Held EngineLeaf) (k n p q : ℕ) → IsGrown leaf_grid 8 s t → IsAt s k p → IsLater r t u k n p q → IsLater r s u k n p q
@@ -130,7 +130,7 @@ blank_dead s t p blank = record {
 twice_quarter : (k : ℕ) → 0 < k → (4 * side_at 4 (k - 1) ≡ side_at 8 k) × (2 * side_at 4 (k - 1) ≡ side_at 8 (k - 1))
 twice_quarter k some =
     let x = 2 ^ (k - 1) in let y = 2 ^ k in
-    let w : 8 * y ≡ 8 * x + 8 * x = wide k some in
+    let w : 8 * y ≡ 8 * x + 8 * x = twice_below 8 k some in
     let e : 4 * (4 * x) ≡ 8 * y = omega (arith, w) in let e' : 2 * (4 * x) ≡ 8 * x = omega arith in (e, e')
 
 -- nothing comes of a dead square in as many generations as a result can have

@@ -13,7 +13,7 @@ use Rattle.generation_engine.proofs.ResultLaws.{in_two_passes}
 use Rattle.square_store.proofs.Quarters.{quarter_nw, quarter_ne, quarter_sw, quarter_se}
 use Rattle.generation_engine.specs.Kept.{AllStand, AreDrawn, AreLater, HasGrown, IsLater, RuledSquares, neighbours_joined}
 use Rattle.generation_engine.proofs.Grids.{quartered_same, by_quarter}
-use Rattle.generation_engine.proofs.Squares.{grown_more, wide}
+use Rattle.square_store.proofs.Drawn.{grown_more, twice_below}
 use Rattle.generation_engine.proofs.KeptLaws.{later_before, later_after}
 
 -- the first of w by w squares were made
@@ -41,7 +41,7 @@ module _ (old now new : RuledSquares) (k t : ℕ) (parts later : List ℕ) (plac
   -- one more was replaced
   pub replaced_more : AreReplaced old new k t parts (slice_set later place q) (place + 1)
   replaced_more = record {
-    grows = record { rule = grows.rule ∙ are.grows.rule; store = grown_more old.store now.store new.store are.grows.store grows.store };
+    grows = record { rule = grows.rule ∙ are.grows.rule; store = grown_more leaf_grid 8 old.store now.store new.store are.grows.store grows.store };
     count = length-set later place q ∙ are.count;
     done = λ i h. elim (eqb_tells i place) [
       | inl same ↦ (let count = are.count in let e : i ≡ place = same.1 in
@@ -126,11 +126,11 @@ module _ (r : GenerationsRule) (rule : IsRule r) (s0 s1 s2 s3 s4 s5 : Held Engin
 
   side : side_at 8 (k - 1) ≡ 4 * n
   unfolding n m
-  side = wide (k - 1) (omega (arith, more)) ∙ sym (four_times k more)
+  side = twice_below 8 (k - 1) (omega (arith, more)) ∙ sym (four_times k more)
 
   sides : side_at 8 (k - 1) ≡ m + m
   unfolding m
-  sides = wide (k - 1) (omega (arith, more))
+  sides = twice_below 8 (k - 1) (omega (arith, more))
 
   cut_nine : (a b : ℕ) → a < 3 → b < 3 → AreSameWithin (4 * n) (grid_at leaf_grid 8 s1 (k - 1) (slice_index_or nine (3 * b + a) 0)) (part_from c (2 * n * a) (2 * n * b))
   unfolding c m

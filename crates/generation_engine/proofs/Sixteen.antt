@@ -8,11 +8,11 @@ use Rattle.stamped_tree.proofs.Parts.{same_default}
 use Rattle.generation_engine.specs.declared.leaf_kind.EngineLeaf.{EngineLeaf}
 use Rattle.generation_engine.specs.EngineLeaf.{leaf_grid}
 use Rattle.generation_engine.specs.Kept.{AreDrawn}
-use Rattle.generation_engine.specs.Loading.{AreQuartersAt}
+use Rattle.square_store.specs.Seen.{AreQuartersAt}
 use Rattle.generation_engine.specs.Results.{part_from}
-use Rattle.generation_engine.proofs.Squares.{wide}
+use Rattle.square_store.proofs.Drawn.{twice_below}
 
-module _ (s : Held EngineLeaf) (k p : ℕ) (parts : List ℕ) (some : 0 < k) (cut : AreQuartersAt s k p parts) where
+module _ (s : Held EngineLeaf) (k p : ℕ) (parts : List ℕ) (some : 0 < k) (cut : AreQuartersAt leaf_grid 8 s k p parts) where
   n : ℕ
   n = side_at 8 (k - 1)
 
@@ -24,7 +24,7 @@ module _ (s : Held EngineLeaf) (k p : ℕ) (parts : List ℕ) (some : 0 < k) (cu
 
   whole : AreSameWithin (n + n) (quartered n (g 0) (g 1) (g 2) (g 3)) f
   unfolding n f g
-  whole u v hu hv = let e = wide k some in sym (cut.draws.same u v (omega (arith, hu, e)) (omega (arith, hv, e)))
+  whole u v hu hv = let e = twice_below 8 k some in sym (cut.draws.same u v (omega (arith, hu, e)) (omega (arith, hv, e)))
 
   part_at : (i x y : ℕ) → i < 4 → AreSameWithin n (g i) (λ u v. f (n * x + u) (n * y + v)) → Draws leaf_grid 8 s (k - 1) (part_from f (n * x) (n * y)) (slice_index_or parts i 0)
   unfolding n f g
@@ -54,13 +54,13 @@ module _ (s : Held EngineLeaf) (k p : ℕ) (parts : List ℕ) (some : 0 < k) (cu
 twice_in : (m x x' u : ℕ) → (m + m) * x + (m * x' + u) ≡ m * (2 * x + x') + u
 twice_in m x x' u = grind arith
 
-pub sixteenth_drawn : (s : Held EngineLeaf) (k p : ℕ) (outer inner : List ℕ) (x y o : ℕ) → 1 < k → AreQuartersAt s k p outer → AreQuartersAt s (k - 1) (slice_index_or outer (2 * y + x) o) inner → (x' y' i d : ℕ) → x < 2 → y < 2 → x' < 2 → y' < 2 → i ≡ 2 * y' + x'
+pub sixteenth_drawn : (s : Held EngineLeaf) (k p : ℕ) (outer inner : List ℕ) (x y o : ℕ) → 1 < k → AreQuartersAt leaf_grid 8 s k p outer → AreQuartersAt leaf_grid 8 s (k - 1) (slice_index_or outer (2 * y + x) o) inner → (x' y' i d : ℕ) → x < 2 → y < 2 → x' < 2 → y' < 2 → i ≡ 2 * y' + x'
     → Draws leaf_grid 8 s (k - 1 - 1) (part_from (grid_at leaf_grid 8 s k p) (side_at 8 (k - 1 - 1) * (2 * x + x')) (side_at 8 (k - 1 - 1) * (2 * y + y'))) (slice_index_or inner i d)
 sixteenth_drawn s k p outer inner x y o more cut cut' x' y' i d hx hy hx' hy' e =
     let m = side_at 8 (k - 1 - 1) in
     let n = side_at 8 (k - 1) in
     let c = grid_at leaf_grid 8 s k p in
-    let w : n ≡ m + m = wide (k - 1) (omega (arith, more)) in
+    let w : n ≡ m + m = twice_below 8 (k - 1) (omega (arith, more)) in
     let listed : slice_index_or outer (2 * y + x) o ≡ slice_index_or outer (2 * y + x) 0 = same_default outer (2 * y + x) o 0 (let l = cut.four in omega (arith, hx, hy, l)) in
     let big = quarter_drawn s k p outer (omega (arith, more)) cut x y hx hy in
     let small = quarter_drawn s (k - 1) _ inner (omega (arith, more)) cut' x' y' hx' hy' in
@@ -79,8 +79,8 @@ sixteenth_drawn s k p outer inner x y o more cut cut' x' y' i d hx hy hx' hy' e 
     inside m (suc zero) u n h k e = omega (arith, k, e)
     inside m (suc (suc x)) u n h k e = absurd (omega (arith, h))
 
-module _ (s : Held EngineLeaf) (k p : ℕ) (outer nw ne sw se : List ℕ) (o0 o1 o2 o3 d0 d1 d2 d3 d4 d5 d6 d7 d8 d9 d10 d11 d12 d13 d14 d15 : ℕ) (more : 1 < k) (cut : AreQuartersAt s k p outer)
-    (cut_nw : AreQuartersAt s (k - 1) (slice_index_or outer 0 o0) nw) (cut_ne : AreQuartersAt s (k - 1) (slice_index_or outer 1 o1) ne) (cut_sw : AreQuartersAt s (k - 1) (slice_index_or outer 2 o2) sw) (cut_se : AreQuartersAt s (k - 1) (slice_index_or outer 3 o3) se) where
+module _ (s : Held EngineLeaf) (k p : ℕ) (outer nw ne sw se : List ℕ) (o0 o1 o2 o3 d0 d1 d2 d3 d4 d5 d6 d7 d8 d9 d10 d11 d12 d13 d14 d15 : ℕ) (more : 1 < k) (cut : AreQuartersAt leaf_grid 8 s k p outer)
+    (cut_nw : AreQuartersAt leaf_grid 8 s (k - 1) (slice_index_or outer 0 o0) nw) (cut_ne : AreQuartersAt leaf_grid 8 s (k - 1) (slice_index_or outer 1 o1) ne) (cut_sw : AreQuartersAt leaf_grid 8 s (k - 1) (slice_index_or outer 2 o2) sw) (cut_se : AreQuartersAt leaf_grid 8 s (k - 1) (slice_index_or outer 3 o3) se) where
   listed : List ℕ
   listed = slice_index_or nw 0 d0 ∷ slice_index_or nw 1 d1 ∷ slice_index_or ne 0 d2 ∷ slice_index_or ne 1 d3 ∷ slice_index_or nw 2 d4 ∷ slice_index_or nw 3 d5 ∷ slice_index_or ne 2 d6 ∷ slice_index_or ne 3 d7 ∷ slice_index_or sw 0 d8 ∷ slice_index_or sw 1 d9 ∷ slice_index_or se 0 d10 ∷ slice_index_or se 1 d11 ∷ slice_index_or sw 2 d12 ∷ slice_index_or sw 3 d13 ∷ slice_index_or se 2 d14 ∷ slice_index_or se 3 d15 ∷ []
 

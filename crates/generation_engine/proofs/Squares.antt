@@ -4,60 +4,22 @@ use Rattle.std.specs.Prelude.{slice_index_or}
 use Rattle.square_store.specs.Grid.{Grid, quartered, blank_grid, AreSameWithin}
 use Rattle.square_store.specs.Squares.{Held, side_at, IsAt, grid_at, four_grid, Draws}
 use Rattle.square_store.specs.Store.{IsGrown}
-use Rattle.square_store.specs.Seen.{IsBlankAt}
-use Rattle.square_store.proofs.Quarters.{twice, blank_quarters}
+use Rattle.square_store.specs.Seen.{AreQuartersAt, IsBlankAt}
+use Rattle.square_store.proofs.Quarters.{blank_quarters}
+use Rattle.square_store.proofs.Drawn.{draws_later, each_of_four, twice_below}
 use Rattle.generation_engine.specs.declared.leaf_kind.EngineLeaf.{EngineLeaf}
 use Rattle.generation_engine.specs.EngineLeaf.{leaf_grid}
-use Rattle.generation_engine.specs.Loading.{AreQuartersAt, centred}
+use Rattle.generation_engine.specs.Loading.{centred}
 use Rattle.stamped_tree.proofs.Parts.{same_default}
 use Rattle.generation_engine.specs.Walk.{AreMiddleParts}
 use Rattle.generation_engine.proofs.Grids.{quartered_same, middle_drawn, middle_is}
-
-pub grown_more : (s t u : Held EngineLeaf) → IsGrown leaf_grid 8 s t → IsGrown leaf_grid 8 t u → IsGrown leaf_grid 8 s u
-grown_more s t u g h = record {
-  room = h.room ∙ g.room;
-  held = λ p x. h.held p (g.held p x);
-  stands = λ k p x. h.stands k p (g.stands k p x);
-  same = λ k p x. h.same k p (g.stands k p x) ∙ g.same k p x;
-}
-
-pub drawn_later : (s t : Held EngineLeaf) (k p : ℕ) (f : Grid) → IsGrown leaf_grid 8 s t → Draws leaf_grid 8 s k f p → Draws leaf_grid 8 t k f p
-drawn_later s t k p f grown drawn = record {
-  stands = grown.stands k p drawn.stands;
-  same = λ u v hu hv. ap (λ (g : Grid). g u v) (grown.same k p drawn.stands) ∙ drawn.same u v hu hv;
-}
-
--- four parts of a list
-pub each_of_four : (P : ℕ → Type 0) (a b c d : ℕ) → P a → P b → P c → P d → (i : ℕ) → i < 4 → P (slice_index_or (a ∷ b ∷ c ∷ d ∷ []) i 0)
-each_of_four P a b c d pa pb pc pd zero h = pa
-each_of_four P a b c d pa pb pc pd (suc zero) h = pb
-each_of_four P a b c d pa pb pc pd (suc (suc zero)) h = pc
-each_of_four P a b c d pa pb pc pd (suc (suc (suc zero))) h = pd
-each_of_four P a b c d pa pb pc pd (suc (suc (suc (suc i)))) h = absurd (omega (arith, h))
-
--- twice as wide as the level below
-pub wide : (k : ℕ) → 0 < k → side_at 8 k ≡ side_at 8 (k - 1) + side_at 8 (k - 1)
-wide k h = let e : suc (k - 1) ≡ k = omega (arith, h) in ap (side_at 8) (sym e) ∙ twice 8 (k - 1)
-
-pub blank_cut : (s : Held EngineLeaf) (t k p : ℕ) → 0 < k → IsBlankAt leaf_grid 8 s t p → AreQuartersAt s k p (p ∷ p ∷ p ∷ p ∷ [])
-blank_cut s t k p some blank = record {
-  four = refl;
-  stand = each_of_four (λ q. IsAt s (k - 1) q) p p p p (blank (k - 1)).stands (blank (k - 1)).stands (blank (k - 1)).stands (blank (k - 1)).stands;
-  draws = record {
-    stands = (blank k).stands;
-    same = λ u v hu hv.
-        (let n = side_at 8 (k - 1) in let below = (blank (k - 1)).same in let e = wide k some in
-        (blank k).same u v hu hv ∙ sym (blank_quarters n t u v)
-        ∙ sym (quartered_same n (grid_at leaf_grid 8 s (k - 1) p) (grid_at leaf_grid 8 s (k - 1) p) (grid_at leaf_grid 8 s (k - 1) p) (grid_at leaf_grid 8 s (k - 1) p) (blank_grid t) (blank_grid t) (blank_grid t) (blank_grid t) below below below below u v (omega (arith, hu, e)) (omega (arith, hv, e))));
-  };
-}
 
 -- a square of four that stood in a store, in one that has grown
 four_later : (s t : Held EngineLeaf) (k p : ℕ) (a b c d : ℕ) (fa fb fc fd : Grid) → 0 < k → Draws leaf_grid 8 s (k - 1) fa a → Draws leaf_grid 8 s (k - 1) fb b → Draws leaf_grid 8 s (k - 1) fc c → Draws leaf_grid 8 s (k - 1) fd d
     → Draws leaf_grid 8 t k (four_grid leaf_grid 8 s (k - 1) (a ∷ b ∷ c ∷ d ∷ [])) p → Draws leaf_grid 8 t k (quartered (side_at 8 (k - 1)) fa fb fc fd) p
 four_later s t k p a b c d fa fb fc fd some da db dc dd drawn = record {
   stands = drawn.stands;
-  same = λ u v hu hv. (let e = wide k some in
+  same = λ u v hu hv. (let e = twice_below 8 k some in
       drawn.same u v hu hv ∙ quartered_same (side_at 8 (k - 1)) _ _ _ _ fa fb fc fd da.same db.same dc.same dd.same u v (omega (arith, hu, e)) (omega (arith, hv, e)));
 }
 
@@ -71,7 +33,7 @@ own s k p at = record { stands = at; same = λ u v hu hv. refl }
 -- a square that was put in the middle of a dead one
 module _ (s0 s1 s2 s3 s4 s5 s6 : Held EngineLeaf) (k p : ℕ) (parts : List ℕ) (q0 q1 q2 q3 z a b c d w : ℕ) (some : 0 < k) (at : IsAt s0 k p)
     (g1 : IsGrown leaf_grid 8 s0 s1) (g2 : IsGrown leaf_grid 8 s1 s2) (g3 : IsGrown leaf_grid 8 s2 s3) (g4 : IsGrown leaf_grid 8 s3 s4) (g5 : IsGrown leaf_grid 8 s4 s5)
-    (dead : IsBlankAt leaf_grid 8 s1 0 z) (cut : AreQuartersAt s1 k p parts)
+    (dead : IsBlankAt leaf_grid 8 s1 0 z) (cut : AreQuartersAt leaf_grid 8 s1 k p parts)
     (e0 : q0 ≡ slice_index_or parts 0 0) (e1 : q1 ≡ slice_index_or parts 1 0) (e2 : q2 ≡ slice_index_or parts 2 0) (e3 : q3 ≡ slice_index_or parts 3 0) where
   part_at : (i q : ℕ) → i < 4 → q ≡ slice_index_or parts i 0 → Draws leaf_grid 8 s1 (k - 1) (grid s1 (k - 1) q) q
   part_at i q h e = own s1 (k - 1) q (subst (λ r. IsAt s1 (k - 1) r) (sym e) (cut.stand i h))
@@ -86,18 +48,18 @@ module _ (s0 s1 s2 s3 s4 s5 s6 : Held EngineLeaf) (k p : ℕ) (parts : List ℕ)
       let dead1 : Draws leaf_grid 8 s1 (k - 1) (blank_grid 0) z = dead (k - 1) in
       let p0 = part_at 0 q0 (omega arith) e0 in let p1 = part_at 1 q1 (omega arith) e1 in let p2 = part_at 2 q2 (omega arith) e2 in let p3 = part_at 3 q3 (omega arith) e3 in
       let f0 = grid s1 (k - 1) q0 in let f1 = grid s1 (k - 1) q1 in let f2 = grid s1 (k - 1) q2 in let f3 = grid s1 (k - 1) q3 in
-      let dead2 = drawn_later s1 s2 (k - 1) z (blank_grid 0) g2 dead1 in let dead3 = drawn_later s2 s3 (k - 1) z (blank_grid 0) g3 dead2 in let dead4 = drawn_later s3 s4 (k - 1) z (blank_grid 0) g4 dead3 in
-      let r1 = drawn_later s1 s2 (k - 1) q1 f1 g2 p1 in
-      let r2 = drawn_later s2 s3 (k - 1) q2 f2 g3 (drawn_later s1 s2 (k - 1) q2 f2 g2 p2) in
-      let r3 = drawn_later s3 s4 (k - 1) q3 f3 g4 (drawn_later s2 s3 (k - 1) q3 f3 g3 (drawn_later s1 s2 (k - 1) q3 f3 g2 p3)) in
+      let dead2 = draws_later leaf_grid 8 s1 s2 (k - 1) (blank_grid 0) z g2 dead1 in let dead3 = draws_later leaf_grid 8 s2 s3 (k - 1) (blank_grid 0) z g3 dead2 in let dead4 = draws_later leaf_grid 8 s3 s4 (k - 1) (blank_grid 0) z g4 dead3 in
+      let r1 = draws_later leaf_grid 8 s1 s2 (k - 1) f1 q1 g2 p1 in
+      let r2 = draws_later leaf_grid 8 s2 s3 (k - 1) f2 q2 g3 (draws_later leaf_grid 8 s1 s2 (k - 1) f2 q2 g2 p2) in
+      let r3 = draws_later leaf_grid 8 s3 s4 (k - 1) f3 q3 g4 (draws_later leaf_grid 8 s2 s3 (k - 1) f3 q3 g3 (draws_later leaf_grid 8 s1 s2 (k - 1) f3 q3 g2 p3)) in
       let za = blank_grid 0 in
-      let wa = drawn_later s4 s5 k a _ g5 (drawn_later s3 s4 k a _ g4 (drawn_later s2 s3 k a _ g3 (four_later s1 s2 k a z z z q0 za za za f0 some dead1 dead1 dead1 p0 da))) in
-      let wb = drawn_later s4 s5 k b _ g5 (drawn_later s3 s4 k b _ g4 (four_later s2 s3 k b z z q1 z za za f1 za some dead2 dead2 r1 dead2 db)) in
-      let wc = drawn_later s4 s5 k c _ g5 (four_later s3 s4 k c z q2 z z za f2 za za some dead3 r2 dead3 dead3 dc) in
+      let wa = draws_later leaf_grid 8 s4 s5 k _ a g5 (draws_later leaf_grid 8 s3 s4 k _ a g4 (draws_later leaf_grid 8 s2 s3 k _ a g3 (four_later s1 s2 k a z z z q0 za za za f0 some dead1 dead1 dead1 p0 da))) in
+      let wb = draws_later leaf_grid 8 s4 s5 k _ b g5 (draws_later leaf_grid 8 s3 s4 k _ b g4 (four_later s2 s3 k b z z q1 z za za f1 za some dead2 dead2 r1 dead2 db)) in
+      let wc = draws_later leaf_grid 8 s4 s5 k _ c g5 (four_later s3 s4 k c z q2 z z za f2 za za some dead3 r2 dead3 dead3 dc) in
       let wd = four_later s4 s5 k d q3 z z z f3 za za za some r3 dead4 dead4 dead4 dd in
       let level : k + 1 - 1 ≡ k = omega arith in
-      let e = wide k some in
-      let e' : side_at 8 (k + 1) ≡ side_at 8 k + side_at 8 k = wide (k + 1) (omega arith) ∙ (λ i. side_at 8 (level i) + side_at 8 (level i)) in
+      let e = twice_below 8 k some in
+      let e' : side_at 8 (k + 1) ≡ side_at 8 k + side_at 8 k = twice_below 8 (k + 1) (omega arith) ∙ (λ i. side_at 8 (level i) + side_at 8 (level i)) in
       let four : AreSameWithin (n + n) (quartered n f0 f1 f2 f3) (grid_at leaf_grid 8 s0 k p) = λ u v hu hv.
       rw (e0, e1, e2, e3) (sym (cut.draws.same u v (omega (arith, hu, e)) (omega (arith, hv, e)))) ∙ ap (λ (g : Grid). g u v) (g1.same k p at) in
       record {
@@ -125,8 +87,8 @@ pub full_kept : (old new : Held EngineLeaf) → new ≡ old → length old.squar
 full_kept old new e h = subst (λ (s : Held EngineLeaf). length s.squares ≡ s.room) (sym e) h
 
 -- the middle of a square that was cut twice
-module _ (s : Held EngineLeaf) (k p : ℕ) (outer nw ne sw se : List ℕ) (o0 o1 o2 o3 q0 q1 q2 q3 : ℕ) (more : 1 < k) (cut : AreQuartersAt s k p outer)
-    (cut_nw : AreQuartersAt s (k - 1) (slice_index_or outer 0 o0) nw) (cut_ne : AreQuartersAt s (k - 1) (slice_index_or outer 1 o1) ne) (cut_sw : AreQuartersAt s (k - 1) (slice_index_or outer 2 o2) sw) (cut_se : AreQuartersAt s (k - 1) (slice_index_or outer 3 o3) se) where
+module _ (s : Held EngineLeaf) (k p : ℕ) (outer nw ne sw se : List ℕ) (o0 o1 o2 o3 q0 q1 q2 q3 : ℕ) (more : 1 < k) (cut : AreQuartersAt leaf_grid 8 s k p outer)
+    (cut_nw : AreQuartersAt leaf_grid 8 s (k - 1) (slice_index_or outer 0 o0) nw) (cut_ne : AreQuartersAt leaf_grid 8 s (k - 1) (slice_index_or outer 1 o1) ne) (cut_sw : AreQuartersAt leaf_grid 8 s (k - 1) (slice_index_or outer 2 o2) sw) (cut_se : AreQuartersAt leaf_grid 8 s (k - 1) (slice_index_or outer 3 o3) se) where
   listed : (parts : List ℕ) → length parts ≡ 4 → (i d : ℕ) → i < 4 → slice_index_or parts i d ≡ slice_index_or parts i 0
   listed parts four i d h = same_default parts i d 0 (omega (arith, h, four))
 
@@ -137,8 +99,8 @@ module _ (s : Held EngineLeaf) (k p : ℕ) (outer nw ne sw se : List ℕ) (o0 o1
   unfolding below
   middle_cut =
       let stands = λ (q : ℕ). IsAt s (k - 1 - 1) q in
-      let e = wide k (omega (arith, more)) in
-      let e' = wide (k - 1) (omega (arith, more)) in
+      let e = twice_below 8 k (omega (arith, more)) in
+      let e' = twice_below 8 (k - 1) (omega (arith, more)) in
       let n = side_at 8 (k - 1 - 1) in
       let l0 = listed outer cut.four 0 o0 (omega arith) in let l1 = listed outer cut.four 1 o1 (omega arith) in let l2 = listed outer cut.four 2 o2 (omega arith) in let l3 = listed outer cut.four 3 o3 (omega arith) in
       let g = λ (q : ℕ). grid_at leaf_grid 8 s (k - 1) q in

@@ -18,7 +18,7 @@ use Rattle.generation_engine.specs.Results.{IsResult}
 use Rattle.generation_engine.specs.Running.{HasSameCells, IsEvolutionOf, IsRun, universe}
 use Rattle.generation_engine.specs.Universe.{EngineValue, AreSameStates, IsEngine, from_universe_edge, is_coordinate_in_reach, is_coordinate_in_universe, is_in_reach, is_in_universe, states_of, universe_corner}
 use Rattle.generation_engine.proofs.Grids.{is_middle}
-use Rattle.generation_engine.proofs.Squares.{grown_more}
+use Rattle.square_store.proofs.Drawn.{grown_more}
 use Rattle.generation_engine.proofs.Passes.{result_same}
 use Rattle.generation_engine.proofs.Counting.{population_same}
 use Rattle.generation_engine.proofs.Reading.{column_within}
@@ -192,7 +192,7 @@ pub digit_run : (s t u : RuledSquares) (g k root p q : ℕ) (b : Bool) → b ≡
     → HasGrown s u × IsRun s u (g % 2 ^ (k + 1)) root q
 digit_run s t u g k root p q b is sum (grown, run) grows step =
     let e : g % 2 ^ (k + 1) ≡ g % 2 ^ k + 2 ^ k = rw is at sum in
-    (record { rule = grows.rule ∙ grown.rule; store = grown_more s.store t.store u.store grown.store grows.store }, run_as s u _ _ root q (sym e) (run_more s t u _ _ root p q grown run step))
+    (record { rule = grows.rule ∙ grown.rule; store = grown_more leaf_grid 8 s.store t.store u.store grown.store grows.store }, run_as s u _ _ root q (sym e) (run_more s t u _ _ root p q grown run step))
 
 pub no_digit_run : (s t : RuledSquares) (g k root p : ℕ) (b : Bool) → b ≡ false → g % 2 ^ (k + 1) ≡ g % 2 ^ k + (if b then 2 ^ k else 0) → HasGrown s t × IsRun s t (g % 2 ^ k) root p → HasGrown s t × IsRun s t (g % 2 ^ (k + 1)) root p
 no_digit_run s t g k root p b is sum (grown, run) =

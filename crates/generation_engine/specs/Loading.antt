@@ -28,12 +28,6 @@ IsStoreFull s = length s.squares ≡ s.room
 
 -- ---- squares and what they are cut into
 
--- these are the four parts of the square of level k at p: for a blank, that blank
-pub record AreQuartersAt (s : Held EngineLeaf) (k p : ℕ) (parts : List ℕ) : Type 0 where
-  pub four : length parts ≡ 4
-  pub stand : AreAt s (k - 1) parts
-  pub draws : Draws leaf_grid 8 s k (four_grid leaf_grid 8 s (k - 1) parts) p
-
 -- a square of side 2 n in the middle of one of side 4 n, all dead round it
 abbrev pub centred : ℕ → Grid → Grid
 centred n f u v =

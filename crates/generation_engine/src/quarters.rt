@@ -4,24 +4,11 @@ ghost use Rattle.std.specs.Prelude.{◌≡◌, ◌<◌, ◌+◌, ◌-◌, IfOk, 
 ghost use Rattle.square_store.specs.Squares.{IsAt, grid_at, side_at, Draws};
 ghost use Rattle.square_store.specs.Store.{IsGrown};
 ghost use Rattle.generation_engine.specs.EngineLeaf.{leaf_grid};
-ghost use Rattle.generation_engine.specs.Loading.{AreQuartersAt, IsStoreFull, centred};
+ghost use Rattle.generation_engine.specs.Loading.{IsStoreFull, centred};
 ghost use Rattle.generation_engine.specs.Walk.{AreMiddleParts};
 
 use crate::leaf_kind::EngineLeaf;
 use square_store::{Part, Square, Store, StoreFault};
-
-/// The four parts of a square, NW, NE, SW, SE; of a blank, which is of every level, itself.
-pub(crate) fn quarters(store: &Store<EngineLeaf>, level: u32, part: Part) -> [Part; 4]
-    requires level { 0 < level }
-    requires stands { IsAt store.now level part }
-    ensures { AreQuartersAt store.now level part result }
-{
-    match store.square(part) {
-        Square::Blank(_) => [part; 4],
-        Square::Leaf(_) => unreachable!(),
-        Square::Four { parts, .. } => parts,
-    }
-}
 
 /// A square of a level, in the middle of a dead square of twice its side.
 pub(crate) fn padded(
@@ -37,7 +24,7 @@ pub(crate) fn padded(
     ensures full { result ≡ Err StoreFault.StoreFull → IsStoreFull store.new }
 {
     let dead = store.add_blank(0)?;
-    let quarters = quarters(store, level, part);
+    let quarters = store.quarters(level, part);
     let nw = store.add_four(level, [dead, dead, dead, quarters[0]])?;
     let ne = store.add_four(level, [dead, dead, quarters[1], dead])?;
     let sw = store.add_four(level, [dead, quarters[2], dead, dead])?;
@@ -52,10 +39,10 @@ pub(crate) fn middle(store: &Store<EngineLeaf>, level: u32, part: Part) -> [Part
     requires stands { IsAt store.now level part }
     ensures { AreMiddleParts store.now level part result }
 {
-    let outer = quarters(store, level, part);
-    let nw = quarters(store, level - 1, outer[0]);
-    let ne = quarters(store, level - 1, outer[1]);
-    let sw = quarters(store, level - 1, outer[2]);
-    let se = quarters(store, level - 1, outer[3]);
+    let outer = store.quarters(level, part);
+    let nw = store.quarters(level - 1, outer[0]);
+    let ne = store.quarters(level - 1, outer[1]);
+    let sw = store.quarters(level - 1, outer[2]);
+    let se = store.quarters(level - 1, outer[3]);
     [nw[3], ne[2], sw[1], se[0]]
 }

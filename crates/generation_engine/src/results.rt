@@ -6,14 +6,14 @@ ghost use Rattle.square_store.specs.Squares.{IsAt, grid_at, side_at, four_grid, 
 ghost use Rattle.square_store.specs.Seen.{AreAt};
 ghost use Rattle.bitplane_kernel.specs.Square.{state_at};
 ghost use Rattle.generation_engine.specs.EngineLeaf.{leaf_grid};
-ghost use Rattle.generation_engine.specs.Loading.{AreQuartersAt, IsStoreFull, centred};
+ghost use Rattle.generation_engine.specs.Loading.{IsStoreFull, centred};
 ghost use Rattle.generation_engine.specs.Results.{part_from};
 ghost use Rattle.generation_engine.specs.Walk.{AreMiddleParts};
 ghost use Rattle.generation_engine.specs.Running.{IsRun};
 ghost use Rattle.generation_engine.specs.Kept.{AllStand, AreDrawn, AreLater, HasGrown, IsDeadAt, IsKept, IsLater, neighbours_joined};
 
 use crate::leaf_kind::EngineLeaf;
-use crate::quarters::{middle, padded, quarters};
+use crate::quarters::{middle, padded};
 use bitplane_kernel::{BitLeaf, Block};
 use generations_rule::Rule;
 use indexmap::IndexMap;
@@ -217,22 +217,13 @@ impl ResultStore {
         requires { IsAt self.now.store 1 part }
         ensures states { (u v : ℕ) → u < 16 → v < 16 → state_at 16 result u v ≡ (grid_at leaf_grid 8 self.now.store 1 part u v).state }
     {
-        let parts = self.quarters(1, part);
+        let parts = self.store.quarters(1, part);
         Block::from_leaves(
             &self.leaf(parts[0]),
             &self.leaf(parts[1]),
             &self.leaf(parts[2]),
             &self.leaf(parts[3]),
         )
-    }
-
-    fn quarters(&self, level: u32, part: Part) -> [Part; 4]
-        requires level { 0 < level }
-        requires stands { IsAt self.now.store level part }
-        ensures { AreQuartersAt self.now.store level part result }
-    {
-        let _ = &self.rule;
-        quarters(&self.store, level, part)
     }
 
     /// The result of a square of 16 by 16 cells.
@@ -284,11 +275,11 @@ impl ResultStore {
         requires stands { IsAt self.now.store level part }
         ensures { AreDrawn self.now.store (level - 1 - 1) 4 (λ a b. part_from (grid_at leaf_grid 8 self.now.store level part) (side_at 8 (level - 1 - 1) * a) (side_at 8 (level - 1 - 1) * b)) result }
     {
-        let outer = self.quarters(level, part);
-        let nw = self.quarters(level - 1, outer[0]);
-        let ne = self.quarters(level - 1, outer[1]);
-        let sw = self.quarters(level - 1, outer[2]);
-        let se = self.quarters(level - 1, outer[3]);
+        let outer = self.store.quarters(level, part);
+        let nw = self.store.quarters(level - 1, outer[0]);
+        let ne = self.store.quarters(level - 1, outer[1]);
+        let sw = self.store.quarters(level - 1, outer[2]);
+        let se = self.store.quarters(level - 1, outer[3]);
         [
             nw[0], nw[1], ne[0], ne[1], nw[2], nw[3], ne[2], ne[3], sw[0], sw[1], se[0], se[1],
             sw[2], sw[3], se[2], se[3],

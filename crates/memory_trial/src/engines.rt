@@ -6,7 +6,7 @@ ghost use Rattle.stamped_tree.specs.Plane.{map_of};
 
 use crate::{edits, states};
 use delta_exchange::Message;
-use generation_engine::{Engine, StoreFault};
+use generation_engine::{Engine, EngineFault, StoreFault};
 use generations_rule::Rule;
 use multistate_rle::Cell;
 use stamped_tree::Plane;
@@ -73,4 +73,25 @@ pub fn cells_are_listed(alloc: Global) -> bool {
         return false;
     };
     loaded(alloc, &message).is_some_and(|engine| are_listed(&engine))
+}
+
+/// Runs an engine of states 2 and 3. Where memory is refused it shows the cells that it showed.
+fn run(engine: &mut Engine, generations: u32) -> bool {
+    match engine.run(generations) {
+        Err(EngineFault::Memory) if engine.generation() == 0 && are_listed(engine) => {
+            engine.run(generations).is_ok()
+        }
+        answer => answer.is_ok(),
+    }
+}
+
+/// The loaded cells are dead two generations later.
+pub fn universe_is_run(alloc: Global) -> bool {
+    let Ok(message) = states::state(alloc) else {
+        return false;
+    };
+    loaded(alloc, &message).is_some_and(|engine| {
+        let mut engine = engine;
+        run(&mut engine, 5) && engine.population() == 0 && engine.generation() == 5
+    })
 }

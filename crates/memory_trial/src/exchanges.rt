@@ -35,12 +35,12 @@ fn shown_elsewhere(alloc: Global, text: &[u8]) -> Option<([u8; 2], usize)> {
 }
 
 fn state_drawn(alloc: Global) -> Option<Vec<u8>> {
-    let replica = drawn(alloc)?;
+    let replica = drawn(alloc, [2, 3])?;
     state(&replica)
 }
 
 fn delta_drawn(alloc: Global, from: u32) -> Result<Vec<u8>, Fault> {
-    match drawn(alloc) {
+    match drawn(alloc, [2, 3]) {
         Some(replica) => delta(&replica, from, 1),
         None => Err(Fault::NoReplica),
     }

@@ -6,6 +6,8 @@ mod deltas;
 mod edits;
 mod engines;
 mod exchanges;
+mod exports;
+mod frames;
 mod planes;
 mod replicas;
 mod scripts;
@@ -25,6 +27,8 @@ fn main(rt: HostRuntime) -> io::Result<()> {
     tell_engines(&rt, alloc)?;
     tell_replicas(&rt, alloc)?;
     tell_exchanges(&rt, alloc)?;
+    tell_exports(&rt, alloc)?;
+    tell_frames(&rt, alloc)?;
     tell_scripts(&rt, alloc)
 }
 
@@ -71,7 +75,8 @@ fn tell_states(rt: &impl Print, alloc: Global) -> io::Result<()> {
 fn tell_engines(rt: &impl Print, alloc: Global) -> io::Result<()> {
     tell(rt, "Engine::new", engines::engine_is_new(alloc))?;
     tell(rt, "Engine::load", engines::plane_is_loaded(alloc))?;
-    tell(rt, "Engine::cells", engines::cells_are_listed(alloc))
+    tell(rt, "Engine::cells", engines::cells_are_listed(alloc))?;
+    tell(rt, "Engine::run", engines::universe_is_run(alloc))
 }
 
 fn tell_replicas(rt: &impl Print, alloc: Global) -> io::Result<()> {
@@ -112,6 +117,21 @@ fn tell_exchanges(rt: &impl Print, alloc: Global) -> io::Result<()> {
         "Replica::take_bytes refused",
         exchanges::fault_is_told(alloc),
     )
+}
+
+fn tell_exports(rt: &impl Print, alloc: Global) -> io::Result<()> {
+    tell(rt, "export", exports::generation_is_exported(alloc))?;
+    tell(
+        rt,
+        "export_within refused",
+        exports::cells_are_too_many(alloc),
+    )?;
+    tell(rt, "Replica::export", exports::replica_exports(alloc))
+}
+
+fn tell_frames(rt: &impl Print, alloc: Global) -> io::Result<()> {
+    tell(rt, "frame", frames::body_is_framed(alloc))?;
+    tell(rt, "Frames::feed, next", frames::body_is_taken(alloc))
 }
 
 fn tell_scripts(rt: &impl Print, alloc: Global) -> io::Result<()> {

@@ -49,10 +49,10 @@ fn draw(replica: &mut Replica, spec: &EditSpec) -> Result<Edit, Fault> {
     }
 }
 
-/// A replica that drew states 2 and 3.
-pub fn drawn(alloc: Global) -> Option<Replica> {
+/// A replica that drew two states side by side.
+pub fn drawn(alloc: Global, states: [u8; 2]) -> Option<Replica> {
     let mut replica = replica(alloc, 1)?;
-    let spec = spec(alloc, &[edits::cell(0, 2), edits::cell(1, 3)]).ok()?;
+    let spec = spec(alloc, &[edits::cell(0, states[0]), edits::cell(1, states[1])]).ok()?;
     let edit = draw(&mut replica, &spec).ok()?;
     if edit.stamp().replica() != 1 {
         return None;
@@ -61,7 +61,7 @@ pub fn drawn(alloc: Global) -> Option<Replica> {
 }
 
 pub fn edit_is_drawn(alloc: Global) -> bool {
-    drawn(alloc).is_some_and(|replica| shown(&replica) == [2, 3] && replica.journal().len() == 1)
+    drawn(alloc, [2, 3]).is_some_and(|replica| shown(&replica) == [2, 3] && replica.journal().len() == 1)
 }
 
 pub fn state_is_refused(alloc: Global) -> bool {
@@ -95,7 +95,7 @@ fn taken(alloc: Global, message: &Message) -> Option<Replica> {
 }
 
 pub fn map_is_taken(alloc: Global) -> bool {
-    let Some(replica) = drawn(alloc) else {
+    let Some(replica) = drawn(alloc, [2, 3]) else {
         return false;
     };
     let Ok(message) = snapshot(&replica) else {

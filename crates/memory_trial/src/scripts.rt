@@ -9,10 +9,13 @@ use generations_rule::Rule;
 use std::alloc::{AllocError, Global};
 
 const SCRIPT: &str = "rule /2/3\nreplicas 2\npattern a\nx = 2, y = 1\nAB!\nend\ncopy 1 a 4 4\n\
-    cells 1 0 0 2\nstate 1\ndeliver 1 2\nshow 2 0 0\nshow 2 5 4\nclear 2 0 0 2 2\nor 2 b 0 0\n";
+    cells 1 0 0 2\nstate 1\ndeliver 1 2\nshow 2 0 0\nshow 2 5 4\nclear 2 0 0 2 2\nor 2 b 0 0\n\
+    delta 2 0 1\ndump 2\nexport 2 1\n";
 
 const PRINTED: &str = "pattern a 2 1 2 0 0 0\ndrawn 1 1\ndrawn 2 1\nsent 1\ntaken\ncell 2 2 1\n\
-    cell 2 1 1\ndrawn 3 2\nrefused 38 NoPattern\n";
+    cell 2 1 1\ndrawn 3 2\nrefused 38 NoPattern\nsent 2\n\
+    474c574401042f322f33000000010000000000030002014000000040000000000000020000000200000000\n\
+    #CXRLE Pos=4,4 Gen=1\nx = 1, y = 1, rule = /2/3\nB!\n";
 
 const TEXT: &str = "#CXRLE Pos=-1,2 Gen=7\nx = 3, y = 2\n 2 b o$ ! end";
 
@@ -37,7 +40,7 @@ fn script(alloc: Global) -> Result<Script, ScriptFault> {
 }
 
 pub fn script_is_read(alloc: Global) -> bool {
-    script(alloc).is_ok_and(|script| script.replicas() == 2 && script.commands().len() == 9)
+    script(alloc).is_ok_and(|script| script.replicas() == 2 && script.commands().len() == 12)
 }
 
 /// A sink with room for all that is pushed here: a growth of its own would count as a failed write.

@@ -5,7 +5,7 @@ use Rattle.edit_stamps.specs.Write.{greater, unwritten, Writes, AreSame, joined}
 use Rattle.edit_stamps.proofs.WriteLaws.{is_lattice, greater-unwritten}
 use Rattle.stamped_tree.specs.LeafKind.{plane_grid}
 use Rattle.stamped_tree.specs.Plane.{StampedPlane, HasGrown}
-use Rattle.stamped_tree.proofs.Drawing.{grown_more}
+use Rattle.square_store.proofs.Drawn.{grown_more}
 
 -- what is left to join makes of the map what all that was to be joined makes of the map at first
 abbrev pub IsJoining : Writes → Writes → Writes → Writes → Type 0

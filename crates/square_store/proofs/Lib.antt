@@ -1,5 +1,6 @@
 pub mod Lists
 pub mod Quarters
+pub mod Drawn
 pub mod Places
 pub mod Growth
 pub mod Made

@@ -28,6 +28,12 @@ pub record IsFourAt {L : Type 0} (writes : L → Grid) (side : ℕ) (s : Held L)
   pub level : (j : ℕ) → IsAt s j p → j ≡ k
   pub spelt : IsSpeltWithin (side_at side k) (grid_at writes side s k p)
 
+-- four parts are the quarters of the square of level k at p, NW, NE, SW and SE: a blank's are that blank
+pub record AreQuartersAt {L : Type 0} (writes : L → Grid) (side : ℕ) (s : Held L) (k p : ℕ) (parts : List ℕ) : Type 0 where
+  pub four : length parts ≡ 4
+  pub stand : AreAt s (k - 1) parts
+  pub draws : Draws writes side s k (four_grid writes side s (k - 1) parts) p
+
 -- the square at p
 abbrev pub IsSeen : {L : Type 0} → (L → Grid) → ℕ → Held L → ℕ → Square L → Type 0
 IsSeen writes side s p (Blank t) = IsBlankAt writes side s t p

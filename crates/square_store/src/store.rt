@@ -5,7 +5,7 @@ ghost use Rattle.square_store.specs.Grid.{Grid, blank_grid, IsSpeltWithin};
 ghost use Rattle.square_store.specs.Squares.{Held, IsAt, grid_at, side_at, four_grid, quarters_grid, Draws};
 ghost use Rattle.square_store.specs.Store.{nothing_held, IsHeld, HasParts, IsGrown, IsAdded, IsFullFor, IsRoomFor, IsOnePartEach, IsStore};
 ghost use Rattle.square_store.specs.Steps.{IsWanted, IsSummed, IsAbsentNode, IsAbsentLeaf, IsPushed, IsLeafEntered, IsPlaceOfLeaf, IsOneBlank};
-ghost use Rattle.square_store.specs.Seen.{AreAt, IsSeen};
+ghost use Rattle.square_store.specs.Seen.{AreAt, AreQuartersAt, IsSeen};
 
 use crate::fault::StoreFault;
 use crate::kind::LeafKind;
@@ -105,6 +105,20 @@ impl<L: LeafKind> Store<L> {
                 level,
                 parts: [nw, ne, sw, se],
             },
+        }
+    }
+
+    /// The four parts of a square of a level above 0, NW, NE, SW, SE; of a blank, which is of every
+    /// level, itself.
+    pub fn quarters(&self, level: u32, part: Part) -> [Part; 4]
+        requires level { 0 < level }
+        requires stands { IsAt self.now level part }
+        ensures { AreQuartersAt L.write L.side self.now level part result }
+    {
+        match self.square(part) {
+            Square::Blank(_) => [part; 4],
+            Square::Leaf(_) => unreachable!(),
+            Square::Four { parts, .. } => parts,
         }
     }
 

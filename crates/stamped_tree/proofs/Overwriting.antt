@@ -5,9 +5,10 @@ use Rattle.std.specs.HashMap.{HashMap}
 use Rattle.std.proofs.lemmas.Bool.Decides.{nat_tests}
 use Rattle.square_store.specs.Grid.{Grid, blank_grid, quartered, AreSameWithin}
 use Rattle.square_store.specs.Squares.{Held, IsAt, side_at, grid_at, Draws}
-use Rattle.square_store.specs.Seen.{IsBlankAt}
+use Rattle.square_store.specs.Seen.{AreQuartersAt}
 use Rattle.square_store.specs.Store.{IsGrown}
-use Rattle.square_store.proofs.Quarters.{twice, each_quarter, AreQuartersOf, quarters_of}
+use Rattle.square_store.proofs.Quarters.{AreQuartersOf, quarters_of}
+use Rattle.square_store.proofs.Drawn.{twice_below}
 use Rattle.generations_rule.specs.Place.{Place}
 use Rattle.leaf_merge_lanes.specs.Leaf.{write_of, write_on_leaf}
 use Rattle.edit_stamps.specs.declared.write.Write.{Write}
@@ -26,9 +27,9 @@ use Rattle.stamped_tree.specs.Area.{is_in_area, area_grid, IsAreaOfPart, IsEmpty
 use Rattle.stamped_tree.specs.Drawing.{state_listed, edit_grid, cells_in}
 use Rattle.stamped_tree.specs.Filled.{AreFilled}
 use Rattle.stamped_tree.specs.OnPlane.{plane_writes}
-use Rattle.stamped_tree.specs.Overwriting.{overwrite, overwritten, overwritten_grid, listed_over, AreQuartersAt}
+use Rattle.stamped_tree.specs.Overwriting.{overwrite, overwritten, overwritten_grid, listed_over}
 use Rattle.stamped_tree.specs.Plane.{from_edge, grid_of_leaf, map_of, HasPlaneWrites}
-use Rattle.stamped_tree.proofs.Drawing.{four_at, part_writes, edit_writes}
+use Rattle.stamped_tree.proofs.Drawing.{part_writes, edit_writes}
 use Rattle.stamped_tree.proofs.Maps.{blank_read}
 use Rattle.stamped_tree.proofs.OnPlaneLaws.{placed, edit_inside}
 use Rattle.stamped_tree.proofs.Parts.{same_default}
@@ -144,30 +145,13 @@ filled_later s t stamp kept g are = record {
 
 -- ---- quarters
 
-pub half_side : (k : ℕ) → 0 < k → side_at 8 k ≡ side_at 8 (k - 1) + side_at 8 (k - 1)
-half_side k h = let e : suc (k - 1) ≡ k = omega (arith, h) in ap (side_at 8) (sym e) ∙ twice 8 (k - 1)
-
--- a blank is cut into itself
-pub blank_cut : (s : Held PlaneLeaf) (t k p : ℕ) → 0 < k → IsBlankAt plane_grid 8 s t p → AreQuartersAt s k p (p ∷ p ∷ p ∷ p ∷ [])
-blank_cut s t k p some blank = record {
-  four = refl;
-  stand = four_at s (k - 1) p p p p (blank (k - 1)).stands (blank (k - 1)).stands (blank (k - 1)).stands (blank (k - 1)).stands;
-  draws = record {
-    stands = (blank k).stands;
-    same = λ u v hu hv.
-        (let wide = half_side k some in
-        let each = λ (u v : ℕ) (hu : u < side_at 8 (k - 1)) (hv : v < side_at 8 (k - 1)). (blank (k - 1)).same u v hu hv in
-        (blank k).same u v hu hv ∙ sym (each_quarter (λ w. w ≡ write_of t 0) (side_at 8 (k - 1)) (grid_at plane_grid 8 s (k - 1) p) (grid_at plane_grid 8 s (k - 1) p) (grid_at plane_grid 8 s (k - 1) p) (grid_at plane_grid 8 s (k - 1) p) each each each each u v (omega (arith, hu, wide)) (omega (arith, hv, wide))));
-  };
-}
-
-module _ (s : Held PlaneLeaf) (k p : ℕ) (parts : List ℕ) (some : 0 < k) (cut : AreQuartersAt s k p parts) (n : ℕ) (is : n ≡ side_at 8 (k - 1)) where
+module _ (s : Held PlaneLeaf) (k p : ℕ) (parts : List ℕ) (some : 0 < k) (cut : AreQuartersAt plane_grid 8 s k p parts) (n : ℕ) (is : n ≡ side_at 8 (k - 1)) where
   abbrev at : ℕ → Grid
   at i = grid_at plane_grid 8 s (k - 1) (slice_index_or parts i 0)
 
   reads : AreQuartersOf n (at 0) (at 1) (at 2) (at 3) (grid_at plane_grid 8 s k p)
   reads = quarters_of n (at 0) (at 1) (at 2) (at 3) (grid_at plane_grid 8 s k p)
-      (λ u v hu hv. (let wide = half_side k some in
+      (λ u v hu hv. (let wide = twice_below 8 k some in
       ap (λ m. quartered m (at 0) (at 1) (at 2) (at 3) u v) is ∙ sym (cut.draws.same u v (omega (arith, hu, is, wide)) (omega (arith, hv, is, wide)))))
 
   pub part_is : (i w : ℕ) → i < 4 → slice_index_or parts i w ≡ slice_index_or parts i 0

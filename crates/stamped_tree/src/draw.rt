@@ -18,7 +18,6 @@ use crate::filled::{AreaKey, filled, keep};
 use crate::leaf_draw::{leaf_at, overwritten_leaf};
 use crate::leaf_kind::PlaneLeaf;
 use crate::on_plane::{area_on_plane, cells_on_plane};
-use crate::quarters::quarter_parts;
 use edit_stamps::Edit;
 use indexmap::IndexMap;
 use square_store::{Part, Store, StoreFault};
@@ -117,7 +116,7 @@ fn draw_anew(
         return Ok(drawn);
     }
     let half = side_of(level - 1);
-    let parts = quarter_parts(store, level, part);
+    let parts = store.quarters(level, part);
     let quarters = quartered_cells(cells, half)?;
     let CellQuarters { nw, ne, sw, se } = quarters;
     let nw = draw(

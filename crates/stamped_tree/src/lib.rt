@@ -15,7 +15,6 @@ mod leaf_kind;
 mod lookup;
 mod on_plane;
 mod plane;
-mod quarters;
 mod square;
 mod walk;
 

@@ -1,24 +1,22 @@
 -- Two squares compared: quarter by quarter, by their stamps, pa blanks and pa leaves.
-use Rattle.std.proofs.Common.{◌≡◌, ℕ, zero, suc, ◌+◌, ◌-◌, ◌*◌, ◌/◌, ◌%◌, ◌<◌, ◌≤◌, ◌↔◌, Bool, true, false, not, eqb-true, List, [], ◌∷◌, length, inl, inr, refl, sym, ap, subst, ◌∙◌, arith}
+use Rattle.std.proofs.Common.{◌≡◌, ℕ, zero, suc, ◌+◌, ◌-◌, ◌*◌, ◌/◌, ◌%◌, ◌<◌, ◌↔◌, Bool, true, false, not, eqb-true, List, [], ◌∷◌, inl, inr, refl, sym, ap, subst, ◌∙◌, arith}
 use Rattle.std.specs.Prelude.{IsTrue, slice_index_or, Option, None, Some, MatchOption, is_some, ◌==◌, ◌&&◌}
 use Rattle.std.proofs.lemmas.Bool.{cases_lt, and_parts}
-use Rattle.std.proofs.lemmas.Bool.Decides.{nat_tests}
 use Rattle.edit_stamps.specs.declared.write.Write.{Write}
 use Rattle.edit_stamps.specs.Write.{at_most}
-use Rattle.edit_stamps.proofs.WriteLaws.{is_total}
 use Rattle.leaf_merge_lanes.specs.Leaf.{IsLeaf, AreAtMost, write_on_leaf, write_of}
 use Rattle.leaf_merge_lanes.specs.Same.{is_same, same_Decides}
-use Rattle.square_store.specs.Grid.{Grid, blank_grid, quartered, AreSameWithin, IsBlankWithin, IsSpeltWithin}
-use Rattle.square_store.specs.Squares.{Held, side_at, IsAt, grid_at, four_grid, Draws}
+use Rattle.square_store.specs.Grid.{Grid, quartered, AreSameWithin, IsBlankWithin, IsSpeltWithin}
+use Rattle.square_store.specs.Squares.{Held, side_at, IsAt, grid_at, four_grid}
 use Rattle.square_store.specs.Seen.{IsBlankAt, IsLeafAt, IsFourAt, AreAt}
-use Rattle.square_store.proofs.Quarters.{twice, lt_true, lt_false, quarter_nw, quarter_ne, quarter_sw, quarter_se, each_quarter}
+use Rattle.square_store.proofs.Drawn.{twice_below}
+use Rattle.square_store.proofs.Quarters.{lt_true, lt_false, quarter_nw, quarter_ne, quarter_sw, quarter_se, each_quarter}
 use Rattle.stamped_tree.specs.declared.leaf_kind.PlaneLeaf.{PlaneLeaf}
 use Rattle.stamped_tree.specs.declared.leaf_kind.StampBounds.{StampBounds}
 use Rattle.stamped_tree.specs.LeafKind.{plane_grid, plane_exact, AreStampBounds}
 use Rattle.stamped_tree.specs.Plane.{grid_of_leaf}
-use Rattle.stamped_tree.proofs.Held.{side_some}
 use Rattle.stamped_tree.proofs.Parts.{same_default}
-use Rattle.tree_join.specs.Squares.{AreAtMostWithin, AreQuarters, AreSameSquares, AreSquaresAtMost}
+use Rattle.tree_join.specs.Squares.{AreAtMostWithin, AreQuarters, AreSameSquares}
 
 -- ---- quarters
 
@@ -59,10 +57,6 @@ module _ (R : Write → Write → Type 0) (n : ℕ) (a b c d a' b' c' d' : Grid)
     pub related_se : AreRelated R n d d'
     related_se u v p q = both _ _ _ _ (quarter_se n a b c d u v) (quarter_se n a' b' c' d' u v) (h (n + u) (n + v) (omega (arith, p)) (omega (arith, q)))
 
--- a square has twice the side of its quarters
-pub half_side : (k : ℕ) → 0 < k → side_at 8 k ≡ side_at 8 (k - 1) + side_at 8 (k - 1)
-half_side k some = let e : suc (k - 1) ≡ k = omega (arith, some) in ap (side_at 8) (sym e) ∙ twice 8 (k - 1)
-
 -- the quarters of two squares, related pair by pair
 module _ (R : Write → Write → Type 0) (s t : Held PlaneLeaf) (k a b : ℕ) (some : 0 < k) (pa pb : List ℕ) (qa : AreQuarters s k a pa) (qb : AreQuarters t k b pb) where
   -- whatever stands for a part that is not there
@@ -81,7 +75,7 @@ module _ (R : Write → Write → Type 0) (s t : Held PlaneLeaf) (k a b : ℕ) (
       → AreRelated R (side_at 8 (k - 1)) (grid_at plane_grid 8 s (k - 1) (slice_index_or pa 3 w''')) (grid_at plane_grid 8 t (k - 1) (slice_index_or pb 3 x'''))
       → AreRelated R (side_at 8 k) (grid_at plane_grid 8 s k a) (grid_at plane_grid 8 t k b)
   related_whole w x w' x' w'' x'' w''' x''' r0 r1 r2 r3 u v hu hv =
-      let wide = half_side k some in
+      let wide = twice_below 8 k some in
       let n = side_at 8 (k - 1) in
       let f = λ (i : ℕ). grid_at plane_grid 8 s (k - 1) (slice_index_or pa i 0) in
       let g = λ (i : ℕ). grid_at plane_grid 8 t (k - 1) (slice_index_or pb i 0) in
@@ -93,7 +87,7 @@ module _ (R : Write → Write → Type 0) (s t : Held PlaneLeaf) (k a b : ℕ) (
   module _ (r : AreRelated R (side_at 8 k) (grid_at plane_grid 8 s k a) (grid_at plane_grid 8 t k b)) where
     cut : AreRelated R (side_at 8 (k - 1) + side_at 8 (k - 1)) (four_grid plane_grid 8 s (k - 1) pa) (four_grid plane_grid 8 t (k - 1) pb)
     cut u v hu hv =
-        let wide = half_side k some in
+        let wide = twice_below 8 k some in
         let iu : u < side_at 8 k = omega (arith, hu, wide) in
         let iv : v < side_at 8 k = omega (arith, hv, wide) in
         subst (λ q. R (four_grid plane_grid 8 s (k - 1) pa u v) q) (qb.same u v iu iv) (subst (λ p. R p (grid_at plane_grid 8 t k b u v)) (qa.same u v iu iv) (r u v iu iv))
@@ -134,7 +128,7 @@ pub quarters_of_blank : (s : Held PlaneLeaf) (k t p : ℕ) → 0 < k → IsBlank
 quarters_of_blank s k t p some blank = record {
   four = refl;
   stand = stand;
-  same = λ u v hu hv. (let wide = half_side k some in
+  same = λ u v hu hv. (let wide = twice_below 8 k some in
       let each = λ (u v : ℕ) (hu : u < side_at 8 (k - 1)) (hv : v < side_at 8 (k - 1)). (blank (k - 1)).same u v hu hv in
       (blank k).same u v hu hv ∙ sym (each_quarter (λ w. w ≡ write_of t 0) (side_at 8 (k - 1)) (grid_at plane_grid 8 s (k - 1) p) (grid_at plane_grid 8 s (k - 1) p) (grid_at plane_grid 8 s (k - 1) p) (grid_at plane_grid 8 s (k - 1) p) each each each each u v (omega (arith, hu, wide)) (omega (arith, hv, wide))));
 }

@@ -1,14 +1,14 @@
 -- Joins of squares, from what the stamps tell and from joins of the quarters.
-use Rattle.std.proofs.Common.{◌≡◌, ℕ, zero, suc, ◌+◌, ◌-◌, ◌*◌, ◌/◌, ◌%◌, ◌<◌, ◌≤◌, true, false, List, [], ◌∷◌, inl, inr, refl, sym, ap, subst, ◌∙◌, arith}
+use Rattle.std.proofs.Common.{◌≡◌, ℕ, zero, suc, ◌+◌, ◌-◌, ◌*◌, ◌/◌, ◌%◌, ◌<◌, List, [], ◌∷◌, inl, inr, refl, sym, ap, subst, ◌∙◌, arith}
 use Rattle.std.specs.Prelude.{IsTrue, slice_index_or}
-use Rattle.std.specs.HashMap.{HashMap, get}
+use Rattle.std.specs.HashMap.{HashMap}
 use Rattle.std.proofs.lemmas.Bool.{cases_Bool}
 use Rattle.edit_stamps.specs.declared.write.Write.{Write}
 use Rattle.edit_stamps.specs.Write.{at_most, greater}
 use Rattle.edit_stamps.specs.PlaneMap.{is_plane_write}
 use Rattle.edit_stamps.proofs.WriteLaws.{is_total}
 use Rattle.leaf_merge_lanes.specs.Leaf.{write_of, write_on_leaf}
-use Rattle.square_store.specs.Grid.{Grid, blank_grid, AreSameWithin}
+use Rattle.square_store.specs.Grid.{Grid, AreSameWithin}
 use Rattle.square_store.specs.Squares.{Held, side_at, IsAt, grid_at, four_grid, Draws}
 use Rattle.square_store.specs.Store.{IsGrown}
 use Rattle.square_store.specs.Seen.{AreAt, IsBlankAt}
@@ -17,12 +17,12 @@ use Rattle.stamped_tree.specs.LeafKind.{plane_grid}
 use Rattle.stamped_tree.specs.Plane.{ArePlaneWrites, HoldPlaneWrites, grid_of_leaf}
 use Rattle.stamped_tree.specs.Copy.{IsCopy}
 use Rattle.stamped_tree.proofs.Copying.{copy_later}
-use Rattle.stamped_tree.proofs.Drawing.{draws_later, grown_more}
+use Rattle.square_store.proofs.Drawn.{grown_more, twice_below}
 use Rattle.stamped_tree.proofs.Parts.{same_default}
-use Rattle.tree_join.specs.Squares.{AreQuarters, AreSquaresAtMost, IsSquareJoin, join_grid, joined_grid}
+use Rattle.tree_join.specs.Squares.{AreQuarters, AreSquaresAtMost, IsSquareJoin, join_grid}
 use Rattle.tree_join.specs.Remembered.{RemembersCopies, RemembersJoins}
 use Rattle.tree_join.specs.declared.remember.PartPair.{PartPair}
-use Rattle.tree_join.proofs.Comparing.{each_of_three, half_side}
+use Rattle.tree_join.proofs.Comparing.{each_of_three}
 
 pub right_wins : (v w : Write) → IsTrue (at_most v w) → greater v w ≡ w
 right_wins v w h = rw h refl
@@ -139,7 +139,7 @@ module _ (there s0 s1 s2 s3 s4 s5 : Held PlaneLeaf) (k a b : ℕ) (pa pb : List 
   quarters_later = record {
     four = qa.four;
     stand = λ i h. from0.stands (k - 1) (slice_index_or pa i 0) (qa.stand i h);
-    same = λ u v hu hv. (let wide = half_side k some in let n = side_at 8 (k - 1) in
+    same = λ u v hu hv. (let wide = twice_below 8 k some in let n = side_at 8 (k - 1) in
         let f = λ (i : ℕ). grid_at plane_grid 8 s0 (k - 1) (slice_index_or pa i 0) in
         let g = λ (i : ℕ). grid_at plane_grid 8 s4 (k - 1) (slice_index_or pa i 0) in
         let still = λ (i : ℕ) (h : i < 4) (u v : ℕ) (hu : u < n) (hv : v < n). ap (λ (f : Grid). f u v) (sym (from0.same (k - 1) (slice_index_or pa i 0) (qa.stand i h))) in
@@ -149,7 +149,7 @@ module _ (there s0 s1 s2 s3 s4 s5 : Held PlaneLeaf) (k a b : ℕ) (pa pb : List 
 
   four_joined : AreSameWithin (side_at 8 k) (four_grid plane_grid 8 s4 (k - 1) (p0 ∷ p1 ∷ p2 ∷ p3 ∷ [])) (join_grid s4 there k a b)
   four_joined u v hu hv =
-      let wide = half_side k some in
+      let wide = twice_below 8 k some in
       let n = side_at 8 (k - 1) in
       let f = λ (i : ℕ). grid_at plane_grid 8 s4 (k - 1) (slice_index_or pa i 0) in
       let g = λ (i : ℕ). grid_at plane_grid 8 there (k - 1) (slice_index_or pb i 0) in

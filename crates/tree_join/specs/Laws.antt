@@ -1,5 +1,4 @@
 -- What the join of maps keeps.
-use Rattle.std.specs.Prelude.{ℕ}
 use Rattle.edit_stamps.specs.Write.{Writes, joined}
 use Rattle.edit_stamps.specs.PlaneMap.{HasStatesBelow, KeepsStates}
 

@@ -1,5 +1,5 @@
 -- The writes of squares of level 0, of 8 columns and rows.
-use Rattle.std.specs.Prelude.{ℕ, List}
+use Rattle.std.specs.Prelude.{List}
 use Rattle.edit_stamps.specs.declared.write.Write.{Write}
 use Rattle.stamped_tree.specs.declared.leaf_kind.PlaneLeaf.{PlaneLeaf}
 use Rattle.tree_join.specs.declared.leaf.LeafWrites.{LeafWrites}

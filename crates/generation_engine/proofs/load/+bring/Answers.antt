@@ -1,7 +1,9 @@
 use Rattle.std.proofs.Common.{ap, Err, sym}
 use Rattle.square_store.proofs.Made.{told}
 use Rattle.generation_engine.proofs.Bringing.{all_later, all_noted, blank_brought, leaf_brought, four_stand, four_brought, all_moved, moved_source, states_listed}
-use Rattle.generation_engine.proofs.Squares.{full_kept, grown_more}
+use Rattle.square_store.proofs.Drawn.{grown_more}
+use Rattle.generation_engine.specs.EngineLeaf.{leaf_grid}
+use Rattle.generation_engine.proofs.Squares.{full_kept}
 use Rattle.generation_engine.proofs.load.+bring.Goals as goal
 
 pub returns-in-Some-clause-part : goal.returns-in-Some-clause-part
@@ -32,7 +34,7 @@ add_four-requires-clause-parts t c =
 
 pub returns-in_err-there-in-Four-clause-grows : goal.returns-in_err-there-in-Four-clause-grows
 returns-in_err-there-in-Four-clause-grows t c =
-    grown_more _ _ _ c.in_ok-nw-in-Four.ensures.grows (grown_more _ _ _ c.in_ok-ne-in-Four.ensures.grows (grown_more _ _ _ c.in_ok-sw-in-Four.ensures.grows (grown_more _ _ _ c.in_ok-se-in-Four.ensures.grows c.in_err-there-in-Four.ensures.grows)))
+    grown_more leaf_grid 8 _ _ _ c.in_ok-nw-in-Four.ensures.grows (grown_more leaf_grid 8 _ _ _ c.in_ok-ne-in-Four.ensures.grows (grown_more leaf_grid 8 _ _ _ c.in_ok-sw-in-Four.ensures.grows (grown_more leaf_grid 8 _ _ _ c.in_ok-se-in-Four.ensures.grows c.in_err-there-in-Four.ensures.grows)))
 
 pub returns-in_ok-note-in-Four-clause-part : goal.returns-in_ok-note-in-Four-clause-part
 returns-in_ok-note-in-Four-clause-part t c =

@@ -9,7 +9,7 @@ use Rattle.square_store.specs.Seen.{IsFourAt}
 use Rattle.stamped_tree.proofs.Parts.{same_default}
 use Rattle.generation_engine.specs.declared.leaf_kind.EngineLeaf.{EngineLeaf}
 use Rattle.generation_engine.specs.EngineLeaf.{leaf_grid}
-use Rattle.generation_engine.proofs.Squares.{wide}
+use Rattle.square_store.proofs.Drawn.{twice_below}
 use Rattle.generation_engine.proofs.walk.+gather.Goals as goal
 
 -- each part is a square of the level below, half as wide
@@ -24,7 +24,7 @@ below s k j p i r parts four stands few =
     let some : 0 < k = (let h = four.positive in omega (arith, h, level)) in
     record {
       some = some;
-      half = wide k some;
+      half = twice_below 8 k some;
       stands = subst (λ q. IsAt s (k - 1) q) (sym (same_default parts i r 0 (let h = four.four in omega (arith, few, h)))) (subst (λ l. IsAt s (l - 1) (slice_index_or parts i 0)) (sym level) (four.parts_stand i few));
     }
 

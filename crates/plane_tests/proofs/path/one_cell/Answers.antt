@@ -1,6 +1,6 @@
 use Rattle.std.proofs.Common.{subst, arith, ℕ, ◌+◌, ◌-◌, ◌≡◌}
 use Rattle.square_store.specs.Squares.{IsAt}
-use Rattle.plane_tests.proofs.Parts.{four_at}
+use Rattle.square_store.proofs.Drawn.{four_at}
 use Rattle.plane_tests.proofs.path.one_cell.Goals as goal
 
 below : (level : ℕ) → level - 3 ≡ level + 1 - 3 - 1

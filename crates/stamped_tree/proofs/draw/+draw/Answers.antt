@@ -9,7 +9,8 @@ use Rattle.stamped_tree.specs.Filled.{IsFull}
 use Rattle.stamped_tree.specs.Overwriting.{overwritten_grid}
 use Rattle.stamped_tree.specs.Plane.{HoldPlaneWrites}
 use Rattle.stamped_tree.proofs.Held.{holds_added, blank_has, four_has}
-use Rattle.stamped_tree.proofs.Drawing.{draws_later, draws_four, grown_more, stamped_write, four_at}
+use Rattle.square_store.proofs.Drawn.{draws_later, draws_four, grown_more, four_at}
+use Rattle.stamped_tree.proofs.Drawing.{stamped_write}
 use Rattle.stamped_tree.proofs.Overwriting.{filled_later, grown_none, over_nw, over_ne, over_sw, over_se}
 use Rattle.stamped_tree.proofs.draw.+draw.Goals as goal
 
@@ -103,8 +104,8 @@ draw_anew-returns-clause-draws t c =
     let from_1 = grown_more plane_grid 8 s1 s2 s4 g2 from_2 in
     let same = grown_none plane_grid 8 s0 in
     let some : 0 < a.level = omega arith in
-    let parts = c.quarter_parts-parts.result in
-    let cut = c.quarter_parts-parts.ensures in
+    let parts = c.quarters-parts.result in
+    let cut = c.quarters-parts.ensures in
     let is = c.side_of-half.ensures in
     let w = overwritten_grid (grid_at plane_grid 8 s0 a.level a.part) (edit_grid a.stamp a.area.now a.cells.items) in
     let fa = overwritten_grid (grid_at plane_grid 8 s0 k (slice_index_or parts 0 c.index-parts-0.result)) (edit_grid a.stamp c.of_part.result q.nw.items) in

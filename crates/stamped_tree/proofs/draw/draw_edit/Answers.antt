@@ -4,7 +4,7 @@ use Rattle.stamped_tree.specs.LeafKind.{plane_grid}
 use Rattle.stamped_tree.specs.Drawing.{edit_grid}
 use Rattle.stamped_tree.specs.OnPlane.{plane_writes}
 use Rattle.stamped_tree.specs.Overwriting.{overwritten_grid}
-use Rattle.stamped_tree.proofs.Drawing.{draws_as}
+use Rattle.square_store.proofs.Drawn.{draws_as}
 use Rattle.stamped_tree.proofs.OnPlaneLaws.{edit_on_plane}
 use Rattle.stamped_tree.proofs.Overwriting.{over_same}
 use Rattle.stamped_tree.proofs.draw.draw_edit.Goals as goal

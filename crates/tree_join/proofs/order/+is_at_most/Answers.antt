@@ -1,9 +1,9 @@
-use Rattle.std.proofs.Common.{◌≡◌, ◌<◌, refl, arith}
+use Rattle.std.proofs.Common.{refl, arith}
 use Rattle.std.specs.Prelude.{IsTrue}
 use Rattle.edit_stamps.specs.declared.write.Write.{Write}
 use Rattle.edit_stamps.specs.Write.{at_most}
 use Rattle.square_store.proofs.Places.{at_within}
-use Rattle.tree_join.specs.Squares.{AreQuarters, AreSameSquares, AreSquaresAtMost}
+use Rattle.tree_join.specs.Squares.{AreQuarters, AreSquaresAtMost}
 use Rattle.tree_join.proofs.Comparing.{refuted, related_0, related_1, related_2, related_3, related_whole}
 use Rattle.tree_join.proofs.order.+is_at_most.Goals as goal
 

@@ -1,7 +1,5 @@
-use Rattle.std.proofs.Common.{◌≡◌, refl, ◌∙◌, ap}
-use Rattle.std.specs.Prelude.{IsTrue}
+use Rattle.std.proofs.Common.{◌≡◌, refl}
 use Rattle.edit_stamps.specs.declared.write.Write.{Write}
-use Rattle.edit_stamps.specs.Write.{at_most}
 use Rattle.tree_join.proofs.Reading.{reads_related}
 use Rattle.tree_join.proofs.sameness.same.Goals as goal
 

@@ -1,7 +1,6 @@
-use Rattle.std.proofs.Common.{◌≡◌, ◌∙◌, sym, ap, refl, Some, List}
-use Rattle.std.specs.Prelude.{Option, slice_get}
+use Rattle.std.proofs.Common.{◌≡◌, refl, Some}
+use Rattle.std.specs.Prelude.{slice_get}
 use Rattle.std.proofs.lemmas.Option.{slice_get_read}
-use Rattle.generation_engine.specs.declared.results.FirstResult.{FirstResult}
 use Rattle.generation_engine.proofs.KeptLaws.{first_is}
 use Rattle.generation_engine.proofs.results.ResultStore.kept.Goals as goal
 
