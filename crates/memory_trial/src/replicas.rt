@@ -52,7 +52,11 @@ fn draw(replica: &mut Replica, spec: &EditSpec) -> Result<Edit, Fault> {
 /// A replica that drew two states side by side.
 pub fn drawn(alloc: Global, states: [u8; 2]) -> Option<Replica> {
     let mut replica = replica(alloc, 1)?;
-    let spec = spec(alloc, &[edits::cell(0, states[0]), edits::cell(1, states[1])]).ok()?;
+    let spec = spec(
+        alloc,
+        &[edits::cell(0, states[0]), edits::cell(1, states[1])],
+    )
+    .ok()?;
     let edit = draw(&mut replica, &spec).ok()?;
     if edit.stamp().replica() != 1 {
         return None;
@@ -61,7 +65,8 @@ pub fn drawn(alloc: Global, states: [u8; 2]) -> Option<Replica> {
 }
 
 pub fn edit_is_drawn(alloc: Global) -> bool {
-    drawn(alloc, [2, 3]).is_some_and(|replica| shown(&replica) == [2, 3] && replica.journal().len() == 1)
+    drawn(alloc, [2, 3]).is_some_and(|replica| shown(&replica) == [2, 3]
+        && replica.journal().len() == 1)
 }
 
 pub fn state_is_refused(alloc: Global) -> bool {
