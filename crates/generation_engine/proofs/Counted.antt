@@ -11,12 +11,13 @@ use Rattle.square_store.specs.Seen.{IsBlankAt, IsLeafAt, IsFourAt}
 use Rattle.square_store.proofs.Growth.{longer}
 use Rattle.stamped_tree.specs.declared.cells.ListedCell.{ListedCell}
 use Rattle.stamped_tree.specs.Walk.{IsNonzeroCell}
+use Rattle.stamped_tree.proofs.Gathering.{gathers_parts}
 use Rattle.stamped_tree.proofs.Parts.{same_default}
 use Rattle.generation_engine.specs.declared.leaf_kind.EngineLeaf.{EngineLeaf}
 use Rattle.generation_engine.specs.EngineLeaf.{leaf_grid}
 use Rattle.generation_engine.specs.Walk.{AreMiddleParts, GathersSquare, middle_grid}
 use Rattle.generation_engine.proofs.Counting.{sum_split, population_same, population_none, population_four}
-use Rattle.generation_engine.proofs.Gathering.{gathers_middle, gathers_parts}
+use Rattle.generation_engine.proofs.Gathering.{gathers_middle}
 use Rattle.square_store.proofs.Drawn.{twice_below}
 
 states : Grid → ℕ → ℕ → ℕ
@@ -90,7 +91,7 @@ pub parts_counted : (s : Held EngineLeaf) (k j p left top n : ℕ) (parts : List
     → GathersSquare (side_at 8 k) (grid_at leaf_grid 8 s k p) left top l0 l4
 unfolding count
 parts_counted s k j p left top n parts ra rb rc rd l0 l1 l2 l3 l4 four stands is ga gb gc gd = record {
-  gathers = gathers_parts s k j p left top n parts ra rb rc rd l0 l1 l2 l3 l4 four stands is ga.gathers gb.gathers gc.gathers gd.gathers;
+  gathers = gathers_parts leaf_grid s k j p left top n parts ra rb rc rd l0 l1 l2 l3 l4 four stands is ga.gathers gb.gathers gc.gathers gd.gathers;
   count =
       (let level : k ≡ j = four.level k stands in
       let listed = λ (i r : ℕ) (l : i < 4). same_default parts i r 0 (let h = four.four in omega (arith, l, h)) in

@@ -1,6 +1,5 @@
 -- The cells of a universe, as they are listed.
-use Rattle.std.specs.Prelude.{◌≡◌, ◌≢◌, ℕ, ◌+◌, ◌-◌, ◌*◌, ◌^◌, ◌<◌, ℤ, pos, negsuc, ◌+ℤ◌, ◌-ℤ◌, nat_abs, Bool, ◌&&◌, int_le, int_lt, nat_lt, List, length, Contains}
-use Rattle.std.specs.List.{IsDistinct}
+use Rattle.std.specs.Prelude.{◌≡◌, ◌≢◌, ℕ, ◌+◌, ◌-◌, ◌*◌, ◌^◌, ◌<◌, ℤ, pos, negsuc, ◌+ℤ◌, ◌-ℤ◌, nat_abs, Bool, ◌&&◌, int_le, int_lt, List, length, Contains}
 use Rattle.generations_rule.specs.Place.{Place}
 use Rattle.multistate_rle.specs.declared.cell.Cell.{Cell}
 use Rattle.bitplane_kernel.specs.Population.{one_unless_dead, population}
@@ -8,7 +7,7 @@ use Rattle.square_store.specs.Grid.{Grid}
 use Rattle.square_store.specs.Squares.{Held, side_at, grid_at, four_grid}
 use Rattle.square_store.specs.Seen.{AreAt}
 use Rattle.stamped_tree.specs.declared.cells.ListedCell.{ListedCell}
-use Rattle.stamped_tree.specs.Walk.{AreNonzeroCells, Gathers, IsNonzeroCell, is_one_spot}
+use Rattle.stamped_tree.specs.Walk.{AreNonzeroCells, Gathers, IsNonzeroCell}
 use Rattle.generation_engine.specs.declared.leaf_kind.EngineLeaf.{EngineLeaf}
 use Rattle.generation_engine.specs.EngineLeaf.{leaf_grid}
 use Rattle.generation_engine.specs.Universe.{unstamped_writes}
@@ -36,10 +35,6 @@ is_in_middle c = is_coordinate_in_middle c.x && is_coordinate_in_middle c.y
 abbrev pub from_middle_edge : ℤ → ℕ
 from_middle_edge n = nat_abs (n -ℤ negsuc (2 ^ 31 - 1))
 
--- the middle has the column and the row
-abbrev pub is_on_middle : ListedCell → Bool
-is_on_middle c = nat_lt c.column 4294967296 && nat_lt c.row 4294967296
-
 -- a cell's place in the order of rows, where there are 2^32 columns
 abbrev pub middle_order : ListedCell → ℕ
 middle_order c = c.row * 4294967296 + c.column
@@ -63,12 +58,6 @@ AreInMiddle cells = (c : Cell) → Contains cells c → cell_of_middle (spot_of 
 -- the states of the middle of a root, by columns and rows
 abbrev pub middle_grid : Held EngineLeaf → ℕ → Grid
 middle_grid s root u v = grid_at leaf_grid 8 s 30 root (2147483648 + u) (2147483648 + v)
-
--- the list has these cells, and each once
-pub record AreGathered (IsCell : ListedCell → Type 0) (cells : List ListedCell) : Type 0 where
-  pub got : (c : ListedCell) → IsCell c → Contains cells c
-  pub only : (c : ListedCell) → Contains cells c → IsCell c
-  pub once : IsDistinct is_one_spot cells
 
 -- the list gained the cells of a square that are not dead, and is longer by as many as there are
 pub record GathersSquare (n : ℕ) (f : Grid) (left top : ℕ) (old new : List ListedCell) : Type 0 where

@@ -4,9 +4,9 @@ ghost use Rattle.std.specs.Prelude.{◌≡◌, ◌≤◌, ◌+◌, map, length, 
 ghost use Rattle.std.specs.List.Sorted.{IsNonDecreasingBy};
 ghost use Rattle.square_store.specs.Squares.{IsAt, grid_at, side_at};
 ghost use Rattle.bitplane_kernel.specs.Population.{population};
-ghost use Rattle.stamped_tree.specs.Walk.{IsNonzeroCell};
+ghost use Rattle.stamped_tree.specs.Walk.{AreGathered, IsNonzeroCell};
 ghost use Rattle.generation_engine.specs.EngineLeaf.{leaf_grid};
-ghost use Rattle.generation_engine.specs.Walk.{AreGathered, GathersOne, GathersSquare, cell_of_middle, middle_grid, middle_order, spot_of};
+ghost use Rattle.generation_engine.specs.Walk.{GathersOne, GathersSquare, cell_of_middle, middle_grid, middle_order, spot_of};
 
 use crate::gathered::GatheredCells;
 use crate::leaf_kind::EngineLeaf;

@@ -12,4 +12,5 @@ pub mod Drawing
 pub mod OnPlaneLaws
 pub mod Overwriting
 pub mod Gathering
+pub mod Placing
 pub mod WalkLaws

@@ -36,6 +36,12 @@ pub record Gathers (IsOther : ListedCell → Type 0) (old new : List ListedCell)
   pub only : (c : ListedCell) → Contains new c → Contains old c ⊎ IsOther c
   pub once : IsDistinct is_one_spot old → ((c d : ListedCell) → Contains old c → IsOther d → is_one_spot c d ≡ false) → IsDistinct is_one_spot new
 
+-- the list has these cells, and each once
+pub record AreGathered (IsCell : ListedCell → Type 0) (cells : List ListedCell) : Type 0 where
+  pub got : (c : ListedCell) → IsCell c → Contains cells c
+  pub only : (c : ListedCell) → Contains cells c → IsCell c
+  pub once : IsDistinct is_one_spot cells
+
 -- a cell's place in the order of rows, where there are 2^31 columns
 abbrev pub row_order : ListedCell → ℕ
 row_order c = c.row * 2147483648 + c.column

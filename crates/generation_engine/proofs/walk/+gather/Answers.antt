@@ -1,7 +1,7 @@
 use Rattle.std.proofs.Common.{◌∙◌, ap, ◌+◌, length}
 use Rattle.square_store.proofs.Places.{at_within}
 use Rattle.generation_engine.proofs.Counted.{leaf_counted, parts_counted, square_blank}
-use Rattle.generation_engine.proofs.Gathering.{gathers_leaf_at}
+use Rattle.stamped_tree.proofs.Gathering.{gathers_leaf_at}
 use Rattle.std.proofs.Common.{◌≡◌, ℕ, ◌-◌, ◌<◌, List, sym, subst, arith, slice_index_or}
 use Rattle.std.specs.Prelude.{length}
 use Rattle.square_store.specs.Squares.{Held, IsAt, side_at}
@@ -44,7 +44,7 @@ returns-in_ok-gather-in-Four-4 t c =
 
 pub returns-in_ok-gather_leaf-in-Leaf : goal.returns-in_ok-gather_leaf-in-Leaf
 returns-in_ok-gather_leaf-in-Leaf t c = record {
-  gathers = gathers_leaf_at c.args.store.now c.args.level c.args.part c.args.left c.args.top c.in-Leaf.leaf.now c.args.found.now c.gather_leaf.new.found c.in-Leaf.ensures c.requires.stands c.in_ok-gather_leaf-in-Leaf.ensures.gathers;
+  gathers = gathers_leaf_at leaf_grid c.args.store.now c.args.level c.args.part c.args.left c.args.top c.in-Leaf.leaf.now c.args.found.now c.gather_leaf.new.found c.in-Leaf.ensures c.requires.stands c.in_ok-gather_leaf-in-Leaf.ensures.gathers;
   count = c.in_ok-gather_leaf-in-Leaf.ensures.count ∙ ap (λ n. length c.args.found.now + n) (leaf_counted c.args.store.now c.args.level c.args.part c.in-Leaf.leaf.now c.in-Leaf.ensures c.requires.stands);
 }
 

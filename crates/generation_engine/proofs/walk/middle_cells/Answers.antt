@@ -2,7 +2,8 @@ use Rattle.stamped_tree.specs.Walk.{IsNonzeroCell}
 use Rattle.square_store.proofs.Places.{at_within}
 use Rattle.generation_engine.specs.Walk.{GathersSquare, middle_grid}
 use Rattle.generation_engine.proofs.Counted.{middle_counted}
-use Rattle.generation_engine.proofs.WalkLaws.{sorted_gathered, sorted_counted}
+use Rattle.stamped_tree.proofs.Placing.{sorted_gathered}
+use Rattle.generation_engine.proofs.WalkLaws.{sorted_counted}
 use Rattle.generation_engine.proofs.walk.middle_cells.Goals as goal
 
 pub summary-requires : goal.summary-requires
