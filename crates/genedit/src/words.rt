@@ -16,6 +16,8 @@ use std::rt::Env;
 const SCRIPT_HELP: &str = "\
 The script has a line for each step. A line whose first word begins with # is a comment; within a
 pattern's block it is part of the pattern's text.
+Replicas and messages are numbered from 1. A pattern is drawn where the line says: the position, the
+generation and the rule that its text tells are passed over.
 
   rule S/B/C             first: the rule, as /2/3 or 345/2/4
   replicas N             second: how many replicas there are, 0 to 64
@@ -30,7 +32,7 @@ pattern's block it is part of the pattern's text.
   clear R x y w h        replica R draws an area of dead cells, w wide and h high
   same A B               prints whether replicas A and B hold the same at every cell: same or differ
   dump M                 prints the bytes of message M in hexadecimal
-  export R G             prints replica R's cells G generations later, as an RLE text";
+  export R G             prints replica R's cells G generations later, 0 to 2^29, as an RLE text";
 
 const FORM_HELP: &str = "\
 The text has an optional line `#CXRLE Pos=x,y Gen=n`, a header `x = w, y = h`, and runs of cells up to
