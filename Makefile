@@ -2,9 +2,10 @@
 
 # Everything that must pass: each crate's proofs and tests from nothing, the edits that the prover
 # must refuse, each program's stored run, and then the example scripts through the built program.
-# The last line is `N passed, M failed`, of all of them.
+# The last line is `N passed, M failed`, of all of them. The prover's memory comes in large pages where
+# the system has them to give, which spares it some of its time.
 test:
-	@examples/count rt ci
+	@GLIBC_TUNABLES=glibc.malloc.hugetlb=1 examples/count rt ci
 
 # Runs `genedit` on its stored script. It is proved and built first, unless the gate or an earlier run
 # has built it of the same files.
@@ -15,6 +16,7 @@ run: crates/genedit/out/genedit
 # that measure aside.
 SOURCES := $(shell find crates -name out -prune -o -name trials -prune -o -name must-fail -prune \
 	-o -path '*_tests/*' -prune -o -path '*bench/*' -prune -o -path 'crates/memory_trial/*' -prune \
+	-o -path 'crates/samples/*' -prune \
 	-o \( -name '*.rt' -o -name '*.antt' -o -name src -o -name specs -o -name proofs \) -print)
 
 crates/genedit/out/genedit: $(SOURCES) crates.txt HANDLES
@@ -25,10 +27,6 @@ crates/genedit/out/genedit: $(SOURCES) crates.txt HANDLES
 bench:
 	@cd crates/bench && rt run -- --time
 	@cd crates/plane_bench && rt run -- --time
-	@cd crates/tree_bench && rt run -- --time
-	@cd crates/message_bench && rt run -- --time
-	@cd crates/replica_bench && rt run -- --time
-	@cd crates/engine_bench && rt run -- --time
 	@examples/measure
 
 # Runs each call that takes memory with each allocation refused in turn. Needs a C compiler.

@@ -4,13 +4,13 @@
 mod cells;
 mod race;
 
+use crate::clock::{millions_a_second, quickest};
 use anyhow::Result;
 use generations_rule::Rule;
 use race::Race;
 use std::alloc::Global;
 use std::io;
 use std::rt::Clock;
-use std::time::Duration;
 
 /// Star Wars' counts, with two states up to the most.
 const RULES: [&[u8]; 5] = [
@@ -44,19 +44,18 @@ pub fn run(rt: &(impl Clock + Print), alloc: Global, is_timed: bool) -> Result<(
     Ok(())
 }
 
-fn run_one(rt: &(impl Clock + Print), race: &mut Race, is_timed: bool) -> io::Result<()> {
+fn run_one(rt: &(impl Clock + Print), race: &mut Race, is_timed: bool) -> Result<()> {
     compare(rt, race)?;
     if is_timed {
-        let (planes, cells) = quickest(rt, race)?;
-        report(rt, planes, cells)?;
+        measure(rt, race)?;
     }
     Ok(())
 }
 
 /// Makes one generation of both, and tells how many cells are the same.
 fn compare(rt: &impl Print, race: &mut Race) -> io::Result<()> {
-    race.advance();
-    race.step();
+    race.advance(1);
+    race.step(1);
     let cells = race.count().saturating_mul(INNER);
     tell(rt, race.rule.states(), race.same(), cells)
 }
@@ -65,25 +64,22 @@ fn tell(rt: &impl Print, states: u16, same: u64, cells: u64) -> io::Result<()> {
     println!(rt; "{states} states: {same} of {cells} cells are the same")
 }
 
+/// The rates on planes and cell by cell.
+fn measure(rt: &(impl Clock + Print), race: &mut Race) -> Result<()> {
+    let advancing = quickest(rt, ROUNDS, || {
+        race.advance(ADVANCES);
+        Ok(())
+    })?;
+    let stepping = quickest(rt, ROUNDS, || {
+        race.step(STEPS);
+        Ok(())
+    })?;
+    let planes = millions_a_second(u64::from(ADVANCES) * MEGABYTE * INNER, advancing);
+    let cells = millions_a_second(u64::from(STEPS) * MEGABYTE * INNER, stepping);
+    Ok(report(rt, planes, cells)?)
+}
+
 fn report(rt: &impl Print, planes: u64, cells: u64) -> io::Result<()> {
     let times = planes / cells.max(1);
     println!(rt; "  {planes} million cells a second on planes, {cells} cell by cell: {times} times")
-}
-
-/// The best rates of several measurements, on planes and cell by cell, taken in turn.
-fn quickest(clock: &impl Clock, race: &mut Race) -> io::Result<(u64, u64)> {
-    let mut planes = 0;
-    let mut cells = 0;
-    for _ in 0..ROUNDS {
-        planes = rate(ADVANCES, race.time_of_advances(clock, ADVANCES)?).max(planes);
-        cells = rate(STEPS, race.time_of_steps(clock, STEPS)?).max(cells);
-    }
-    Ok((planes, cells))
-}
-
-/// Million cells a second, where every block made so many generations.
-fn rate(generations: u32, time: Duration) -> u64 {
-    let cells = u64::from(generations) * MEGABYTE * INNER;
-    let micros = u64::try_from(time.as_micros()).unwrap_or(u64::MAX);
-    cells / micros.max(1)
 }

@@ -1,17 +1,13 @@
-//! Measures edits, pattern texts, deltas, frames, blocks, leaves, replicas and worlds, and asserts
-//! nothing. Prints what came of each, which is the same on every machine; with the word `--time` there
-//! is more of most, and it is also told how fast.
+//! Measures edits, pattern texts, blocks and leaves, and asserts nothing. Prints what came of each, which
+//! is the same on every machine; with the word `--time` more blocks are stepped, and it is also told how
+//! fast.
 #![tactic(auto)]
 
-mod deltas;
+mod clock;
 mod edits;
-mod frames;
 mod kernel;
 mod leaves;
 mod patterns;
-mod random;
-mod replicas;
-mod worlds;
 
 use anyhow::Result;
 use std::env;
@@ -30,10 +26,6 @@ fn main(rt: HostRuntime) -> Result<()> {
     let is_timed = wants_time(&rt)?;
     edits::run(&rt, alloc, is_timed)?;
     patterns::run(&rt, alloc, is_timed)?;
-    deltas::run(&rt, alloc, is_timed)?;
-    frames::run(&rt, alloc, is_timed)?;
     kernel::run(&rt, alloc, is_timed)?;
-    leaves::run(&rt, alloc, is_timed)?;
-    replicas::run(&rt, alloc, is_timed)?;
-    worlds::run(&rt, alloc, is_timed)
+    leaves::run(&rt, alloc, is_timed)
 }

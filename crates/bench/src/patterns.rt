@@ -2,12 +2,12 @@
 //! again, beside a pass that only sums the text's bytes.
 
 mod picture;
-mod race;
 
-use anyhow::Result;
+use crate::clock::{millions_a_second, quickest};
+use anyhow::{Result, bail};
 use generations_rule::Rule;
+use multistate_rle::{Cell, are_writable, parse, write};
 use picture::{cells_of, picture, text_of};
-use race::{Times, quickest};
 use std::alloc::Global;
 use std::io;
 use std::rt::Clock;
@@ -18,23 +18,18 @@ const ROUNDS: u32 = 16;
 
 pub fn run(rt: &(impl Clock + Print), alloc: Global, is_timed: bool) -> Result<()> {
     let rule = Rule::parse(b"345/2/64")?;
-    let text = text_of_picture(alloc, &rule)?;
-    compare(rt, alloc, &rule, &text)?;
+    let text = text_of(alloc, &rule, &picture(alloc)?)?;
+    let cells = cells_of(alloc, &text)?;
+    compare(rt, alloc, &rule, &text, &cells)?;
     if is_timed {
-        measure(rt, alloc, &rule, &text)?;
+        measure(rt, alloc, &rule, &text, &cells)?;
     }
     Ok(())
 }
 
-fn text_of_picture(alloc: Global, rule: &Rule) -> Result<Vec<u8>> {
-    let cells = picture(alloc)?;
-    text_of(alloc, rule, &cells)
-}
-
-/// Reads the text, writes its cells, and tells whether the text is the same again.
-fn compare(rt: &impl Print, alloc: Global, rule: &Rule, text: &[u8]) -> Result<()> {
-    let cells = cells_of(alloc, text)?;
-    let again = text_of(alloc, rule, &cells)?;
+/// Writes the cells of a text, and tells whether the text is the same again.
+fn compare(rt: &impl Print, alloc: Global, rule: &Rule, text: &[u8], cells: &[Cell]) -> Result<()> {
+    let again = text_of(alloc, rule, cells)?;
     Ok(tell(rt, text.len(), cells.len(), again.as_slice() == text)?)
 }
 
@@ -42,28 +37,65 @@ fn tell(rt: &impl Print, bytes: usize, cells: usize, is_same: bool) -> io::Resul
     println!(rt; "{bytes} bytes, {cells} cells read, written again the same: {is_same}")
 }
 
-fn measure(rt: &(impl Clock + Print), alloc: Global, rule: &Rule, text: &[u8]) -> Result<()> {
-    let times = quickest(rt, alloc, rule, text, ROUNDS)?;
-    Ok(report(rt, text.len() as u64, &times)?)
+fn measure(
+    rt: &(impl Clock + Print),
+    alloc: Global,
+    rule: &Rule,
+    text: &[u8],
+    cells: &[Cell],
+) -> Result<()> {
+    let summing = quickest(rt, ROUNDS, || is_summed(text))?;
+    let reading = quickest(rt, ROUNDS, || {
+        let _pattern = parse(alloc, text)?;
+        Ok(())
+    })?;
+    let writing = time_of_writing(rt, alloc, rule, cells)?;
+    let bytes = text.len() as u64;
+    report(rt, "summed", bytes, summing, summing)?;
+    report(rt, "read", bytes, reading, summing)?;
+    Ok(report(rt, "written", bytes, writing, summing)?)
 }
 
-fn report(rt: &impl Print, bytes: u64, times: &Times) -> io::Result<()> {
-    for (name, time) in [
-        ("summed", times.summing),
-        ("read", times.reading),
-        ("written", times.writing),
-    ] {
-        println!(rt;
-            "  {name}: {} MB a second, {:.1} times as long as summed",
-            rate(bytes, time),
-            time.as_secs_f64() / times.summing.as_secs_f64()
-        )?;
+fn time_of_writing(
+    clock: &impl Clock,
+    alloc: Global,
+    rule: &Rule,
+    cells: &[Cell],
+) -> Result<Duration> {
+    if !are_writable(rule, cells) {
+        bail!("the cells cannot be written");
+    }
+    quickest(clock, ROUNDS, || {
+        let _text = write(alloc, rule, 0, cells)?;
+        Ok(())
+    })
+}
+
+/// A plain pass over bytes.
+#[inline(never)]
+fn sum(bytes: &[u8]) -> u64 {
+    let mut sum = 0_u64;
+    for byte in bytes {
+        sum = sum.wrapping_add(u64::from(*byte));
+    }
+    sum
+}
+
+fn is_summed(text: &[u8]) -> Result<()> {
+    if sum(text) == 0 {
+        bail!("a text of no bytes");
     }
     Ok(())
 }
 
-/// Million bytes a second.
-fn rate(bytes: u64, time: Duration) -> u64 {
-    let micros = u64::try_from(time.as_micros()).unwrap_or(u64::MAX);
-    bytes / micros.max(1)
+fn report(
+    rt: &impl Print,
+    what: &str,
+    bytes: u64,
+    time: Duration,
+    summing: Duration,
+) -> io::Result<()> {
+    let rate = millions_a_second(bytes, time);
+    let ratio = time.as_secs_f64() / summing.as_secs_f64();
+    println!(rt; "  {what}: {rate} MB a second, {ratio:.1} times as long as summed")
 }

@@ -1,9 +1,9 @@
 //! Each call once, with ample memory and room.
 
-use crate::loading::{shows, takes};
 use edit_stamps::{Cell, EditFault};
 use generation_engine::{Engine, engine_laws};
 use generations_rule::Rule;
+use samples::{shows, takes};
 use std::alloc::Global;
 use std::test::Fail;
 

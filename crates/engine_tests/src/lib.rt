@@ -1,11 +1,11 @@
-//! Tests of `generation_engine`: universes filled from planes beside the planes' own walks, universes
-//! run beside boards of cells, and room.
+//! Tests of `generation_engine` (universes filled from planes beside the planes' own walks, universes
+//! run beside boards of cells, and room) and of `export`.
 #![tactic(auto)]
 
-mod boards;
 #[cfg(test)]
 mod calls;
-mod loading;
+#[cfg(test)]
+mod exports;
 #[cfg(test)]
 mod planes;
 #[cfg(test)]
@@ -14,6 +14,3 @@ mod rooms;
 mod runs;
 #[cfg(test)]
 mod soups;
-
-pub use boards::Board;
-pub use loading::{advances, plane_of, refuses, shows, takes, walks};

@@ -1,49 +1,11 @@
 //! Universes of random planes beside the planes' own walks.
 
-use crate::loading::walks;
 use edit_stamps::{Cell, Corner, EditFault};
 use generation_engine::Engine;
 use generations_rule::Rule;
+use samples::{CENTRES, next, walks};
 use std::alloc::{AllocError, Global};
 use std::test::Fail;
-
-/// The plane's corners, its middle, the middles of its edges, and a place inside a leaf.
-static CENTRES: [Corner; 8] = [
-    Corner {
-        x: -0x4000_0000,
-        y: -0x4000_0000,
-    },
-    Corner {
-        x: 0x3fff_ffff,
-        y: -0x4000_0000,
-    },
-    Corner {
-        x: -0x4000_0000,
-        y: 0x3fff_ffff,
-    },
-    Corner {
-        x: 0x3fff_ffff,
-        y: 0x3fff_ffff,
-    },
-    Corner { x: 0, y: 0 },
-    Corner {
-        x: 0,
-        y: 0x3fff_ffff,
-    },
-    Corner {
-        x: -0x4000_0000,
-        y: 0,
-    },
-    Corner { x: 1021, y: -523 },
-];
-
-/// The next number of Knuth's generator MMIX.
-fn next(number: &mut u64) -> u64 {
-    *number = number
-        .wrapping_mul(6_364_136_223_846_793_005)
-        .wrapping_add(1_442_695_040_888_963_407);
-    *number >> 33
-}
 
 /// A coordinate of the plane near another.
 fn near(centre: i32, number: &mut u64) -> i32 {

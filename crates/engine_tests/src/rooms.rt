@@ -1,9 +1,9 @@
 //! An engine with little room.
 
-use crate::loading::{refuses, takes};
 use edit_stamps::{Cell, EditFault};
 use generation_engine::Engine;
 use generations_rule::Rule;
+use samples::{refuses, takes};
 use std::alloc::{AllocError, Global};
 use std::test::Fail;
 

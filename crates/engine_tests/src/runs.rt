@@ -2,10 +2,10 @@
 
 ghost use Rattle.std.specs.Prelude.{◌≡◌, ◌≤◌};
 
-use crate::loading::{advances, takes};
 use edit_stamps::{Cell, EditFault};
 use generation_engine::{Engine, EngineFault};
 use generations_rule::Rule;
+use samples::{advances, takes};
 use std::alloc::Global;
 use std::test::Fail;
 

@@ -2,11 +2,10 @@
 
 ghost use Rattle.std.specs.Prelude.{◌≡◌};
 
-use crate::boards::Board;
-use crate::loading::{advances, takes};
 use edit_stamps::{Cell, EditFault};
 use generation_engine::Engine;
 use generations_rule::Rule;
+use samples::{Board, advances, next, takes};
 use std::alloc::{AllocError, Global};
 use std::test::Fail;
 
@@ -35,14 +34,6 @@ static CORNERS: [(i32, i32); 4] = [
     (-0x4000_0000 + 24, 0x4000_0000 - 24),
     (0x4000_0000 - 24, 0x4000_0000 - 24),
 ];
-
-/// The next number of Knuth's generator MMIX.
-fn next(number: &mut u64) -> u64 {
-    *number = number
-        .wrapping_mul(6_364_136_223_846_793_005)
-        .wrapping_add(1_442_695_040_888_963_407);
-    *number >> 33
-}
 
 fn is_in_soup(place: usize) -> bool {
     let column = place % SIDE;

@@ -41,27 +41,39 @@ const NOTE: &str = "#C note\n#CXRLE Pos=-1,2 Gen=7\nx = 3, y = 2\n 2 b o$ ! end"
 
 const NOTED: &str = "#CXRLE Pos=1,2 Gen=7\nx = 1, y = 1, rule = /2/3\nA!\n";
 
+/// What is read is bound by 32 bits, and not by the plane.
+const FAR: &str = "#CXRLE Pos=1073741824,-2147483648\nx = 1, y = 1\no!";
+
+/// Rules, texts, and the forms of these.
+static FORMS: [(&str, &str, &str); 5] = [
+    ("/2/3", NOTE, NOTED),
+    ("/2/3", NOTED, NOTED),
+    (
+        "/2/3",
+        FAR,
+        "#CXRLE Pos=1073741824,-2147483648 Gen=0\nx = 1, y = 1, rule = /2/3\nA!\n",
+    ),
+    (
+        "/2/3",
+        "x = 9, y = 9\r\n# a comment\r\n1b1o\r\nB bb$$$\r\n\t.o$!\r\n",
+        "#CXRLE Pos=1,0 Gen=0\nx = 2, y = 4, rule = /2/3\nAB3$A!\n",
+    ),
+    (
+        "23/3/02",
+        "x = 3, y = 3\n.A$2.A$1A2A!",
+        "#CXRLE Pos=0,0 Gen=0\nx = 3, y = 3, rule = 23/3/2\nbo$2bo$3o!\n",
+    ),
+];
+
+fn is_form(alloc: Global, rule: &str, text: &str, want: &str) -> Result<bool, AllocError> {
+    Ok(form(alloc, rule.as_bytes(), text.as_bytes())?.as_str() == want)
+}
+
 #[test]
 fn forms_are_written(rt: HostRuntime) -> Result<(), AllocError> {
-    let alloc = rt.alloc();
-    assert_eq!(rt; form(alloc, b"/2/3", NOTE.as_bytes())?.as_str(), NOTED);
-    assert_eq!(rt; form(alloc, b"/2/3", NOTED.as_bytes())?.as_str(), NOTED);
-    // what is read is bound by 32 bits, and not by the plane
-    let far = b"#CXRLE Pos=1073741824,-2147483648\nx = 1, y = 1\no!";
-    assert_eq!(rt;
-        form(alloc, b"/2/3", far)?.as_str(),
-        "#CXRLE Pos=1073741824,-2147483648 Gen=0\nx = 1, y = 1, rule = /2/3\nA!\n"
-    );
-    let untidy = b"x = 9, y = 9\r\n# a comment\r\n1b1o\r\nB bb$$$\r\n\t.o$!\r\n";
-    assert_eq!(rt;
-        form(alloc, b"/2/3", untidy)?.as_str(),
-        "#CXRLE Pos=1,0 Gen=0\nx = 2, y = 4, rule = /2/3\nAB3$A!\n"
-    );
-    let small = b"x = 3, y = 3\n.A$2.A$1A2A!";
-    assert_eq!(rt;
-        form(alloc, b"23/3/02", small)?.as_str(),
-        "#CXRLE Pos=0,0 Gen=0\nx = 3, y = 3, rule = 23/3/2\nbo$2bo$3o!\n"
-    );
+    for (rule, text, want) in FORMS {
+        assert!(rt; is_form(rt.alloc(), rule, text, want)?, "{text}");
+    }
     Ok(())
 }
 

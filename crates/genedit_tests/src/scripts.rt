@@ -1,7 +1,7 @@
 //! Whole scripts.
 
 use crate::told;
-use edit_stamps::Rect;
+use edit_stamps::{Cell, Rect};
 use genedit_script::{Command, Paste, Script, ScriptFault, read_script};
 use replica_core::{EditSpec, Event};
 use std::alloc::{AllocError, Global};
@@ -11,25 +11,26 @@ const EVERY_COMMAND: &[u8] = b"# three replicas\r\nrule 345/2/4\nreplicas 03\n\n
     \tclear 1 -4 5 9 8\ncopy 2 Glider7 -1 7\nor 3 Glider7 8 -2\nstate 1\ndeliver 4294967295 2\n\
     show 2 0 -1\nsame 1 4294967295\ndelta 2 0 4294967295\ndump 007\nexport 2 536870913\n";
 
+fn cells_told(alloc: Global, replica: u32, cells: &[Cell]) -> Result<String, AllocError> {
+    let mut told = format!(in alloc; "cells {replica}")?;
+    for cell in cells {
+        told = format!(in alloc; "{told} {} {} {}", cell.x, cell.y, cell.state)?;
+    }
+    Ok(told)
+}
+
+fn clear_told(alloc: Global, replica: u32, area: Rect) -> Result<String, AllocError> {
+    format!(in alloc;
+        "clear {replica} {} {} {} {}",
+        area.x, area.y, area.width, area.height
+    )
+}
+
 /// What a replica draws.
 fn draw_told(alloc: Global, replica: u32, spec: &EditSpec) -> Result<String, AllocError> {
     match spec {
-        EditSpec::Cells(cells) => {
-            let mut told = format!(in alloc; "cells {replica}")?;
-            for cell in cells.as_slice() {
-                told = format!(in alloc; "{told} {} {} {}", cell.x, cell.y, cell.state)?;
-            }
-            Ok(told)
-        }
-        EditSpec::Clear(area) => {
-            let Rect {
-                x,
-                y,
-                width,
-                height,
-            } = *area;
-            format!(in alloc; "clear {replica} {x} {y} {width} {height}")
-        }
+        EditSpec::Cells(cells) => cells_told(alloc, replica, cells.as_slice()),
+        EditSpec::Clear(area) => clear_told(alloc, replica, *area),
         EditSpec::Copy(..) | EditSpec::Or(..) => format!(in alloc; "paste {replica}"),
     }
 }

@@ -1,16 +1,12 @@
-//! Tests of `stamped_tree`: planes of edits beside plain lists, views, and room.
+//! Tests of `square_store`, over leaves of two kinds, of `stamped_tree`, `tree_join` and
+//! `delta_exchange`.
 #![tactic(auto)]
 
 #[cfg(test)]
-mod drawn;
-mod edits;
+mod joins;
 #[cfg(test)]
-mod overwritten;
-mod path;
+mod messages;
 #[cfg(test)]
-mod rooms;
-mod views;
-
-pub use edits::{REACH, edit_near, next, write_by};
-pub use path::one_cell;
-pub use views::{AREA, show_the_same, zeros_listed};
+mod planes;
+#[cfg(test)]
+mod squares;

@@ -4,6 +4,8 @@ ghost use Rattle.std.specs.Prelude.{◌≡◌, ◌+◌, ◌*◌, ◌<◌, ◌≤
 
 use bitplane_kernel::{BitLeaf, Block};
 use generations_rule::Rule;
+use rand_core::utils::NextWord;
+use rand_pcg::Pcg32;
 
 /// 16 by 16 states, row by row.
 #[derive(Clone, Copy)]
@@ -12,16 +14,12 @@ pub struct Cells {
 }
 
 impl Cells {
-    /// States below the rule's number of states that look random, by Knuth's generator MMIX.
-    pub fn scattered(rule: &Rule, seed: u64) -> Cells {
-        let bound = u64::from(rule.states());
-        let mut number = seed;
+    /// States by chance, below the rule's number of states.
+    pub fn scattered(rule: &Rule, random: &mut Pcg32) -> Cells {
+        let bound = u32::from(rule.states());
         let mut states = [0; 256];
         for state in states.iter_mut() {
-            number = number
-                .wrapping_mul(6_364_136_223_846_793_005)
-                .wrapping_add(1_442_695_040_888_963_407);
-            *state = ((number >> 33) % bound) as u8;
+            *state = (random.next_word() % bound) as u8;
         }
         Cells { states }
     }

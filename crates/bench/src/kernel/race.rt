@@ -3,10 +3,8 @@
 use crate::kernel::cells::Cells;
 use bitplane_kernel::Block;
 use generations_rule::Rule;
+use rand_pcg::Pcg32;
 use std::alloc::{AllocError, Global};
-use std::io;
-use std::rt::Clock;
-use std::time::{Duration, Instant};
 
 /// The same blocks on bit planes and cell by cell.
 #[derive(Drop)]
@@ -18,10 +16,11 @@ pub struct Race {
 
 impl Race {
     pub fn new(alloc: Global, rule: Rule, count: u64) -> Result<Race, AllocError> {
+        let mut random = Pcg32::new(2026, 11);
         let mut blocks = Vec::new(alloc);
         let mut cells = Vec::new(alloc);
-        for seed in 0..count {
-            let some = Cells::scattered(&rule, seed);
+        for _ in 0..count {
+            let some = Cells::scattered(&rule, &mut random);
             blocks.push(some.block())?;
             cells.push(some)?;
         }
@@ -32,17 +31,21 @@ impl Race {
         })
     }
 
-    /// One generation of every block on bit planes.
-    pub fn advance(&mut self) {
-        for block in self.blocks.iter_mut() {
-            block.advance(&self.rule, 1);
+    /// So many generations of every block on bit planes.
+    pub fn advance(&mut self, generations: u32) {
+        for _ in 0..generations {
+            for block in self.blocks.iter_mut() {
+                block.advance(&self.rule, 1);
+            }
         }
     }
 
-    /// One generation of every block cell by cell.
-    pub fn step(&mut self) {
-        for cells in self.cells.iter_mut() {
-            cells.step(&self.rule);
+    /// So many generations of every block cell by cell.
+    pub fn step(&mut self, generations: u32) {
+        for _ in 0..generations {
+            for cells in self.cells.iter_mut() {
+                cells.step(&self.rule);
+            }
         }
     }
 
@@ -58,23 +61,5 @@ impl Race {
             same = same.wrapping_add(cells.same(block));
         }
         same
-    }
-
-    /// The time that so many generations of every block take, on bit planes.
-    pub fn time_of_advances(&mut self, clock: &impl Clock, rounds: u32) -> io::Result<Duration> {
-        let start = Instant::now(clock)?;
-        for _ in 0..rounds {
-            self.advance();
-        }
-        start.elapsed(clock)
-    }
-
-    /// The time that so many generations of every block take, cell by cell.
-    pub fn time_of_steps(&mut self, clock: &impl Clock, rounds: u32) -> io::Result<Duration> {
-        let start = Instant::now(clock)?;
-        for _ in 0..rounds {
-            self.step();
-        }
-        start.elapsed(clock)
     }
 }

@@ -41,15 +41,23 @@ pub fn picture(alloc: Global) -> Result<Vec<Cell>, AllocError> {
     Ok(cells)
 }
 
+fn run_at(number: u32) -> Run {
+    let pair = number / 2;
+    let state = if number % 2 == 0 {
+        0
+    } else {
+        pair % STATES + 1
+    };
+    Run {
+        len: LENGTHS[(pair % 4) as usize],
+        state: state as u8,
+    }
+}
+
 fn runs(alloc: Global) -> Result<Vec<Run>, AllocError> {
     let mut runs = Vec::with_capacity(alloc, RUNS as usize)?;
-    for i in 0..RUNS {
-        let pair = i / 2;
-        let state = if i % 2 == 0 { 0 } else { pair % STATES + 1 };
-        runs.push(Run {
-            len: LENGTHS[(pair % 4) as usize],
-            state: state as u8,
-        })?;
+    for number in 0..RUNS {
+        runs.push(run_at(number))?;
     }
     runs.as_mut_slice().shuffle(&mut Pcg32::new(2026, 11));
     Ok(runs)

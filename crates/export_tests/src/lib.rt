@@ -1,5 +1,0 @@
-//! Tests of `export`.
-#![tactic(auto)]
-
-#[cfg(test)]
-mod exports;

@@ -1,0 +1,7 @@
+//! Deltas, states and frames, both ways.
+
+mod deltas;
+mod frames;
+mod random;
+mod refusals;
+mod states;

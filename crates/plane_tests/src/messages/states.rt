@@ -1,0 +1,310 @@
+//! States: worked texts, each byte of one, and each room.
+
+use crate::messages::deltas::{ONE_CELL, brians_brain};
+use delta_exchange::{Message, ReadFault, read, read_within, write_delta, write_state};
+use edit_stamps::{Cell, Edit, EditFault, Stamp, Write};
+use generations_rule::Rule;
+use stamped_tree::Plane;
+use std::alloc::{AllocError, Global};
+use std::test::Fail;
+
+/// A head of a state under Brian's Brain.
+static HEAD: [u8; 10] = [0x47, 0x4c, 0x57, 0x53, 1, 4, 0x2f, 0x32, 0x2f, 0x33];
+
+/// The plane where nothing was written, under Brian's Brain.
+static EMPTY: [u8; 19] = [
+    0x47, 0x4c, 0x57, 0x53, 1, 4, 0x2f, 0x32, 0x2f, 0x33, 0, 0, 0, 0, 0, 0, 0, 0, 0,
+];
+
+/// The first fault of a text, if it has one.
+pub fn fault_of(alloc: Global, text: &[u8]) -> Result<Option<ReadFault>, Fail> {
+    let rule = brians_brain()?;
+    match read(alloc, &rule, text) {
+        Ok(_message) => Ok(None),
+        Err(fault) => Ok(Some(fault)),
+    }
+}
+
+/// The first fault of what stands behind a head of a state, if it has one.
+fn fault_behind(alloc: Global, rest: &[u8]) -> Result<Option<ReadFault>, Fail> {
+    let mut text = Vec::from_slice(alloc, &HEAD)?;
+    text.extend_from_slice(rest)?;
+    fault_of(alloc, &text)
+}
+
+/// What is written of a message.
+pub fn text_of(alloc: Global, rule: &Rule, message: &Message) -> Result<Vec<u8>, AllocError> {
+    match (message.edits(), message.plane()) {
+        (_, Some(plane)) => write_state(alloc, rule, plane),
+        (Some(edits), None) if edits.len() < 1000 => write_delta(alloc, rule, edits),
+        _ => Ok(Vec::new(alloc)),
+    }
+}
+
+/// What is written of what is read of a text, in so much room; nothing where it is refused.
+pub fn retold(
+    alloc: Global,
+    rule: &Rule,
+    text: &[u8],
+) -> Result<Result<Vec<u8>, ReadFault>, AllocError> {
+    match read(alloc, rule, text) {
+        Ok(message) => Ok(Ok(text_of(alloc, rule, &message)?)),
+        Err(ReadFault::Memory) => Err(AllocError),
+        Err(fault) => Ok(Err(fault)),
+    }
+}
+
+/// State 1 at the origin, of counter 1 and replica 1.
+fn one_cell(alloc: Global, rule: &Rule) -> Result<Plane, EditFault> {
+    let Some(stamp) = Stamp::new(1, 1) else {
+        return Err(EditFault::Nothing);
+    };
+    let cell = Cell {
+        x: 0,
+        y: 0,
+        state: 1,
+    };
+    let edit = Edit::cells(alloc, rule, stamp, &[cell])?;
+    Ok(Plane::of_edit(alloc, &edit)?)
+}
+
+/// The text of that plane.
+fn one_cell_text(alloc: Global) -> Result<Vec<u8>, Fail> {
+    let rule = brians_brain()?;
+    let plane = one_cell(alloc, &rule)?;
+    Ok(write_state(alloc, &rule, &plane)?)
+}
+
+#[test]
+fn the_empty_plane_is_written_and_read(rt: HostRuntime) -> Result<(), Fail> {
+    let rule = brians_brain()?;
+    let plane = Plane::new(rt.alloc())?;
+    assert!(rt; write_state(rt.alloc(), &rule, &plane)?.as_slice() == EMPTY.as_slice());
+    let told = retold(rt.alloc(), &rule, &EMPTY)??;
+    assert!(rt; told.as_slice() == EMPTY.as_slice());
+    let mut longer = [0; 20];
+    longer[..19].copy_from_slice(&EMPTY);
+    assert_eq!(rt; fault_of(rt.alloc(), &longer)?, Some(ReadFault::Trailing));
+    Ok(())
+}
+
+/// Four blanks where there should be one, and each text that is cut off before its end.
+#[test]
+fn a_blank_is_not_spelt_out(rt: HostRuntime) -> Result<(), Fail> {
+    let mut text = [0; 47];
+    text[..10].copy_from_slice(&HEAD);
+    text[10] = 2;
+    assert_eq!(rt; fault_of(rt.alloc(), &text)?, Some(ReadFault::NotCanonical));
+    for len in 0..47 {
+        assert_eq!(rt; fault_of(rt.alloc(), &text[..len])?, Some(ReadFault::Short));
+    }
+    Ok(())
+}
+
+#[test]
+fn one_written_cell_is_written_and_read(rt: HostRuntime) -> Result<(), Fail> {
+    let rule = brians_brain()?;
+    let text = one_cell_text(rt.alloc())?;
+    assert_eq!(rt; text.len(), 1371);
+    let message = read(rt.alloc(), &rule, &text)?;
+    let plane = message.plane().ok_or("a map")?;
+    assert_eq!(rt;
+        plane.get(0, 0),
+        Write {
+            stamp: 65537,
+            state: 1
+        }
+    );
+    assert_eq!(rt; plane.get(1, 0), Write { stamp: 0, state: 0 });
+    assert_eq!(rt; plane.nodes(), 30);
+    assert!(rt; text_of(rt.alloc(), &rule, &message)?.as_slice() == text.as_slice());
+    Ok(())
+}
+
+/// The plane of one cell has 30 squares: with room for fewer its text is not read.
+#[test]
+fn room_is_wanted_for_each_square(rt: HostRuntime) -> Result<(), Fail> {
+    let rule = brians_brain()?;
+    let text = one_cell_text(rt.alloc())?;
+    for room in 1..30_u32 {
+        let answer = read_within(rt.alloc(), &rule, &text, room).map(|_message| ());
+        assert_eq!(rt; answer, Err(ReadFault::StoreFull));
+    }
+    let message = read_within(rt.alloc(), &rule, &text, 30)?;
+    assert!(rt; text_of(rt.alloc(), &rule, &message)?.as_slice() == text.as_slice());
+    Ok(())
+}
+
+/// Of how many values of a byte the text is read, each of which is written as it was.
+fn values_read(alloc: Global, rule: &Rule, text: &[u8], place: usize) -> Result<u32, AllocError> {
+    let mut changed = Vec::from_slice(alloc, text)?;
+    let mut read = 0_u32;
+    for value in 0..256_u16 {
+        if let Some(byte) = changed.get_mut(place) {
+            *byte = value as u8;
+        }
+        if let Ok(again) = retold(alloc, rule, &changed)? {
+            if again.as_slice() != changed.as_slice() {
+                return Ok(1000);
+            }
+            read = read.saturating_add(1);
+        }
+    }
+    Ok(read)
+}
+
+/// The head, the tags and the blanks have one value each. Of the one write the counter's bytes have
+/// all, but 0 in the last, the replica's likewise, and the state three. Where nothing was written no
+/// byte alone can say that something was.
+fn values_meant(place: usize) -> u32 {
+    match place {
+        66..=70 | 72 => 256,
+        71 | 73 => 255,
+        74 => 3,
+        _ => 1,
+    }
+}
+
+#[test]
+fn each_byte_is_refused_or_told_as_it_is(rt: HostRuntime) -> Result<(), Fail> {
+    let rule = brians_brain()?;
+    let text = one_cell_text(rt.alloc())?;
+    for place in 0..100 {
+        assert_eq!(rt;
+            values_read(rt.alloc(), &rule, &text, place)?,
+            values_meant(place)
+        );
+    }
+    Ok(())
+}
+
+/// What stands behind a head, and its first fault.
+struct Behind {
+    rest: &'static [u8],
+    fault: ReadFault,
+}
+
+static BEHIND: [Behind; 6] = [
+    Behind {
+        rest: &[2; 28],
+        fault: ReadFault::Short,
+    },
+    Behind {
+        rest: &[2; 29],
+        fault: ReadFault::NotCanonical,
+    },
+    Behind {
+        rest: &[1],
+        fault: ReadFault::NotCanonical,
+    },
+    Behind {
+        rest: &[3],
+        fault: ReadFault::NotCanonical,
+    },
+    Behind {
+        rest: &[0, 0, 0, 0, 0, 0, 0, 0, 1],
+        fault: ReadFault::StampRange,
+    },
+    Behind {
+        rest: &[0, 0, 0, 0, 0, 0, 1, 0, 0],
+        fault: ReadFault::StampRange,
+    },
+];
+
+#[test]
+fn faults_of_squares_are_told(rt: HostRuntime) -> Result<(), Fail> {
+    for behind in &BEHIND {
+        assert_eq!(rt; fault_behind(rt.alloc(), behind.rest)?, Some(behind.fault));
+    }
+    Ok(())
+}
+
+/// The fault of the text of one cell with three of its bytes set: the counter's last, the replica's
+/// last, and the state.
+fn fault_of_write(
+    alloc: Global,
+    counter: u8,
+    replica: u8,
+    state: u8,
+) -> Result<Option<ReadFault>, Fail> {
+    let mut text = one_cell_text(alloc)?;
+    for (place, value) in [(71, counter), (73, replica), (74, state)] {
+        if let Some(byte) = text.get_mut(place) {
+            *byte = value;
+        }
+    }
+    fault_of(alloc, &text)
+}
+
+#[test]
+fn faults_of_a_write_are_told_in_order(rt: HostRuntime) -> Result<(), Fail> {
+    assert_eq!(rt; fault_of_write(rt.alloc(), 1, 1, 2)?, None);
+    assert_eq!(rt;
+        fault_of_write(rt.alloc(), 1, 1, 3)?,
+        Some(ReadFault::StateRange)
+    );
+    assert_eq!(rt;
+        fault_of_write(rt.alloc(), 0, 1, 3)?,
+        Some(ReadFault::StampRange)
+    );
+    assert_eq!(rt;
+        fault_of_write(rt.alloc(), 0, 0, 1)?,
+        Some(ReadFault::StampRange)
+    );
+    assert_eq!(rt;
+        fault_of_write(rt.alloc(), 0, 0, 0)?,
+        Some(ReadFault::NotCanonical)
+    );
+    Ok(())
+}
+
+/// Texts that are no head of a message under this rule.
+static HEADS: [Behind; 7] = [
+    Behind {
+        rest: b"",
+        fault: ReadFault::Short,
+    },
+    Behind {
+        rest: b"GL",
+        fault: ReadFault::Short,
+    },
+    Behind {
+        rest: b"XXXX",
+        fault: ReadFault::Magic,
+    },
+    Behind {
+        rest: b"GLWD\x02",
+        fault: ReadFault::Version,
+    },
+    Behind {
+        rest: b"GLWS\x02",
+        fault: ReadFault::Version,
+    },
+    Behind {
+        rest: b"GLWD\x01\x04/3/3",
+        fault: ReadFault::OtherRule,
+    },
+    Behind {
+        rest: b"GLWS\x01\x04/3/3",
+        fault: ReadFault::OtherRule,
+    },
+];
+
+#[test]
+fn faults_of_either_head_are_told(rt: HostRuntime) -> Result<(), Fail> {
+    for head in &HEADS {
+        assert_eq!(rt; fault_of(rt.alloc(), head.rest)?, Some(head.fault));
+    }
+    Ok(())
+}
+
+#[test]
+fn a_delta_is_read_as_edits(rt: HostRuntime) -> Result<(), Fail> {
+    let rule = brians_brain()?;
+    let message = read(rt.alloc(), &rule, &ONE_CELL)?;
+    assert_eq!(rt; message.edits().map(|edits| edits.len()), Some(1));
+    assert!(rt; message.plane().is_none());
+    assert!(rt; message.rule() == rule);
+    assert!(rt; text_of(rt.alloc(), &rule, &message)?.as_slice() == ONE_CELL.as_slice());
+    Ok(())
+}
