@@ -5,7 +5,7 @@
 # The last line is `N passed, M failed`, of all of them. The prover's memory comes in large pages where
 # the system has them to give, which spares it some of its time.
 test:
-	@GLIBC_TUNABLES=glibc.malloc.hugetlb=1 examples/count rt ci
+	@examples/count env GLIBC_TUNABLES=glibc.malloc.hugetlb=1 rt ci
 
 # Runs `genedit` on its stored script. It is proved and built first, unless the gate or an earlier run
 # has built it of the same files.
