@@ -1,11 +1,11 @@
 //! `Edit::cells` at its limit: 2^20 entries in random order, a sixteenth of which repeat a coordinate.
 
-use crate::clock::quickest;
 use anyhow::{Context, Result};
 use edit_stamps::{Cell, Edit, Stamp};
 use generations_rule::Rule;
 use rand::seq::SliceRandom;
 use rand_pcg::Pcg32;
+use samples::quickest;
 use std::alloc::{AllocError, Global};
 use std::io;
 use std::rt::Clock;

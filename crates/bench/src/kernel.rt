@@ -4,16 +4,17 @@
 mod cells;
 mod race;
 
-use crate::clock::{millions_a_second, quickest};
+use crate::timing::millions_a_second;
 use anyhow::Result;
 use generations_rule::Rule;
 use race::Race;
+use samples::quickest;
 use std::alloc::Global;
 use std::io;
 use std::rt::Clock;
 
 /// Star Wars' counts, with two states up to the most.
-const RULES: [&[u8]; 5] = [
+static RULES: [&[u8]; 5] = [
     b"345/2/2",
     b"345/2/3",
     b"345/2/4",
@@ -38,13 +39,23 @@ const ROUNDS: u32 = 8;
 pub fn run(rt: &(impl Clock + Print), alloc: Global, is_timed: bool) -> Result<()> {
     let blocks = if is_timed { MEGABYTE } else { 8 };
     for text in RULES {
-        let mut race = Race::new(alloc, Rule::parse(text)?, blocks)?;
-        run_one(rt, &mut race, is_timed)?;
+        run_rule(rt, alloc, Rule::parse(text)?, blocks, is_timed)?;
     }
     Ok(())
 }
 
-fn run_one(rt: &(impl Clock + Print), race: &mut Race, is_timed: bool) -> Result<()> {
+fn run_rule(
+    rt: &(impl Clock + Print),
+    alloc: Global,
+    rule: Rule,
+    blocks: u64,
+    is_timed: bool,
+) -> Result<()> {
+    let mut race = Race::new(alloc, rule, blocks)?;
+    run_race(rt, &mut race, is_timed)
+}
+
+fn run_race(rt: &(impl Clock + Print), race: &mut Race, is_timed: bool) -> Result<()> {
     compare(rt, race)?;
     if is_timed {
         measure(rt, race)?;

@@ -4,12 +4,12 @@
 mod pairs;
 mod passes;
 
-use crate::clock::quickest;
 use anyhow::Result;
 use indexmap::IndexSet;
 use leaf_merge_lanes::Leaf;
 use pairs::{Pair, insert, merge, right_places, scattered};
 use passes::{copy_often, hash_often, insert_often, merge_often};
+use samples::quickest;
 use std::alloc::{AllocError, Global};
 use std::io;
 use std::rt::Clock;
@@ -59,8 +59,17 @@ pub fn run(rt: &(impl Clock + Print), alloc: Global, is_timed: bool) -> Result<(
 fn compare(rt: &impl Print, alloc: Global) -> Result<()> {
     let mut near = scattered(alloc, NEAR)?;
     merge(&mut near);
-    tell(rt, 2 * NEAR, right_places(&near))?;
-    Ok(tell_distinct(rt, set_of(alloc, &near)?.len())?)
+    tell_merged(rt, alloc, &near)
+}
+
+fn tell_merged(rt: &impl Print, alloc: Global, near: &[Pair]) -> Result<()> {
+    tell(rt, 2 * NEAR, right_places(near))?;
+    Ok(tell_distinct(rt, distinct(alloc, near)?)?)
+}
+
+/// How many different first leaves there are.
+fn distinct(alloc: Global, pairs: &[Pair]) -> Result<usize, AllocError> {
+    Ok(set_of(alloc, pairs)?.len())
 }
 
 /// The set of the first leaves.

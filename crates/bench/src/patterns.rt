@@ -3,11 +3,12 @@
 
 mod picture;
 
-use crate::clock::{millions_a_second, quickest};
+use crate::timing::millions_a_second;
 use anyhow::{Result, bail};
 use generations_rule::Rule;
 use multistate_rle::{Cell, are_writable, parse, write};
 use picture::{cells_of, picture, text_of};
+use samples::quickest;
 use std::alloc::Global;
 use std::io;
 use std::rt::Clock;
@@ -19,10 +20,20 @@ const ROUNDS: u32 = 16;
 pub fn run(rt: &(impl Clock + Print), alloc: Global, is_timed: bool) -> Result<()> {
     let rule = Rule::parse(b"345/2/64")?;
     let text = text_of(alloc, &rule, &picture(alloc)?)?;
-    let cells = cells_of(alloc, &text)?;
-    compare(rt, alloc, &rule, &text, &cells)?;
+    run_text(rt, alloc, &rule, &text, is_timed)
+}
+
+fn run_text(
+    rt: &(impl Clock + Print),
+    alloc: Global,
+    rule: &Rule,
+    text: &[u8],
+    is_timed: bool,
+) -> Result<()> {
+    let cells = cells_of(alloc, text)?;
+    compare(rt, alloc, rule, text, &cells)?;
     if is_timed {
-        measure(rt, alloc, &rule, &text, &cells)?;
+        measure(rt, alloc, rule, text, &cells)?;
     }
     Ok(())
 }
@@ -44,16 +55,25 @@ fn measure(
     text: &[u8],
     cells: &[Cell],
 ) -> Result<()> {
+    let bytes = text.len() as u64;
     let summing = quickest(rt, ROUNDS, || is_summed(text))?;
-    let reading = quickest(rt, ROUNDS, || {
+    report(rt, "summed", bytes, summing, summing)?;
+    report(
+        rt,
+        "read",
+        bytes,
+        time_of_reading(rt, alloc, text)?,
+        summing,
+    )?;
+    let writing = time_of_writing(rt, alloc, rule, cells)?;
+    Ok(report(rt, "written", bytes, writing, summing)?)
+}
+
+fn time_of_reading(clock: &impl Clock, alloc: Global, text: &[u8]) -> Result<Duration> {
+    quickest(clock, ROUNDS, || {
         let _pattern = parse(alloc, text)?;
         Ok(())
-    })?;
-    let writing = time_of_writing(rt, alloc, rule, cells)?;
-    let bytes = text.len() as u64;
-    report(rt, "summed", bytes, summing, summing)?;
-    report(rt, "read", bytes, reading, summing)?;
-    Ok(report(rt, "written", bytes, writing, summing)?)
+    })
 }
 
 fn time_of_writing(

@@ -21,3 +21,4 @@ pub mod StateLaws
 pub mod MessageLaws
 pub mod MessageTexts
 pub mod DeltaFaults
+pub mod BehindTexts

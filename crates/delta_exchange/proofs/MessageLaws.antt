@@ -1,8 +1,8 @@
 -- What texts of messages tell.
-use Rattle.std.proofs.Common.{◌≡◌, ℕ, Bool, true, false, List, ◌∷◌, length, Result, Ok, Err, inr, refl, sym, ap, subst, ◌∙◌, arith}
+use Rattle.std.proofs.Common.{◌≡◌, ℕ, Bool, true, false, List, ◌∷◌, length, ◌⊎◌, Result, Ok, Err, inl, inr, refl, sym, ap, subst, ◌∙◌, arith}
 use Rattle.std.specs.Prelude.{◌==◌, nat_lt, if◌then◌else◌}
 use Rattle.std.proofs.lemmas.Bool.{le-ltb}
-use Rattle.generations_rule.specs.Refusal.{AnswersAs}
+use Rattle.generations_rule.specs.Refusal.{AnswersAs, ◌>>=◌}
 use Rattle.generations_rule.specs.Rule.{GenerationsRule}
 use Rattle.edit_stamps.specs.Edit.{PlaneEdit}
 use Rattle.edit_stamps.specs.Write.{AreSame, Writes}
@@ -13,14 +13,14 @@ use Rattle.stamped_tree.specs.Tree.{Tree}
 use Rattle.stamped_tree.specs.View.{ShowsTree, ShowsItsTree}
 use Rattle.byte_codec.specs.Reading.{ended, mapped_at, onwards}
 use Rattle.byte_codec.proofs.Steps.{ok_is}
-use Rattle.delta_exchange.specs.declared.message.Content.TheVariants.{State}
+use Rattle.delta_exchange.specs.declared.message.Content.TheVariants.{Edits, State}
 use Rattle.delta_exchange.specs.declared.fault.ReadFault.{ReadFault}
 use Rattle.delta_exchange.specs.declared.fault.ReadFault.TheVariants.{Trailing}
 use Rattle.delta_exchange.specs.declared.square_reading.ReadSquare.{ReadSquare}
-use Rattle.delta_exchange.specs.Fault.{IsWantOrFull}
+use Rattle.delta_exchange.specs.Fault.{IsWant, IsWantOrFull}
 use Rattle.delta_exchange.specs.Message.{Shared}
-use Rattle.delta_exchange.specs.MessageReading.{StandsForMap, StandsForTold, begins_as_delta, message_of}
-use Rattle.delta_exchange.specs.Reading.{head_at}
+use Rattle.delta_exchange.specs.MessageReading.{HasContentTold, StandsForMap, StandsForTold, ToldEdits, ToldMap, begins_as_delta, message_of, told_as}
+use Rattle.delta_exchange.specs.Reading.{delta_of, head_at}
 use Rattle.delta_exchange.specs.Spelling.{delta_text, head_text}
 use Rattle.delta_exchange.specs.State.{StandsForTree}
 use Rattle.delta_exchange.specs.StateReading.{state_tree_of, tree_at}
@@ -48,6 +48,29 @@ head_then r text t1 e = go (head_at state_magic r text) refl e
         → state_tree_of r text ≡ onwards (tree_at r.states 28 t1) (λ tree rest. ended Trailing tree rest)
     go (Ok head) is e = let here : head.1 ≡ t1 = ap (λ (p : Unit {0} × List ℕ). p.1) (ok_is {F = ReadFault} (tt {0}, head.1) (tt {0}, t1) e) in rw (is, here) refl
     go (Err f) is e = absurd (cc)
+
+-- no head of the rule was read, and this is the fault
+abbrev pub FailsHead : GenerationsRule → List ℕ → ReadFault → Type 0
+FailsHead r text e = let read : Result (Unit {0} × List ℕ) ReadFault = mapped_at (λ head. tt {0}) (head_at state_magic r) text in read ≡ Err e
+
+no_head : (r : GenerationsRule) (text : List ℕ) (e : ReadFault) → FailsHead r text e → state_tree_of r text ≡ Err e
+no_head r text e fails = go (head_at state_magic r text) refl fails
+  where
+    stepped : Result ((List ℕ × (ℕ × List ℕ)) × List ℕ) ReadFault → Result (Unit {0} × List ℕ) ReadFault
+    stepped read = onwards read (λ x rest. Ok (tt {0}, rest))
+
+    go : (read : Result ((List ℕ × (ℕ × List ℕ)) × List ℕ) ReadFault) → head_at state_magic r text ≡ read → stepped read ≡ Err e → state_tree_of r text ≡ Err e
+    go (Ok head) is f = absurd (cc)
+    go (Err g) is f = let same : g ≡ e = cc in rw (is, same) refl
+
+-- a want is an answer, whatever is meant
+pub want_answers : (e : ReadFault) (meant : Result Tree ReadFault) → IsWantOrFull e → AnswersAs StandsForTree IsWantOrFull (Err e) meant
+want_answers e (Ok tree) want = want
+want_answers e (Err f) want = inl want
+
+pub head_fails : (r : GenerationsRule) (text : List ℕ) (e : ReadFault) → IsWant e ⊎ FailsHead r text e → AnswersAs StandsForTree IsWantOrFull (Err e) (state_tree_of r text)
+head_fails r text e (inl want) = want_answers e (state_tree_of r text) (inl want)
+head_fails r text e (inr fails) = rw (no_head r text e fails) (inr refl)
 
 pub square_fails : (r : GenerationsRule) (text t1 t2 : List ℕ) (states : ℕ) (s : Held PlaneLeaf) (e : ReadFault) → HasHead r text t1 → states ≡ r.states
     → AnswersAs (IsSquareRead s 28 t2) IsWantOrFull (Err e) (tree_at states 28 t1) → AnswersAs StandsForTree IsWantOrFull (Err e) (state_tree_of r text)
@@ -116,3 +139,38 @@ state_fails_as_message r text e begins h =
 
 pub plane_stands : (r : GenerationsRule) (m : Shared) (plane : StampedPlane) (p : Writes) → m ≡ record { rule = r; content = State plane } → AreSame (map_of plane) p → StandsForMap r m p
 plane_stands r m plane p is same = rw is (refl, same)
+
+-- ---- what is answered of a message
+
+-- a text of no kind is no message
+pub kind_fails : (r : GenerationsRule) (text : List ℕ) (e : ReadFault) → Err e ≡ begins_as_delta text → AnswersAs (StandsForTold r) IsWantOrFull (Err e) (message_of r text)
+kind_fails r text e begins = subst (λ (kind : Result Bool ReadFault). AnswersAs (StandsForTold r) IsWantOrFull (Err e) (kind >>= told_as r text)) begins (inr refl)
+
+edits_fail : (r : GenerationsRule) (e : ReadFault) (read : Result (List PlaneEdit) ReadFault) → IsWant e ⊎ (read ≡ Err e)
+    → AnswersAs (StandsForTold r) IsWantOrFull (Err e) (read >>= λ edits. Ok (ToldEdits edits))
+edits_fail r e (Ok edits) (inl want) = inl want
+edits_fail r e (Ok edits) (inr is) = absurd (cc)
+edits_fail r e (Err f) (inl want) = inl (inl want)
+edits_fail r e (Err f) (inr is) = let same : e ≡ f = cc in inr same
+
+plane_told : (r : GenerationsRule) (plane : StampedPlane) (read : Result Tree ReadFault) → AnswersAs StandsForTree IsWantOrFull (Ok plane) read
+    → AnswersAs (StandsForTold r) IsWantOrFull (Ok (record { rule = r; content = State plane })) (read >>= λ tree. Ok (ToldMap tree))
+plane_told r plane (Ok tree) h = (refl, h)
+plane_told r plane (Err f) h = h
+
+-- what is told of a delta is told of the message
+module _ (r : GenerationsRule) (text : List ℕ) (begins : begins_as_delta text ≡ Ok true) where
+  pub edits_fail_as_message : (e : ReadFault) → IsWant e ⊎ (delta_of r text ≡ Err e) → AnswersAs (StandsForTold r) IsWantOrFull (Err e) (message_of r text)
+  edits_fail_as_message e h = subst (λ (kind : Result Bool ReadFault). AnswersAs (StandsForTold r) IsWantOrFull (Err e) (kind >>= told_as r text)) (sym begins) (edits_fail r e (delta_of r text) h)
+
+  pub edits_stand : (m : Shared) (edits : List PlaneEdit) → m ≡ record { rule = r; content = Edits edits } → delta_of r text ≡ Ok edits → AnswersAs (StandsForTold r) IsWantOrFull (Ok m) (message_of r text)
+  edits_stand m edits is read =
+      subst (λ (kind : Result Bool ReadFault). AnswersAs (StandsForTold r) IsWantOrFull (Ok m) (kind >>= told_as r text)) (sym begins)
+      (subst (λ (d : Result (List PlaneEdit) ReadFault). AnswersAs (StandsForTold r) IsWantOrFull (Ok m) (d >>= λ es. Ok (ToldEdits es))) (sym read)
+      (ap (λ (z : Shared). z.rule) is, subst (λ (z : Shared). HasContentTold z.content (ToldEdits edits)) (sym is) refl))
+
+pub plane_stands_as_message : (r : GenerationsRule) (text : List ℕ) (m : Shared) (plane : StampedPlane) → begins_as_delta text ≡ Ok false → m ≡ record { rule = r; content = State plane }
+    → AnswersAs StandsForTree IsWantOrFull (Ok plane) (state_tree_of r text) → AnswersAs (StandsForTold r) IsWantOrFull (Ok m) (message_of r text)
+plane_stands_as_message r text m plane begins is read =
+    subst (λ (kind : Result Bool ReadFault). AnswersAs (StandsForTold r) IsWantOrFull (Ok m) (kind >>= told_as r text)) (sym begins)
+    (subst (λ (z : Shared). AnswersAs (StandsForTold r) IsWantOrFull (Ok z) (state_tree_of r text >>= λ tree. Ok (ToldMap tree))) (sym is) (plane_told r plane (state_tree_of r text) read))

@@ -188,6 +188,36 @@ square_read s above rest q meant h =
     let a = answered (IsSquareRead s above rest) IsWantOrFull q meant h in
     (a.0.0, (a.1.0 ∙ ap (λ (l : List ℕ). Ok (a.0.0, l)) a.1.1.1, a.1.1.0))
 
+-- the first of four squares that fails
+module _ (within : Reading ReadFault Tree) (k above : ℕ) (t0 t1 : List ℕ) (s1 : Held PlaneLeaf) (e : ReadFault) where
+  pub nw_fails : AnswersAs (IsSquareRead s1 k t1) IsWantOrFull (Err e) (within t0) → AnswersAs (IsSquareRead s1 above t1) IsWantOrFull (Err e) (four_tree_at within t0)
+  nw_fails h = fails_with (IsSquareRead s1 k t1) (IsSquareRead s1 above t1) IsWantOrFull e (within t0) (four_tree_at within t0) (no_nw within t0) h
+
+  module _ (t2 : List ℕ) (s2 : Held PlaneLeaf) (nw : ReadSquare) (hnw : AnswersAs (IsSquareRead s1 k t1) IsWantOrFull (Ok nw) (within t0)) where
+    abbrev of_nw : (tree : Tree) × ((within t0 ≡ Ok (tree, t1)) × IsReadAs s1 k nw tree)
+    of_nw = square_read s1 k t1 nw (within t0) hnw
+
+    pub ne_fails : AnswersAs (IsSquareRead s2 k t2) IsWantOrFull (Err e) (within t1) → AnswersAs (IsSquareRead s2 above t2) IsWantOrFull (Err e) (four_tree_at within t0)
+    ne_fails h =
+        fails_with (IsSquareRead s2 k t2) (IsSquareRead s2 above t2) IsWantOrFull e (within t1) (four_tree_at within t0)
+        (λ f is. no_ne within t0 t1 of_nw.0 f of_nw.1.0 is) h
+
+    module _ (t3 : List ℕ) (s3 : Held PlaneLeaf) (ne : ReadSquare) (hne : AnswersAs (IsSquareRead s2 k t2) IsWantOrFull (Ok ne) (within t1)) where
+      abbrev of_ne : (tree : Tree) × ((within t1 ≡ Ok (tree, t2)) × IsReadAs s2 k ne tree)
+      of_ne = square_read s2 k t2 ne (within t1) hne
+
+      pub sw_fails : AnswersAs (IsSquareRead s3 k t3) IsWantOrFull (Err e) (within t2) → AnswersAs (IsSquareRead s3 above t3) IsWantOrFull (Err e) (four_tree_at within t0)
+      sw_fails h =
+          fails_with (IsSquareRead s3 k t3) (IsSquareRead s3 above t3) IsWantOrFull e (within t2) (four_tree_at within t0)
+          (λ f is. no_sw within t0 t1 t2 of_nw.0 of_ne.0 f of_nw.1.0 of_ne.1.0 is) h
+
+      pub se_fails : (t4 : List ℕ) (s4 : Held PlaneLeaf) (sw : ReadSquare) → AnswersAs (IsSquareRead s3 k t3) IsWantOrFull (Ok sw) (within t2)
+          → AnswersAs (IsSquareRead s4 k t4) IsWantOrFull (Err e) (within t3) → AnswersAs (IsSquareRead s4 above t4) IsWantOrFull (Err e) (four_tree_at within t0)
+      se_fails t4 s4 sw hsw h =
+          let of_sw = square_read s3 k t3 sw (within t2) hsw in
+          fails_with (IsSquareRead s4 k t4) (IsSquareRead s4 above t4) IsWantOrFull e (within t3) (four_tree_at within t0)
+          (λ f is. no_se within t0 t1 t2 t3 of_nw.0 of_ne.0 of_sw.0 f of_nw.1.0 of_ne.1.0 of_sw.1.0 is) h
+
 module _ (within : Reading ReadFault Tree) (k : ℕ) (s1 s2 s3 s4 : Held PlaneLeaf) (t0 t1 t2 t3 t4 : List ℕ) (nw ne sw se : ReadSquare)
     (g2 : IsGrown plane_grid 8 s1 s2) (g3 : IsGrown plane_grid 8 s2 s3) (g4 : IsGrown plane_grid 8 s3 s4)
     (hnw : AnswersAs (IsSquareRead s1 k t1) IsWantOrFull (Ok nw) (within t0)) (hne : AnswersAs (IsSquareRead s2 k t2) IsWantOrFull (Ok ne) (within t1))

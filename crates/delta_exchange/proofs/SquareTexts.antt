@@ -1,9 +1,9 @@
 -- The texts of squares, and how long they are.
-use Rattle.std.proofs.Common.{◌≡◌, ℕ, ◌+◌, ◌-◌, ◌*◌, ◌^◌, min, Bool, true, false, cond, List, [], ◌∷◌, ◌++◌, length, Result, Ok, Err, Some, refl, sym, ap, subst, ◌∙◌, arith, append_assoc, length-append}
-use Rattle.std.specs.Prelude.{OnOk, flat_map, eqb}
+use Rattle.std.proofs.Common.{◌≡◌, ℕ, ◌+◌, ◌-◌, ◌*◌, ◌^◌, ◌<◌, min, Bool, true, false, cond, List, [], ◌∷◌, ◌++◌, length, Result, Ok, Err, Some, refl, sym, ap, subst, ◌∙◌, arith, append_assoc, length-append}
+use Rattle.std.specs.Prelude.{OnOk, flat_map, eqb, slice_index_or}
 use Rattle.std.specs.Map.{lookup}
 use Rattle.edit_stamps.specs.declared.write.Write.{Write}
-use Rattle.square_store.specs.Squares.{Held}
+use Rattle.square_store.specs.Squares.{Held, IsAt}
 use Rattle.square_store.proofs.Nodes.{nat_same}
 use Rattle.stamped_tree.specs.declared.leaf_kind.PlaneLeaf.{PlaneLeaf}
 use Rattle.stamped_tree.specs.PlaneSquare.{PlaneSquare}
@@ -16,6 +16,31 @@ use Rattle.delta_exchange.specs.StateText.{blank_text, leaf_text, register_text,
 pub on_ok : {A F : Type 0} {P Q : Type 0} (r : Result A F) → (P → Q) → OnOk r P → OnOk r Q
 on_ok (Ok x) f p = f p
 on_ok (Err e) f p = tt
+
+-- ---- where four squares stand
+
+-- the quarters of a square stand a level below it
+module _ (q nw ne sw se : PlaneSquare) (seen : AreQuartersSeen q nw ne sw se) (above : ℕ) (at : IsAt q.store above q.part) where
+  level : above ≡ seen.level
+  level = seen.four.level above at
+
+  pub goes_down : (t : ℕ) → above ≡ t → above - 1 < t
+  goes_down t is = let positive = seen.four.positive in let same = level in omega arith
+
+  stands : (i : ℕ) → i < 4 → IsAt q.store (above - 1) (slice_index_or (nw.part ∷ ne.part ∷ sw.part ∷ se.part ∷ []) i 0)
+  stands i h = subst (λ k. IsAt q.store (k - 1) (slice_index_or (nw.part ∷ ne.part ∷ sw.part ∷ se.part ∷ []) i 0)) (sym level) (seen.four.parts_stand i h)
+
+  pub nw_stands : IsAt nw.store (above - 1) nw.part
+  nw_stands = subst (λ s. IsAt s (above - 1) nw.part) (sym seen.nw_store) (stands 0 (omega arith))
+
+  pub ne_stands : IsAt ne.store (above - 1) ne.part
+  ne_stands = subst (λ s. IsAt s (above - 1) ne.part) (sym seen.ne_store) (stands 1 (omega arith))
+
+  pub sw_stands : IsAt sw.store (above - 1) sw.part
+  sw_stands = subst (λ s. IsAt s (above - 1) sw.part) (sym seen.sw_store) (stands 2 (omega arith))
+
+  pub se_stands : IsAt se.store (above - 1) se.part
+  se_stands = subst (λ s. IsAt s (above - 1) se.part) (sym seen.se_store) (stands 3 (omega arith))
 
 -- ---- what four squares show
 

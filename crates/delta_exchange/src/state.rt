@@ -4,10 +4,12 @@ ghost use Rattle.std.specs.Prelude.{◌≡◌, ◌≤◌, IfOk, Ok};
 ghost use Rattle.edit_stamps.specs.Write.{AreSame, Writes};
 ghost use Rattle.generations_rule.specs.Refusal.{AnswersAs};
 ghost use Rattle.generations_rule.specs.Rule.{IsRule};
+ghost use Rattle.square_store.specs.Squares.{IsAt};
 ghost use Rattle.stamped_tree.specs.Plane.{map_of};
 ghost use Rattle.delta_exchange.specs.Fault.{IsWantOrFull};
 ghost use Rattle.delta_exchange.specs.State.{IsTellableMap, StandsForTree};
 ghost use Rattle.delta_exchange.specs.StateReading.{state_tree_of};
+ghost use Rattle.delta_exchange.specs.StateSquares.{IsTextLength};
 ghost use Rattle.delta_exchange.specs.StateText.{IsStateText};
 
 use crate::fault::ReadFault;
@@ -17,7 +19,7 @@ use crate::square_writing::{push_square, square_len};
 use byte_codec::Reader;
 use generations_rule::Rule;
 use indexmap::IndexMap;
-use stamped_tree::Plane;
+use stamped_tree::{Plane, Square};
 use std::alloc::{AllocError, Global};
 
 /// How many levels the square of a whole plane is above a leaf.
@@ -32,12 +34,21 @@ pub fn write_state(alloc: Global, rule: &Rule, plane: &Plane) -> Result<Vec<u8>,
 {
     plane.plane_laws(plane);
     let root = plane.root();
-    let mut lengths = IndexMap::new(alloc);
-    let len = square_len(&mut lengths, &root, ROOT_ABOVE_LEAF)?;
+    let len = root_len(alloc, &root)?;
     let mut text = head(alloc, STATE_MAGIC, rule)?;
     text.reserve(len)?;
     push_square(&mut text, &root, ROOT_ABOVE_LEAF)?;
     Ok(text)
+}
+
+/// How many bytes the text of the square of a whole plane has, up to the greatest number that a word
+/// can say.
+fn root_len(alloc: Global, root: &Square<'_>) -> Result<usize, AllocError>
+    requires { IsAt root.now.store 28 root.now.part }
+    ensures { IfOk result (IsTextLength root.now.store root.now.part) }
+{
+    let mut lengths = IndexMap::new(alloc);
+    square_len(&mut lengths, root, ROOT_ABOVE_LEAF)
 }
 
 /// The plane of a text that is a state under this rule, in a store with room for so many squares; or

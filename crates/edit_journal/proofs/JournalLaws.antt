@@ -1,6 +1,6 @@
 -- Finding an edit by its stamp: what the links of a journal say, and how they are kept.
-use Rattle.std.proofs.Common.{◌≡◌, ◌∙◌, ℕ, zero, suc, ◌+◌, ◌<◌, ◌≤◌, ◌==◌, false, List, [], ◌∷◌, ◌++◌, length, get_or, refl, sym, ap, subst, arith, inl, inr}
-use Rattle.std.specs.Prelude.{if◌then◌else◌, Some, None, IsSomeAnd, slice_get, slice_set, Option}
+use Rattle.std.proofs.Common.{◌≡◌, ◌∙◌, ℕ, zero, suc, ◌+◌, ◌<◌, ◌≤◌, ◌==◌, false, List, [], ◌∷◌, ◌++◌, length, length-take, get_or, take, refl, sym, ap, subst, arith, inl, inr}
+use Rattle.std.specs.Prelude.{if◌then◌else◌, Some, None, IsSome, IsSomeAnd, slice_get, slice_set, Option}
 use Rattle.std.specs.List.{list_any}
 use Rattle.std.specs.Ordering.{nat_cmp}
 use Rattle.std.specs.BTreeMap.{is_at}
@@ -215,3 +215,73 @@ linked_more {E} {earlier} {latest} {after} n x linked room here starts = record 
         (linked.links k e (omega arith) there)
   ];
 }
+
+-- links stay where the edits do, and more room is made
+pub chained_wider : {E F : List PlaneEdit} {earlier wider : List (Option ℕ)} {latest : ℕ → Option ℕ} → IsChained E earlier latest → F ≡ E → length earlier ≤ length wider →
+    ((k : ℕ) → k < length earlier → slice_get wider k ≡ slice_get earlier k) → IsChained F wider latest
+chained_wider {E} {F} {earlier} {wider} {latest} chained is grows same =
+    let room = chained.room in
+    subst (λ l. IsChained l wider latest) (sym is) (record {
+      room = omega arith;
+      linked = linked_same (length E) chained.linked (λ k below. refl) (λ k below. sym (same k (omega arith)));
+    })
+
+slice_get-take : (E : List PlaneEdit) (n k : ℕ) → k < n → slice_get E k ≡ slice_get (take n E) k
+slice_get-take E zero k below = absurd (omega arith)
+slice_get-take [] (suc n) k below = refl
+slice_get-take (x ∷ E) (suc n) zero below = refl
+slice_get-take (x ∷ E) (suc n) (suc k) below = slice_get-take E n k (omega arith)
+
+-- the edits that are linked, alone
+pub chained_front : {E F : List PlaneEdit} {earlier : List (Option ℕ)} {latest : ℕ → Option ℕ} (n : ℕ) → F ≡ take n E → n ≤ length E → length E ≤ length earlier →
+    IsLinked E earlier latest n → IsChained F earlier latest
+chained_front {E} {F} {earlier} {latest} n is within room linked =
+    let count : length (take n E) ≡ n = omega (arith, length-take n E) in
+    let front : IsLinked (take n E) earlier latest n = linked_same n linked (λ k below. slice_get-take E n k below) (λ k below. refl) in
+    subst (λ l. IsChained l earlier latest) (sym is) (record {
+      room = omega arith;
+      linked = subst (λ m. IsLinked (take n E) earlier latest m) (sym count) front;
+    })
+
+last_less : (E : List PlaneEdit) (s n : ℕ) (index : Option ℕ) → (HasStamp E s n → ⊥) → IsLastBelow E s (n + 1) index → IsLastBelow E s n index
+last_less E s n None other free = λ k low below has. free k low (omega arith) has
+last_less E s n (Some p) other last =
+    let below = last.0 in elim (cases_eq p n) [
+      | inl at ↦ absurd (other (subst (λ i. HasStamp E s i) at last.1.0))
+      | inr apart ↦ (omega arith, (last.1.0, λ k low under has. last.1.1 k low (omega arith) has))
+    ]
+
+start_less : (E : List PlaneEdit) (n : ℕ) (x : PlaneEdit) (s : ℕ) (before index : Option ℕ) → slice_get E n ≡ Some x → IsLastBelow E x.stamp n before →
+    IsLastBelow E s (n + 1) index → IsLastBelow E s n (if x.stamp == s then before else index)
+start_less E n x s before index here link last = elim (eqb_tells x.stamp s) [
+  | inl h ↦ subst (λ b. IsLastBelow E s n (if b then before else index)) (sym h.0) (subst (λ t. IsLastBelow E t n before) h.1 link)
+  | inr h ↦
+      subst (λ b. IsLastBelow E s n (if b then before else index)) (sym h.0)
+      (last_less E s n index (λ has. h.1 (stamp_of E s n x here has)) last)
+]
+
+-- the last edit is linked no more where the map leads back to the one before it
+pub linked_less : {E : List PlaneEdit} {earlier : List (Option ℕ)} {latest after : ℕ → Option ℕ} (n : ℕ) (x : PlaneEdit) (before : Option ℕ) → IsLinked E earlier latest (n + 1) →
+    slice_get E n ≡ Some x → slice_get earlier n ≡ Some before → ((s : ℕ) → after s ≡ (if x.stamp == s then before else latest s)) → IsLinked E earlier after n
+linked_less {E} {earlier} {latest} {after} n x before linked here leads starts =
+    let link : IsLastBelow E x.stamp n before = subst (λ o. IsSomeAnd o (λ index. IsLastBelow E x.stamp n index)) leads (linked.links n x (omega arith) here) in
+    record {
+      starts = λ s. subst (λ o. IsLastBelow E s n o) (sym (starts s)) (start_less E n x s before (latest s) here link (linked.starts s));
+      links = λ k e below there. linked.links k e (omega arith) there;
+    }
+
+some_last : (E : List PlaneEdit) (s n : ℕ) (index : Option ℕ) → HasStamp E s n → IsLastBelow E s (n + 1) index → IsSome index
+some_last E s n None has free = absurd (free n (omega arith) (omega arith) has)
+some_last E s n (Some p) has last = refl
+
+-- the map leads to the last edit that is linked
+pub leads_to_last : {E : List PlaneEdit} {earlier : List (Option ℕ)} {latest : ℕ → Option ℕ} (n : ℕ) (x : PlaneEdit) → IsLinked E earlier latest (n + 1) → slice_get E n ≡ Some x → IsSome (latest x.stamp)
+leads_to_last {E} {earlier} {latest} n x linked here = some_last E x.stamp n (latest x.stamp) (stamped E x.stamp n x here refl) (linked.starts x.stamp)
+
+take_front : (E F : List PlaneEdit) → take (length E) (E ++ F) ≡ E
+take_front [] F = refl
+take_front (x ∷ E) F = ap (λ l. x ∷ l) (take_front E F)
+
+-- the first edits, where others were put behind them
+pub taken_front : (E F all : List PlaneEdit) (n : ℕ) → all ≡ E ++ F → n ≡ length E → take n all ≡ E
+taken_front E F all n is len = ap (λ l. take n l) is ∙ ap (λ m. take m (E ++ F)) len ∙ take_front E F

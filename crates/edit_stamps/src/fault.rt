@@ -24,7 +24,7 @@ pub enum EditFault {
 }
 
 impl EditFault {
-    ghost use Rattle.edit_stamps.specs.EditFault.{edit_fault_number};
+    ghost use Rattle.edit_stamps.specs.EditFault.{edit_fault_number, edit_fault_text};
 
     /// Its number in the table of faults; 255 for want of memory.
     pub fn number(self) -> u8
@@ -39,6 +39,20 @@ impl EditFault {
             EditFault::Memory => 255,
         }
     }
+
+    /// Its name in the table of faults.
+    pub fn name(self) -> &'static str
+        ensures { result.now ≡ edit_fault_text self }
+    {
+        match self {
+            EditFault::TooMany => "TooMany",
+            EditFault::Nothing => "Nothing",
+            EditFault::OutOfPlane => "OutOfPlane",
+            EditFault::StateRange => "StateRange",
+            EditFault::AreaSide => "AreaSide",
+            EditFault::Memory => "Memory",
+        }
+    }
 }
 
 /// Its name.
@@ -49,14 +63,7 @@ impl fmt::Display for EditFault {
     ghost output = { λ fault. Some (edit_fault_text fault) };
 
     fn fmt<W: fmt::Write>(&self, f: &mut fmt::Formatter<W>) -> fmt::Result {
-        match self {
-            EditFault::TooMany => write!(f, "TooMany"),
-            EditFault::Nothing => write!(f, "Nothing"),
-            EditFault::OutOfPlane => write!(f, "OutOfPlane"),
-            EditFault::StateRange => write!(f, "StateRange"),
-            EditFault::AreaSide => write!(f, "AreaSide"),
-            EditFault::Memory => write!(f, "Memory"),
-        }
+        f.write_str(self.name())
     }
 }
 

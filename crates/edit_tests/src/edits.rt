@@ -103,17 +103,17 @@ fn settles_entries(rt: HostRuntime) {
 /// Whether the edit of some cells at counter 1, which its copy has to be too, is that of others at
 /// another counter.
 fn are_same(alloc: Global, one: &[Cell], other: &[Cell], counter: u64) -> Result<bool, EditFault> {
-    let (Ok(rule), Some(first), Some(second)) = (
-        Rule::parse(b"345/2/4"),
-        Stamp::new(1, 1),
-        Stamp::new(counter, 1),
-    ) else {
-        return Ok(false);
-    };
-    let edit = Edit::cells(alloc, &rule, first, one)?;
+    let edit = edit_at(alloc, 1, one)?;
     let is_copied = edit.same(&edit.copy()?);
-    let other = Edit::cells(alloc, &rule, second, other)?;
-    Ok(is_copied && edit.same(&other))
+    Ok(is_copied && edit.same(&edit_at(alloc, counter, other)?))
+}
+
+/// The edit of some cells at a counter of replica 1.
+fn edit_at(alloc: Global, counter: u64, cells: &[Cell]) -> Result<Edit, EditFault> {
+    let (Ok(rule), Some(stamp)) = (Rule::parse(b"345/2/4"), Stamp::new(counter, 1)) else {
+        return Err(EditFault::Nothing);
+    };
+    Edit::cells(alloc, &rule, stamp, cells)
 }
 
 /// Whether others make, at a counter, the edit of states 1 and 2 beside each other at counter 1.

@@ -1,5 +1,5 @@
-//! Tests of `generations_rule`, `bitplane_kernel`, `multistate_rle`, `edit_stamps`, `leaf_merge_lanes`
-//! and `edit_journal`.
+//! Tests of `generations_rule`, `bitplane_kernel`, `multistate_rle`, `edit_stamps`, `leaf_merge_lanes`,
+//! `edit_journal`, `devices` and `genedit_io`.
 #![tactic(auto)]
 
 #[cfg(test)]
@@ -7,11 +7,19 @@ mod blocks;
 #[cfg(test)]
 mod edits;
 #[cfg(test)]
+mod failing;
+#[cfg(test)]
+mod faults;
+#[cfg(test)]
 mod journals;
 #[cfg(test)]
 mod leaves;
 #[cfg(test)]
 mod pastes;
+#[cfg(test)]
+mod pulls;
+#[cfg(test)]
+mod pushes;
 #[cfg(test)]
 mod round_trips;
 #[cfg(test)]

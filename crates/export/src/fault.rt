@@ -23,7 +23,7 @@ pub enum ExportFault {
 }
 
 impl ExportFault {
-    ghost use Rattle.export.specs.ExportFault.{export_fault_number};
+    ghost use Rattle.export.specs.ExportFault.{export_fault_number, export_fault_text};
 
     /// Its number in the table of faults; 255 for want of memory.
     pub fn number(self) -> u8
@@ -36,6 +36,18 @@ impl ExportFault {
             ExportFault::Memory => 255,
         }
     }
+
+    /// Its name in the table of faults.
+    pub fn name(self) -> &'static str
+        ensures { result.now ≡ export_fault_text self }
+    {
+        match self {
+            ExportFault::GenRange => "GenRange",
+            ExportFault::TooManyCells => "TooManyCells",
+            ExportFault::StoreFull => "StoreFull",
+            ExportFault::Memory => "Memory",
+        }
+    }
 }
 
 /// Its name.
@@ -46,12 +58,7 @@ impl fmt::Display for ExportFault {
     ghost output = { λ fault. Some (export_fault_text fault) };
 
     fn fmt<W: fmt::Write>(&self, f: &mut fmt::Formatter<W>) -> fmt::Result {
-        match self {
-            ExportFault::GenRange => write!(f, "GenRange"),
-            ExportFault::TooManyCells => write!(f, "TooManyCells"),
-            ExportFault::StoreFull => write!(f, "StoreFull"),
-            ExportFault::Memory => write!(f, "Memory"),
-        }
+        f.write_str(self.name())
     }
 }
 

@@ -1,6 +1,8 @@
 //! Why a program ends before its work is done.
 
-ghost use Rattle.std.specs.Prelude.{◌≡◌};
+ghost use Rattle.std.specs.Prelude.{◌≡◌, ◌++◌, codes, decimal};
+ghost use Rattle.std.specs.Fmt.{WritesOnOk};
+ghost use Rattle.genedit_io.specs.RunFault.{name_of_number, refusal_text};
 
 use std::alloc::AllocError;
 use std::error::Error;
@@ -53,18 +55,11 @@ impl fmt::Display for RunFault {
     fn fmt<W: fmt::Write>(&self, f: &mut fmt::Formatter<W>) -> fmt::Result {
         match self {
             RunFault::Script(line) => write!(f, "script fault at line {line}"),
-            RunFault::Refused(number, None) => {
-                let name = FaultName(*number);
-                write!(f, "refused {number} {name}")
-            }
-            RunFault::Refused(number, Some(place)) => {
-                let name = FaultName(*number);
-                write!(f, "refused {number} {name} {place}")
-            }
-            RunFault::Read | RunFault::Turns => write!(f, "read fault"),
-            RunFault::Write => write!(f, "write fault"),
-            RunFault::Memory => write!(f, "out of memory"),
-            RunFault::StoreFull => write!(f, "store full"),
+            RunFault::Refused(number, place) => write_refusal(f, *number, *place),
+            RunFault::Read | RunFault::Turns => f.write_str("read fault"),
+            RunFault::Write => f.write_str("write fault"),
+            RunFault::Memory => f.write_str("out of memory"),
+            RunFault::StoreFull => f.write_str("store full"),
         }
     }
 }
@@ -82,46 +77,53 @@ impl From<AllocError> for RunFault {
     }
 }
 
-/// The number of a refusal, printed as its name.
-#[derive(Clone, Copy)]
-struct FaultName(u8);
+/// Writes a refusal: its number, its name, and its place where there is one.
+fn write_refusal<W: fmt::Write>(
+    f: &mut fmt::Formatter<W>,
+    number: u8,
+    place: Option<u64>,
+) -> fmt::Result
+    ensures { WritesOnOk W.write_str_gives f.old result (codes "refused " ++ (decimal number ++ (codes " " ++ refusal_text number place))) f.new }
+{
+    let name = name_of(number);
+    match place {
+        None => write!(f, "refused {number} {name}"),
+        Some(place) => write!(f, "refused {number} {name} {place}"),
+    }
+}
 
-impl fmt::Display for FaultName {
-    ghost use Rattle.std.specs.Prelude.{Some};
-    ghost use Rattle.genedit_io.specs.RunFault.{name_of_number};
-
-    ghost output = { λ name. Some (name_of_number name.0) };
-
-    fn fmt<W: fmt::Write>(&self, f: &mut fmt::Formatter<W>) -> fmt::Result {
-        match self.0 {
-            1 => write!(f, "Slashes"),
-            2 => write!(f, "Digit"),
-            3 => write!(f, "States"),
-            4 => write!(f, "Header"),
-            5 => write!(f, "Tag"),
-            6 => write!(f, "Count"),
-            7 => write!(f, "State"),
-            8 => write!(f, "TooMany"),
-            9 => write!(f, "Nothing"),
-            10 => write!(f, "OutOfPlane"),
-            11 => write!(f, "StateRange"),
-            12 => write!(f, "AreaSide"),
-            13 => write!(f, "StoreFull"),
-            14 => write!(f, "Magic"),
-            15 => write!(f, "Version"),
-            16 => write!(f, "OtherRule"),
-            17 => write!(f, "Short"),
-            18 => write!(f, "StampRange"),
-            19 => write!(f, "NotCanonical"),
-            20 => write!(f, "Trailing"),
-            22 => write!(f, "GenRange"),
-            23 => write!(f, "TooManyCells"),
-            24 => write!(f, "ClockFull"),
-            25 => write!(f, "NoSuchEdit"),
-            26 => write!(f, "NoReplica"),
-            27 => write!(f, "NoMessage"),
-            38 => write!(f, "NoPattern"),
-            _ => write!(f, "?"),
-        }
+/// The name of a refusal, by its number in the table of faults.
+fn name_of(number: u8) -> &'static str
+    ensures { result.now ≡ name_of_number number }
+{
+    match number {
+        1 => "Slashes",
+        2 => "Digit",
+        3 => "States",
+        4 => "Header",
+        5 => "Tag",
+        6 => "Count",
+        7 => "State",
+        8 => "TooMany",
+        9 => "Nothing",
+        10 => "OutOfPlane",
+        11 => "StateRange",
+        12 => "AreaSide",
+        13 => "StoreFull",
+        14 => "Magic",
+        15 => "Version",
+        16 => "OtherRule",
+        17 => "Short",
+        18 => "StampRange",
+        19 => "NotCanonical",
+        20 => "Trailing",
+        22 => "GenRange",
+        23 => "TooManyCells",
+        24 => "ClockFull",
+        25 => "NoSuchEdit",
+        26 => "NoReplica",
+        27 => "NoMessage",
+        38 => "NoPattern",
+        _ => "?",
     }
 }

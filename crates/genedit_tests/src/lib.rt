@@ -1,22 +1,14 @@
-//! Tests of `devices`, `genedit_io`, `genedit_script`, `genedit_lib` and `genedit_rle`.
+//! Tests of `genedit_script`, `genedit_lib` and `genedit_rle`.
 #![tactic(auto)]
 
-#[cfg(test)]
-mod calls;
 #[cfg(test)]
 mod canonical;
 #[cfg(test)]
 mod exports;
 #[cfg(test)]
-mod faults;
-#[cfg(test)]
 mod faulty;
 #[cfg(test)]
 mod patterns;
-#[cfg(test)]
-mod pulls;
-#[cfg(test)]
-mod pushes;
 #[cfg(test)]
 mod runs;
 #[cfg(test)]

@@ -1,5 +1,5 @@
 -- Squares of a plane, brought into a store that grows.
-use Rattle.std.proofs.Common.{◌≡◌, ℕ, ◌+◌, ◌-◌, ◌*◌, ◌<◌, Bool, true, false, List, [], ◌∷◌, length, refl, sym, ◌∙◌, ap, subst, arith}
+use Rattle.std.proofs.Common.{◌≡◌, ℕ, ◌+◌, ◌-◌, ◌*◌, ◌<◌, ◌≤◌, Bool, true, false, List, [], ◌∷◌, length, refl, sym, ◌∙◌, ap, subst, arith}
 use Rattle.std.specs.Prelude.{slice_index_or, slice_index, Some, cond, eqb, nat_lt, if◌then◌else◌}
 use Rattle.std.proofs.lemmas.List.{get_or-map}
 use Rattle.edit_stamps.specs.declared.write.Write.{Write}
@@ -121,3 +121,29 @@ states_listed writes states long e i h = ap (λ l. slice_index l i) e ∙ get_or
 
 pub all_moved : (s t : Held PlaneLeaf) (target : Held EngineLeaf) (copies : Copies) → s ≡ t → AreBrought s target copies → AreBrought t target copies
 all_moved s t target copies e are = subst (λ z. AreBrought z target copies) e are
+
+-- the parts that are seen stand at the level below
+module _ (q nw ne sw se : PlaneSquare) (k : ℕ) (seen : AreQuartersSeen q nw ne sw se) (at : IsAt q.store k q.part) where
+  pub some_above : 0 < k
+  some_above = let level = seen.four.level k at in let h = seen.four.positive in omega (arith, h, level)
+
+  pub above_leaves : 1 ≤ k
+  above_leaves = let some = some_above in omega (arith, some)
+
+  part_seen : (i : ℕ) → i < 4 → IsAt q.store (k - 1) (slice_index_or (nw.part ∷ ne.part ∷ sw.part ∷ se.part ∷ []) i 0)
+  part_seen i h = subst (λ j. IsAt q.store (j - 1) (slice_index_or (nw.part ∷ ne.part ∷ sw.part ∷ se.part ∷ []) i 0)) (sym (seen.four.level k at)) (seen.four.parts_stand i h)
+
+  pub nw_seen : IsAt nw.store (k - 1) nw.part
+  nw_seen = subst (λ s. IsAt s (k - 1) nw.part) (sym seen.nw_store) (part_seen 0 (omega arith))
+
+  pub ne_seen : IsAt ne.store (k - 1) ne.part
+  ne_seen = subst (λ s. IsAt s (k - 1) ne.part) (sym seen.ne_store) (part_seen 1 (omega arith))
+
+  pub sw_seen : IsAt sw.store (k - 1) sw.part
+  sw_seen = subst (λ s. IsAt s (k - 1) sw.part) (sym seen.sw_store) (part_seen 2 (omega arith))
+
+  pub se_seen : IsAt se.store (k - 1) se.part
+  se_seen = subst (λ s. IsAt s (k - 1) se.part) (sym seen.se_store) (part_seen 3 (omega arith))
+
+pub bring_falls : (k t : ℕ) → 1 ≤ k → k ≡ t → k - 1 < t
+bring_falls k t some is = omega (arith, some, is)

@@ -35,7 +35,7 @@ later_after r s t u k n p q grown later = record {
 }
 
 -- the result stands in a later store than the square did
-later_since : (r : GenerationsRule) (s t u : Held EngineLeaf) (k n p q : ℕ) → IsGrown leaf_grid 8 s t → IsAt s k p → IsLater r s u k n p q → IsLater r t u k n p q
+pub later_since : (r : GenerationsRule) (s t u : Held EngineLeaf) (k n p q : ℕ) → IsGrown leaf_grid 8 s t → IsAt s k p → IsLater r s u k n p q → IsLater r t u k n p q
 later_since r s t u k n p q grown at later = record {
   stands = later.stands;
   result = subst (λ (g : Grid). IsResult r (side_at 4 (k - 1)) n g (grid_at leaf_grid 8 u (k - 1) q)) (sym (grown.same k p at)) later.result;

@@ -1,11 +1,12 @@
 -- Squares that are made of their neighbours, and replaced by their results, one after another.
-use Rattle.std.proofs.Common.{pow-suc, add-one, ◌≡◌, ◌≢◌, ℕ, ◌+◌, ◌-◌, ◌*◌, ◌/◌, ◌%◌, ◌<◌, ◌≤◌, ◌^◌, List, length, inl, inr, refl, sym, ◌∙◌, ap, subst, arith}
+use Rattle.std.proofs.Common.{pow-suc, add-one, Fits, w32, ◌≡◌, ◌≢◌, ℕ, ◌+◌, ◌-◌, ◌*◌, ◌/◌, ◌%◌, ◌<◌, ◌≤◌, ◌^◌, List, length, inl, inr, refl, sym, ◌∙◌, ap, subst, arith}
 use Rattle.std.specs.Prelude.{slice_index_or, slice_set}
 use Rattle.std.proofs.lemmas.List.{get_or-set_same, get_or-set_other, length-set}
 use Rattle.std.proofs.lemmas.Bool.Decides.{eqb_tells}
 use Rattle.generations_rule.specs.Rule.{GenerationsRule, IsRule}
 use Rattle.square_store.specs.Grid.{Grid, quartered, AreSameWithin}
 use Rattle.square_store.specs.Squares.{Held, side_at, IsAt, grid_at, four_grid, Draws}
+use Rattle.square_store.specs.Seen.{AreAt}
 use Rattle.generation_engine.specs.declared.leaf_kind.EngineLeaf.{EngineLeaf}
 use Rattle.generation_engine.specs.EngineLeaf.{leaf_grid}
 use Rattle.generation_engine.specs.Results.{IsResult, part_from}
@@ -14,7 +15,8 @@ use Rattle.square_store.proofs.Quarters.{quarter_nw, quarter_ne, quarter_sw, qua
 use Rattle.generation_engine.specs.Kept.{AllStand, AreDrawn, AreLater, HasGrown, IsLater, RuledSquares, neighbours_joined}
 use Rattle.generation_engine.proofs.Grids.{quartered_same, by_quarter}
 use Rattle.square_store.proofs.Drawn.{grown_more, twice_below}
-use Rattle.generation_engine.proofs.KeptLaws.{later_before, later_after}
+use Rattle.stamped_tree.proofs.Parts.{same_default}
+use Rattle.generation_engine.proofs.KeptLaws.{later_before, later_after, later_since}
 
 -- the first of w by w squares were made
 pub record AreMade (old now : RuledSquares) (k w : ℕ) (f : ℕ → ℕ → Grid) (made : List ℕ) (place : ℕ) : Type 0 where
@@ -53,6 +55,27 @@ module _ (old now new : RuledSquares) (k t : ℕ) (parts later : List ℕ) (plac
     rest = λ i h. (let apart : i ≢ place = (λ e. omega (arith, h, e)) in get_or-set_other later place i q 0 apart ∙ are.rest i (omega (arith, h)));
   }
 
+-- ---- the first and the last of them
+
+pub nothing_replaced : (s : RuledSquares) (k t : ℕ) (parts : List ℕ) → AreReplaced s s k t parts parts 0
+nothing_replaced s k t parts = record {
+  grows = record { rule = refl; store = record { room = refl; held = λ p h. h; stands = λ k p h. h; same = λ k p h. refl } };
+  count = refl;
+  done = λ i h. absurd (omega (arith, h));
+  rest = λ i h. refl;
+}
+
+module _ (old now : RuledSquares) (k t : ℕ) (parts later : List ℕ) (place : ℕ) (are : AreReplaced old now k t parts later place) where
+  pub all_replaced : length parts ≤ place → AreLater old.rule old.store now.store k t parts later
+  all_replaced past = record { count = are.count; each = λ i h. are.done i (omega (arith, h, past)) }
+
+  module _ (p : ℕ) (l : place < length parts) (is : p ≡ slice_index_or later place p) where
+    pub read_whole : p ≡ slice_index_or later place 0
+    read_whole = is ∙ same_default later place p 0 (let count = are.count in omega (arith, l, count))
+
+    pub read_stands : AllStand old.store k parts → IsAt now.store k p
+    read_stands stand = subst (λ q. IsAt now.store k q) (sym (read_whole ∙ are.rest place (omega arith))) (are.grows.store.stands k _ (stand place l))
+
 -- ---- results of squares with the same states
 
 pub result_same : (r : GenerationsRule) (n m t : ℕ) (c d c' d' : Grid) → n ≡ m → AreSameWithin (4 * n) c c' → AreSameWithin (2 * n) d d' → IsResult r n t c d → IsResult r m t c' d'
@@ -78,6 +101,19 @@ stand_of s k w f parts spot drawn i h =
 
 pub sixteen_stand : (s : Held EngineLeaf) (k : ℕ) (f : ℕ → ℕ → Grid) (parts : List ℕ) → AreDrawn s k 4 f parts → AllStand s k parts
 sixteen_stand s k f parts = stand_of s k 4 f parts (λ i h. record { a = i % 4; b = i / 4; column = omega arith; row = omega (arith, h); is = omega arith })
+
+pub nine_stand : (s : Held EngineLeaf) (k : ℕ) (f : ℕ → ℕ → Grid) (parts : List ℕ) → AreDrawn s k 3 f parts → AllStand s k parts
+nine_stand s k f parts = stand_of s k 3 f parts (λ i h. record { a = i % 3; b = i / 3; column = omega arith; row = omega (arith, h); is = omega arith })
+
+pub four_stand : (s : Held EngineLeaf) (k : ℕ) (f : ℕ → ℕ → Grid) (parts : List ℕ) → AreDrawn s k 2 f parts → AllStand s k parts
+four_stand s k f parts = stand_of s k 2 f parts (λ i h. record { a = i % 2; b = i / 2; column = omega arith; row = omega (arith, h); is = omega arith })
+
+-- and so do their results
+pub later_stand : (r : GenerationsRule) (old new : Held EngineLeaf) (k t : ℕ) (parts later : List ℕ) → AreLater r old new k t parts later → AllStand new (k - 1) later
+later_stand r old new k t parts later are i h = let count = are.count in (are.each i (omega (arith, h, count))).stands
+
+pub later_four : (r : GenerationsRule) (old new : Held EngineLeaf) (k t : ℕ) (f : ℕ → ℕ → Grid) (parts later : List ℕ) → AreDrawn old k 2 f parts → AreLater r old new k t parts later → AreAt new (k - 1) later
+later_four r old new k t f parts later drawn are i h = let count = drawn.count in (are.each i (omega (arith, h, count))).stands
 
 -- two parts of a grid side by side, and two below them
 part_joined : (c : Grid) (n a b : ℕ) → AreSameWithin (n + n) (neighbours_joined n (λ x y. part_from c (n * x) (n * y)) a b) (part_from c (n * a) (n * b))
@@ -189,3 +225,48 @@ ruled_passes s0 s1 s2 s3 s4 s5 k t t' u p q sixteen nine nine' four four' rule m
 
 pub twice_power : (k : ℕ) → 2 ^ k + 2 ^ k ≡ 2 ^ (k + 1)
 twice_power k = let e = pow-suc 2 k in let e' = add-one k in rw e' (omega (arith, e))
+
+-- ---- one call in another
+
+pub grown_on : (s t u : RuledSquares) → HasGrown s t → HasGrown t u → HasGrown s u
+grown_on s t u g h = record { rule = h.rule ∙ g.rule; store = grown_more leaf_grid 8 s.store t.store u.store g.store h.store }
+
+-- a result in the store that has it
+pub result_there : (s t : RuledSquares) (k n p q : ℕ) → HasGrown s t → IsAt s.store k p → IsLater s.rule s.store t.store k n p q → IsLater t.rule t.store t.store k n p q
+result_there s t k n p q g at later = subst (λ (r : GenerationsRule). IsLater r t.store t.store k n p q) (sym g.rule) (later_since s.rule s.store t.store t.store k n p q g.store at later)
+
+pub some_above : (k : ℕ) → 1 < k → 1 ≤ k
+some_above k more = omega (arith, more)
+
+pub above_one : (k : ℕ) → 0 < k → k ≢ 1 → 1 < k
+above_one k some other = omega (arith, some, other)
+
+pub level_below : (k : ℕ) → 1 < k → 0 < k - 1
+level_below k more = omega (arith, more)
+
+pub few_below : (k : ℕ) → k < 100 → k - 1 < 100
+few_below k few = omega (arith, few)
+
+pub exponent_below : (k e : ℕ) → 1 < k → e ≤ k → e ≤ k - 1 + 1
+exponent_below k e more h = omega (arith, more, h)
+
+pub first_exponent : (k e : ℕ) → k ≡ 1 → e ≤ k + 1 → e ≤ 2
+first_exponent k e is h = omega (arith, is, h)
+
+pub less_exponent : (k e : ℕ) → e ≤ k + 1 → e ≢ k + 1 → e ≤ k
+less_exponent k e h other = omega (arith, h, other)
+
+pub next_fits : (k : ℕ) → k < 100 → Fits w32 (k + 1)
+next_fits k few = omega (arith, few)
+
+pub result_falls : (k t : ℕ) → 4 * k + 3 ≡ t → 4 * k + 2 < t
+result_falls k t is = omega (arith, is)
+
+pub computed_falls : (k t : ℕ) → 4 * k + 2 ≡ t → 4 * k + 1 < t
+computed_falls k t is = omega (arith, is)
+
+pub pass_falls : (k t : ℕ) → 4 * k + 1 ≡ t → 4 * k < t
+pass_falls k t is = omega (arith, is)
+
+pub results_fall : (k t : ℕ) → 1 < k → 4 * k ≡ t → 4 * (k - 1) + 3 < t
+results_fall k t more is = omega (arith, more, is)

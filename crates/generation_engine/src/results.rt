@@ -185,8 +185,7 @@ impl ResultStore {
         ensures grows { HasGrown self.old self.new }
         ensures full { result ≡ Err StoreFault.StoreFull → IsStoreFull self.new.store }
     {
-        let part = self.store.add_four(level, parts)?;
-        Ok(part)
+        self.store.add_four(level, parts)
     }
 
     /// The square of a leaf.
@@ -195,8 +194,7 @@ impl ResultStore {
         ensures grows { HasGrown self.old self.new }
         ensures full { result ≡ Err StoreFault.StoreFull → IsStoreFull self.new.store }
     {
-        let part = self.store.add_leaf(leaf)?;
-        Ok(part)
+        self.store.add_leaf(leaf)
     }
 
     /// The states of a square of level 0.
@@ -405,15 +403,12 @@ impl ResultStore {
         ensures full { result ≡ Err StoreFault.StoreFull → IsStoreFull self.new.store }
     {
         if level == 1 {
-            let later = self.base(part, exponent)?;
-            return Ok(later);
+            self.base(part, exponent)
+        } else if exponent == level + 1 {
+            self.in_two_passes(level, part)
+        } else {
+            self.in_one_pass(level, part, exponent)
         }
-        if exponent == level + 1 {
-            let later = self.in_two_passes(level, part)?;
-            return Ok(later);
-        }
-        let later = self.in_one_pass(level, part, exponent)?;
-        Ok(later)
     }
 
     /// The result of a square after as many generations as it can have: nine squares are run for half
@@ -468,8 +463,7 @@ impl ResultStore {
         ensures grows { HasGrown self.old self.new }
         ensures full { result ≡ Err StoreFault.StoreFull → IsStoreFull self.new.store }
     {
-        let part = padded(&mut self.store, level, part)?;
-        Ok(part)
+        padded(&mut self.store, level, part)
     }
 
     /// The root of the universe 2 to the power of the exponent generations later.

@@ -27,7 +27,8 @@ pub enum RleFault {
 }
 
 impl RleFault {
-    ghost use Rattle.multistate_rle.specs.RleFault.{text_fault_number, text_fault_place};
+    ghost use Rattle.multistate_rle.specs.RleFault.{text_fault_number, text_fault_place, text_fault_text};
+    ghost use Rattle.std.specs.Prelude.{◌++◌, [], codes, decimal, unwrap_or, option_map};
 
     /// Its number in the table of faults.
     pub fn number(self) -> u8
@@ -52,6 +53,20 @@ impl RleFault {
             RleFault::Header | RleFault::TooMany | RleFault::Memory => None,
         }
     }
+
+    /// Its name, without the place.
+    fn name(self) -> &'static str
+        ensures { text_fault_text self ≡ result.now ++ unwrap_or (option_map (λ place. codes " " ++ decimal place) (text_fault_place self)) [] }
+    {
+        match self {
+            RleFault::Header => "Header",
+            RleFault::Tag(_) => "Tag",
+            RleFault::Count(_) => "Count",
+            RleFault::State(_) => "State",
+            RleFault::TooMany => "TooMany",
+            RleFault::Memory => "Memory",
+        }
+    }
 }
 
 /// Its name, with the place behind a blank where it has one.
@@ -62,13 +77,9 @@ impl fmt::Display for RleFault {
     ghost output = { λ fault. Some (text_fault_text fault) };
 
     fn fmt<W: fmt::Write>(&self, f: &mut fmt::Formatter<W>) -> fmt::Result {
-        match self {
-            RleFault::Header => write!(f, "Header"),
-            RleFault::Tag(place) => write!(f, "Tag {place}"),
-            RleFault::Count(place) => write!(f, "Count {place}"),
-            RleFault::State(place) => write!(f, "State {place}"),
-            RleFault::TooMany => write!(f, "TooMany"),
-            RleFault::Memory => write!(f, "Memory"),
+        match self.place() {
+            Some(place) => write!(f, "{} {place}", self.name()),
+            None => f.write_str(self.name()),
         }
     }
 }

@@ -1,8 +1,9 @@
 //! The line `#CXRLE Pos=x,y Gen=n`.
 
-ghost use Rattle.std.specs.Prelude.{◌≡◌, ◌≤◌, length};
-ghost use Rattle.std.specs.List.{position_or_len};
-ghost use Rattle.multistate_rle.specs.Position.{is_comma, no_items, words, items_in, one_item_more, with_position, with_generation, origin_in, origin_from, position_in, generation_in};
+ghost use Rattle.std.specs.Prelude.{◌≡◌, ◌≤◌, length, drop, Some};
+ghost use Rattle.std.specs.List.{position_or_len, before_first};
+ghost use Rattle.multistate_rle.specs.Bytes.{text_behind, ◌>=>◌};
+ghost use Rattle.multistate_rle.specs.Position.{is_comma, no_items, words, items_in, one_item_more, with_position, with_generation, origin_in, origin_from, position_in, generation_in, signed_number};
 
 use crate::numbers::{number, signed};
 use crate::scan;
@@ -125,11 +126,23 @@ fn items_of(line: &[u8]) -> Option<Items>
 fn position(word: &[u8]) -> Option<(i32, i32)>
     ensures { result ≡ position_in word.now }
 {
-    let sides = word.strip_prefix(b"Pos=")?;
-    let len = comma_at(sides);
-    let x = signed(&sides[..len])?;
-    let y = signed(scan::behind(b',', &sides[len..])?)?;
-    Some((x, y))
+    coordinates(word.strip_prefix(b"Pos=")?)
+}
+
+/// The numbers before and behind the first comma.
+fn coordinates(sides: &[u8]) -> Option<(i32, i32)>
+    ensures { result ≡ (signed_number (before_first is_comma sides.now) >=> λ x.
+        text_behind 44 (drop (position_or_len is_comma sides.now) sides.now) >=> λ rest. signed_number rest >=> λ y. Some (x, y)) }
+{
+    let (x, rest) = sides.split_at(comma_at(sides));
+    Some((signed(x)?, behind_comma(rest)?))
+}
+
+/// The number behind a comma, with which a text begins.
+fn behind_comma(rest: &[u8]) -> Option<i32>
+    ensures { result ≡ (text_behind 44 rest.now >=> signed_number) }
+{
+    signed(scan::behind(b',', rest)?)
 }
 
 fn generation(word: &[u8]) -> Option<u64>

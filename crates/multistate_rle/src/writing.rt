@@ -1,6 +1,7 @@
 //! Writing an RLE text: the two lines in front, and the tokens.
 
-ghost use Rattle.std.specs.Prelude.{◌≡◌, ◌<◌, ◌==◌, ◌++◌, ◌∷◌, [], IfOk, OnOk, true, map};
+ghost use Rattle.std.specs.Prelude.{◌≡◌, ◌<◌, ◌==◌, ◌++◌, ◌∷◌, [], IfOk, OnOk, true, map, codes, decimal};
+ghost use Rattle.std.specs.Fmt.{signed_decimal};
 ghost use Rattle.multistate_rle.specs.Cells.{is_sorted, are_nonzero, are_states_below};
 ghost use Rattle.multistate_rle.specs.Writing.{text_of_cells, head_lines, body, token_text};
 ghost use Rattle.multistate_rle.specs.Bounds.{seen_from, in_box};
@@ -42,21 +43,53 @@ pub fn write(
 fn head(alloc: Global, rule: &[u8], generation: u64, bounds: &Bounds) -> Result<Vec<u8>, AllocError>
     ensures { IfOk result (λ text. text.items ≡ head_lines rule.now generation bounds.now) }
 {
-    let mut buffer = Buffer::new();
-    let mut text = Vec::from_slice(alloc, b"#CXRLE Pos=")?;
-    text.extend_from_slice(buffer.format(bounds.x).as_bytes())?;
-    text.extend_from_slice(b",")?;
-    text.extend_from_slice(buffer.format(bounds.y).as_bytes())?;
-    text.extend_from_slice(b" Gen=")?;
-    text.extend_from_slice(buffer.format(generation).as_bytes())?;
-    text.extend_from_slice(b"\nx = ")?;
-    text.extend_from_slice(buffer.format(bounds.width).as_bytes())?;
-    text.extend_from_slice(b", y = ")?;
-    text.extend_from_slice(buffer.format(bounds.height).as_bytes())?;
-    text.extend_from_slice(b", rule = ")?;
-    text.extend_from_slice(rule)?;
-    text.extend_from_slice(b"\n")?;
+    let mut text = Vec::new(alloc);
+    push_origin(&mut text, generation, bounds)?;
+    push_header(&mut text, rule, bounds)?;
     Ok(text)
+}
+
+/// The line with the position and the generation, without its end.
+fn push_origin(text: &mut Vec<u8>, generation: u64, bounds: &Bounds) -> Result<(), AllocError>
+    ensures { OnOk result (text.new.items ≡ text.old.items
+        ++ codes "#CXRLE Pos=" ++ signed_decimal bounds.now.x ++ codes "," ++ signed_decimal bounds.now.y ++ codes " Gen=" ++ decimal generation) }
+{
+    push_coordinate(text, b"#CXRLE Pos=", bounds.x)?;
+    push_coordinate(text, b",", bounds.y)?;
+    push_number(text, b" Gen=", generation)
+}
+
+/// The end of the line before, and the line with the sides and the rule.
+fn push_header(text: &mut Vec<u8>, rule: &[u8], bounds: &Bounds) -> Result<(), AllocError>
+    ensures { OnOk result (text.new.items ≡ text.old.items
+        ++ codes "\nx = " ++ decimal bounds.now.width ++ codes ", y = " ++ decimal bounds.now.height ++ codes ", rule = " ++ rule.now ++ codes "\n") }
+{
+    push_number(text, b"\nx = ", bounds.width)?;
+    push_number(text, b", y = ", bounds.height)?;
+    push_both(text, b", rule = ", rule)?;
+    text.extend_from_slice(b"\n")
+}
+
+/// A coordinate, behind what names it.
+fn push_coordinate(text: &mut Vec<u8>, name: &[u8], coordinate: i32) -> Result<(), AllocError>
+    ensures { OnOk result (text.new.items ≡ text.old.items ++ name.now ++ signed_decimal coordinate) }
+{
+    push_both(text, name, Buffer::new().format(coordinate).as_bytes())
+}
+
+/// A number, behind what names it.
+fn push_number(text: &mut Vec<u8>, name: &[u8], number: u64) -> Result<(), AllocError>
+    ensures { OnOk result (text.new.items ≡ text.old.items ++ name.now ++ decimal number) }
+{
+    push_both(text, name, Buffer::new().format(number).as_bytes())
+}
+
+/// Two pieces, one behind the other.
+fn push_both(text: &mut Vec<u8>, first: &[u8], second: &[u8]) -> Result<(), AllocError>
+    ensures { OnOk result (text.new.items ≡ text.old.items ++ first.now ++ second.now) }
+{
+    text.extend_from_slice(first)?;
+    text.extend_from_slice(second)
 }
 
 /// The text with the tokens of the cells and the end mark behind it.

@@ -40,7 +40,7 @@ pub enum Fault {
 }
 
 impl Fault {
-    ghost use Rattle.replica_core.specs.Fault.{replica_fault_number, stop_of};
+    ghost use Rattle.replica_core.specs.Fault.{replica_fault_number, replica_fault_text, stop_of};
 
     /// Its number in the table of faults; 255 for want of memory.
     pub fn number(self) -> u8
@@ -57,6 +57,24 @@ impl Fault {
             Fault::NoReplica => 26,
             Fault::NoMessage => 27,
             Fault::Memory => 255,
+        }
+    }
+
+    /// Its name in the table of faults.
+    pub fn name(self) -> &'static str
+        ensures { result.now ≡ replica_fault_text self }
+    {
+        match self {
+            Fault::Edit(fault) => fault.name(),
+            Fault::StoreFull => "StoreFull",
+            Fault::Read(fault) => fault.name(),
+            Fault::Export(fault) => fault.name(),
+            Fault::OtherRule => "OtherRule",
+            Fault::ClockFull => "ClockFull",
+            Fault::NoSuchEdit => "NoSuchEdit",
+            Fault::NoReplica => "NoReplica",
+            Fault::NoMessage => "NoMessage",
+            Fault::Memory => "Memory",
         }
     }
 
@@ -80,18 +98,7 @@ impl fmt::Display for Fault {
     ghost output = { λ fault. Some (replica_fault_text fault) };
 
     fn fmt<W: fmt::Write>(&self, f: &mut fmt::Formatter<W>) -> fmt::Result {
-        match self {
-            Fault::Edit(fault) => write!(f, "{fault}"),
-            Fault::StoreFull => write!(f, "StoreFull"),
-            Fault::Read(fault) => write!(f, "{fault}"),
-            Fault::Export(fault) => write!(f, "{fault}"),
-            Fault::OtherRule => write!(f, "OtherRule"),
-            Fault::ClockFull => write!(f, "ClockFull"),
-            Fault::NoSuchEdit => write!(f, "NoSuchEdit"),
-            Fault::NoReplica => write!(f, "NoReplica"),
-            Fault::NoMessage => write!(f, "NoMessage"),
-            Fault::Memory => write!(f, "Memory"),
-        }
+        f.write_str(self.name())
     }
 }
 

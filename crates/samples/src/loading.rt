@@ -61,9 +61,14 @@ pub fn walks(
 {
     let plane = plane_of(alloc, rule, cells)?;
     let loaded = engine.load(&plane);
-    let walked = plane.walk()?;
-    let shown = shows(engine, &walked)?;
+    let shown = shows_walk(engine, &plane)?;
     Ok(loaded == Ok(()) && shown)
+}
+
+/// Whether an engine has the cells that the walk of a plane gives.
+fn shows_walk(engine: &Engine, plane: &Plane) -> Result<bool, AllocError> {
+    let walked = plane.walk()?;
+    shows(engine, &walked)
 }
 
 /// Whether an engine is full where it is to take some cells, and has those that it had.

@@ -1,19 +1,22 @@
 -- Nodes are told apart exactly; what a search in the store finds; entries and one more.
-use Rattle.std.proofs.Common.{inl, inr, arith, ◌≤◌, false, rules, ◌≡◌, ℕ, ◌<◌, Bool, true, List, [], ◌∷◌, ◌++◌, length, sym, ap, ◌∙◌, subst, refl}
+use Rattle.std.proofs.Common.{inl, inr, arith, ◌≤◌, false, rules, ◌≡◌, ℕ, zero, suc, ◌<◌, Bool, true, List, [], ◌∷◌, ◌++◌, length, sym, ap, ◌∙◌, subst, refl}
 use Rattle.std.proofs.lemmas.Bool.{cases_lt}
-use Rattle.std.specs.Prelude.{Option, None, Some, Decides, IfSome, IfNone, IsTrue, ◌↔◌, nat_eq, not, if◌then◌else◌}
+use Rattle.std.specs.Prelude.{Option, None, Some, Result, Ok, Err, OnErr, IfOk, slice_get, Decides, IfSome, IfNone, IsTrue, ◌↔◌, nat_eq, not, if◌then◌else◌}
 use Rattle.std.specs.Map.{keys_of, values_of}
+use Rattle.std.specs.Option.{ok_or}
 use Rattle.std.specs.List.{list_any, position_or_len}
 use Rattle.indexmap.specs.IndexMap.{insert_entry}
 use Rattle.std.proofs.lemmas.Map.Entries.{length-keys_of, length-values_of}
 use Rattle.square_store.specs.declared.node.Node.{Node}
 use Rattle.square_store.specs.declared.node.Node.TheVariants.{Leaf}
 use Rattle.square_store.specs.contracts.node.NodePartialEq.TheImpl.{eq-value}
+use Rattle.square_store.specs.declared.fault.StoreFault.{StoreFault}
+use Rattle.square_store.specs.declared.fault.StoreFault.TheVariants.{StoreFull, Memory}
 use Rattle.square_store.specs.Grid.{Grid, IsSpeltWithin}
 use Rattle.square_store.specs.Squares.{Held}
 use Rattle.square_store.specs.Store.{IsCanonical, IsStore, AreSummaries}
-use Rattle.square_store.specs.Steps.{IsAbsentNode, IsAbsentLeaf, IsWanted, IsSummed, IsLeafPushed}
-use Rattle.square_store.proofs.Lists.{keys_more, values_more, missing_any, missing_place, missing_entry}
+use Rattle.square_store.specs.Steps.{IsAbsentNode, IsAbsentLeaf, IsPlaceOfLeaf, IsWanted, IsSummed, IsLeafPushed, IsLeafEntered, LeafStood}
+use Rattle.square_store.proofs.Lists.{some_inj, keys_more, values_more, missing_any, missing_place, missing_entry}
 use Rattle.square_store.proofs.Growth.{absent_square, store_node, store_leaf, summaries_node, summaries_leaf}
 
 -- the test of nodes
@@ -123,3 +126,46 @@ was_absent new false e h = refl
 pub was_there : (new any : Bool) → new ≡ not any → new ≡ false → any ≡ true
 was_there new true e h = refl
 was_there new false e h = cc
+
+-- the key and the value of an entry, and places that have none
+pub got_key : {K V : Type 0} (es : List (K × V)) (p : ℕ) (e : K × V) → Some e ≡ slice_get es p → Some e.0 ≡ slice_get (keys_of es) p
+got_key [] p e h = cc
+got_key (d ∷ es) zero e h = ap (λ z. Some z.0) (some_inj h)
+got_key (d ∷ es) (suc p) e h = got_key es p e h
+
+pub got_value : {K V : Type 0} (es : List (K × V)) (p : ℕ) (e : K × V) → Some e ≡ slice_get es p → slice_get (values_of es) p ≡ Some e.1
+got_value [] p e h = cc
+got_value (d ∷ es) zero e h = sym (ap (λ z. Some z.1) (some_inj h))
+got_value (d ∷ es) (suc p) e h = got_value es p e h
+
+pub no_key : {K V : Type 0} (es : List (K × V)) (p : ℕ) → None ≡ slice_get es p → None ≡ slice_get (keys_of es) p
+no_key [] p h = refl
+no_key (d ∷ es) zero h = cc
+no_key (d ∷ es) (suc p) h = no_key es p h
+
+pub never_past : {K V : Type 0} (es : List (K × V)) (p : ℕ) → None ≡ slice_get es p → p < length (keys_of es) → ⊥
+never_past [] p h within = omega (arith, within)
+never_past (d ∷ es) zero h within = cc
+never_past (d ∷ es) (suc p) h within = never_past es p h (omega (arith, within))
+
+-- what a look-up of a leaf tells, where its want is a fault
+module _ {L : Type 0} (s : Held L) (l : L) where
+  pub entered_found : (r : Option ℕ) (fault : StoreFault) → IfSome r (IsPlaceOfLeaf s l) → IfOk (ok_or r fault) (λ p. IsLeafEntered s s l p)
+  entered_found None fault h = tt
+  entered_found (Some p) fault h = LeafStood refl h
+
+  pub absent_unfound : (r : Option ℕ) (fault : StoreFault) → IfNone r (IsAbsentLeaf s l) → OnErr (ok_or r fault) (IsAbsentLeaf s l)
+  absent_unfound None fault h = h
+  absent_unfound (Some p) fault h = tt
+
+pub not_memory : (r : Option ℕ) → ok_or r StoreFull ≡ Err Memory → ⊥
+not_memory None h = cc
+not_memory (Some p) h = cc
+
+pub not_store_full : (r : Option ℕ) → ok_or r Memory ≡ Err StoreFull → ⊥
+not_store_full None h = cc
+not_store_full (Some p) h = cc
+
+pub on_each : {A E P : Type 0} (r : Result A E) → P → OnErr r P
+on_each (Ok x) h = tt
+on_each (Err e) h = h

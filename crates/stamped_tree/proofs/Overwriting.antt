@@ -1,6 +1,6 @@
 -- Squares over which an edit is written.
 use Rattle.std.proofs.Common.{◌≡◌, ℕ, zero, suc, ◌+◌, ◌-◌, ◌*◌, ◌/◌, ◌%◌, ◌<◌, Bool, true, false, List, [], ◌∷◌, inl, inr, refl, sym, ap, ◌∙◌, subst, arith}
-use Rattle.std.specs.Prelude.{slice_index_or, Option, None, Some, IfSome, IsTrue, nat_lt, if◌then◌else◌, length}
+use Rattle.std.specs.Prelude.{slice_index_or, Option, None, Some, IfSome, IsTrue, ◌==◌, nat_lt, if◌then◌else◌, length}
 use Rattle.std.specs.HashMap.{HashMap}
 use Rattle.std.proofs.lemmas.Bool.Decides.{nat_tests}
 use Rattle.square_store.specs.Grid.{Grid, blank_grid, quartered, AreSameWithin}
@@ -25,7 +25,7 @@ use Rattle.stamped_tree.specs.declared.filled.AreaKey.{AreaKey}
 use Rattle.stamped_tree.specs.LeafKind.{plane_grid}
 use Rattle.stamped_tree.specs.Area.{is_in_area, area_grid, IsAreaOfPart, IsEmptyArea, IsWholeArea}
 use Rattle.stamped_tree.specs.Drawing.{state_listed, edit_grid, cells_in}
-use Rattle.stamped_tree.specs.Filled.{AreFilled}
+use Rattle.stamped_tree.specs.Filled.{AreFilled, IsFilled}
 use Rattle.stamped_tree.specs.OnPlane.{plane_writes}
 use Rattle.stamped_tree.specs.Overwriting.{overwrite, overwritten, overwritten_grid, listed_over}
 use Rattle.stamped_tree.specs.Plane.{from_edge, grid_of_leaf, map_of, HasPlaneWrites}
@@ -116,8 +116,19 @@ blank_over s t k p stamp n b a cells h side none whole drawn = record {
 pub area_over : (s : Held PlaneLeaf) (k p stamp d : ℕ) (a : Area) (cells : List ListedCell) → length cells ≡ 0 → Draws plane_grid 8 s k (overwritten_grid (grid_at plane_grid 8 s k p) (area_grid stamp a)) d → Draws plane_grid 8 s k (overwritten_grid (grid_at plane_grid 8 s k p) (edit_grid stamp a cells)) d
 area_over s k p stamp d a cells none drawn = rw (none_of cells none) drawn
 
-pub over_area : (s : Held PlaneLeaf) (k p stamp d : ℕ) (a : Area) (cells : List ListedCell) → length cells ≡ 0 → Draws plane_grid 8 s k (overwritten_grid (grid_at plane_grid 8 s k p) (edit_grid stamp a cells)) d → Draws plane_grid 8 s k (overwritten_grid (grid_at plane_grid 8 s k p) (area_grid stamp a)) d
-over_area s k p stamp d a cells none drawn = rw (none_of cells none) at drawn
+pub no_length : (n : ℕ) → true ≡ (n == 0) → n ≡ 0
+no_length n h = let is : (n == 0) ≡ true = sym h in grind (arith, nat_tests, is)
+
+pub filled_drawn : (s t : Held PlaneLeaf) (k p stamp d : ℕ) (a : Area) (cells : List ListedCell) → IsGrown plane_grid 8 s t → IsAt s k p → length cells ≡ 0 → Draws plane_grid 8 t k (overwritten_grid (grid_at plane_grid 8 s k p) (edit_grid stamp a cells)) d → IsFilled t stamp k a p d
+filled_drawn s t k p stamp d a cells g at none drawn =
+    let over : Draws plane_grid 8 t k (overwritten_grid (grid_at plane_grid 8 s k p) (area_grid stamp a)) d = rw (none_of cells none) at drawn in
+    record {
+      stands = g.stands k p at;
+      draws = record {
+        stands = over.stands;
+        same = λ u v hu hv. over.same u v hu hv ∙ sym (ap (λ (f : Grid). overwrite (f u v) (area_grid stamp a u v)) (g.same k p at));
+      };
+    }
 
 -- ---- squares that were kept
 

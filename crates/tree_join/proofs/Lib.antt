@@ -1,4 +1,5 @@
 pub mod Comparing
-pub mod Keeping
+pub mod Growing
 pub mod Joining
+pub mod Keeping
 pub mod Reading

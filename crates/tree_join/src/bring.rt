@@ -35,18 +35,11 @@ pub(crate) fn bring(
     ensures full { result ≡ Err StoreFault.StoreFull → IsFull plane.new.store }
 {
     match other.square(there).view() {
-        View::Blank(stamp) => {
-            let copy = bring_blank(plane, other, there, stamp)?;
-            Ok(copy)
-        }
-        View::Leaf(leaf) => {
-            let copy = bring_leaf(plane, other, there, leaf)?;
-            Ok(copy)
-        }
+        View::Blank(stamp) => bring_blank(plane, other, there, stamp),
+        View::Leaf(leaf) => bring_leaf(plane, other, there, leaf),
         View::Four { nw, ne, sw, se } => {
             let parts = [nw.part(), ne.part(), sw.part(), se.part()];
-            let copy = bring_four(plane, other, copies, above, there, &parts)?;
-            Ok(copy)
+            bring_four(plane, other, copies, above, there, &parts)
         }
     }
 }

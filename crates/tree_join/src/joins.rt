@@ -52,18 +52,35 @@ pub fn add_joined(
     ensures full { result ≡ Err StoreFault.StoreFull → length plane.new.store.squares ≡ plane.new.store.room }
 {
     let there = other.root().part();
+    let added = join_roots(alloc, plane, other, part, there)?;
+    Ok(added)
+}
+
+/// The join of two squares of level 31, where no join and no copy was made before.
+fn join_roots(
+    alloc: Global,
+    plane: &mut Plane,
+    other: &Plane,
+    here: Part,
+    there: Part,
+) -> Result<Part, StoreFault>
+    requires here { IsAt plane.old.store 28 here }
+    requires there { IsAt other.now.store 28 there }
+    ensures join { IfOk result (IsSquareJoin plane.new.store other.now.store 28 here there) }
+    ensures grows { HasGrown plane.old plane.new }
+    ensures full { result ≡ Err StoreFault.StoreFull → IsFull plane.new.store }
+{
     let mut joins = IndexMap::new(alloc);
     let mut copies = IndexMap::new(alloc);
-    let added = join_squares(
+    join_squares(
         plane,
         other,
         &mut joins,
         &mut copies,
         ROOT_ABOVE_LEAF,
-        part,
+        here,
         there,
-    )?;
-    Ok(added)
+    )
 }
 
 /// The join of two squares, so many levels above a leaf. Nothing is added where the first stays.

@@ -1,8 +1,9 @@
 //! The picture whose text is read and written.
 
-use anyhow::{Context, Result, bail};
+use anyhow::{Result, bail};
+use edit_stamps::{Corner, are_placeable, placed_cells};
 use generations_rule::Rule;
-use multistate_rle::{Cell, Pattern, are_writable, parse, write};
+use multistate_rle::{Cell, PatternCell, are_writable, parse, write};
 use rand::seq::SliceRandom;
 use rand_pcg::Pcg32;
 use std::alloc::{AllocError, Global};
@@ -65,8 +66,8 @@ fn runs(alloc: Global) -> Result<Vec<Run>, AllocError> {
 
 fn cell_at(place: u32, state: u8) -> Cell {
     Cell {
-        x: (place % WIDTH) as i32 - 1024,
-        y: (place / WIDTH) as i32 - 512,
+        x: (-1024_i32).wrapping_add_unsigned(place % WIDTH),
+        y: (-512_i32).wrapping_add_unsigned(place / WIDTH),
         state,
     }
 }
@@ -74,27 +75,16 @@ fn cell_at(place: u32, state: u8) -> Cell {
 /// The cells of a text's pattern, where it was in its plane.
 pub fn cells_of(alloc: Global, text: &[u8]) -> Result<Vec<Cell>> {
     let pattern = parse(alloc, text)?;
-    in_plane(alloc, &pattern)?.context("a cell too far")
+    let (x, y) = pattern.pos();
+    in_plane(alloc, pattern.cells(), Corner::at(x, y))
 }
 
-/// The cells of a pattern in its plane, if they are all in it.
-fn in_plane(alloc: Global, pattern: &Pattern) -> Result<Option<Vec<Cell>>, AllocError> {
-    let (left, top) = pattern.pos();
-    let mut cells = Vec::with_capacity(alloc, pattern.cells().len())?;
-    for cell in pattern.cells() {
-        let (Some(x), Some(y)) = (
-            left.checked_add_unsigned(cell.column),
-            top.checked_add_unsigned(cell.row),
-        ) else {
-            return Ok(None);
-        };
-        cells.push(Cell {
-            x,
-            y,
-            state: cell.state,
-        })?;
+/// The cells of a pattern with its corner there, if they are all in the plane.
+fn in_plane(alloc: Global, cells: &[PatternCell], corner: Corner) -> Result<Vec<Cell>> {
+    if !are_placeable(cells, corner) {
+        bail!("a cell too far");
     }
-    Ok(Some(cells))
+    Ok(placed_cells(alloc, cells, corner)?)
 }
 
 /// The text of cells, if they can be written under the rule.

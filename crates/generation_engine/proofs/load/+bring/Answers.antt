@@ -1,6 +1,6 @@
-use Rattle.std.proofs.Common.{ap, Err, sym}
+use Rattle.std.proofs.Common.{ap, Err, sym, ◌∙◌}
 use Rattle.square_store.proofs.Made.{told}
-use Rattle.generation_engine.proofs.Bringing.{all_later, all_noted, blank_brought, leaf_brought, four_stand, four_brought, all_moved, moved_source, states_listed}
+use Rattle.generation_engine.proofs.Bringing.{all_later, all_noted, blank_brought, leaf_brought, four_stand, four_brought, all_moved, moved_source, states_listed, some_above, above_leaves, nw_seen, ne_seen, sw_seen, se_seen, bring_falls}
 use Rattle.square_store.proofs.Drawn.{grown_more}
 use Rattle.generation_engine.specs.EngineLeaf.{leaf_grid}
 use Rattle.generation_engine.proofs.Squares.{full_kept}
@@ -50,3 +50,90 @@ returns-in_ok-note-in-Four-clause-brought t c =
     let seen = c.in-Four.ensures in
     let now = all_moved _ _ _ _ seen.se_store c.in_ok-se-in-Four.ensures.brought in
     all_noted _ _ _ _ _ _ (all_later _ _ _ _ c.in_ok-there-in-Four.ensures.grows now) (returns-in_ok-note-in-Four-clause-part t c) (rw c.part-part.ensures at c.in_ok-note-in-Four.ensures)
+
+pub overflow_sub-level : goal.overflow_sub-level
+overflow_sub-level t c = above_leaves c.args.square.now c.in-Four.nw c.in-Four.ne c.in-Four.sw c.in-Four.se c.args.level c.in-Four.ensures c.requires.square
+
+pub bring-requires : goal.bring-requires
+bring-requires t c =
+    (bring_falls c.args.level t (above_leaves c.args.square.now c.in-Four.nw c.in-Four.ne c.in-Four.sw c.in-Four.se c.args.level c.in-Four.ensures c.requires.square) c.decreases, (nw_seen c.args.square.now c.in-Four.nw c.in-Four.ne c.in-Four.sw c.in-Four.se c.args.level c.in-Four.ensures c.requires.square, all_moved _ _ _ _ (sym c.in-Four.ensures.nw_store) c.requires.brought))
+
+pub returns-in_err-nw-in-Four-clause-grows : goal.returns-in_err-nw-in-Four-clause-grows
+returns-in_err-nw-in-Four-clause-grows t c = c.in_err-nw-in-Four.ensures.grows
+
+pub returns-in_err-nw-in-Four-clause-full : goal.returns-in_err-nw-in-Four-clause-full
+returns-in_err-nw-in-Four-clause-full t c = λ e. c.in_err-nw-in-Four.ensures.full (ap (λ e. Err e) (told _ _ _ c.from_residual-in_err-nw-in-Four.ensures.1 e))
+
+pub overflow_sub-level-in-Four : goal.overflow_sub-level-in-Four
+overflow_sub-level-in-Four t c = above_leaves c.args.square.now c.in-Four.nw c.in-Four.ne c.in-Four.sw c.in-Four.se c.args.level c.in-Four.ensures c.requires.square
+
+pub bring-requires-in-Four : goal.bring-requires-in-Four
+bring-requires-in-Four t c =
+    (bring_falls c.args.level t (above_leaves c.args.square.now c.in-Four.nw c.in-Four.ne c.in-Four.sw c.in-Four.se c.args.level c.in-Four.ensures c.requires.square) c.decreases, (ne_seen c.args.square.now c.in-Four.nw c.in-Four.ne c.in-Four.sw c.in-Four.se c.args.level c.in-Four.ensures c.requires.square, all_moved _ _ _ _ (c.in-Four.ensures.nw_store ∙ sym c.in-Four.ensures.ne_store) c.in_ok-nw-in-Four.ensures.brought))
+
+pub returns-in_err-ne-in-Four-clause-grows : goal.returns-in_err-ne-in-Four-clause-grows
+returns-in_err-ne-in-Four-clause-grows t c = grown_more leaf_grid 8 c.args.target.now c.bring.new.target c.bring-in-Four.new.target c.in_ok-nw-in-Four.ensures.grows c.in_err-ne-in-Four.ensures.grows
+
+pub returns-in_err-ne-in-Four-clause-full : goal.returns-in_err-ne-in-Four-clause-full
+returns-in_err-ne-in-Four-clause-full t c = λ e. c.in_err-ne-in-Four.ensures.full (ap (λ e. Err e) (told _ _ _ c.from_residual-in_err-ne-in-Four.ensures.1 e))
+
+pub overflow_sub-level-in-Four-2 : goal.overflow_sub-level-in-Four-2
+overflow_sub-level-in-Four-2 t c = above_leaves c.args.square.now c.in-Four.nw c.in-Four.ne c.in-Four.sw c.in-Four.se c.args.level c.in-Four.ensures c.requires.square
+
+pub bring-requires-in-Four-2 : goal.bring-requires-in-Four-2
+bring-requires-in-Four-2 t c =
+    (bring_falls c.args.level t (above_leaves c.args.square.now c.in-Four.nw c.in-Four.ne c.in-Four.sw c.in-Four.se c.args.level c.in-Four.ensures c.requires.square) c.decreases, (sw_seen c.args.square.now c.in-Four.nw c.in-Four.ne c.in-Four.sw c.in-Four.se c.args.level c.in-Four.ensures c.requires.square, all_moved _ _ _ _ (c.in-Four.ensures.ne_store ∙ sym c.in-Four.ensures.sw_store) c.in_ok-ne-in-Four.ensures.brought))
+
+pub returns-in_err-sw-in-Four-clause-grows : goal.returns-in_err-sw-in-Four-clause-grows
+returns-in_err-sw-in-Four-clause-grows t c = grown_more leaf_grid 8 c.args.target.now c.bring.new.target c.bring-in-Four-2.new.target c.in_ok-nw-in-Four.ensures.grows (grown_more leaf_grid 8 c.bring.new.target c.bring-in-Four.new.target c.bring-in-Four-2.new.target c.in_ok-ne-in-Four.ensures.grows c.in_err-sw-in-Four.ensures.grows)
+
+pub returns-in_err-sw-in-Four-clause-full : goal.returns-in_err-sw-in-Four-clause-full
+returns-in_err-sw-in-Four-clause-full t c = λ e. c.in_err-sw-in-Four.ensures.full (ap (λ e. Err e) (told _ _ _ c.from_residual-in_err-sw-in-Four.ensures.1 e))
+
+pub overflow_sub-level-in-Four-3 : goal.overflow_sub-level-in-Four-3
+overflow_sub-level-in-Four-3 t c = above_leaves c.args.square.now c.in-Four.nw c.in-Four.ne c.in-Four.sw c.in-Four.se c.args.level c.in-Four.ensures c.requires.square
+
+pub bring-requires-in-Four-3 : goal.bring-requires-in-Four-3
+bring-requires-in-Four-3 t c =
+    (bring_falls c.args.level t (above_leaves c.args.square.now c.in-Four.nw c.in-Four.ne c.in-Four.sw c.in-Four.se c.args.level c.in-Four.ensures c.requires.square) c.decreases, (se_seen c.args.square.now c.in-Four.nw c.in-Four.ne c.in-Four.sw c.in-Four.se c.args.level c.in-Four.ensures c.requires.square, all_moved _ _ _ _ (c.in-Four.ensures.sw_store ∙ sym c.in-Four.ensures.se_store) c.in_ok-sw-in-Four.ensures.brought))
+
+pub returns-in_err-se-in-Four-clause-grows : goal.returns-in_err-se-in-Four-clause-grows
+returns-in_err-se-in-Four-clause-grows t c = grown_more leaf_grid 8 c.args.target.now c.bring.new.target c.bring-in-Four-3.new.target c.in_ok-nw-in-Four.ensures.grows (grown_more leaf_grid 8 c.bring.new.target c.bring-in-Four.new.target c.bring-in-Four-3.new.target c.in_ok-ne-in-Four.ensures.grows (grown_more leaf_grid 8 c.bring-in-Four.new.target c.bring-in-Four-2.new.target c.bring-in-Four-3.new.target c.in_ok-sw-in-Four.ensures.grows c.in_err-se-in-Four.ensures.grows))
+
+pub returns-in_err-se-in-Four-clause-full : goal.returns-in_err-se-in-Four-clause-full
+returns-in_err-se-in-Four-clause-full t c = λ e. c.in_err-se-in-Four.ensures.full (ap (λ e. Err e) (told _ _ _ c.from_residual-in_err-se-in-Four.ensures.1 e))
+
+pub add_four-requires-clause-level : goal.add_four-requires-clause-level
+add_four-requires-clause-level t c = some_above c.args.square.now c.in-Four.nw c.in-Four.ne c.in-Four.sw c.in-Four.se c.args.level c.in-Four.ensures c.requires.square
+
+pub returns-in_ok-note-in-Four-clause-grows : goal.returns-in_ok-note-in-Four-clause-grows
+returns-in_ok-note-in-Four-clause-grows t c = grown_more leaf_grid 8 c.args.target.now c.bring.new.target c.add_four.new.self c.in_ok-nw-in-Four.ensures.grows (grown_more leaf_grid 8 c.bring.new.target c.bring-in-Four.new.target c.add_four.new.self c.in_ok-ne-in-Four.ensures.grows (grown_more leaf_grid 8 c.bring-in-Four.new.target c.bring-in-Four-2.new.target c.add_four.new.self c.in_ok-sw-in-Four.ensures.grows (grown_more leaf_grid 8 c.bring-in-Four-2.new.target c.bring-in-Four-3.new.target c.add_four.new.self c.in_ok-se-in-Four.ensures.grows c.in_ok-there-in-Four.ensures.grows)))
+
+pub returns-in_err-note-in-Four-clause-grows : goal.returns-in_err-note-in-Four-clause-grows
+returns-in_err-note-in-Four-clause-grows t c = grown_more leaf_grid 8 c.args.target.now c.bring.new.target c.add_four.new.self c.in_ok-nw-in-Four.ensures.grows (grown_more leaf_grid 8 c.bring.new.target c.bring-in-Four.new.target c.add_four.new.self c.in_ok-ne-in-Four.ensures.grows (grown_more leaf_grid 8 c.bring-in-Four.new.target c.bring-in-Four-2.new.target c.add_four.new.self c.in_ok-sw-in-Four.ensures.grows (grown_more leaf_grid 8 c.bring-in-Four-2.new.target c.bring-in-Four-3.new.target c.add_four.new.self c.in_ok-se-in-Four.ensures.grows c.in_ok-there-in-Four.ensures.grows)))
+
+pub returns-in_err-there-in-Four-clause-full : goal.returns-in_err-there-in-Four-clause-full
+returns-in_err-there-in-Four-clause-full t c = λ h. full_kept _ _ c.in_err-there-in-Four.ensures.err (c.in_err-there-in-Four.ensures.full (ap (λ e. Err e) (told _ _ _ c.from_residual-in_err-there-in-Four.ensures.1 h))).full
+
+pub returns-in_err-there-in-Leaf-clause-full : goal.returns-in_err-there-in-Leaf-clause-full
+returns-in_err-there-in-Leaf-clause-full t c = λ h. full_kept _ _ c.in_err-there-in-Leaf.ensures.err (c.in_err-there-in-Leaf.ensures.full (ap (λ e. Err e) (told _ _ _ c.from_residual-in_err-there-in-Leaf.ensures.1 h))).full
+
+pub returns-in_err-there-in-Leaf-clause-grows : goal.returns-in_err-there-in-Leaf-clause-grows
+returns-in_err-there-in-Leaf-clause-grows t c = c.in_err-there-in-Leaf.ensures.grows
+
+pub returns-in_err-note-in-Leaf-clause-grows : goal.returns-in_err-note-in-Leaf-clause-grows
+returns-in_err-note-in-Leaf-clause-grows t c = c.in_ok-there-in-Leaf.ensures.grows
+
+pub returns-in_ok-note-in-Leaf-clause-grows : goal.returns-in_ok-note-in-Leaf-clause-grows
+returns-in_ok-note-in-Leaf-clause-grows t c = c.in_ok-there-in-Leaf.ensures.grows
+
+pub returns-in_ok-note-in-Leaf-clause-part : goal.returns-in_ok-note-in-Leaf-clause-part
+returns-in_ok-note-in-Leaf-clause-part t c =
+    leaf_brought c.args.square.now.store c.add_leaf.new.self _ c.states_of_leaf.result c.args.square.now.part c.in_ok-there-in-Leaf.there
+    (states_listed c.in-Leaf.leaf.now _ c.in-Leaf.ensures.0 c.states_of_leaf.ensures) c.in-Leaf.ensures.1 c.in_ok-there-in-Leaf.ensures.draws
+
+pub returns-in_err-dead-in-Blank-clause-grows : goal.returns-in_err-dead-in-Blank-clause-grows
+returns-in_err-dead-in-Blank-clause-grows t c = c.in_err-dead-in-Blank.ensures.grows
+
+pub returns-in_ok-dead-in-Blank-clause-grows : goal.returns-in_ok-dead-in-Blank-clause-grows
+returns-in_ok-dead-in-Blank-clause-grows t c = c.in_ok-dead-in-Blank.ensures.grows

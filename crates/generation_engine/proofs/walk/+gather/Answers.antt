@@ -2,7 +2,7 @@ use Rattle.std.proofs.Common.{◌∙◌, ap, ◌+◌, length}
 use Rattle.square_store.proofs.Places.{at_within}
 use Rattle.generation_engine.proofs.Counted.{leaf_counted, parts_counted, square_blank}
 use Rattle.stamped_tree.proofs.Gathering.{gathers_leaf_at}
-use Rattle.std.proofs.Common.{◌≡◌, ℕ, ◌-◌, ◌<◌, List, sym, subst, arith, slice_index_or}
+use Rattle.std.proofs.Common.{◌≡◌, ℕ, ◌-◌, ◌<◌, ◌≤◌, List, sym, subst, arith, slice_index_or}
 use Rattle.std.specs.Prelude.{length}
 use Rattle.square_store.specs.Squares.{Held, IsAt, side_at}
 use Rattle.square_store.specs.Seen.{IsFourAt}
@@ -28,6 +28,21 @@ below s k j p i r parts four stands few =
       stands = subst (λ q. IsAt s (k - 1) q) (sym (same_default parts i r 0 (let h = four.four in omega (arith, few, h)))) (subst (λ l. IsAt s (l - 1) (slice_index_or parts i 0)) (sym level) (four.parts_stand i few));
     }
 
+nw_of_four : 0 < 4
+nw_of_four = omega arith
+
+ne_of_four : 1 < 4
+ne_of_four = omega arith
+
+sw_of_four : 2 < 4
+sw_of_four = omega arith
+
+se_of_four : 3 < 4
+se_of_four = omega arith
+
+above_leaves : (s : Held EngineLeaf) (k j p : ℕ) (parts : List ℕ) → IsFourAt leaf_grid 8 s j parts p → IsAt s k p → 1 ≤ k
+above_leaves s k j p parts four stands = let level : k ≡ j = four.level k stands in let h = four.positive in omega (arith, h, level)
+
 pub square-requires : goal.square-requires
 square-requires t c = at_within c.args.store.now c.args.level c.args.part c.requires.stands
 
@@ -50,24 +65,39 @@ returns-in_ok-gather_leaf-in-Leaf t c = record {
 
 pub gather-requires : goal.gather-requires
 gather-requires t c =
-    let b = below c.args.store.now c.args.level c.in-Four.level c.args.part 0 c.index-parts-0.result c.in-Four.parts c.in-Four.ensures c.requires.stands (omega arith) in
+    let b = below c.args.store.now c.args.level c.in-Four.level c.args.part 0 c.index-parts-0.result c.in-Four.parts c.in-Four.ensures c.requires.stands nw_of_four in
     let some = b.some in let half = b.half in let level = c.requires.level in let left = c.requires.left in let top = c.requires.top in let wide_half = c.side_of-half.ensures in let down = c.decreases in
     (omega (arith, some, down), (omega (arith, level), (b.stands, (omega (arith, half, left, wide_half), omega (arith, half, top, wide_half)))))
 
 pub gather-requires-in-Four : goal.gather-requires-in-Four
 gather-requires-in-Four t c =
-    let b = below c.args.store.now c.args.level c.in-Four.level c.args.part 1 c.index-parts-1.result c.in-Four.parts c.in-Four.ensures c.requires.stands (omega arith) in
+    let b = below c.args.store.now c.args.level c.in-Four.level c.args.part 1 c.index-parts-1.result c.in-Four.parts c.in-Four.ensures c.requires.stands ne_of_four in
     let some = b.some in let half = b.half in let level = c.requires.level in let left = c.requires.left in let top = c.requires.top in let wide_half = c.side_of-half.ensures in let down = c.decreases in
     (omega (arith, some, down), (omega (arith, level), (b.stands, (omega (arith, half, left, wide_half), omega (arith, half, top, wide_half)))))
 
 pub gather-requires-in-Four-2 : goal.gather-requires-in-Four-2
 gather-requires-in-Four-2 t c =
-    let b = below c.args.store.now c.args.level c.in-Four.level c.args.part 2 c.index-parts-2.result c.in-Four.parts c.in-Four.ensures c.requires.stands (omega arith) in
+    let b = below c.args.store.now c.args.level c.in-Four.level c.args.part 2 c.index-parts-2.result c.in-Four.parts c.in-Four.ensures c.requires.stands sw_of_four in
     let some = b.some in let half = b.half in let level = c.requires.level in let left = c.requires.left in let top = c.requires.top in let wide_half = c.side_of-half.ensures in let down = c.decreases in
     (omega (arith, some, down), (omega (arith, level), (b.stands, (omega (arith, half, left, wide_half), omega (arith, half, top, wide_half)))))
 
 pub gather-requires-in-Four-3 : goal.gather-requires-in-Four-3
 gather-requires-in-Four-3 t c =
-    let b = below c.args.store.now c.args.level c.in-Four.level c.args.part 3 c.index-parts-3.result c.in-Four.parts c.in-Four.ensures c.requires.stands (omega arith) in
+    let b = below c.args.store.now c.args.level c.in-Four.level c.args.part 3 c.index-parts-3.result c.in-Four.parts c.in-Four.ensures c.requires.stands se_of_four in
     let some = b.some in let half = b.half in let level = c.requires.level in let left = c.requires.left in let top = c.requires.top in let wide_half = c.side_of-half.ensures in let down = c.decreases in
     (omega (arith, some, down), (omega (arith, level), (b.stands, (omega (arith, half, left, wide_half), omega (arith, half, top, wide_half)))))
+
+pub overflow_sub-level : goal.overflow_sub-level
+overflow_sub-level t c = above_leaves c.args.store.now c.args.level c.in-Four.level c.args.part c.in-Four.parts c.in-Four.ensures c.requires.stands
+
+pub overflow_sub-level-in-Four : goal.overflow_sub-level-in-Four
+overflow_sub-level-in-Four t c = above_leaves c.args.store.now c.args.level c.in-Four.level c.args.part c.in-Four.parts c.in-Four.ensures c.requires.stands
+
+pub overflow_sub-level-in-Four-2 : goal.overflow_sub-level-in-Four-2
+overflow_sub-level-in-Four-2 t c = above_leaves c.args.store.now c.args.level c.in-Four.level c.args.part c.in-Four.parts c.in-Four.ensures c.requires.stands
+
+pub overflow_sub-level-in-Four-3 : goal.overflow_sub-level-in-Four-3
+overflow_sub-level-in-Four-3 t c = above_leaves c.args.store.now c.args.level c.in-Four.level c.args.part c.in-Four.parts c.in-Four.ensures c.requires.stands
+
+pub overflow_sub-level-in-Four-4 : goal.overflow_sub-level-in-Four-4
+overflow_sub-level-in-Four-4 t c = above_leaves c.args.store.now c.args.level c.in-Four.level c.args.part c.in-Four.parts c.in-Four.ensures c.requires.stands

@@ -1,9 +1,10 @@
-use Rattle.std.proofs.Common.{sym, subst}
-use Rattle.square_store.specs.Seen.{IsFourAt}
+use Rattle.std.proofs.Common.{sym, inl}
 use Rattle.square_store.proofs.Places.{at_within}
+use Rattle.square_store.proofs.Drawn.{grown_more}
 use Rattle.stamped_tree.specs.LeafKind.{plane_grid}
 use Rattle.stamped_tree.proofs.Copying.{all_copied}
 use Rattle.stamped_tree.proofs.Cutting.{one_cut, all_cut}
+use Rattle.stamped_tree.proofs.Parts.{of_level, above_leaves, nw_stands, ne_stands, sw_stands, se_stands, part_falls}
 use Rattle.stamped_tree.proofs.copy.+copy_square.Goals as goal
 
 pub returns-in-Some-clause-copy : goal.returns-in-Some-clause-copy
@@ -25,8 +26,89 @@ returns-in_ok-copy-in-Leaf-clause-pieces t c = one_cut c.args.target.now c.copy_
 
 pub returns-in_ok-copy-in-Four-clause-pieces : goal.returns-in_ok-copy-in-Four-clause-pieces
 returns-in_ok-copy-in-Four-clause-pieces t c =
-    let four = subst (λ k. IsFourAt plane_grid 8 c.args.source.now k c.in-Four.parts c.args.part) (sym (c.in-Four.ensures.level c.args.level c.requires.part)) c.in-Four.ensures in
+    let four = of_level c.args.source.now c.args.level c.in-Four.level c.args.part c.in-Four.parts c.in-Four.ensures c.requires.part in
     all_cut c.args.source.now c.args.target.now c.copy_square.new.target c.copy_square-in-Four.new.target c.copy_square-in-Four-2.new.target c.copy_square-in-Four-3.new.target c.copy_four.new.target c.args.level c.args.part c.in_ok-copy-in-Four.copy c.in-Four.parts _ _ _ _ _ _ _ _ four
     c.in_ok-ne-in-Four.ensures.grows c.in_ok-sw-in-Four.ensures.grows c.in_ok-se-in-Four.ensures.grows c.in_ok-copy-in-Four.ensures.grows
     c.in_ok-nw-in-Four.ensures.copy c.in_ok-ne-in-Four.ensures.copy c.in_ok-sw-in-Four.ensures.copy c.in_ok-se-in-Four.ensures.copy c.in_ok-copy-in-Four.ensures.copy
     c.in_ok-nw-in-Four.ensures.pieces c.in_ok-ne-in-Four.ensures.pieces c.in_ok-sw-in-Four.ensures.pieces c.in_ok-se-in-Four.ensures.pieces c.in_ok-copy-in-Four.ensures.added
+
+pub returns-in-Some-clause-pieces : goal.returns-in-Some-clause-pieces
+returns-in-Some-clause-pieces t c = λ q held. inl held
+
+pub overflow_sub-level : goal.overflow_sub-level
+overflow_sub-level t c = above_leaves c.args.source.now c.args.level c.in-Four.level c.args.part c.in-Four.parts c.in-Four.ensures c.requires.part
+
+pub overflow_sub-level-in-Four : goal.overflow_sub-level-in-Four
+overflow_sub-level-in-Four t c = above_leaves c.args.source.now c.args.level c.in-Four.level c.args.part c.in-Four.parts c.in-Four.ensures c.requires.part
+
+pub overflow_sub-level-in-Four-2 : goal.overflow_sub-level-in-Four-2
+overflow_sub-level-in-Four-2 t c = above_leaves c.args.source.now c.args.level c.in-Four.level c.args.part c.in-Four.parts c.in-Four.ensures c.requires.part
+
+pub overflow_sub-level-in-Four-3 : goal.overflow_sub-level-in-Four-3
+overflow_sub-level-in-Four-3 t c = above_leaves c.args.source.now c.args.level c.in-Four.level c.args.part c.in-Four.parts c.in-Four.ensures c.requires.part
+
+pub copy_square-requires : goal.copy_square-requires
+copy_square-requires t c = (part_falls c.args.level t (above_leaves c.args.source.now c.args.level c.in-Four.level c.args.part c.in-Four.parts c.in-Four.ensures c.requires.part) c.decreases, (nw_stands c.args.source.now c.args.level c.in-Four.level c.args.part c.in-Four.parts c.in-Four.ensures c.requires.part c.index-parts-0.result, c.requires.copies))
+
+pub copy_square-requires-in-Four : goal.copy_square-requires-in-Four
+copy_square-requires-in-Four t c = (part_falls c.args.level t (above_leaves c.args.source.now c.args.level c.in-Four.level c.args.part c.in-Four.parts c.in-Four.ensures c.requires.part) c.decreases, (ne_stands c.args.source.now c.args.level c.in-Four.level c.args.part c.in-Four.parts c.in-Four.ensures c.requires.part c.index-parts-1.result, c.in_ok-nw-in-Four.ensures.copies))
+
+pub copy_square-requires-in-Four-2 : goal.copy_square-requires-in-Four-2
+copy_square-requires-in-Four-2 t c = (part_falls c.args.level t (above_leaves c.args.source.now c.args.level c.in-Four.level c.args.part c.in-Four.parts c.in-Four.ensures c.requires.part) c.decreases, (sw_stands c.args.source.now c.args.level c.in-Four.level c.args.part c.in-Four.parts c.in-Four.ensures c.requires.part c.index-parts-2.result, c.in_ok-ne-in-Four.ensures.copies))
+
+pub copy_square-requires-in-Four-3 : goal.copy_square-requires-in-Four-3
+copy_square-requires-in-Four-3 t c = (part_falls c.args.level t (above_leaves c.args.source.now c.args.level c.in-Four.level c.args.part c.in-Four.parts c.in-Four.ensures c.requires.part) c.decreases, (se_stands c.args.source.now c.args.level c.in-Four.level c.args.part c.in-Four.parts c.in-Four.ensures c.requires.part c.index-parts-3.result, c.in_ok-sw-in-Four.ensures.copies))
+
+pub returns-in_err-nw-in-Four-clause-grows : goal.returns-in_err-nw-in-Four-clause-grows
+returns-in_err-nw-in-Four-clause-grows t c = c.in_err-nw-in-Four.ensures.grows
+
+pub returns-in_err-ne-in-Four-clause-grows : goal.returns-in_err-ne-in-Four-clause-grows
+returns-in_err-ne-in-Four-clause-grows t c = grown_more plane_grid 8 c.args.target.now c.copy_square.new.target c.copy_square-in-Four.new.target c.in_ok-nw-in-Four.ensures.grows c.in_err-ne-in-Four.ensures.grows
+
+pub returns-in_err-sw-in-Four-clause-grows : goal.returns-in_err-sw-in-Four-clause-grows
+returns-in_err-sw-in-Four-clause-grows t c = grown_more plane_grid 8 c.args.target.now c.copy_square.new.target c.copy_square-in-Four-2.new.target c.in_ok-nw-in-Four.ensures.grows (grown_more plane_grid 8 c.copy_square.new.target c.copy_square-in-Four.new.target c.copy_square-in-Four-2.new.target c.in_ok-ne-in-Four.ensures.grows c.in_err-sw-in-Four.ensures.grows)
+
+pub returns-in_err-se-in-Four-clause-grows : goal.returns-in_err-se-in-Four-clause-grows
+returns-in_err-se-in-Four-clause-grows t c = grown_more plane_grid 8 c.args.target.now c.copy_square.new.target c.copy_square-in-Four-3.new.target c.in_ok-nw-in-Four.ensures.grows (grown_more plane_grid 8 c.copy_square.new.target c.copy_square-in-Four.new.target c.copy_square-in-Four-3.new.target c.in_ok-ne-in-Four.ensures.grows (grown_more plane_grid 8 c.copy_square-in-Four.new.target c.copy_square-in-Four-2.new.target c.copy_square-in-Four-3.new.target c.in_ok-sw-in-Four.ensures.grows c.in_err-se-in-Four.ensures.grows))
+
+pub copy_four-requires-clause-part : goal.copy_four-requires-clause-part
+copy_four-requires-clause-part t c = of_level c.args.source.now c.args.level c.in-Four.level c.args.part c.in-Four.parts c.in-Four.ensures c.requires.part
+
+pub copy_four-requires-clause-copies : goal.copy_four-requires-clause-copies
+copy_four-requires-clause-copies t c = c.in_ok-se-in-Four.ensures.copies
+
+pub returns-in_err-copy-in-Four-clause-grows : goal.returns-in_err-copy-in-Four-clause-grows
+returns-in_err-copy-in-Four-clause-grows t c = grown_more plane_grid 8 c.args.target.now c.copy_square.new.target c.copy_four.new.target c.in_ok-nw-in-Four.ensures.grows (grown_more plane_grid 8 c.copy_square.new.target c.copy_square-in-Four.new.target c.copy_four.new.target c.in_ok-ne-in-Four.ensures.grows (grown_more plane_grid 8 c.copy_square-in-Four.new.target c.copy_square-in-Four-2.new.target c.copy_four.new.target c.in_ok-sw-in-Four.ensures.grows (grown_more plane_grid 8 c.copy_square-in-Four-2.new.target c.copy_square-in-Four-3.new.target c.copy_four.new.target c.in_ok-se-in-Four.ensures.grows c.in_err-copy-in-Four.ensures.grows)))
+
+pub returns-in_ok-copy-in-Four-clause-grows : goal.returns-in_ok-copy-in-Four-clause-grows
+returns-in_ok-copy-in-Four-clause-grows t c = grown_more plane_grid 8 c.args.target.now c.copy_square.new.target c.copy_four.new.target c.in_ok-nw-in-Four.ensures.grows (grown_more plane_grid 8 c.copy_square.new.target c.copy_square-in-Four.new.target c.copy_four.new.target c.in_ok-ne-in-Four.ensures.grows (grown_more plane_grid 8 c.copy_square-in-Four.new.target c.copy_square-in-Four-2.new.target c.copy_four.new.target c.in_ok-sw-in-Four.ensures.grows (grown_more plane_grid 8 c.copy_square-in-Four-2.new.target c.copy_square-in-Four-3.new.target c.copy_four.new.target c.in_ok-se-in-Four.ensures.grows c.in_ok-copy-in-Four.ensures.grows)))
+
+pub returns-in_ok-copy-in-Blank-clause-copies : goal.returns-in_ok-copy-in-Blank-clause-copies
+returns-in_ok-copy-in-Blank-clause-copies t c = c.in_ok-copy-in-Blank.ensures.copies
+
+pub returns-in_ok-copy-in-Blank-clause-copy : goal.returns-in_ok-copy-in-Blank-clause-copy
+returns-in_ok-copy-in-Blank-clause-copy t c = c.in_ok-copy-in-Blank.ensures.copy
+
+pub returns-in_ok-copy-in-Leaf-clause-copies : goal.returns-in_ok-copy-in-Leaf-clause-copies
+returns-in_ok-copy-in-Leaf-clause-copies t c = c.in_ok-copy-in-Leaf.ensures.copies
+
+pub returns-in_ok-copy-in-Leaf-clause-copy : goal.returns-in_ok-copy-in-Leaf-clause-copy
+returns-in_ok-copy-in-Leaf-clause-copy t c = c.in_ok-copy-in-Leaf.ensures.copy
+
+pub returns-in_ok-copy-in-Four-clause-copies : goal.returns-in_ok-copy-in-Four-clause-copies
+returns-in_ok-copy-in-Four-clause-copies t c = c.in_ok-copy-in-Four.ensures.copies
+
+pub returns-in_ok-copy-in-Four-clause-copy : goal.returns-in_ok-copy-in-Four-clause-copy
+returns-in_ok-copy-in-Four-clause-copy t c = c.in_ok-copy-in-Four.ensures.copy
+
+pub returns-in_ok-copy-in-Blank-clause-grows : goal.returns-in_ok-copy-in-Blank-clause-grows
+returns-in_ok-copy-in-Blank-clause-grows t c = c.in_ok-copy-in-Blank.ensures.grows
+
+pub returns-in_err-copy-in-Blank-clause-grows : goal.returns-in_err-copy-in-Blank-clause-grows
+returns-in_err-copy-in-Blank-clause-grows t c = c.in_err-copy-in-Blank.ensures.grows
+
+pub returns-in_ok-copy-in-Leaf-clause-grows : goal.returns-in_ok-copy-in-Leaf-clause-grows
+returns-in_ok-copy-in-Leaf-clause-grows t c = c.in_ok-copy-in-Leaf.ensures.grows
+
+pub returns-in_err-copy-in-Leaf-clause-grows : goal.returns-in_err-copy-in-Leaf-clause-grows
+returns-in_err-copy-in-Leaf-clause-grows t c = c.in_err-copy-in-Leaf.ensures.grows

@@ -1,8 +1,9 @@
-use Rattle.std.proofs.Common.{[], ◌∷◌, ◌<◌, ◌-◌, sym, ap, subst, arith, Err}
+use Rattle.std.proofs.Common.{◌≡◌, [], ◌∷◌, ◌<◌, ◌-◌, ◌∙◌, refl, sym, ap, subst, arith, Err}
 use Rattle.std.specs.Prelude.{slice_index_or}
+use Rattle.square_store.specs.declared.fault.StoreFault.TheVariants.{StoreFull, Memory}
 use Rattle.square_store.proofs.Made.{told}
 use Rattle.square_store.specs.Grid.{blank_grid}
-use Rattle.square_store.specs.Squares.{side_at, four_grid, grid_at}
+use Rattle.square_store.specs.Squares.{IsAt, side_at, four_grid, grid_at}
 use Rattle.stamped_tree.specs.LeafKind.{plane_grid}
 use Rattle.stamped_tree.specs.Drawing.{edit_grid}
 use Rattle.stamped_tree.specs.Filled.{IsFull}
@@ -11,7 +12,8 @@ use Rattle.stamped_tree.specs.Plane.{HoldPlaneWrites}
 use Rattle.stamped_tree.proofs.Held.{holds_added, blank_has, four_has}
 use Rattle.square_store.proofs.Drawn.{draws_later, draws_four, grown_more, four_at}
 use Rattle.stamped_tree.proofs.Drawing.{stamped_write}
-use Rattle.stamped_tree.proofs.Overwriting.{filled_later, grown_none, over_nw, over_ne, over_sw, over_se}
+use Rattle.stamped_tree.proofs.Overwriting.{stays, blank_over, area_over, no_length, filled_drawn, filled_later, grown_none, over_nw, over_ne, over_sw, over_se}
+use Rattle.stamped_tree.proofs.Parts.{nw_later, ne_later, sw_later, se_later, some_level, level_below, anew_falls, quarter_falls}
 use Rattle.stamped_tree.proofs.draw.+draw.Goals as goal
 
 pub draw-returns-in_err-blank-clause-full : goal.draw-returns-in_err-blank-clause-full
@@ -122,3 +124,183 @@ draw_anew-returns-clause-draws t c =
     (rw c.in_ok-quarters.ensures.ne (over_ne s0 a.level a.part parts some cut n is s1 g1 a.stamp a.area.now c.of_part-2.result a.cells.items c.index-parts-1.result c.of_part-2.ensures.part))
     (rw c.in_ok-quarters.ensures.sw (over_sw s0 a.level a.part parts some cut n is s2 to_2 a.stamp a.area.now c.of_part-3.result a.cells.items c.index-parts-2.result c.of_part-3.ensures.part))
     (rw c.in_ok-quarters.ensures.se (over_se s0 a.level a.part parts some cut n is s3 to_3 a.stamp a.area.now c.of_part-4.result a.cells.items c.index-parts-3.result c.of_part-4.ensures.part))
+
+pub draw-draw_anew-requires : goal.draw-draw_anew-requires
+draw-draw_anew-requires t c = (anew_falls c.args.level t c.decreases, (c.requires.level, (c.requires.part, (c.requires.stamp, c.requires.kept))))
+
+pub draw-draw_anew-requires-2 : goal.draw-draw_anew-requires-2
+draw-draw_anew-requires-2 t c = (anew_falls c.args.level t c.decreases, (c.requires.level, (c.requires.part, (c.requires.stamp, c.requires.kept))))
+
+pub draw-returns-then-is_empty-clause-draws : goal.draw-returns-then-is_empty-clause-draws
+draw-returns-then-is_empty-clause-draws t c = stays c.args.store.now c.args.level c.args.part c.args.stamp c.args.area.now c.args.cells.items c.requires.part (sym c.args.cells.ok.0 ∙ no_length c.args.cells.len c.if-not-is_empty.ensures) (c.if-is_empty.ensures.0 refl)
+
+pub draw-returns-then-is_whole-clause-draws : goal.draw-returns-then-is_whole-clause-draws
+draw-returns-then-is_whole-clause-draws t c = blank_over c.args.store.now c.add_blank.new.self c.args.level c.args.part c.args.stamp c.side_of.result c.in_ok-blank.blank c.args.area.now c.args.cells.items c.requires.stamp c.side_of.ensures (sym c.args.cells.ok.0 ∙ no_length c.args.cells.len c.if-not-is_empty.ensures) (c.if-is_whole.ensures.0 refl) (c.in_ok-blank.ensures.draws c.args.level)
+
+pub draw-returns-in-Some-clause-draws : goal.draw-returns-in-Some-clause-draws
+draw-returns-in-Some-clause-draws t c = area_over c.args.store.now c.args.level c.args.part c.args.stamp c.in-Some.drawn c.args.area.now c.args.cells.items (sym c.args.cells.ok.0 ∙ no_length c.args.cells.len c.if-not-is_empty.ensures) c.in-Some.ensures.draws
+
+pub draw-keep-requires-clause-filled : goal.draw-keep-requires-clause-filled
+draw-keep-requires-clause-filled t c = filled_drawn c.args.store.now c.draw_anew-2.new.store c.args.level c.args.part c.args.stamp c.in_ok-drawn-2.drawn c.args.area.now c.args.cells.items c.in_ok-drawn-2.ensures.grows c.requires.part (sym c.args.cells.ok.0 ∙ no_length c.args.cells.len c.if-not-is_empty.ensures) c.in_ok-drawn-2.ensures.draws
+
+pub draw-keep-requires-clause-kept : goal.draw-keep-requires-clause-kept
+draw-keep-requires-clause-kept t c = c.in_ok-drawn-2.ensures.kept
+
+pub draw-returns-in_err-keep-clause-full : goal.draw-returns-in_err-keep-clause-full
+draw-returns-in_err-keep-clause-full t c = λ e. absurd (other (sym c.in_err-keep.ensures.err ∙ told _ _ _ c.from_residual-in_err-keep.ensures.1 e))
+  where
+    other : Memory ≡ StoreFull → ⊥
+    other z = cc
+
+pub draw-returns-in_err-drawn-clause-full : goal.draw-returns-in_err-drawn-clause-full
+draw-returns-in_err-drawn-clause-full t c = λ e. c.in_err-drawn.ensures.full (ap (λ e. Err e) (told _ _ _ c.from_residual.ensures.1 e))
+
+pub draw-returns-in_err-drawn-2-clause-full : goal.draw-returns-in_err-drawn-2-clause-full
+draw-returns-in_err-drawn-2-clause-full t c = λ e. c.in_err-drawn-2.ensures.full (ap (λ e. Err e) (told _ _ _ c.from_residual-in_err-drawn-2.ensures.1 e))
+
+pub draw-returns-in_err-drawn-clause-grows : goal.draw-returns-in_err-drawn-clause-grows
+draw-returns-in_err-drawn-clause-grows t c = c.in_err-drawn.ensures.grows
+
+pub draw-returns-in_err-drawn-2-clause-grows : goal.draw-returns-in_err-drawn-2-clause-grows
+draw-returns-in_err-drawn-2-clause-grows t c = c.in_err-drawn-2.ensures.grows
+
+pub draw-returns-in_err-drawn-clause-writes : goal.draw-returns-in_err-drawn-clause-writes
+draw-returns-in_err-drawn-clause-writes t c = c.in_err-drawn.ensures.writes
+
+pub draw-returns-in_err-drawn-2-clause-writes : goal.draw-returns-in_err-drawn-2-clause-writes
+draw-returns-in_err-drawn-2-clause-writes t c = c.in_err-drawn-2.ensures.writes
+
+pub draw-returns-in_err-drawn-clause-kept : goal.draw-returns-in_err-drawn-clause-kept
+draw-returns-in_err-drawn-clause-kept t c = c.in_err-drawn.ensures.kept
+
+pub draw-returns-in_err-drawn-2-clause-kept : goal.draw-returns-in_err-drawn-2-clause-kept
+draw-returns-in_err-drawn-2-clause-kept t c = c.in_err-drawn-2.ensures.kept
+
+pub draw-returns-then-not-is_empty-clause-draws : goal.draw-returns-then-not-is_empty-clause-draws
+draw-returns-then-not-is_empty-clause-draws t c = c.in_ok-drawn.ensures.draws
+
+pub draw-returns-then-not-is_empty-clause-grows : goal.draw-returns-then-not-is_empty-clause-grows
+draw-returns-then-not-is_empty-clause-grows t c = c.in_ok-drawn.ensures.grows
+
+pub draw-returns-then-not-is_empty-clause-writes : goal.draw-returns-then-not-is_empty-clause-writes
+draw-returns-then-not-is_empty-clause-writes t c = c.in_ok-drawn.ensures.writes
+
+pub draw-returns-then-not-is_empty-clause-kept : goal.draw-returns-then-not-is_empty-clause-kept
+draw-returns-then-not-is_empty-clause-kept t c = c.in_ok-drawn.ensures.kept
+
+pub draw-returns-clause-draws : goal.draw-returns-clause-draws
+draw-returns-clause-draws t c = c.in_ok-drawn-2.ensures.draws
+
+pub draw-returns-clause-grows : goal.draw-returns-clause-grows
+draw-returns-clause-grows t c = c.in_ok-drawn-2.ensures.grows
+
+pub draw-returns-clause-writes : goal.draw-returns-clause-writes
+draw-returns-clause-writes t c = c.in_ok-drawn-2.ensures.writes
+
+pub draw-returns-in_err-keep-clause-grows : goal.draw-returns-in_err-keep-clause-grows
+draw-returns-in_err-keep-clause-grows t c = c.in_ok-drawn-2.ensures.grows
+
+pub draw-returns-in_err-keep-clause-writes : goal.draw-returns-in_err-keep-clause-writes
+draw-returns-in_err-keep-clause-writes t c = c.in_ok-drawn-2.ensures.writes
+
+pub draw-returns-then-is_whole-clause-grows : goal.draw-returns-then-is_whole-clause-grows
+draw-returns-then-is_whole-clause-grows t c = c.in_ok-blank.ensures.grows
+
+pub draw-returns-in_err-blank-clause-grows : goal.draw-returns-in_err-blank-clause-grows
+draw-returns-in_err-blank-clause-grows t c = c.in_err-blank.ensures.grows
+
+pub draw_anew-draw_leaf-requires-clause-part : goal.draw_anew-draw_leaf-requires-clause-part
+draw_anew-draw_leaf-requires-clause-part t c = subst (λ k. IsAt c.args.store.now k c.args.part) c.if-level-eq0.true c.requires.part
+
+pub draw_anew-returns-in_err-drawn-clause-full : goal.draw_anew-returns-in_err-drawn-clause-full
+draw_anew-returns-in_err-drawn-clause-full t c = λ e. c.in_err-drawn.ensures.full (ap (λ e. Err e) (told _ _ _ c.from_residual.ensures.1 e))
+
+pub draw_anew-returns-in_err-drawn-clause-grows : goal.draw_anew-returns-in_err-drawn-clause-grows
+draw_anew-returns-in_err-drawn-clause-grows t c = c.in_err-drawn.ensures.grows
+
+pub draw_anew-returns-then-level-eq0-clause-grows : goal.draw_anew-returns-then-level-eq0-clause-grows
+draw_anew-returns-then-level-eq0-clause-grows t c = c.in_ok-drawn.ensures.grows
+
+pub draw_anew-returns-in_err-drawn-clause-writes : goal.draw_anew-returns-in_err-drawn-clause-writes
+draw_anew-returns-in_err-drawn-clause-writes t c = c.in_err-drawn.ensures.writes
+
+pub draw_anew-returns-then-level-eq0-clause-writes : goal.draw_anew-returns-then-level-eq0-clause-writes
+draw_anew-returns-then-level-eq0-clause-writes t c = c.in_ok-drawn.ensures.writes
+
+pub draw_anew-draw-requires : goal.draw_anew-draw-requires
+draw_anew-draw-requires t c =
+    (quarter_falls c.args.level t (some_level c.args.level c.if-level-eq0.false) c.decreases, (level_below c.args.level c.requires.level, (nw_later c.args.store.now c.args.store.now c.args.level c.args.part c.quarters-parts.result c.quarters-parts.ensures (grown_none plane_grid 8 c.args.store.now) c.index-parts-0.result, (c.requires.stamp, c.requires.kept))))
+
+pub draw_anew-returns-in_err-nw-clause-grows : goal.draw_anew-returns-in_err-nw-clause-grows
+draw_anew-returns-in_err-nw-clause-grows t c = c.in_err-nw.ensures.grows
+
+pub draw_anew-returns-in_err-nw-clause-kept : goal.draw_anew-returns-in_err-nw-clause-kept
+draw_anew-returns-in_err-nw-clause-kept t c = c.in_err-nw.ensures.kept
+
+pub draw_anew-returns-in_err-nw-clause-full : goal.draw_anew-returns-in_err-nw-clause-full
+draw_anew-returns-in_err-nw-clause-full t c = λ e. c.in_err-nw.ensures.full (ap (λ e. Err e) (told _ _ _ c.from_residual-in_err-nw.ensures.1 e))
+
+pub draw_anew-draw-requires-2 : goal.draw_anew-draw-requires-2
+draw_anew-draw-requires-2 t c =
+    (quarter_falls c.args.level t (some_level c.args.level c.if-level-eq0.false) c.decreases, (level_below c.args.level c.requires.level, (ne_later c.args.store.now c.draw.new.store c.args.level c.args.part c.quarters-parts.result c.quarters-parts.ensures c.in_ok-nw.ensures.grows c.index-parts-1.result, (c.requires.stamp, c.in_ok-nw.ensures.kept))))
+
+pub draw_anew-returns-in_err-ne-clause-grows : goal.draw_anew-returns-in_err-ne-clause-grows
+draw_anew-returns-in_err-ne-clause-grows t c = grown_more plane_grid 8 c.args.store.now c.draw.new.store c.draw-2.new.store c.in_ok-nw.ensures.grows c.in_err-ne.ensures.grows
+
+pub draw_anew-returns-in_err-ne-clause-kept : goal.draw_anew-returns-in_err-ne-clause-kept
+draw_anew-returns-in_err-ne-clause-kept t c = c.in_err-ne.ensures.kept
+
+pub draw_anew-returns-in_err-ne-clause-full : goal.draw_anew-returns-in_err-ne-clause-full
+draw_anew-returns-in_err-ne-clause-full t c = λ e. c.in_err-ne.ensures.full (ap (λ e. Err e) (told _ _ _ c.from_residual-in_err-ne.ensures.1 e))
+
+pub draw_anew-draw-requires-3 : goal.draw_anew-draw-requires-3
+draw_anew-draw-requires-3 t c =
+    (quarter_falls c.args.level t (some_level c.args.level c.if-level-eq0.false) c.decreases, (level_below c.args.level c.requires.level, (sw_later c.args.store.now c.draw-2.new.store c.args.level c.args.part c.quarters-parts.result c.quarters-parts.ensures (grown_more plane_grid 8 c.args.store.now c.draw.new.store c.draw-2.new.store c.in_ok-nw.ensures.grows c.in_ok-ne.ensures.grows) c.index-parts-2.result, (c.requires.stamp, c.in_ok-ne.ensures.kept))))
+
+pub draw_anew-returns-in_err-sw-clause-grows : goal.draw_anew-returns-in_err-sw-clause-grows
+draw_anew-returns-in_err-sw-clause-grows t c = grown_more plane_grid 8 c.args.store.now c.draw.new.store c.draw-3.new.store c.in_ok-nw.ensures.grows (grown_more plane_grid 8 c.draw.new.store c.draw-2.new.store c.draw-3.new.store c.in_ok-ne.ensures.grows c.in_err-sw.ensures.grows)
+
+pub draw_anew-returns-in_err-sw-clause-kept : goal.draw_anew-returns-in_err-sw-clause-kept
+draw_anew-returns-in_err-sw-clause-kept t c = c.in_err-sw.ensures.kept
+
+pub draw_anew-returns-in_err-sw-clause-full : goal.draw_anew-returns-in_err-sw-clause-full
+draw_anew-returns-in_err-sw-clause-full t c = λ e. c.in_err-sw.ensures.full (ap (λ e. Err e) (told _ _ _ c.from_residual-in_err-sw.ensures.1 e))
+
+pub draw_anew-draw-requires-4 : goal.draw_anew-draw-requires-4
+draw_anew-draw-requires-4 t c =
+    (quarter_falls c.args.level t (some_level c.args.level c.if-level-eq0.false) c.decreases, (level_below c.args.level c.requires.level, (se_later c.args.store.now c.draw-3.new.store c.args.level c.args.part c.quarters-parts.result c.quarters-parts.ensures (grown_more plane_grid 8 c.args.store.now c.draw.new.store c.draw-3.new.store c.in_ok-nw.ensures.grows (grown_more plane_grid 8 c.draw.new.store c.draw-2.new.store c.draw-3.new.store c.in_ok-ne.ensures.grows c.in_ok-sw.ensures.grows)) c.index-parts-3.result, (c.requires.stamp, c.in_ok-sw.ensures.kept))))
+
+pub draw_anew-returns-in_err-se-clause-grows : goal.draw_anew-returns-in_err-se-clause-grows
+draw_anew-returns-in_err-se-clause-grows t c = grown_more plane_grid 8 c.args.store.now c.draw.new.store c.draw-4.new.store c.in_ok-nw.ensures.grows (grown_more plane_grid 8 c.draw.new.store c.draw-2.new.store c.draw-4.new.store c.in_ok-ne.ensures.grows (grown_more plane_grid 8 c.draw-2.new.store c.draw-3.new.store c.draw-4.new.store c.in_ok-sw.ensures.grows c.in_err-se.ensures.grows))
+
+pub draw_anew-returns-in_err-se-clause-kept : goal.draw_anew-returns-in_err-se-clause-kept
+draw_anew-returns-in_err-se-clause-kept t c = c.in_err-se.ensures.kept
+
+pub draw_anew-returns-in_err-se-clause-full : goal.draw_anew-returns-in_err-se-clause-full
+draw_anew-returns-in_err-se-clause-full t c = λ e. c.in_err-se.ensures.full (ap (λ e. Err e) (told _ _ _ c.from_residual-in_err-se.ensures.1 e))
+
+pub draw_anew-returns-in_err-nw-clause-writes : goal.draw_anew-returns-in_err-nw-clause-writes
+draw_anew-returns-in_err-nw-clause-writes t c = c.in_err-nw.ensures.writes
+
+pub draw_anew-returns-in_err-ne-clause-writes : goal.draw_anew-returns-in_err-ne-clause-writes
+draw_anew-returns-in_err-ne-clause-writes t c = λ holds. c.in_err-ne.ensures.writes (c.in_ok-nw.ensures.writes holds)
+
+pub draw_anew-returns-in_err-drawn-2-clause-kept : goal.draw_anew-returns-in_err-drawn-2-clause-kept
+draw_anew-returns-in_err-drawn-2-clause-kept t c = filled_later c.draw-4.new.store c.add_four.new.self c.args.stamp c.draw-4.new.kept c.in_err-drawn-2.ensures.grows c.in_ok-se.ensures.kept
+
+pub draw_anew-returns-in_err-drawn-2-clause-full : goal.draw_anew-returns-in_err-drawn-2-clause-full
+draw_anew-returns-in_err-drawn-2-clause-full t c = λ e. let full = c.in_err-drawn-2.ensures.full (ap (λ e. Err e) (told _ _ _ c.from_residual-in_err-drawn-2.ensures.1 e)) in subst IsFull (sym c.in_err-drawn-2.ensures.err) full.full
+
+pub draw_anew-add_four-requires-clause-parts : goal.draw_anew-add_four-requires-clause-parts
+draw_anew-add_four-requires-clause-parts t c =
+    let s1 = c.draw.new.store in
+    let s2 = c.draw-2.new.store in
+    let s3 = c.draw-3.new.store in
+    let s4 = c.draw-4.new.store in
+    let k = c.args.level - 1 in
+    let nw = c.in_ok-nw in
+    let ne = c.in_ok-ne in
+    let sw = c.in_ok-sw in
+    let se = c.in_ok-se in
+    let later = grown_more plane_grid 8 s2 s3 s4 sw.ensures.grows se.ensures.grows in
+    four_at s4 k nw.nw ne.ne sw.sw se.se ((grown_more plane_grid 8 s1 s2 s4 ne.ensures.grows later).stands k nw.nw nw.ensures.draws.stands) (later.stands k ne.ne ne.ensures.draws.stands) (se.ensures.grows.stands k sw.sw sw.ensures.draws.stands) se.ensures.draws.stands

@@ -1,6 +1,9 @@
-use Rattle.std.proofs.Common.{[], ◌∷◌}
+use Rattle.std.proofs.Common.{[], ◌∷◌, ap, Err}
+use Rattle.square_store.proofs.Made.{told}
 use Rattle.stamped_tree.proofs.Copying.{all_copied, four_copied}
 use Rattle.square_store.proofs.Places.{at_within}
+use Rattle.tree_join.proofs.Growing.{grown_on, some_above, level_below, part_falls, nw_stands, ne_stands, sw_stands, se_stands}
+use Rattle.tree_join.proofs.Joining.{copies_later}
 use Rattle.tree_join.proofs.bring.+bring.Goals as goal
 
 pub bring-square-requires : goal.bring-square-requires
@@ -20,3 +23,91 @@ bring_four-returns-clause-copy t c = four_copied c.args.other.now.store c.bring-
     (all_copied c.args.other.now.store c.bring.new.plane.store c.bring-2.new.plane.store c.bring-3.new.plane.store c.bring-4.new.plane.store c.args.parts.now c.requires.four.four _ _ _ _ _ _ _ _
     c.in_ok-ne.ensures.grows.store c.in_ok-sw.ensures.grows.store c.in_ok-se.ensures.grows.store
     c.in_ok-nw.ensures.copy c.in_ok-ne.ensures.copy c.in_ok-sw.ensures.copy c.in_ok-se.ensures.copy) c.add_four.new.plane.store c.in_ok-copy.copy c.in_ok-copy.ensures.draws
+
+pub bring_four-returns-in_err-copy-clause-grows : goal.bring_four-returns-in_err-copy-clause-grows
+bring_four-returns-in_err-copy-clause-grows t c =
+    grown_on _ _ _ c.in_ok-nw.ensures.grows (grown_on _ _ _ c.in_ok-ne.ensures.grows (grown_on _ _ _ c.in_ok-sw.ensures.grows (grown_on _ _ _ c.in_ok-se.ensures.grows c.in_err-copy.ensures.grows)))
+
+pub bring_four-returns-in_err-keep_copy-clause-grows : goal.bring_four-returns-in_err-keep_copy-clause-grows
+bring_four-returns-in_err-keep_copy-clause-grows t c =
+    grown_on _ _ _ c.in_ok-nw.ensures.grows (grown_on _ _ _ c.in_ok-ne.ensures.grows (grown_on _ _ _ c.in_ok-sw.ensures.grows (grown_on _ _ _ c.in_ok-se.ensures.grows c.in_ok-copy.ensures.grows)))
+
+pub bring_four-returns-clause-grows : goal.bring_four-returns-clause-grows
+bring_four-returns-clause-grows t c =
+    grown_on _ _ _ c.in_ok-nw.ensures.grows (grown_on _ _ _ c.in_ok-ne.ensures.grows (grown_on _ _ _ c.in_ok-sw.ensures.grows (grown_on _ _ _ c.in_ok-se.ensures.grows c.in_ok-copy.ensures.grows)))
+
+pub bring_four-overflow_sub-above : goal.bring_four-overflow_sub-above
+bring_four-overflow_sub-above t c = some_above c.args.above c.requires.four.positive
+
+pub bring_four-bring-requires : goal.bring_four-bring-requires
+bring_four-bring-requires t c =
+    (part_falls c.args.above t c.requires.four.positive c.decreases, (level_below c.args.above c.requires.most, (nw_stands c.args.other.now.store c.args.above c.args.there c.args.parts.now c.requires.four c.index-parts-0.result, c.requires.copies)))
+
+pub bring_four-returns-in_err-nw-clause-grows : goal.bring_four-returns-in_err-nw-clause-grows
+bring_four-returns-in_err-nw-clause-grows t c = c.in_err-nw.ensures.grows
+
+pub bring_four-returns-in_err-nw-clause-copies : goal.bring_four-returns-in_err-nw-clause-copies
+bring_four-returns-in_err-nw-clause-copies t c = c.in_err-nw.ensures.copies
+
+pub bring_four-returns-in_err-nw-clause-full : goal.bring_four-returns-in_err-nw-clause-full
+bring_four-returns-in_err-nw-clause-full t c = λ e. c.in_err-nw.ensures.full (ap (λ e. Err e) (told _ _ _ c.from_residual.ensures.1 e))
+
+pub bring_four-overflow_sub-above-2 : goal.bring_four-overflow_sub-above-2
+bring_four-overflow_sub-above-2 t c = some_above c.args.above c.requires.four.positive
+
+pub bring_four-bring-requires-2 : goal.bring_four-bring-requires-2
+bring_four-bring-requires-2 t c =
+    (part_falls c.args.above t c.requires.four.positive c.decreases, (level_below c.args.above c.requires.most, (ne_stands c.args.other.now.store c.args.above c.args.there c.args.parts.now c.requires.four c.index-parts-1.result, c.in_ok-nw.ensures.copies)))
+
+pub bring_four-returns-in_err-ne-clause-grows : goal.bring_four-returns-in_err-ne-clause-grows
+bring_four-returns-in_err-ne-clause-grows t c = grown_on c.args.plane.now c.bring.new.plane c.bring-2.new.plane c.in_ok-nw.ensures.grows c.in_err-ne.ensures.grows
+
+pub bring_four-returns-in_err-ne-clause-copies : goal.bring_four-returns-in_err-ne-clause-copies
+bring_four-returns-in_err-ne-clause-copies t c = c.in_err-ne.ensures.copies
+
+pub bring_four-returns-in_err-ne-clause-full : goal.bring_four-returns-in_err-ne-clause-full
+bring_four-returns-in_err-ne-clause-full t c = λ e. c.in_err-ne.ensures.full (ap (λ e. Err e) (told _ _ _ c.from_residual-in_err-ne.ensures.1 e))
+
+pub bring_four-overflow_sub-above-3 : goal.bring_four-overflow_sub-above-3
+bring_four-overflow_sub-above-3 t c = some_above c.args.above c.requires.four.positive
+
+pub bring_four-bring-requires-3 : goal.bring_four-bring-requires-3
+bring_four-bring-requires-3 t c =
+    (part_falls c.args.above t c.requires.four.positive c.decreases, (level_below c.args.above c.requires.most, (sw_stands c.args.other.now.store c.args.above c.args.there c.args.parts.now c.requires.four c.index-parts-2.result, c.in_ok-ne.ensures.copies)))
+
+pub bring_four-returns-in_err-sw-clause-grows : goal.bring_four-returns-in_err-sw-clause-grows
+bring_four-returns-in_err-sw-clause-grows t c = grown_on c.args.plane.now c.bring.new.plane c.bring-3.new.plane c.in_ok-nw.ensures.grows (grown_on c.bring.new.plane c.bring-2.new.plane c.bring-3.new.plane c.in_ok-ne.ensures.grows c.in_err-sw.ensures.grows)
+
+pub bring_four-returns-in_err-sw-clause-copies : goal.bring_four-returns-in_err-sw-clause-copies
+bring_four-returns-in_err-sw-clause-copies t c = c.in_err-sw.ensures.copies
+
+pub bring_four-returns-in_err-sw-clause-full : goal.bring_four-returns-in_err-sw-clause-full
+bring_four-returns-in_err-sw-clause-full t c = λ e. c.in_err-sw.ensures.full (ap (λ e. Err e) (told _ _ _ c.from_residual-in_err-sw.ensures.1 e))
+
+pub bring_four-overflow_sub-above-4 : goal.bring_four-overflow_sub-above-4
+bring_four-overflow_sub-above-4 t c = some_above c.args.above c.requires.four.positive
+
+pub bring_four-bring-requires-4 : goal.bring_four-bring-requires-4
+bring_four-bring-requires-4 t c =
+    (part_falls c.args.above t c.requires.four.positive c.decreases, (level_below c.args.above c.requires.most, (se_stands c.args.other.now.store c.args.above c.args.there c.args.parts.now c.requires.four c.index-parts-3.result, c.in_ok-sw.ensures.copies)))
+
+pub bring_four-returns-in_err-se-clause-grows : goal.bring_four-returns-in_err-se-clause-grows
+bring_four-returns-in_err-se-clause-grows t c = grown_on c.args.plane.now c.bring.new.plane c.bring-4.new.plane c.in_ok-nw.ensures.grows (grown_on c.bring.new.plane c.bring-2.new.plane c.bring-4.new.plane c.in_ok-ne.ensures.grows (grown_on c.bring-2.new.plane c.bring-3.new.plane c.bring-4.new.plane c.in_ok-sw.ensures.grows c.in_err-se.ensures.grows))
+
+pub bring_four-returns-in_err-se-clause-copies : goal.bring_four-returns-in_err-se-clause-copies
+bring_four-returns-in_err-se-clause-copies t c = c.in_err-se.ensures.copies
+
+pub bring_four-returns-in_err-se-clause-full : goal.bring_four-returns-in_err-se-clause-full
+bring_four-returns-in_err-se-clause-full t c = λ e. c.in_err-se.ensures.full (ap (λ e. Err e) (told _ _ _ c.from_residual-in_err-se.ensures.1 e))
+
+pub bring_four-add_four-requires-clause-least : goal.bring_four-add_four-requires-clause-least
+bring_four-add_four-requires-clause-least t c = c.requires.four.positive
+
+pub bring_four-returns-in_err-copy-clause-full : goal.bring_four-returns-in_err-copy-clause-full
+bring_four-returns-in_err-copy-clause-full t c = λ e. c.in_err-copy.ensures.full (ap (λ e. Err e) (told _ _ _ c.from_residual-in_err-copy.ensures.1 e))
+
+pub bring_four-returns-in_err-copy-clause-copies : goal.bring_four-returns-in_err-copy-clause-copies
+bring_four-returns-in_err-copy-clause-copies t c = copies_later c.bring-4.new.plane.store c.add_four.new.plane.store c.args.other.now.store c.bring-4.new.copies c.in_err-copy.ensures.grows.store c.in_ok-se.ensures.copies
+
+pub bring_four-keep_copy-requires-clause-copies : goal.bring_four-keep_copy-requires-clause-copies
+bring_four-keep_copy-requires-clause-copies t c = copies_later c.bring-4.new.plane.store c.add_four.new.plane.store c.args.other.now.store c.bring-4.new.copies c.in_ok-copy.ensures.grows.store c.in_ok-se.ensures.copies

@@ -1,4 +1,4 @@
-use Rattle.std.proofs.Common.{◌++◌, ◌+◌, ◌∙◌, drop}
+use Rattle.std.proofs.Common.{◌++◌, ◌∙◌}
 use Rattle.edit_journal.proofs.SeenEdits.{noted_next, one_seen}
 use Rattle.edit_journal.proofs.journal.Journal.fresh.Goals as goal
 

@@ -1,10 +1,10 @@
-use Rattle.std.proofs.Common.{◌≡◌, ◌<◌, ◌∷◌, ◌++◌, ◌∙◌, [], true, ap, subst, length, Some}
-use Rattle.std.specs.Prelude.{slice_get, if◌then◌else◌}
+use Rattle.std.proofs.Common.{◌≡◌, ◌<◌, ◌∷◌, ◌++◌, ◌∙◌, [], true, refl, sym, ap, subst, length, Some}
+use Rattle.std.specs.Prelude.{slice_get, IfNone, if◌then◌else◌}
 use Rattle.std.specs.Map.{keys_of}
 use Rattle.std.proofs.lemmas.Option.{slice_get_within}
-use Rattle.square_store.specs.Steps.{LeafAdded}
+use Rattle.square_store.specs.Steps.{IsAbsentLeaf, LeafAdded}
 use Rattle.square_store.proofs.Lists.{any_missing}
-use Rattle.square_store.proofs.Nodes.{not_full, leaf_last, last_held, good_leaf, was_absent, was_there}
+use Rattle.square_store.proofs.Nodes.{not_full, leaf_last, last_held, good_leaf, was_absent, was_there, entered_found, absent_unfound, not_memory, not_store_full, on_each}
 use Rattle.square_store.proofs.store.Store.enter_leaf.Goals as goal
 
 pub returns-in_default-clause-absent : goal.returns-in_default-clause-absent
@@ -48,3 +48,44 @@ unreachable-requires-in_default-find g c =
     let at : slice_get s.leaves.keys c.in-Ok.at ≡ Some stored.0 = rw (← kept) stored.1 in
     let named = c.self.invariant.0.canonical.named c.in-Ok.at (slice_get_within _ _ _ at) in
     c.in_default-find.ensures.none named.0 (rw c.reserve.ensures.entries named.1)
+
+pub returns-then-is_full-clause-entered : goal.returns-then-is_full-clause-entered
+returns-then-is_full-clause-entered g c = rw c.ok_or.ensures.value (entered_found _ _ _ _ c.find_leaf.ensures.some)
+
+pub returns-then-is_full-clause-absent : goal.returns-then-is_full-clause-absent
+returns-then-is_full-clause-absent g c = rw c.ok_or.ensures.value (absent_unfound c.args.self.now c.args.leaf _ _ c.find_leaf.ensures.none)
+
+pub returns-then-is_full-clause-full : goal.returns-then-is_full-clause-full
+returns-then-is_full-clause-full g c = λ e. c.if-is_full.ensures.0 refl
+
+pub returns-then-is_full-clause-memory : goal.returns-then-is_full-clause-memory
+returns-then-is_full-clause-memory g c = λ e. absurd (not_memory _ (sym c.ok_or.ensures.value ∙ e))
+
+pub invariant_of-self : goal.invariant_of-self
+invariant_of-self g c = rw c.reserve.ensures.entries c.self.invariant
+
+pub returns-then-is_err-clause-entered : goal.returns-then-is_err-clause-entered
+returns-then-is_err-clause-entered g c = rw (c.ok_or-then-is_err.ensures.value, c.reserve.ensures.entries, c.self.view_is) (entered_found _ _ _ _ (rw (c.reserve.ensures.entries, c.self.view_is) at c.find_leaf-then-is_err.ensures.some))
+
+pub returns-then-is_err-clause-err : goal.returns-then-is_err-clause-err
+returns-then-is_err-clause-err g c = on_each _ (rw (← c.reserve.ensures.entries) at c.self.view_is)
+
+pub returns-then-is_err-clause-absent : goal.returns-then-is_err-clause-absent
+returns-then-is_err-clause-absent g c =
+    let none : IfNone c.find_leaf-then-is_err.result (IsAbsentLeaf c.args.self.now c.args.leaf) = rw (← c.self.view_is) c.find_leaf-then-is_err.ensures.none in
+    rw c.ok_or-then-is_err.ensures.value (absent_unfound c.args.self.now c.args.leaf _ _ none)
+
+pub returns-then-is_err-clause-full : goal.returns-then-is_err-clause-full
+returns-then-is_err-clause-full g c = λ e. absurd (not_store_full _ (sym c.ok_or-then-is_err.ensures.value ∙ e))
+
+pub returns-then-is_err-clause-memory : goal.returns-then-is_err-clause-memory
+returns-then-is_err-clause-memory g c = λ e. not_full _ _ _ c.is_full.ensures c.if-is_full.false (rw c.self.view_is at c.self.invariant.0).few_squares
+
+pub invariant_of-self-in_default : goal.invariant_of-self-in_default
+invariant_of-self-in_default g c = rw (c.in_default.ensures.err, c.reserve.ensures.entries) c.self.invariant
+
+pub returns-in_default-clause-err : goal.returns-in_default-clause-err
+returns-in_default-clause-err g c = rw (c.in_default.ensures.err, c.reserve.ensures.entries) c.self.view_is
+
+pub returns-in_default-clause-memory : goal.returns-in_default-clause-memory
+returns-in_default-clause-memory g c = λ e. not_full _ _ _ c.is_full.ensures c.if-is_full.false (rw c.self.view_is at c.self.invariant.0).few_squares

@@ -1,4 +1,4 @@
-use Rattle.std.proofs.Common.{◌≡◌, ◌<◌, ◌∙◌, sym, ap, subst, length}
+use Rattle.std.proofs.Common.{◌≡◌, ◌<◌, ◌∙◌, refl, sym, ap, subst, length}
 use Rattle.std.specs.Map.{keys_of}
 use Rattle.square_store.specs.Steps.{IsAbsentNode, IsWanted, IsSummed}
 use Rattle.square_store.proofs.Lists.{missing_entry, missing_place, keys_more}
@@ -27,3 +27,15 @@ returns-clause-pushed g c =
       whole = ap (held_of g.L.LeafKind.write g.L.LeafKind.side g.L.LeafKind.IsLeaf g.L.LeafKind.IsSummary s.leaves.keys s.room es s.leaves.keys) entry
           ∙ ap (λ ks. record { leaves = s.leaves.keys; squares = ks; room = s.room }) (keys_more es c.args.node c.args.summary);
     })
+
+pub returns-then-is_full-clause-full : goal.returns-then-is_full-clause-full
+returns-then-is_full-clause-full g c = λ e. c.if-is_full.ensures.0 refl
+
+pub invariant_of-self : goal.invariant_of-self
+invariant_of-self g c = rw c.in_default.ensures.err c.self.invariant
+
+pub returns-in_default-clause-err : goal.returns-in_default-clause-err
+returns-in_default-clause-err g c = rw c.in_default.ensures.err c.self.view_is
+
+pub returns-in_default-clause-memory : goal.returns-in_default-clause-memory
+returns-in_default-clause-memory g c = λ e. not_full _ _ _ c.is_full.ensures c.if-is_full.false (rw c.self.view_is at c.self.invariant.0).few_squares
