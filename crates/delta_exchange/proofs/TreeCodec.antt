@@ -5,7 +5,7 @@ use Rattle.std.specs.Int.{w8, w64, to_be_bytes}
 use Rattle.std.proofs.lemmas.Bool.{and_parts, and_from, eqb-true, ne_eqb, lt-ltb, ltb-true}
 use Rattle.generations_rule.specs.Refusal.{when, first_of}
 use Rattle.generations_rule.specs.Rule.{GenerationsRule, IsRule}
-use Rattle.edit_stamps.specs.declared.write.Write.{Write}
+use Rattle.stamped_writes.specs.declared.write.Write.{Write}
 use Rattle.edit_stamps.specs.PlaneMap.{is_plane_write}
 use Rattle.edit_stamps.specs.Stamp.{is_stamp}
 use Rattle.leaf_merge_lanes.specs.Leaf.{write_of}

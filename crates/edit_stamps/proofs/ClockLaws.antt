@@ -11,7 +11,7 @@ use Rattle.edit_stamps.specs.declared.rect.Rect.{Rect}
 use Rattle.edit_stamps.specs.Edit.{PlaneEdit, IsEdit, greatest, listed, write_by, writes_of, fits_area, is_covered}
 use Rattle.edit_stamps.specs.Plane.{is_in, is_empty, is_area_in_plane}
 use Rattle.edit_stamps.specs.Stamp.{counter_in}
-use Rattle.edit_stamps.specs.Write.{greater, Writes, IsBelow}
+use Rattle.stamped_writes.specs.Write.{greater, Writes, IsBelow}
 use Rattle.edit_stamps.proofs.PlaceOrder.{same_itself}
 use Rattle.edit_stamps.proofs.SortedCells.{listed_here}
 use Rattle.edit_stamps.specs.Laws.{TellsCounter}

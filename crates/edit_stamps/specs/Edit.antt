@@ -6,11 +6,11 @@ use Rattle.std.specs.Cmp.Lexicographic.{pointwise}
 use Rattle.generations_rule.specs.Place.{Place, is_place}
 use Rattle.multistate_rle.specs.declared.cell.Cell.{Cell}
 use Rattle.multistate_rle.specs.Cells.{place_of, is_sorted, are_nonzero, are_states_below}
-use Rattle.edit_stamps.specs.declared.write.Write.{Write}
+use Rattle.stamped_writes.specs.declared.write.Write.{Write}
 use Rattle.edit_stamps.specs.declared.rect.Rect.{Rect}
 use Rattle.edit_stamps.specs.Plane.{is_in_plane, is_in, is_empty, is_area_in_plane}
 use Rattle.edit_stamps.specs.Stamp.{counter_in, is_stamp}
-use Rattle.edit_stamps.specs.Write.{unwritten, greater, Writes}
+use Rattle.stamped_writes.specs.Write.{unwritten, greater, Writes}
 
 -- a stamp, an area if there is one, and the listed cells
 pub record PlaneEdit : Type 0 where

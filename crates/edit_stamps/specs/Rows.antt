@@ -10,11 +10,11 @@ use Rattle.multistate_rle.specs.declared.pattern.PatternCell.{PatternCell}
 use Rattle.multistate_rle.specs.Pattern.{RlePattern}
 use Rattle.edit_stamps.specs.declared.fault.EditFault.TheVariants.{Nothing, OutOfPlane, StateRange, AreaSide}
 use Rattle.edit_stamps.specs.declared.rect.Rect.{Rect}
-use Rattle.edit_stamps.specs.declared.write.Write.{Write}
+use Rattle.stamped_writes.specs.declared.write.Write.{Write}
 use Rattle.edit_stamps.specs.Stamp.{stamp_cmp, stamp_of, stamp_made, counter_in, replica_in}
 use Rattle.edit_stamps.specs.Pasting.{are_placeable, box_of, clear_fault, copy_fault, edit_of_clear, edit_of_copy, edit_of_or, or_fault, placed, state_there}
 use Rattle.edit_stamps.specs.Plane.{is_in_plane}
-use Rattle.edit_stamps.specs.Write.{at_most, greater}
+use Rattle.stamped_writes.specs.Write.{at_most, greater}
 use Rattle.edit_stamps.specs.Edit.{PlaneEdit, writes_of, greatest}
 use Rattle.edit_stamps.specs.Making.{edit_of_cells}
 

@@ -14,7 +14,6 @@ mod plane;
 mod rect;
 mod settle;
 mod stamp;
-mod write;
 
 pub use edit::{Edit, EditList};
 pub use fault::EditFault;
@@ -25,4 +24,4 @@ pub use placing::{Corner, are_placeable, have_states_below, placed_cells};
 pub use rect::Rect;
 pub use settle::MOST_CELLS;
 pub use stamp::{Stamp, counter_of, replica_of};
-pub use write::Write;
+pub use stamped_writes::Write;

@@ -5,7 +5,7 @@ use Rattle.generations_rule.specs.Rule.{GenerationsRule}
 use Rattle.replica_core.specs.World.{opening, AreReplies}
 use Rattle.genedit_script.specs.Script.{ScriptValue}
 use Rattle.genedit_script.specs.declared.command.Command.{Command}
-use Rattle.replica_core.specs.declared.event.Event.{Event}
+use Rattle.replica_events.specs.declared.event.Event.{Event}
 use Rattle.replica_core.specs.declared.event.Reply.{Reply}
 use Rattle.genedit_lib.specs.declared.plan.PlannedLine.{PlannedLine}
 use Rattle.genedit_lib.specs.Output.{ScriptStep, Happens, Says, OutputLine, IsScriptOutput, NamedPatterns, after_command, command_step, events_among, filled, no_patterns, step_line, steps}

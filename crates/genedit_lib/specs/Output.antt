@@ -5,15 +5,15 @@ use Rattle.multistate_rle.specs.declared.fault.RleFault.{RleFault}
 use Rattle.multistate_rle.specs.Pattern.{RlePattern}
 use Rattle.multistate_rle.specs.Reading.{parsed}
 use Rattle.multistate_rle.specs.RleFault.{text_fault_number, text_fault_text}
-use Rattle.edit_stamps.specs.declared.write.Write.{Write}
+use Rattle.stamped_writes.specs.declared.write.Write.{Write}
 use Rattle.edit_stamps.specs.Stamp.{counter_in, replica_in}
-use Rattle.replica_core.specs.declared.event.Event.{Event}
-use Rattle.replica_core.specs.declared.event.Event.TheVariants.{Draw}
+use Rattle.replica_events.specs.declared.event.Event.{Event}
+use Rattle.replica_events.specs.declared.event.Event.TheVariants.{Draw}
 use Rattle.hex.specs.Hex.{encode_lower}
 use Rattle.replica_core.specs.declared.event.Reply.{Reply}
 use Rattle.replica_core.specs.declared.event.Reply.TheVariants.{Drawn, Sent, Taken, Shown, Same, Bytes, Text, Refused}
-use Rattle.replica_core.specs.declared.edit_spec.EditSpec.{EditSpec}
-use Rattle.replica_core.specs.declared.edit_spec.EditSpec.TheVariants.{Copy, Or}
+use Rattle.replica_events.specs.declared.edit_spec.EditSpec.{EditSpec}
+use Rattle.replica_events.specs.declared.edit_spec.EditSpec.TheVariants.{Copy, Or}
 use Rattle.replica_core.specs.Fault.{replica_fault_number, replica_fault_text}
 use Rattle.replica_core.specs.World.{opening, AreReplies}
 use Rattle.genedit_io.specs.RunFault.{name_of_number}

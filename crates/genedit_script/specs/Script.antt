@@ -13,9 +13,9 @@ use Rattle.multistate_rle.specs.Bytes.{◌>=>◌, decimal_number}
 use Rattle.multistate_rle.specs.Position.{words, signed_number}
 use Rattle.multistate_rle.specs.declared.cell.Cell.{Cell}
 use Rattle.edit_stamps.specs.declared.rect.Rect.{Rect}
-use Rattle.replica_core.specs.declared.event.Event.{Event}
-use Rattle.replica_core.specs.declared.event.Event.TheVariants.{Draw, SendDelta, SendState, Deliver, Show, Same, Dump, Export}
-use Rattle.replica_core.specs.declared.edit_spec.EditSpec.TheVariants.{Cells, Clear}
+use Rattle.replica_events.specs.declared.event.Event.{Event}
+use Rattle.replica_events.specs.declared.event.Event.TheVariants.{Draw, SendDelta, SendState, Deliver, Show, Same, Dump, Export}
+use Rattle.replica_events.specs.declared.edit_spec.EditSpec.TheVariants.{Cells, Clear}
 use Rattle.genedit_script.specs.declared.command.Command.{Command}
 use Rattle.genedit_script.specs.declared.command.Command.TheVariants.{Does, Names, Copies, Ors}
 use Rattle.genedit_script.specs.declared.command.Paste.{Paste}

@@ -3,7 +3,7 @@
 ghost use Rattle.std.specs.Prelude.{◌≡◌, IfOk};
 
 use lists::ListOf;
-use replica_core::Event;
+use replica_events::Event;
 use std::alloc::{AllocError, Global};
 use std::marker::Model;
 

@@ -10,7 +10,7 @@ use crate::command::{Command, Paste, PatternName};
 use edit_stamps::Rect;
 use generations_rule::Rule;
 use multistate_rle::{Cell, number, signed, split_word};
-use replica_core::{CellList, EditSpec, Event};
+use replica_events::{CellList, EditSpec, Event};
 use std::alloc::{AllocError, Global};
 
 /// `rule TEXT`

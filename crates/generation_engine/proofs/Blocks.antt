@@ -4,7 +4,7 @@ use Rattle.std.specs.Prelude.{replicate}
 use Rattle.generations_rule.specs.Place.{moved}
 use Rattle.generations_rule.specs.Rule.{GenerationsRule}
 use Rattle.generations_rule.specs.Evolution.{at}
-use Rattle.edit_stamps.specs.declared.write.Write.{Write}
+use Rattle.stamped_writes.specs.declared.write.Write.{Write}
 use Rattle.bitplane_kernel.specs.Square.{state_at, IsCentre}
 use Rattle.bitplane_kernel.specs.Advance.{Advances}
 use Rattle.square_store.specs.Grid.{Grid}

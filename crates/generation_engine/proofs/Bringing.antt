@@ -2,8 +2,8 @@
 use Rattle.std.proofs.Common.{◌≡◌, ℕ, ◌+◌, ◌-◌, ◌*◌, ◌<◌, ◌≤◌, Bool, true, false, List, [], ◌∷◌, length, refl, sym, ◌∙◌, ap, subst, arith}
 use Rattle.std.specs.Prelude.{slice_index_or, slice_index, Some, cond, eqb, nat_lt, if◌then◌else◌}
 use Rattle.std.proofs.lemmas.List.{get_or-map}
-use Rattle.edit_stamps.specs.declared.write.Write.{Write}
-use Rattle.edit_stamps.specs.Write.{unwritten}
+use Rattle.stamped_writes.specs.declared.write.Write.{Write}
+use Rattle.stamped_writes.specs.Write.{unwritten}
 use Rattle.leaf_merge_lanes.specs.Leaf.{states_of, write_on_leaf}
 use Rattle.square_store.specs.Grid.{Grid, quartered, blank_grid, AreSameWithin}
 use Rattle.square_store.specs.Squares.{Held, side_at, IsAt, grid_at, four_grid, Draws}

@@ -2,7 +2,7 @@
 use Rattle.std.proofs.Common.{◌≡◌, ◌≢◌, ℕ, zero, suc, ◌+◌, ◌-◌, ◌<◌, List, [], ◌∷◌, ◌++◌, length, inl, refl, sym, ◌∙◌, ap, subst, arith}
 use Rattle.std.specs.Prelude.{slice_index, slice_index_or}
 use Rattle.std.proofs.lemmas.Bool.Decides.{nat_tests}
-use Rattle.edit_stamps.specs.declared.write.Write.{Write}
+use Rattle.stamped_writes.specs.declared.write.Write.{Write}
 use Rattle.bitplane_kernel.specs.Population.{sum_from, one_unless_dead, population}
 use Rattle.bitplane_kernel.proofs.KeyLemmas.{sum_of_rows}
 use Rattle.square_store.specs.Grid.{Grid, quartered, blank_grid, AreSameWithin}

@@ -3,7 +3,7 @@ use Rattle.std.proofs.Common.{◌≡◌, ℕ, ◌+◌, ◌-◌, ◌<◌, ◌≤�
 use Rattle.std.specs.Prelude.{◌&&◌, nat_lt, nat_le, if◌then◌else◌}
 use Rattle.std.proofs.lemmas.Bool.{cases_lt}
 use Rattle.std.proofs.lemmas.Bool.Decides.{nat_tests}
-use Rattle.edit_stamps.specs.declared.write.Write.{Write}
+use Rattle.stamped_writes.specs.declared.write.Write.{Write}
 use Rattle.square_store.specs.Grid.{Grid, quartered, blank_grid, AreSameWithin}
 use Rattle.square_store.proofs.Quarters.{quarter_nw, quarter_ne, quarter_sw, quarter_se}
 use Rattle.generation_engine.specs.Loading.{centred}

@@ -7,7 +7,7 @@ use Rattle.generations_rule.specs.Rule.{GenerationsRule, IsRule}
 use Rattle.square_store.specs.Grid.{Grid}
 use Rattle.square_store.specs.Squares.{Held, side_at, IsAt, grid_at}
 use Rattle.square_store.specs.Store.{IsGrown}
-use Rattle.edit_stamps.specs.declared.write.Write.{Write}
+use Rattle.stamped_writes.specs.declared.write.Write.{Write}
 use Rattle.generation_engine.specs.declared.leaf_kind.EngineLeaf.{EngineLeaf}
 use Rattle.generation_engine.specs.declared.results.FirstResult.{FirstResult}
 use Rattle.generation_engine.specs.declared.results.ResultKey.{ResultKey}

@@ -1,7 +1,7 @@
 -- Leaves that are not dead.
 use Rattle.std.proofs.Common.{◌≡◌, ℕ, ◌+◌, ◌*◌, ◌/◌, ◌%◌, ◌<◌, Bool, false, true, sym, ◌∙◌, ap, arith}
 use Rattle.std.specs.Prelude.{◌↔◌, IsTrue, slice_index}
-use Rattle.edit_stamps.specs.declared.write.Write.{Write}
+use Rattle.stamped_writes.specs.declared.write.Write.{Write}
 use Rattle.bitplane_kernel.specs.Population.{AreDead}
 use Rattle.square_store.specs.Grid.{IsBlankWithin}
 use Rattle.generation_engine.specs.declared.leaf_kind.EngineLeaf.{EngineLeaf}

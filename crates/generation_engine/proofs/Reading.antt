@@ -6,8 +6,8 @@ use Rattle.std.proofs.lemmas.Bool.Decides.{nat_tests}
 use Rattle.std.proofs.lemmas.Int.{ints}
 use Rattle.generations_rule.specs.Place.{Place, moved}
 use Rattle.generations_rule.specs.Rule.{IsRule}
-use Rattle.edit_stamps.specs.declared.write.Write.{Write}
-use Rattle.edit_stamps.specs.Write.{unwritten}
+use Rattle.stamped_writes.specs.declared.write.Write.{Write}
+use Rattle.stamped_writes.specs.Write.{unwritten}
 use Rattle.edit_stamps.specs.Plane.{is_coordinate_in_plane, is_in_plane}
 use Rattle.edit_stamps.specs.PlaneMap.{HasStatesBelow}
 use Rattle.bitplane_kernel.specs.Population.{population}

@@ -2,7 +2,7 @@
 use Rattle.std.specs.Prelude.{◌≡◌, ℕ, ◌+◌, ◌-◌, ◌*◌, ◌/◌, ◌%◌, ◌^◌, ◌<◌, min, true, List, length}
 use Rattle.std.proofs.Common.{arith, ap, ◌∙◌, sym, get_or}
 use Rattle.std.proofs.lemmas.List.{ext_get_or}
-use Rattle.edit_stamps.specs.declared.write.Write.{Write}
+use Rattle.stamped_writes.specs.declared.write.Write.{Write}
 use Rattle.bitplane_kernel.specs.Population.{population}
 use Rattle.bitplane_kernel.specs.Same.{is_same, same_Decides}
 use Rattle.bitplane_kernel.specs.Square.{state_at}

@@ -2,7 +2,7 @@
 use Rattle.std.specs.Prelude.{◌≡◌, ℕ, ◌-◌, ◌^◌, ◌<◌, ◌≤◌, ℤ, pos, negsuc, ◌-ℤ◌, ◌+ℤ◌, nat_abs, Bool, false, ◌&&◌, int_le, int_lt, if◌then◌else◌}
 use Rattle.generations_rule.specs.Place.{Place, moved}
 use Rattle.generations_rule.specs.Rule.{GenerationsRule}
-use Rattle.edit_stamps.specs.Write.{Writes}
+use Rattle.stamped_writes.specs.Write.{Writes}
 use Rattle.bitplane_kernel.specs.Population.{population}
 use Rattle.square_store.specs.Squares.{Held, IsAt, grid_at}
 use Rattle.generation_engine.specs.declared.leaf_kind.EngineLeaf.{EngineLeaf}

@@ -39,7 +39,6 @@ pub(crate) struct FirstResult {
 }
 
 /// Squares, and the results that were computed of each under one rule.
-#[derive(Drop)]
 pub(crate) struct ResultStore {
     rule: Rule,
     store: Store<EngineLeaf>,
@@ -48,6 +47,18 @@ pub(crate) struct ResultStore {
     firsts: Vec<Option<FirstResult>>,
     /// All other results.
     others: IndexMap<ResultKey, Part>,
+}
+
+/// By hand, so that a caller's proof sees one step where it is dropped.
+impl Drop for ResultStore {
+    fn drop(self) {
+        let ResultStore {
+            rule: _,
+            store: _,
+            firsts: _,
+            others: _,
+        } = self;
+    }
 }
 
 impl Model for ResultStore {

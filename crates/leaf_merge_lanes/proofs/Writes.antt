@@ -5,8 +5,8 @@ use Rattle.std.proofs.lemmas.Bool.{leb-true, leb-false, le-leb}
 use Rattle.std.proofs.lemmas.Simd.{length-zip2, get_or-zip2}
 use Rattle.std.proofs.lemmas.List.{ext_get_or, get_or-replicate, length-replicate}
 use lib.Lanes.{zip2}
-use Rattle.edit_stamps.specs.declared.write.Write.{Write}
-use Rattle.edit_stamps.specs.Write.{at_most, greater, unwritten}
+use Rattle.stamped_writes.specs.declared.write.Write.{Write}
+use Rattle.stamped_writes.specs.Write.{at_most, greater, unwritten}
 use Rattle.leaf_merge_lanes.specs.Lanes.{HasLanes}
 use Rattle.leaf_merge_lanes.specs.Leaf.{write_of, write_on_leaf, AreBlank, AreMerged, AreAtMost, IsLeastOfStamps, IsGreatestOfStamps}
 use Rattle.leaf_merge_lanes.specs.Same.{is_same, same_Decides}

@@ -1,7 +1,7 @@
 -- Leaves: 8 by 8 last-writer-wins registers (Shapiro et al., INRIA RR-7506), as the list of their writes, row by row.
 use Rattle.std.specs.Prelude.{◌≡◌, ℕ, ◌<◌, ◌≤◌, List, length, map, slice_index_or, IsTrue}
-use Rattle.edit_stamps.specs.declared.write.Write.{Write}
-use Rattle.edit_stamps.specs.Write.{at_most, greater, unwritten}
+use Rattle.stamped_writes.specs.declared.write.Write.{Write}
+use Rattle.stamped_writes.specs.Write.{at_most, greater, unwritten}
 
 -- the write of a stamp and a state
 abbrev pub write_of : ℕ → ℕ → Write

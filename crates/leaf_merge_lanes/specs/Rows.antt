@@ -1,7 +1,7 @@
 -- Worked values of the definitions.
 use Rattle.std.specs.Prelude.{◌≡◌, ℕ, List, [], ◌∷◌, refl, replicate, slice_set, true, false}
-use Rattle.edit_stamps.specs.declared.write.Write.{Write}
-use Rattle.edit_stamps.specs.Write.{greater, unwritten}
+use Rattle.stamped_writes.specs.declared.write.Write.{Write}
+use Rattle.stamped_writes.specs.Write.{greater, unwritten}
 use Rattle.leaf_merge_lanes.specs.Lanes.{zip2}
 use Rattle.leaf_merge_lanes.specs.Leaf.{write_of, write_on_leaf, stamps_of, states_of}
 use Rattle.leaf_merge_lanes.specs.Same.{is_same}

@@ -8,7 +8,7 @@ use Rattle.std.specs.Hash as fed
 use Rattle.std.specs.Simd.Lanes.{zip2}
 use lib.Pointwise.{pointwise, bytes_decides}
 use lib.Dec.{eqb}
-use Rattle.edit_stamps.specs.declared.write.Write.{Write}
+use Rattle.stamped_writes.specs.declared.write.Write.{Write}
 use Rattle.leaf_merge_lanes.specs.declared.leaf.Leaf.TheInside.{Inside}
 use Rattle.leaf_merge_lanes.specs.Digest.{digest_of}
 use Rattle.leaf_merge_lanes.specs.Leaf.{write_of, stamps_of, states_of}

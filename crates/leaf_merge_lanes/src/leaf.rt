@@ -3,7 +3,7 @@
 ghost use Rattle.std.specs.Prelude.{◌≡◌, ◌<◌, ◌↔◌, slice_get, slice_set, replicate, Some, IsTrue, IfSome, IfNone, ℕ};
 
 use crate::{bounds, digest, lanes};
-use edit_stamps::Write;
+use stamped_writes::Write;
 use std::hash::{Hash, Hasher};
 use std::marker::Model;
 use std::simd::prelude::*;
@@ -19,7 +19,7 @@ pub struct Leaf {
 
 impl Model for Leaf {
     ghost use Rattle.std.specs.Prelude.{◌≡◌, List, length};
-    ghost use Rattle.edit_stamps.specs.declared.write.Write.{Write};
+    ghost use Rattle.stamped_writes.specs.declared.write.Write.{Write};
     ghost use Rattle.leaf_merge_lanes.specs.Lanes.{zip2};
     ghost use Rattle.leaf_merge_lanes.specs.Leaf.{write_of, stamps_of, states_of};
     ghost use Rattle.leaf_merge_lanes.specs.Same.{inside, split_zip};
@@ -36,7 +36,7 @@ impl Model for Leaf {
 }
 
 impl Leaf {
-    ghost use Rattle.edit_stamps.specs.Write.{greater};
+    ghost use Rattle.stamped_writes.specs.Write.{greater};
     ghost use Rattle.leaf_merge_lanes.specs.Lanes.{zip2};
     ghost use Rattle.leaf_merge_lanes.specs.Leaf.{write_of, write_on_leaf, states_of, IsLeaf, AreBlank, AreMerged, AreAtMost, IsLeastOfStamps, IsGreatestOfStamps};
 

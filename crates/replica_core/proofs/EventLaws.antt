@@ -4,17 +4,17 @@ use Rattle.std.specs.Prelude.{Contains, Some, slice_get, slice_set, Result, Ok, 
 use Rattle.std.specs.Option.{ok_or}
 use Rattle.generations_rule.specs.Refusal.{◌>>=◌}
 use Rattle.generations_rule.specs.Place.{at_place}
-use Rattle.edit_stamps.specs.declared.write.Write.{Write}
+use Rattle.stamped_writes.specs.declared.write.Write.{Write}
 use Rattle.edit_stamps.specs.Edit.{PlaneEdit, IsEdit, greatest, greatest_counter}
-use Rattle.edit_stamps.specs.Write.{AreSame}
+use Rattle.stamped_writes.specs.Write.{AreSame}
 use Rattle.stamped_tree.specs.Plane.{map_of}
-use Rattle.replica_core.specs.declared.event.Event.{Event}
-use Rattle.replica_core.specs.declared.event.Event.TheVariants.{Draw, SendDelta, SendState, Deliver, Show, Same, Dump, Export}
+use Rattle.replica_events.specs.declared.event.Event.{Event}
+use Rattle.replica_events.specs.declared.event.Event.TheVariants.{Draw, SendDelta, SendState, Deliver, Show, Same, Dump, Export}
 use Rattle.replica_core.specs.declared.event.Reply.{Reply}
 use Rattle.replica_core.specs.declared.event.Reply.TheVariants as replies
 use Rattle.replica_core.specs.declared.fault.Fault.{Fault}
 use Rattle.replica_core.specs.declared.fault.Fault.TheVariants as faults
-use Rattle.replica_core.specs.declared.edit_spec.EditSpec.{EditSpec}
+use Rattle.replica_events.specs.declared.edit_spec.EditSpec.{EditSpec}
 use Rattle.delta_exchange.specs.Delta.{AreTellable}
 use Rattle.delta_exchange.specs.Spelling.{delta_text}
 use Rattle.replica_core.specs.Exchange.{entries}

@@ -5,10 +5,10 @@ use Rattle.generations_rule.specs.Place.{Place}
 use Rattle.generations_rule.specs.Rule.{GenerationsRule}
 use Rattle.edit_stamps.specs.Edit.{PlaneEdit, greatest, is_covered, listed, writes_of}
 use Rattle.stamped_tree.specs.Plane.{map_of}
-use Rattle.edit_stamps.specs.Write.{at_most, greater, AreSame}
+use Rattle.stamped_writes.specs.Write.{at_most, greater, AreSame}
 use Rattle.edit_stamps.proofs.WriteLaws.{depends_on_members, is_least_upper_bound, is_total, joins_lists}
 use Rattle.edit_stamps.proofs.GreatestWrites.{made_by_one}
-use Rattle.replica_core.specs.declared.event.Event.{Event}
+use Rattle.replica_events.specs.declared.event.Event.{Event}
 use Rattle.replica_core.specs.declared.fault.Fault.TheVariants as faults
 use Rattle.replica_core.specs.Replica.{ReplicaState}
 use Rattle.generation_engine.specs.Universe.{states_in_writes}

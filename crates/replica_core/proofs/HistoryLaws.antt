@@ -11,11 +11,11 @@ use Rattle.generations_rule.specs.Refusal.{◌>>=◌, when, unless}
 use Rattle.generations_rule.specs.Rule.{GenerationsRule}
 use Rattle.edit_stamps.specs.Edit.{PlaneEdit, greatest_counter}
 use Rattle.edit_stamps.specs.Stamp.{counter_in, last_counter, replica_in, stamp_of}
-use Rattle.replica_core.specs.declared.event.Event.{Event}
-use Rattle.replica_core.specs.declared.event.Event.TheVariants.{Draw, SendDelta, SendState, Deliver, Show, Same, Dump, Export}
+use Rattle.replica_events.specs.declared.event.Event.{Event}
+use Rattle.replica_events.specs.declared.event.Event.TheVariants.{Draw, SendDelta, SendState, Deliver, Show, Same, Dump, Export}
 use Rattle.replica_core.specs.declared.fault.Fault.{Fault}
 use Rattle.replica_core.specs.declared.fault.Fault.TheVariants as faults
-use Rattle.replica_core.specs.declared.edit_spec.EditSpec.{EditSpec}
+use Rattle.replica_events.specs.declared.edit_spec.EditSpec.{EditSpec}
 use Rattle.replica_core.specs.Replica.{edit_drawn, made, or_edit_fault}
 use Rattle.replica_core.specs.World.{IsEditUnder, History, ReplicaHistory, Sent, Delta, State, named_entries, AreEdits, IsIn, after, after_all, after_drawing, after_message, beginner, changed, delivered, drawn, edits_sent, message, opening, replica, with_message, with_replica}
 use Rattle.edit_journal.proofs.NotedLaws.{noted_members}

@@ -1,7 +1,7 @@
 -- A plane to which edits are joined one after another.
 use Rattle.std.proofs.Common.{◌≡◌, ℕ, ◌+◌, ◌<◌, drop, drop-cons, add-one, length, get_or, List, refl, sym, ◌∙◌, ap}
 use Rattle.edit_stamps.specs.Edit.{PlaneEdit, greatest, writes_of}
-use Rattle.edit_stamps.specs.Write.{greater, unwritten, Writes, AreSame, joined}
+use Rattle.stamped_writes.specs.Write.{greater, unwritten, Writes, AreSame, joined}
 use Rattle.edit_stamps.proofs.WriteLaws.{is_lattice, greater-unwritten}
 use Rattle.stamped_tree.specs.LeafKind.{plane_grid}
 use Rattle.stamped_tree.specs.Plane.{StampedPlane, HasGrown}

@@ -9,7 +9,7 @@ use Rattle.generations_rule.specs.Rule.{GenerationsRule}
 use Rattle.edit_stamps.specs.Edit.{HaveStatesBelow, has_states_below, PlaneEdit, IsEdit, greatest, is_edit, writes_of}
 use Rattle.edit_stamps.specs.PlaneMap.{IsGreatestStamp}
 use Rattle.stamped_tree.specs.Plane.{map_of}
-use Rattle.edit_stamps.specs.Write.{at_most, Writes, AreSame, IsBelow, joined}
+use Rattle.stamped_writes.specs.Write.{at_most, Writes, AreSame, IsBelow, joined}
 use Rattle.edit_stamps.proofs.WriteLaws.{is_least_upper_bound, is_total}
 use Rattle.edit_stamps.proofs.ClockLaws.{stamp_in}
 use Rattle.edit_journal.specs.Journal.{noted}

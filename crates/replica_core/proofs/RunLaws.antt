@@ -6,7 +6,7 @@ use Rattle.std.proofs.lemmas.Bool.{cases_eq}
 use Rattle.std.proofs.lemmas.Option.{slice_get_within}
 use Rattle.std.proofs.lemmas.List.{append-nil, replicate_more}
 use Rattle.generations_rule.specs.Rule.{GenerationsRule}
-use Rattle.replica_core.specs.declared.event.Event.{Event}
+use Rattle.replica_events.specs.declared.event.Event.{Event}
 use Rattle.replica_core.specs.declared.event.Reply.{Reply}
 use Rattle.replica_core.specs.Replica.{ReplicaState, IsNew}
 use Rattle.replica_core.specs.World.{History, WorldState, AreEdits, AreReplies, HaveRoom, IsReply, StandSideBySide, StandsFor, StandsForWorld, after, after_all, beginner}

@@ -4,7 +4,7 @@ use Rattle.std.specs.Prelude.{IsTrue}
 use Rattle.generations_rule.specs.Place.{Place}
 use Rattle.generations_rule.specs.Rule.{GenerationsRule}
 use Rattle.edit_stamps.specs.PlaneMap.{is_plane_write}
-use Rattle.edit_stamps.specs.Write.{Writes, AreSame}
+use Rattle.stamped_writes.specs.Write.{Writes, AreSame}
 use Rattle.stamped_tree.specs.Tree.{Tree, Blank, Leaf, Four, IsMixed, IsTreeOf, east, plane_corner, side, south, south_east}
 use Rattle.delta_exchange.specs.State.{IsTellableMap}
 use Rattle.delta_exchange.specs.StateText.{IsStateText}

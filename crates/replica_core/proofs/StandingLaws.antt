@@ -3,17 +3,17 @@ use Rattle.std.proofs.Common.{inl, inr, ◌≡◌, ℕ, ◌≤◌, List, [], ◌
 use Rattle.std.specs.Prelude.{Contains, Result, Ok, Err, MatchResult, pos}
 use Rattle.std.specs.List.{AllByRecursion}
 use Rattle.generations_rule.specs.Rule.{GenerationsRule}
-use Rattle.edit_stamps.specs.declared.write.Write.{Write}
+use Rattle.stamped_writes.specs.declared.write.Write.{Write}
 use Rattle.edit_stamps.specs.Edit.{PlaneEdit, IsEdit, greatest, writes_of, greatest_counter}
 use Rattle.edit_stamps.specs.PlaneMap.{IsGreatestStamp}
 use Rattle.stamped_tree.specs.Plane.{map_of}
 use Rattle.edit_stamps.specs.Stamp.{counter_in}
-use Rattle.edit_stamps.specs.Write.{unwritten, greater, Writes, AreSame, joined}
+use Rattle.stamped_writes.specs.Write.{unwritten, greater, Writes, AreSame, joined}
 use Rattle.edit_stamps.proofs.WriteLaws.{is_lattice, is_least_upper_bound, is_total, joins_lists}
 use Rattle.replica_core.specs.declared.fault.Fault.{Fault}
 use Rattle.delta_exchange.specs.declared.message.Content.{Content}
 use Rattle.delta_exchange.specs.declared.message.Content.TheVariants as contents
-use Rattle.replica_core.specs.declared.edit_spec.EditSpec.{EditSpec}
+use Rattle.replica_events.specs.declared.edit_spec.EditSpec.{EditSpec}
 use Rattle.edit_stamps.proofs.ClockLaws.{tells_counter}
 use Rattle.delta_exchange.specs.Delta.{AreTellable}
 use Rattle.delta_exchange.specs.MessageReading.{HasMap}

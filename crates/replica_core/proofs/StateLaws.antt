@@ -5,10 +5,10 @@ use Rattle.std.proofs.lemmas.Bool.{cases_Bool, and_parts, ltb-true}
 use Rattle.generations_rule.specs.Place.{Place, is_place}
 use Rattle.multistate_rle.specs.declared.cell.Cell.{Cell}
 use Rattle.multistate_rle.specs.Cells.{are_states_below, place_of}
-use Rattle.edit_stamps.specs.declared.write.Write.{Write}
+use Rattle.stamped_writes.specs.declared.write.Write.{Write}
 use Rattle.edit_stamps.specs.Edit.{PlaneEdit, HaveStatesBelow, greatest, has_states_below, is_covered, listed, write_by, writes_of}
 use Rattle.edit_stamps.specs.PlaneMap.{HasStatesBelow}
-use Rattle.edit_stamps.specs.Write.{at_most, greater, Writes, AreSame, joined}
+use Rattle.stamped_writes.specs.Write.{at_most, greater, Writes, AreSame, joined}
 use Rattle.delta_exchange.specs.declared.message.Content.{Content}
 use Rattle.delta_exchange.specs.declared.message.Content.TheVariants as contents
 use Rattle.delta_exchange.specs.Message.{writes_in, IsBelowStates}

@@ -2,15 +2,15 @@
 use Rattle.std.specs.Prelude.{◌≡◌, ◌⊎◌, ◌↔◌, ℕ, ◌^◌, ◌<◌, IsTrue, List, ◌++◌, Contains, Result, Ok, Some}
 use Rattle.generations_rule.specs.Place.{Place}
 use Rattle.generations_rule.specs.Rule.{GenerationsRule}
-use Rattle.edit_stamps.specs.declared.write.Write.{Write}
+use Rattle.stamped_writes.specs.declared.write.Write.{Write}
 use Rattle.edit_stamps.specs.Edit.{PlaneEdit, greatest, writes_of}
 use Rattle.stamped_tree.specs.Plane.{map_of}
-use Rattle.edit_stamps.specs.Write.{unwritten, at_most, AreSame, IsBelow}
+use Rattle.stamped_writes.specs.Write.{unwritten, at_most, AreSame, IsBelow}
 use Rattle.delta_exchange.specs.StateText.{IsStateText}
 use Rattle.generation_engine.specs.Universe.{states_in_writes}
 use Rattle.export.specs.declared.fault.ExportFault.{ExportFault}
 use Rattle.export.specs.Export.{IsExport, most_cells}
-use Rattle.replica_core.specs.declared.event.Event.{Event}
+use Rattle.replica_events.specs.declared.event.Event.{Event}
 use Rattle.replica_core.specs.declared.event.Reply.TheVariants.{Refused}
 use Rattle.replica_core.specs.declared.fault.Fault.{Fault}
 use Rattle.replica_core.specs.Exporting.{IsExportOf}

@@ -1,7 +1,7 @@
 -- The plane of a replica, and what is joined into it.
 use Rattle.std.specs.Prelude.{◌≡◌, ℕ}
 use Rattle.edit_stamps.specs.Edit.{greatest}
-use Rattle.edit_stamps.specs.Write.{Writes, AreSame, joined}
+use Rattle.stamped_writes.specs.Write.{Writes, AreSame, joined}
 use Rattle.stamped_tree.specs.Plane.{StampedPlane, IsPart, map_of, rooted}
 use Rattle.replica_core.specs.declared.held_plane.Added.{Added}
 use Rattle.replica_core.specs.declared.held_plane.Added.TheVariants.{Edits, Map}

@@ -11,9 +11,9 @@ use Rattle.edit_stamps.specs.Making.{edit_of_cells}
 use Rattle.edit_stamps.specs.Pasting.{edit_of_clear, edit_of_copy, edit_of_or}
 use Rattle.edit_stamps.specs.PlaneMap.{HasStampedWrites, HasStatesBelow}
 use Rattle.edit_stamps.specs.Stamp.{stamp_of, last_counter}
-use Rattle.edit_stamps.specs.Write.{unwritten, Writes, AreSame, IsBelow, joined}
-use Rattle.replica_core.specs.declared.edit_spec.EditSpec.{EditSpec}
-use Rattle.replica_core.specs.declared.edit_spec.EditSpec.TheVariants.{Cells, Copy, Or, Clear}
+use Rattle.stamped_writes.specs.Write.{unwritten, Writes, AreSame, IsBelow, joined}
+use Rattle.replica_events.specs.declared.edit_spec.EditSpec.{EditSpec}
+use Rattle.replica_events.specs.declared.edit_spec.EditSpec.TheVariants.{Cells, Copy, Or, Clear}
 use Rattle.replica_core.specs.declared.fault.Fault.{Fault}
 use Rattle.replica_core.specs.declared.fault.Fault.TheVariants as faults
 use Rattle.delta_exchange.specs.declared.message.Content.{Content}

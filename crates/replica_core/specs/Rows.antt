@@ -7,11 +7,11 @@ use Rattle.std.specs.Prelude.{codes}
 use Rattle.edit_stamps.specs.declared.fault.EditFault.TheVariants as edit_faults
 use Rattle.edit_stamps.specs.Edit.{PlaneEdit, greatest}
 use Rattle.edit_stamps.specs.Stamp.{last_counter, stamp_of}
-use Rattle.replica_core.specs.declared.event.Event.{Event}
-use Rattle.replica_core.specs.declared.event.Event.TheVariants.{Draw, SendState, Deliver}
+use Rattle.replica_events.specs.declared.event.Event.{Event}
+use Rattle.replica_events.specs.declared.event.Event.TheVariants.{Draw, SendState, Deliver}
 use Rattle.replica_core.specs.declared.fault.Fault.TheVariants as faults
-use Rattle.replica_core.specs.declared.edit_spec.EditSpec.{EditSpec}
-use Rattle.replica_core.specs.declared.edit_spec.EditSpec.TheVariants.{Cells, Clear}
+use Rattle.replica_events.specs.declared.edit_spec.EditSpec.{EditSpec}
+use Rattle.replica_events.specs.declared.edit_spec.EditSpec.TheVariants.{Cells, Clear}
 use Rattle.replica_core.specs.Fault.{replica_fault_number, fault_of_edit}
 use Rattle.replica_core.specs.Replica.{edit_drawn, stamp_after}
 use Rattle.replica_core.specs.World.{after, after_all, delivered, drawn, numbered, opening, replica}

@@ -2,7 +2,7 @@
 
 ghost use Rattle.std.specs.Prelude.{◌≡◌, ◌≤◌, ◌↔◌, IfOk, OnErr, Err, false, length};
 ghost use Rattle.edit_stamps.specs.Edit.{greatest, writes_of};
-ghost use Rattle.edit_stamps.specs.Write.{unwritten, AreSame, joined};
+ghost use Rattle.stamped_writes.specs.Write.{unwritten, AreSame, joined};
 ghost use Rattle.replica_core.specs.HeldPlane.{IsAsBefore, IsJoinedAt, added_writes};
 ghost use Rattle.stamped_tree.specs.Plane.{HasGrown, IsPart, map_of, rooted};
 

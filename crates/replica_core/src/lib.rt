@@ -1,7 +1,6 @@
 //! Replicas of a shared plane: drawing, taking and showing.
 #![tactic(auto)]
 
-mod edit_spec;
 mod event;
 mod fault;
 mod held_plane;
@@ -11,9 +10,9 @@ mod world;
 
 pub use delta_exchange::Message;
 pub use devices::{Failed, ReadSource, Sink, Source, WriteSink};
-pub use edit_spec::{CellList, EditSpec};
-pub use event::{ByteList, Event, Reply, Stop};
+pub use event::{ByteList, Reply, Stop};
 pub use fault::Fault;
 pub use laws::world_laws;
 pub use replica::Replica;
+pub use replica_events::{CellList, EditSpec, Event};
 pub use world::{World, replay, replay_within};

@@ -6,7 +6,7 @@ ghost use Rattle.generations_rule.specs.Refusal.{Answers};
 ghost use Rattle.generations_rule.specs.Place.{at_place};
 ghost use Rattle.edit_stamps.specs.Stamp.{counter_in};
 ghost use Rattle.edit_stamps.specs.PlaneMap.{HasStampedWrites, IsGreatestStamp};
-ghost use Rattle.edit_stamps.specs.Write.{unwritten, AreSame, Writes, joined};
+ghost use Rattle.stamped_writes.specs.Write.{unwritten, AreSame, Writes, joined};
 ghost use Rattle.edit_stamps.specs.Edit.{PlaneEdit, IsEdit, has_states_below, writes_of, HaveStatesBelow, greatest};
 ghost use Rattle.edit_journal.specs.Journal.{noted};
 ghost use Rattle.replica_core.specs.Fault.{IsWant};
@@ -15,7 +15,6 @@ ghost use Rattle.delta_exchange.specs.Message.{edits_in, writes_in, IsBelowState
 ghost use Rattle.replica_core.specs.Replica.{made, or_edit_fault, stamp_after};
 ghost use Rattle.stamped_tree.specs.Plane.{map_of};
 
-use crate::edit_spec::EditSpec;
 use crate::fault::Fault;
 use crate::held_plane::{Added, HeldPlane};
 use delta_exchange::{Content, Message, read, write_delta, write_state};
@@ -23,6 +22,7 @@ use edit_journal::Journal;
 use edit_stamps::{Edit, Stamp, Write, counter_of};
 use export::export;
 use generations_rule::Rule;
+use replica_events::EditSpec;
 use stamped_tree::Plane;
 use std::alloc::{AllocError, Global};
 use std::marker::Model;

@@ -4,17 +4,17 @@ ghost use Rattle.std.specs.Prelude.{◌≡◌, ◌≤◌, ◌^◌, ◌-◌, ◌+
 ghost use Rattle.edit_stamps.specs.Edit.{IsEdit, PlaneEdit, greatest_counter};
 ghost use Rattle.generations_rule.specs.Rule.{GenerationsRule};
 ghost use Rattle.export.specs.Export.{last_generation};
-ghost use Rattle.replica_core.specs.declared.event.Event.TheVariants as events;
+ghost use Rattle.replica_events.specs.declared.event.Event.TheVariants as events;
 ghost use Rattle.replica_core.specs.declared.event.Reply.TheVariants as replies;
 ghost use Rattle.replica_core.specs.Fault.{IsWant, stop_of};
 ghost use Rattle.replica_core.specs.Replica.{edit_drawn, IsNew};
 ghost use Rattle.replica_core.specs.World.{History, IsEditUnder, IsThere, ReplicaHistory, Sent, opening, after, after_all, after_drawing, after_message, numbered, AreCurrent, AreEdits, AreReplies, HaveRoom, IsRemembered, IsReply, IsStateMessage, IsStateOf, StandSideBySide, StandsFor, StandsForSent, StandsForWorld};
 
-use crate::edit_spec::EditSpec;
-use crate::event::{ByteList, Event, Reply, Stop};
+use crate::event::{ByteList, Reply, Stop};
 use crate::fault::Fault;
 use crate::replica::Replica;
 use generations_rule::Rule;
+use replica_events::{EditSpec, Event};
 use std::alloc::{AllocError, Global};
 use std::marker::Model;
 

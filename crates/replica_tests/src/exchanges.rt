@@ -1,7 +1,7 @@
 //! Messages as bytes, taken and given by single replicas.
 
 ghost use Rattle.std.specs.Prelude.{◌≡◌, IfOk};
-ghost use Rattle.edit_stamps.specs.Write.{AreSame, joined};
+ghost use Rattle.stamped_writes.specs.Write.{AreSame, joined};
 ghost use Rattle.stamped_tree.specs.Plane.{map_of};
 
 use delta_exchange::write_delta;

@@ -6,10 +6,10 @@ use Rattle.std.proofs.lemmas.Bool.Decides.{nat_tests}
 use Rattle.generations_rule.specs.Place.{Place, is_place}
 use Rattle.multistate_rle.specs.declared.cell.Cell.{Cell}
 use Rattle.multistate_rle.specs.Cells.{place_of, are_states_below}
-use Rattle.edit_stamps.specs.declared.write.Write.{Write}
+use Rattle.stamped_writes.specs.declared.write.Write.{Write}
 use Rattle.edit_stamps.specs.Edit.{PlaneEdit, listed, write_by, writes_of, is_covered, has_states_below}
 use Rattle.edit_stamps.specs.PlaneMap.{HasStatesBelow}
-use Rattle.edit_stamps.specs.Write.{Writes, AreSame}
+use Rattle.stamped_writes.specs.Write.{Writes, AreSame}
 
 write_below : (n stamp : ℕ) (cells : List Cell) (c : Place) (covered : Bool) → 0 < n → are_states_below n cells ≡ true → (write_by stamp (listed cells c) covered).state < n
 write_below n stamp [] c true some h = some

@@ -1,7 +1,7 @@
 -- Whether some place has a state other than 0.
 use Rattle.std.proofs.Common.{ℕ, ◌+◌, Bool, true, false, ◌⊎◌, inl, inr, sym, ap, ◌∙◌, arith, refl}
 use Rattle.std.specs.Prelude.{◌≢◌, ◌||◌, IsTrue}
-use Rattle.edit_stamps.specs.declared.write.Write.{Write}
+use Rattle.stamped_writes.specs.declared.write.Write.{Write}
 use Rattle.square_store.specs.Grid.{Grid, quartered}
 use Rattle.square_store.proofs.Quarters.{quarter_nw, quarter_ne, quarter_sw, quarter_se, each_quarter}
 use Rattle.samples.specs.Single.{HasState, IsLive}

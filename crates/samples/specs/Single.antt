@@ -1,7 +1,7 @@
 -- Leaves of one write.
 use Rattle.std.specs.Prelude.{◌≡◌, ◌≢◌, ℕ, ◌<◌, Bool, IsTrue, ◌↔◌}
 use Rattle.std.proofs.Common.{ap}
-use Rattle.edit_stamps.specs.declared.write.Write.{Write}
+use Rattle.stamped_writes.specs.declared.write.Write.{Write}
 use Rattle.square_store.specs.Grid.{Grid}
 use Rattle.samples.specs.declared.single.Single.{Single}
 

@@ -1,6 +1,6 @@
 -- Writes on a square, by column and row from its corner.
 use Rattle.std.specs.Prelude.{◌≡◌, ℕ, ◌<◌, ◌-◌, nat_lt, if◌then◌else◌}
-use Rattle.edit_stamps.specs.declared.write.Write.{Write}
+use Rattle.stamped_writes.specs.declared.write.Write.{Write}
 
 -- the writes of a square, by column and row
 abbrev pub Grid : Type 0

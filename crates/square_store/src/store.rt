@@ -18,12 +18,22 @@ use std::marker::Model;
 
 /// Distinct squares over leaves of one kind, up to a number of them. A square of level k has
 /// `side * 2^k` columns and rows, and leaves are of level 0. Squares are added and never taken out.
-#[derive(Drop)]
 pub struct Store<L: LeafKind> {
     leaves: IndexSet<L>,
     /// The squares in the order in which they were added, and beside each its summary.
     squares: IndexMap<Node, L::Summary>,
     room: u32,
+}
+
+/// By hand, so that a caller's proof sees one step where a store is dropped.
+impl<L: LeafKind> Drop for Store<L> {
+    fn drop(self) {
+        let Store {
+            leaves: _,
+            squares: _,
+            room: _,
+        } = self;
+    }
 }
 
 impl<L: LeafKind> Model for Store<L> {

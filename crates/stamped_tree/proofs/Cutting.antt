@@ -1,7 +1,7 @@
 -- The squares that a square is cut into.
 use Rattle.std.proofs.Common.{◌≡◌, ◌⊎◌, ℕ, zero, suc, ◌+◌, ◌-◌, ◌<◌, List, [], ◌∷◌, length, inl, inr, refl, sym, ap, subst, ◌∙◌, arith}
 use Rattle.std.specs.Prelude.{slice_index_or, IsTrue}
-use Rattle.edit_stamps.specs.declared.write.Write.{Write}
+use Rattle.stamped_writes.specs.declared.write.Write.{Write}
 use Rattle.edit_stamps.specs.PlaneMap.{is_plane_write}
 use Rattle.std.proofs.lemmas.Bool.{cases_lt}
 use Rattle.square_store.specs.Grid.{Grid, quartered, AreSameWithin}

@@ -6,7 +6,7 @@ use Rattle.std.proofs.lemmas.Bool.{cases_Bool, cases_lt}
 use Rattle.std.proofs.lemmas.Bool.Decides.{nat_tests}
 use Rattle.std.proofs.lemmas.List.{get_or_default}
 use Rattle.std.proofs.lemmas.List.Elements.{Contains-append_left, Contains-append_right, Contains-append_cases}
-use Rattle.edit_stamps.specs.declared.write.Write.{Write}
+use Rattle.stamped_writes.specs.declared.write.Write.{Write}
 use Rattle.square_store.specs.Grid.{Grid, quartered, AreSameWithin}
 use Rattle.square_store.specs.Squares.{Held, side_at, IsAt, grid_at, four_grid}
 use Rattle.square_store.specs.Seen.{IsLeafAt, IsFourAt}

@@ -3,9 +3,9 @@ use Rattle.std.proofs.Common.{◌≡◌, ℕ, ◌<◌, ◌≤◌, Bool, true, fa
 use Rattle.std.specs.Prelude.{IsTrue, int_le, int_lt, if◌then◌else◌}
 use Rattle.std.proofs.lemmas.Int.{ints}
 use Rattle.std.proofs.lemmas.Bool.{and_parts}
-use Rattle.edit_stamps.specs.declared.write.Write.{Write}
+use Rattle.stamped_writes.specs.declared.write.Write.{Write}
 use Rattle.generations_rule.specs.Place.{Place, moved}
-use Rattle.edit_stamps.specs.Write.{unwritten, AreSame}
+use Rattle.stamped_writes.specs.Write.{unwritten, AreSame}
 use Rattle.edit_stamps.specs.Plane.{least, past, is_coordinate_in_plane, is_in_plane}
 use Rattle.edit_stamps.specs.PlaneMap.{HasStampedWrites, IsGreatestStamp, is_plane_write}
 use Rattle.square_store.specs.Grid.{Grid, blank_grid}

@@ -11,12 +11,12 @@ use Rattle.square_store.proofs.Quarters.{AreQuartersOf, quarters_of}
 use Rattle.square_store.proofs.Drawn.{twice_below}
 use Rattle.generations_rule.specs.Place.{Place}
 use Rattle.leaf_merge_lanes.specs.Leaf.{write_of, write_on_leaf}
-use Rattle.edit_stamps.specs.declared.write.Write.{Write}
+use Rattle.stamped_writes.specs.declared.write.Write.{Write}
 use Rattle.edit_stamps.specs.Edit.{PlaneEdit, IsEdit, listed, is_covered, write_by, writes_of}
 use Rattle.edit_stamps.specs.Stamp.{is_stamp}
 use Rattle.edit_stamps.specs.Plane.{is_in_plane}
 use Rattle.edit_stamps.specs.PlaneMap.{is_plane_write, LiesInPlane}
-use Rattle.edit_stamps.specs.Write.{unwritten, greater, joined, Writes, AreSame}
+use Rattle.stamped_writes.specs.Write.{unwritten, greater, joined, Writes, AreSame}
 use Rattle.edit_stamps.proofs.WriteLaws.{greater-unwritten}
 use Rattle.stamped_tree.specs.declared.leaf_kind.PlaneLeaf.{PlaneLeaf}
 use Rattle.stamped_tree.specs.declared.area.Area.{Area}

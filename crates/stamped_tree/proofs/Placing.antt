@@ -11,7 +11,7 @@ use Rattle.generations_rule.specs.Place.{Place, is_before, is_place}
 use Rattle.multistate_rle.specs.declared.cell.Cell.{Cell}
 use Rattle.multistate_rle.specs.Cells.{place_of, is_sorted, are_nonzero}
 use Rattle.edit_stamps.specs.Edit.{listed}
-use Rattle.edit_stamps.specs.Write.{Writes}
+use Rattle.stamped_writes.specs.Write.{Writes}
 use Rattle.square_store.specs.Grid.{Grid}
 use Rattle.stamped_tree.specs.declared.cells.ListedCell.{ListedCell}
 use Rattle.stamped_tree.specs.Drawing.{state_listed}

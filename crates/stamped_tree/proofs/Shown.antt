@@ -4,7 +4,7 @@ use Rattle.std.specs.Prelude.{slice_get, Option, None, Some, int_le, int_lt}
 use Rattle.std.proofs.lemmas.Int.{ints}
 use Rattle.std.proofs.lemmas.Bool.{and_parts}
 use Rattle.generations_rule.specs.Place.{Place, moved}
-use Rattle.edit_stamps.specs.Write.{unwritten, Writes, AreSame}
+use Rattle.stamped_writes.specs.Write.{unwritten, Writes, AreSame}
 use Rattle.edit_stamps.specs.Plane.{least, past, is_in_plane, is_coordinate_in_plane}
 use Rattle.square_store.specs.declared.node.Node.{Node}
 use Rattle.square_store.specs.declared.node.Node.TheVariants as node

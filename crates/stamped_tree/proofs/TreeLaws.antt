@@ -7,8 +7,8 @@ use Rattle.std.proofs.Math.Pow.{pow_pos}
 use Rattle.std.proofs.Math.Nat.{div-add-mod, mod-lt, pow-succ'}
 use Rattle.std.proofs.lemmas.List.{ext_get_or}
 use Rattle.generations_rule.specs.Place.{Place, moved}
-use Rattle.edit_stamps.specs.declared.write.Write.{Write}
-use Rattle.edit_stamps.specs.Write.{Writes}
+use Rattle.stamped_writes.specs.declared.write.Write.{Write}
+use Rattle.stamped_writes.specs.Write.{Writes}
 use Rattle.edit_stamps.specs.Plane.{is_in}
 use Rattle.edit_stamps.specs.PlaneMap.{square}
 use Rattle.stamped_tree.specs.Tree.{Blank, Leaf, Four, side, IsBlank, IsMixed, east, south, south_east, AreLeafWrites, AreSameIn, OneTree, OneMap}

@@ -1,7 +1,7 @@
 -- Worked values of the definitions of drawing and walking.
 use Rattle.std.specs.Prelude.{◌≡◌, ◌^◌, ◌-◌, [], ◌∷◌, Some, pos, negsuc, refl}
 use Rattle.edit_stamps.specs.Edit.{PlaneEdit}
-use Rattle.edit_stamps.specs.Write.{unwritten}
+use Rattle.stamped_writes.specs.Write.{unwritten}
 use Rattle.leaf_merge_lanes.specs.Leaf.{write_of}
 use Rattle.stamped_tree.specs.declared.area.Area.{Area}
 use Rattle.stamped_tree.specs.declared.cells.ListedCell.{ListedCell}

@@ -2,8 +2,8 @@
 use Rattle.std.specs.Prelude.{◌≡◌, ℕ, ◌+◌, ◌*◌, ◌/◌, ◌%◌, ◌<◌, ◌≤◌, true, List, length}
 use Rattle.std.proofs.Common.{arith, ap, ◌∙◌, sym, get_or}
 use Rattle.std.proofs.lemmas.List.{ext_get_or}
-use Rattle.edit_stamps.specs.declared.write.Write.{Write}
-use Rattle.edit_stamps.specs.Write.{unwritten}
+use Rattle.stamped_writes.specs.declared.write.Write.{Write}
+use Rattle.stamped_writes.specs.Write.{unwritten}
 use Rattle.leaf_merge_lanes.specs.Leaf.{write_on_leaf}
 use Rattle.leaf_merge_lanes.specs.Same.{is_same, same_Decides}
 use Rattle.square_store.specs.Grid.{Grid, AreSameWithin}

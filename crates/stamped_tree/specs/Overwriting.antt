@@ -1,7 +1,7 @@
 -- Writes over writes.
 use Rattle.std.specs.Prelude.{ℕ, nat_lt, if◌then◌else◌, Option, None, Some}
-use Rattle.edit_stamps.specs.declared.write.Write.{Write}
-use Rattle.edit_stamps.specs.Write.{Writes}
+use Rattle.stamped_writes.specs.declared.write.Write.{Write}
+use Rattle.stamped_writes.specs.Write.{Writes}
 use Rattle.square_store.specs.Grid.{Grid}
 
 -- a write over another: the new one if it has a stamp, else the old one

@@ -1,10 +1,10 @@
 -- Planes as squares of writes, each once, and which of them is the root.
 use Rattle.std.specs.Prelude.{◌≡◌, ℕ, ◌<◌, ◌-◌, ℤ, ◌-ℤ◌, nat_abs, List, IsTrue, if◌then◌else◌}
-use Rattle.edit_stamps.specs.Write.{unwritten, Writes, AreSame}
+use Rattle.stamped_writes.specs.Write.{unwritten, Writes, AreSame}
 use Rattle.edit_stamps.specs.Plane.{least, is_in_plane}
 use Rattle.edit_stamps.specs.PlaneMap.{is_plane_write}
 use Rattle.leaf_merge_lanes.specs.Leaf.{write_on_leaf}
-use Rattle.edit_stamps.specs.declared.write.Write.{Write}
+use Rattle.stamped_writes.specs.declared.write.Write.{Write}
 use Rattle.square_store.specs.Grid.{Grid}
 use Rattle.square_store.specs.Squares.{Held, side_at, IsAt, grid_at, four_grid, Draws}
 use Rattle.square_store.specs.Store.{IsHeld, IsGrown, IsAdded, IsFullFor, IsRoomFor}

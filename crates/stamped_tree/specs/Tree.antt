@@ -1,8 +1,8 @@
 -- The one tree of a map: blanks, leaves of 8 by 8 writes, and squares of four quarters.
 use Rattle.std.specs.Prelude.{◌≡◌, ℕ, zero, suc, ◌+◌, ◌*◌, ◌<◌, pos, List, length, slice_index_or, IsTrue}
 use Rattle.generations_rule.specs.Place.{Place, moved, at_place}
-use Rattle.edit_stamps.specs.declared.write.Write.{Write}
-use Rattle.edit_stamps.specs.Write.{Writes}
+use Rattle.stamped_writes.specs.declared.write.Write.{Write}
+use Rattle.stamped_writes.specs.Write.{Writes}
 use Rattle.edit_stamps.specs.Plane.{least, is_in}
 use Rattle.edit_stamps.specs.PlaneMap.{square}
 use Rattle.leaf_merge_lanes.specs.Leaf.{write_of}

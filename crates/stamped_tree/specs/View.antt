@@ -1,6 +1,6 @@
 -- What is seen at a square of a plane, one step deep, and step by step.
 use Rattle.std.specs.Prelude.{◌≡◌, ℕ, [], ◌∷◌, ◌↔◌}
-use Rattle.edit_stamps.specs.Write.{AreSame}
+use Rattle.stamped_writes.specs.Write.{AreSame}
 use Rattle.square_store.specs.Squares.{Held, IsAt, grid_at, side_at}
 use Rattle.square_store.specs.Seen.{IsBlankAt, IsLeafAt, IsFourAt}
 use Rattle.leaf_merge_lanes.specs.Leaf.{IsLeaf}

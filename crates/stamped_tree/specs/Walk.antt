@@ -6,7 +6,7 @@ use Rattle.multistate_rle.specs.declared.cell.Cell.{Cell}
 use Rattle.multistate_rle.specs.Cells.{is_sorted, are_nonzero}
 use Rattle.edit_stamps.specs.Edit.{listed}
 use Rattle.edit_stamps.specs.Plane.{least}
-use Rattle.edit_stamps.specs.Write.{Writes}
+use Rattle.stamped_writes.specs.Write.{Writes}
 use Rattle.square_store.specs.Grid.{Grid}
 use Rattle.stamped_tree.specs.declared.cells.ListedCell.{ListedCell}
 

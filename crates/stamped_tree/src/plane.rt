@@ -4,7 +4,7 @@ ghost use Rattle.std.specs.Prelude.{◌≡◌, ◌^◌, ◌≤◌, ◌<◌, ◌-
 ghost use Rattle.edit_stamps.specs.Edit.{writes_of};
 ghost use Rattle.edit_stamps.specs.Plane.{is_in_plane};
 ghost use Rattle.edit_stamps.specs.PlaneMap.{HasStampedWrites, IsGreatestStamp, LiesInPlane, is_plane_write};
-ghost use Rattle.edit_stamps.specs.Write.{AreSame, unwritten};
+ghost use Rattle.stamped_writes.specs.Write.{AreSame, unwritten};
 ghost use Rattle.generations_rule.specs.Place.{at_place};
 ghost use Rattle.leaf_merge_lanes.specs.Leaf.{write_of};
 ghost use Rattle.square_store.specs.Grid.{blank_grid};

@@ -2,8 +2,8 @@
 use Rattle.std.proofs.Common.{◌≡◌, ℕ, zero, suc, ◌+◌, ◌-◌, ◌*◌, ◌/◌, ◌%◌, ◌<◌, ◌↔◌, Bool, true, false, not, eqb-true, List, [], ◌∷◌, inl, inr, refl, sym, ap, subst, ◌∙◌, arith}
 use Rattle.std.specs.Prelude.{IsTrue, slice_index_or, Option, None, Some, MatchOption, is_some, ◌==◌, ◌&&◌}
 use Rattle.std.proofs.lemmas.Bool.{cases_lt, and_parts}
-use Rattle.edit_stamps.specs.declared.write.Write.{Write}
-use Rattle.edit_stamps.specs.Write.{at_most}
+use Rattle.stamped_writes.specs.declared.write.Write.{Write}
+use Rattle.stamped_writes.specs.Write.{at_most}
 use Rattle.leaf_merge_lanes.specs.Leaf.{IsLeaf, AreAtMost, write_on_leaf, write_of}
 use Rattle.leaf_merge_lanes.specs.Same.{is_same, same_Decides}
 use Rattle.square_store.specs.Grid.{Grid, quartered, AreSameWithin, IsBlankWithin, IsSpeltWithin}

@@ -3,8 +3,8 @@ use Rattle.std.proofs.Common.{◌≡◌, ℕ, zero, suc, ◌+◌, ◌-◌, ◌*�
 use Rattle.std.specs.Prelude.{IsTrue, slice_index_or}
 use Rattle.std.specs.HashMap.{HashMap}
 use Rattle.std.proofs.lemmas.Bool.{cases_Bool}
-use Rattle.edit_stamps.specs.declared.write.Write.{Write}
-use Rattle.edit_stamps.specs.Write.{at_most, greater}
+use Rattle.stamped_writes.specs.declared.write.Write.{Write}
+use Rattle.stamped_writes.specs.Write.{at_most, greater}
 use Rattle.edit_stamps.specs.PlaneMap.{is_plane_write}
 use Rattle.edit_stamps.proofs.WriteLaws.{is_total}
 use Rattle.leaf_merge_lanes.specs.Leaf.{write_of, write_on_leaf}

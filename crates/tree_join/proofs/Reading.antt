@@ -3,9 +3,9 @@ use Rattle.std.proofs.Common.{◌≡◌, ◌↔◌, Bool, true, false, pos, refl
 use Rattle.std.specs.Prelude.{if◌then◌else◌}
 use Rattle.std.proofs.lemmas.Bool.{and_parts}
 use Rattle.generations_rule.specs.Place.{Place, moved}
-use Rattle.edit_stamps.specs.declared.write.Write.{Write}
+use Rattle.stamped_writes.specs.declared.write.Write.{Write}
 use Rattle.edit_stamps.specs.Plane.{is_coordinate_in_plane, is_in_plane}
-use Rattle.edit_stamps.specs.Write.{unwritten}
+use Rattle.stamped_writes.specs.Write.{unwritten}
 use Rattle.square_store.specs.Squares.{side_at, grid_at}
 use Rattle.stamped_tree.specs.LeafKind.{plane_grid}
 use Rattle.stamped_tree.specs.Plane.{StampedPlane, from_edge, map_of}

@@ -1,5 +1,5 @@
 -- What the join of maps keeps.
-use Rattle.edit_stamps.specs.Write.{Writes, joined}
+use Rattle.stamped_writes.specs.Write.{Writes, joined}
 use Rattle.edit_stamps.specs.PlaneMap.{HasStatesBelow, KeepsStates}
 
 -- where the states of both maps are below a number, those of the join are

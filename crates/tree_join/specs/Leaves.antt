@@ -1,6 +1,6 @@
 -- The writes of squares of level 0, of 8 columns and rows.
 use Rattle.std.specs.Prelude.{List}
-use Rattle.edit_stamps.specs.declared.write.Write.{Write}
+use Rattle.stamped_writes.specs.declared.write.Write.{Write}
 use Rattle.stamped_tree.specs.declared.leaf_kind.PlaneLeaf.{PlaneLeaf}
 use Rattle.tree_join.specs.declared.leaf.LeafWrites.{LeafWrites}
 use Rattle.tree_join.specs.declared.leaf.LeafWrites.TheVariants.{Stored, Blank}

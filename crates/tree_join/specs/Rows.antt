@@ -1,6 +1,6 @@
 -- Worked values of the definitions.
 use Rattle.std.specs.Prelude.{◌≡◌, [], ◌∷◌, refl, true, false}
-use Rattle.edit_stamps.specs.Write.{unwritten}
+use Rattle.stamped_writes.specs.Write.{unwritten}
 use Rattle.leaf_merge_lanes.specs.Leaf.{write_of}
 use Rattle.square_store.specs.Grid.{blank_grid}
 use Rattle.square_store.specs.Squares.{Held}

@@ -1,6 +1,6 @@
 -- Two squares of one level, which may stand in different stores: their order, and their join.
 use Rattle.std.specs.Prelude.{◌≡◌, ℕ, ◌<◌, ◌-◌, IsTrue, List, length}
-use Rattle.edit_stamps.specs.Write.{at_most, greater}
+use Rattle.stamped_writes.specs.Write.{at_most, greater}
 use Rattle.square_store.specs.Grid.{Grid, AreSameWithin}
 use Rattle.square_store.specs.Squares.{Held, side_at, IsAt, grid_at, four_grid, Draws}
 use Rattle.square_store.specs.Seen.{AreAt}

@@ -1,7 +1,7 @@
 //! The join of planes.
 
 ghost use Rattle.std.specs.Prelude.{◌≡◌, ◌<◌, ◌≤◌, Err, IfOk, OnErr, OnOk, length};
-ghost use Rattle.edit_stamps.specs.Write.{AreSame, joined};
+ghost use Rattle.stamped_writes.specs.Write.{AreSame, joined};
 ghost use Rattle.square_store.specs.Squares.{IsAt};
 ghost use Rattle.square_store.specs.Store.{IsGrown};
 ghost use Rattle.stamped_tree.specs.Filled.{IsFull};

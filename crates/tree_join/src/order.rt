@@ -1,7 +1,7 @@
 //! Whether one plane is at most another.
 
 ghost use Rattle.std.specs.Prelude.{◌≡◌, ◌↔◌, IsTrue};
-ghost use Rattle.edit_stamps.specs.Write.{IsBelow};
+ghost use Rattle.stamped_writes.specs.Write.{IsBelow};
 ghost use Rattle.square_store.specs.Squares.{IsAt};
 ghost use Rattle.stamped_tree.specs.Plane.{map_of};
 ghost use Rattle.tree_join.specs.Squares.{AreSquaresAtMost};

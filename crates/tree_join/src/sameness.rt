@@ -1,7 +1,7 @@
 //! Whether two planes have the same map.
 
 ghost use Rattle.std.specs.Prelude.{◌≡◌, ◌<◌, ◌↔◌, IsTrue, IfOk};
-ghost use Rattle.edit_stamps.specs.Write.{AreSame};
+ghost use Rattle.stamped_writes.specs.Write.{AreSame};
 ghost use Rattle.square_store.specs.Squares.{IsAt};
 ghost use Rattle.stamped_tree.specs.Plane.{map_of};
 ghost use Rattle.tree_join.specs.Squares.{AreSameSquares};

@@ -1,6 +1,6 @@
 use Rattle.std.proofs.Common.{◌∙◌, ap}
 use Rattle.edit_stamps.specs.Edit.{writes_of}
-use Rattle.edit_stamps.specs.Write.{greater}
+use Rattle.stamped_writes.specs.Write.{greater}
 use Rattle.edit_stamps.proofs.WriteLaws.{greater-unwritten}
 use Rattle.stamped_tree.specs.Plane.{map_of}
 use Rattle.replica_core.proofs.replica.draw_into.Goals as goal

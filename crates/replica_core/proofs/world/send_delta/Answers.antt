@@ -2,7 +2,7 @@ use Rattle.std.proofs.Common.{◌≡◌, ◌≤◌, ◌-◌, ◌∙◌, ap, sym,
 use Rattle.std.proofs.lemmas.Option.{slice_get_read}
 use Rattle.std.proofs.lemmas.Result.{IfOk-weaker}
 use Rattle.delta_exchange.specs.Delta.{AreTellable}
-use Rattle.replica_core.specs.declared.event.Event.TheVariants.{SendDelta}
+use Rattle.replica_events.specs.declared.event.Event.TheVariants.{SendDelta}
 use Rattle.replica_core.specs.declared.event.Reply.TheVariants as replies
 use Rattle.replica_core.specs.Exchange.{entries}
 use Rattle.replica_core.specs.World.{IsReply, StandSideBySide, StandsForSent, after}

@@ -1,7 +1,7 @@
 use Rattle.std.proofs.Common.{◌≡◌, ◌≤◌, ◌-◌, ◌∙◌, ◌++◌, ◌∷◌, [], suc, ap, sym, subst, length, refl, arith}
 use Rattle.std.specs.Prelude.{Some, slice_set}
 use Rattle.std.proofs.lemmas.Option.{slice_get_read}
-use Rattle.replica_core.specs.declared.event.Event.TheVariants.{SendState}
+use Rattle.replica_events.specs.declared.event.Event.TheVariants.{SendState}
 use Rattle.replica_core.specs.declared.event.Reply.TheVariants as replies
 use Rattle.replica_core.specs.World.{AreCurrent, IsReply, StandSideBySide, StandsForSent, after}
 use Rattle.replica_core.proofs.CurrentLaws.{current_noted}

@@ -1,5 +1,5 @@
 use Rattle.std.proofs.Common.{◌≡◌, arith}
-use Rattle.edit_stamps.specs.declared.write.Write.{Write}
+use Rattle.stamped_writes.specs.declared.write.Write.{Write}
 use Rattle.square_store.proofs.Places.{at_within}
 use Rattle.tree_join.specs.Squares.{AreQuarters, AreSameSquares}
 use Rattle.tree_join.proofs.Comparing.{refuted, related_0, related_1, related_2, related_3, related_whole}

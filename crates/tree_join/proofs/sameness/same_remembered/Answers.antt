@@ -1,5 +1,5 @@
 use Rattle.std.proofs.Common.{◌≡◌, refl}
-use Rattle.edit_stamps.specs.declared.write.Write.{Write}
+use Rattle.stamped_writes.specs.declared.write.Write.{Write}
 use Rattle.tree_join.proofs.Reading.{reads_related}
 use Rattle.tree_join.proofs.sameness.same_remembered.Goals as goal
 

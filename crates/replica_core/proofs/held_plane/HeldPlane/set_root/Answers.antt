@@ -1,6 +1,6 @@
 use Rattle.std.proofs.Common.{◌≡◌, ◌↔◌, ◌∙◌, ap, subst, sym, false}
 use Rattle.std.specs.Prelude.{◌==◌, not}
-use Rattle.edit_stamps.specs.Write.{AreSame}
+use Rattle.stamped_writes.specs.Write.{AreSame}
 use Rattle.stamped_tree.specs.Plane.{IsPart, StampedPlane, map_of}
 use Rattle.replica_core.proofs.RootLaws.{kept_root}
 use Rattle.replica_core.proofs.held_plane.HeldPlane.set_root.Goals as goal

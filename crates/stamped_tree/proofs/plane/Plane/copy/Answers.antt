@@ -1,5 +1,5 @@
 use Rattle.std.proofs.Common.{subst, sym, IsTrue}
-use Rattle.edit_stamps.specs.declared.write.Write.{Write}
+use Rattle.stamped_writes.specs.declared.write.Write.{Write}
 use Rattle.edit_stamps.specs.PlaneMap.{is_plane_write}
 use Rattle.stamped_tree.proofs.Copying.{no_more}
 use Rattle.stamped_tree.proofs.Cutting.{cut_alone, cut_holds}

@@ -1,7 +1,7 @@
 -- The writes of a last-writer-wins register (Shapiro et al., INRIA RR-7506), ordered by stamp, then by state.
 use Rattle.std.specs.Prelude.{◌≡◌, Bool, ◌||◌, ◌&&◌, nat_lt, nat_le, ◌==◌, if◌then◌else◌, IsTrue}
 use Rattle.generations_rule.specs.Place.{Place}
-use Rattle.edit_stamps.specs.declared.write.Write.{Write}
+use Rattle.stamped_writes.specs.declared.write.Write.{Write}
 
 -- the least write: nothing was written
 abbrev pub unwritten : Write

@@ -12,7 +12,7 @@ pub struct Write {
 }
 
 impl Write {
-    ghost use Rattle.edit_stamps.specs.Write.{at_most};
+    ghost use Rattle.stamped_writes.specs.Write.{at_most};
 
     /// The least write: nothing was written.
     pub const UNWRITTEN: Write = Write { stamp: 0, state: 0 };
