@@ -14,10 +14,7 @@ pub fn has_word(rt: &(impl env::Env + Alloc), name: &str) -> io::Result<bool> {
 }
 
 /// The word behind the first of this name.
-pub fn word_after<R: env::Env + Alloc>(
-    rt: &R,
-    name: &str,
-) -> io::Result<Option<String<R::A>>> {
+pub fn word_after<R: env::Env + Alloc>(rt: &R, name: &str) -> io::Result<Option<String<R::A>>> {
     let mut is_next = false;
     for word in env::args(rt)? {
         if is_next {
