@@ -26,6 +26,7 @@ crates/genedit/out/genedit: $(SOURCES) crates.txt HANDLES
 # Measures; asserts nothing.
 bench:
 	@cd crates/bench && rt run -- --time
+	@cd crates/plane_bench && rt run -- --time
 	@cd crates/replica_bench && rt run -- --time
 	@examples/measure
 

@@ -3,12 +3,11 @@
 
 mod picture;
 
-use crate::timing::millions_a_second;
 use anyhow::{Result, bail};
 use generations_rule::Rule;
 use multistate_rle::{Cell, are_writable, parse, write};
 use picture::{cells_of, picture, text_of};
-use samples::quickest;
+use samples::{millions_a_second, quickest};
 use std::alloc::Global;
 use std::io;
 use std::rt::Clock;

@@ -1,11 +1,7 @@
-//! Tests of `square_store`, over leaves of two kinds, of `stamped_tree`, `tree_join`, `delta_exchange`,
-//! `generation_engine` and `export`.
+//! Tests of `square_store`, over leaves of two kinds, of `stamped_tree`, `tree_join` and
+//! `delta_exchange`.
 #![tactic(auto)]
 
-#[cfg(test)]
-mod engines;
-#[cfg(test)]
-mod exports;
 #[cfg(test)]
 mod joins;
 #[cfg(test)]

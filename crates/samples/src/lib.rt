@@ -19,6 +19,6 @@ pub use edits::{CENTRES, REACH, edit_near, next, write_by};
 pub use loading::{advances, plane_of, refuses, shows, takes, walks};
 pub use path::{LIVE, one_cell};
 pub use single::Single;
-pub use timing::{measure, quickest, tell_time};
+pub use timing::{measure, millions_a_second, quickest, tell_time};
 pub use views::{AREA, show_the_same, zeros_listed};
 pub use words::{has_word, word_after};

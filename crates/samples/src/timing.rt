@@ -1,4 +1,4 @@
-//! How long work takes, and how it is told.
+//! How long work takes, how it is told, and how much is done in a time.
 
 use anyhow::Result;
 use std::io;
@@ -38,4 +38,10 @@ pub fn measure<F: FnMut() -> Result<()>>(
 /// A time of something, in microseconds.
 pub fn tell_time(rt: &impl Print, what: &str, time: Duration) -> io::Result<()> {
     println!(rt; "  {what}: {} us", time.as_micros())
+}
+
+/// How many millions of things are done a second, where so many took a time.
+pub fn millions_a_second(count: u64, time: Duration) -> u64 {
+    let micros = u64::try_from(time.as_micros()).unwrap_or(u64::MAX);
+    count / micros.max(1)
 }

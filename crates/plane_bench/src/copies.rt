@@ -1,4 +1,4 @@
-//! How long work on planes takes, and how much is done in a time.
+//! How long work on planes takes, which it changes.
 
 use anyhow::Result;
 use stamped_tree::Plane;
@@ -23,10 +23,4 @@ pub fn quickest_on_copies<F: Fn(&mut Plane) -> Result<()>>(
         best = best.min(start.elapsed(clock)?);
     }
     Ok(best)
-}
-
-/// How many millions of things are done a second, where so many took a time.
-pub fn millions_a_second(count: u64, time: Duration) -> u64 {
-    let micros = u64::try_from(time.as_micros()).unwrap_or(u64::MAX);
-    count / micros.max(1)
 }

@@ -1,9 +1,8 @@
 //! Streams of frames, large and small, in pieces of 4,096 bytes: how fast their bodies are taken.
 
-use crate::timing::millions_a_second;
 use anyhow::Result;
 use delta_exchange::{FrameFault, Frames, frame};
-use samples::quickest;
+use samples::{millions_a_second, quickest};
 use std::alloc::Global;
 use std::io;
 use std::rt::Clock;

@@ -1,7 +1,7 @@
 //! Planes of 2^20 cells, joined and compared.
 
 use crate::cells::{dense_plane, edits_in, there};
-use crate::timing::quickest_on_copies;
+use crate::copies::quickest_on_copies;
 use anyhow::Result;
 use edit_stamps::Edit;
 use samples::{Part, SIDE, measure, tell_time};

@@ -54,12 +54,12 @@ fn measure(
     rt: &(impl Clock + Print),
     alloc: Global,
     rule: &Rule,
-    edits: &[Edit; 1],
+    edits: &[Edit],
     text: &[u8],
 ) -> Result<()> {
     let copying = measure_copy(rt, alloc, text)?;
     measure_text(rt, "written", text.len(), copying, || {
-        let _text = write_delta(alloc, rule, edits)?;
+        let _text = written(alloc, rule, edits)?;
         Ok(())
     })?;
     measure_text(rt, "read", text.len(), copying, || {

@@ -1,21 +1,13 @@
 //! What is measured together.
 
 use crate::planes::Picture;
-use crate::{edits, generations, joins, kernel, leaves, messages, patterns, planes};
+use crate::{generations, joins, messages, planes};
 use anyhow::Result;
 use std::alloc::Global;
 use std::rt::{Clock, Files};
 
 #[derive(Clone, Copy)]
 pub enum Group {
-    /// Edits of many cells.
-    Edits,
-    /// Pattern texts.
-    Patterns,
-    /// Blocks on bit planes.
-    Blocks,
-    /// Leaves merged and hashed.
-    Leaves,
     /// A plane of one clear.
     Clear,
     /// A plane of cells close together, and draws over it.
@@ -30,21 +22,30 @@ pub enum Group {
     Generations,
 }
 
-/// All groups, each with the word that names it.
-pub static GROUPS: [(&str, Group); 10] = [
-    ("edits", Group::Edits),
-    ("patterns", Group::Patterns),
-    ("blocks", Group::Blocks),
-    ("leaves", Group::Leaves),
-    ("clear", Group::Clear),
-    ("dense", Group::Dense),
-    ("scattered", Group::Scattered),
-    ("joins", Group::Joins),
-    ("messages", Group::Messages),
-    ("generations", Group::Generations),
+/// All groups, in the order in which they are measured.
+pub static GROUPS: [Group; 6] = [
+    Group::Clear,
+    Group::Dense,
+    Group::Scattered,
+    Group::Joins,
+    Group::Messages,
+    Group::Generations,
 ];
 
 impl Group {
+    /// The group that a word names.
+    pub fn of_name(name: &str) -> Option<Group> {
+        match name {
+            "clear" => Some(Group::Clear),
+            "dense" => Some(Group::Dense),
+            "scattered" => Some(Group::Scattered),
+            "joins" => Some(Group::Joins),
+            "messages" => Some(Group::Messages),
+            "generations" => Some(Group::Generations),
+            _ => None,
+        }
+    }
+
     pub fn run(
         self,
         rt: &(impl Clock + Files + Alloc + Print),
@@ -52,10 +53,6 @@ impl Group {
         is_timed: bool,
     ) -> Result<()> {
         match self {
-            Group::Edits => edits::run(rt, alloc, is_timed),
-            Group::Patterns => patterns::run(rt, alloc, is_timed),
-            Group::Blocks => kernel::run(rt, alloc, is_timed),
-            Group::Leaves => leaves::run(rt, alloc, is_timed),
             Group::Clear => planes::run(rt, alloc, Picture::Clear, is_timed),
             Group::Dense => planes::run(rt, alloc, Picture::Dense, is_timed),
             Group::Scattered => planes::run(rt, alloc, Picture::Scattered, is_timed),

@@ -2,9 +2,9 @@
 //! that shares half its coordinates, beside a copy of the text's bytes.
 
 use crate::cells::dense_plane;
+use crate::copies::quickest_on_copies;
 use crate::messages::beside::{measure_copy, measure_text, tell_text};
 use crate::messages::reading::{is_written_again, nodes_of};
-use crate::timing::quickest_on_copies;
 use anyhow::Result;
 use delta_exchange::{Message, read, write_state};
 use generations_rule::Rule;

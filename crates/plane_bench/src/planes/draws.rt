@@ -1,7 +1,7 @@
 //! Draws right into a plane of 2^20 cells.
 
 use crate::cells::{edits_in, there};
-use crate::timing::quickest_on_copies;
+use crate::copies::quickest_on_copies;
 use anyhow::Result;
 use edit_stamps::Edit;
 use samples::Part;

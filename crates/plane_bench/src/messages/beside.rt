@@ -1,8 +1,7 @@
 //! Work on a text, beside a copy of its bytes.
 
-use crate::timing::millions_a_second;
 use anyhow::Result;
-use samples::{quickest, tell_time};
+use samples::{millions_a_second, quickest, tell_time};
 use std::alloc::Global;
 use std::io;
 use std::rt::Clock;
