@@ -1,11 +1,15 @@
 //! Exports of small planes, beside what they must be.
 
+ghost use Rattle.edit_stamps.specs.PlaneMap.{HasStatesBelow};
+ghost use Rattle.stamped_tree.specs.Plane.{map_of};
+
 use edit_stamps::Cell;
 use export::{export, export_in_room, export_laws, export_within};
-use generation_engine::Engine;
+use generation_engine::{Engine, EngineFault};
 use generations_rule::Rule;
 use multistate_rle::{Pattern, parse};
 use samples::plane_of;
+use stamped_tree::Plane;
 use std::alloc::Global;
 use std::test::Fail;
 
@@ -134,17 +138,29 @@ fn cells_of(alloc: Global, pattern: &Pattern) -> Result<Vec<Cell>, Fail> {
     Ok(cells)
 }
 
+/// Runs an engine to a generation of a plane.
+fn run_to(engine: &mut Engine, plane: &Plane, generation: u32) -> Result<(), EngineFault>
+    requires { HasStatesBelow engine.old.rule.states (map_of plane.now) }
+{
+    engine.load(plane)?;
+    engine.run(generation)
+}
+
 /// Whether the text of a generation is read as the cells of an engine that was run so far.
 fn reads_back(alloc: Global, generation: u32) -> Result<bool, Fail> {
     let rule = Rule::parse(b"/2/3")?;
     let plane = plane_of(alloc, &rule, &SPREADING)?;
-    let mut engine = Engine::new(alloc, rule)?;
-    engine.load(&plane)?;
-    engine.run(generation)?;
     let text = export(alloc, &rule, &plane, generation)?;
-    let pattern = parse(alloc, &text)?;
+    let mut engine = Engine::new(alloc, rule)?;
+    run_to(&mut engine, &plane, generation)?;
+    tells(alloc, &text, &engine)
+}
+
+/// Whether a text tells the cells and the generation of an engine.
+fn tells(alloc: Global, text: &[u8], engine: &Engine) -> Result<bool, Fail> {
+    let pattern = parse(alloc, text)?;
     let cells = cells_of(alloc, &pattern)?;
-    Ok(cells == engine.cells()? && pattern.generation() == u64::from(generation))
+    Ok(cells == engine.cells()? && pattern.generation() == u64::from(engine.generation()))
 }
 
 #[test]

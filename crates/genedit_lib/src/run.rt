@@ -3,6 +3,7 @@
 ghost use Rattle.std.specs.Prelude.{◌≡◌, ◌≤◌, ◌⊎◌, ◌^◌, IfOk, IfErr};
 ghost use Rattle.genedit_io.specs.RunFault.{IsWant};
 ghost use Rattle.genedit_lib.specs.Output.{IsScriptOutput};
+ghost use Rattle.replica_core.specs.World.{AreReplies, opening};
 ghost use Rattle.genedit_lib.specs.Run.{IsScriptRun, IsUnprinted, PrintsAs, run_fault_of, run_fault_of_stop};
 
 use crate::output::output;
@@ -10,7 +11,8 @@ use crate::plan::planned;
 use devices::{Sink, Source};
 use genedit_io::{RunFault, pull_all, push_output};
 use genedit_script::{Script, ScriptFault, read_script};
-use replica_core::{Stop, replay_within};
+use generations_rule::Rule;
+use replica_core::{Event, Reply, Stop, replay_within};
 use std::alloc::Global;
 
 /// How many pulls a script has, at most.
@@ -70,9 +72,24 @@ fn script_output(alloc: Global, script: Script, nodes: u32) -> Result<Vec<u8>, S
 {
     let (rule, replicas) = (script.rule(), script.replicas());
     let plan = planned(alloc, script.into_commands())?;
-    let (_world, replies) = replay_within(alloc, rule, replicas, nodes, &plan.events)?;
+    let replies = replies_of(alloc, rule, replicas, nodes, &plan.events)?;
     let out = output(alloc, &plan.lines, &replies)?;
     Ok(out)
+}
+
+/// What new replicas of a rule reply to events.
+fn replies_of(
+    alloc: Global,
+    rule: Rule,
+    replicas: u16,
+    nodes: u32,
+    events: &[Event],
+) -> Result<Vec<Reply>, Stop>
+    requires { 1 ≤ nodes }
+    ensures { IfOk result (λ replies. AreReplies (opening rule replicas) events.now replies.items) }
+{
+    let (_world, replies) = replay_within(alloc, rule, replicas, nodes, events)?;
+    Ok(replies)
 }
 
 fn fault_of_script(fault: ScriptFault) -> RunFault

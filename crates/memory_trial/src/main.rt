@@ -22,17 +22,31 @@ type Answer = (&'static str, bool);
 
 fn main(rt: HostRuntime) -> io::Result<()> {
     let alloc = rt.alloc();
-    tell_all(&rt, &of_texts(alloc))?;
-    tell_all(&rt, &of_edits(alloc))?;
-    tell_all(&rt, &of_deltas(alloc))?;
-    tell_all(&rt, &of_planes(alloc))?;
-    tell_all(&rt, &of_states(alloc))?;
-    tell_all(&rt, &of_engines(alloc))?;
-    tell_all(&rt, &of_replicas(alloc))?;
-    tell_all(&rt, &of_exchanges(alloc))?;
-    tell_all(&rt, &of_exports(alloc))?;
-    tell_all(&rt, &of_frames(alloc))?;
-    tell_all(&rt, &of_scripts(alloc))
+    try_edits(&rt, alloc)?;
+    try_planes(&rt, alloc)?;
+    try_replicas(&rt, alloc)
+}
+
+/// What stands below planes.
+fn try_edits(rt: &impl Print, alloc: Global) -> io::Result<()> {
+    tell_all(rt, &of_texts(alloc))?;
+    tell_all(rt, &of_edits(alloc))?;
+    tell_all(rt, &of_deltas(alloc))
+}
+
+fn try_planes(rt: &impl Print, alloc: Global) -> io::Result<()> {
+    tell_all(rt, &of_planes(alloc))?;
+    tell_all(rt, &of_states(alloc))?;
+    tell_all(rt, &of_engines(alloc))
+}
+
+/// Replicas, and what is made of them.
+fn try_replicas(rt: &impl Print, alloc: Global) -> io::Result<()> {
+    tell_all(rt, &of_replicas(alloc))?;
+    tell_all(rt, &of_exchanges(alloc))?;
+    tell_all(rt, &of_exports(alloc))?;
+    tell_all(rt, &of_frames(alloc))?;
+    tell_all(rt, &of_scripts(alloc))
 }
 
 fn of_texts(alloc: Global) -> [Answer; 5] {

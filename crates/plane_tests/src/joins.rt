@@ -1,6 +1,5 @@
 //! Joins beside edits' own lists, equal stamps, and room.
 
-mod boxes;
 mod cleared;
 mod random;
 mod rooms;

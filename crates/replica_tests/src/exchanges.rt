@@ -146,8 +146,55 @@ fn two_edits_of_one_stamp_in_either_order(rt: HostRuntime) -> Result<(), Fail> {
     Ok(())
 }
 
-/// The bytes of a replica that drew two cells: its state, and so many edits from a place on; the number
-/// of the fault where there is none.
+/// How many bytes a replica that drew two cells gives of so many edits from a place on; and the number of
+/// the fault where it gives none.
+struct Portion {
+    from: u32,
+    count: u32,
+    bytes: usize,
+    fault: u8,
+}
+
+static PORTIONS: [Portion; 6] = [
+    Portion {
+        from: 0,
+        count: 2,
+        bytes: 58,
+        fault: 0,
+    },
+    Portion {
+        from: 1,
+        count: 1,
+        bytes: 36,
+        fault: 0,
+    },
+    Portion {
+        from: 2,
+        count: 0,
+        bytes: 14,
+        fault: 0,
+    },
+    Portion {
+        from: 2,
+        count: 1,
+        bytes: 0,
+        fault: 25,
+    },
+    Portion {
+        from: 3,
+        count: 0,
+        bytes: 0,
+        fault: 25,
+    },
+    Portion {
+        from: u32::MAX,
+        count: u32::MAX,
+        bytes: 0,
+        fault: 25,
+    },
+];
+
+/// The same two numbers, behind how many bytes the state of that replica has.
 fn given(alloc: Global, from: u32, count: u32) -> Result<(usize, usize, u8), Fail> {
     let mut replica = Replica::new(alloc, rule()?, 1)?;
     replica.draw(one_cell(alloc, 1)?)?;
@@ -161,12 +208,10 @@ fn given(alloc: Global, from: u32, count: u32) -> Result<(usize, usize, u8), Fai
 
 #[test]
 fn gives_what_its_journal_has(rt: HostRuntime) -> Result<(), Fail> {
-    assert_eq!(rt; given(rt.alloc(), 0, 2)?, (1371, 58, 0));
-    assert_eq!(rt; given(rt.alloc(), 1, 1)?, (1371, 36, 0));
-    assert_eq!(rt; given(rt.alloc(), 2, 0)?, (1371, 14, 0));
-    assert_eq!(rt; given(rt.alloc(), 2, 1)?, (1371, 0, 25));
-    assert_eq!(rt; given(rt.alloc(), 3, 0)?, (1371, 0, 25));
-    assert_eq!(rt; given(rt.alloc(), u32::MAX, u32::MAX)?, (1371, 0, 25));
+    for portion in &PORTIONS {
+        let told = given(rt.alloc(), portion.from, portion.count)?;
+        assert_eq!(rt; told, (1371, portion.bytes, portion.fault));
+    }
     Ok(())
 }
 

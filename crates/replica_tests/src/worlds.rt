@@ -153,7 +153,14 @@ fn tells_the_same_from_the_different(rt: HostRuntime) {
 fn replies_within(alloc: Global, nodes: u32, steps: &[Step]) -> Result<usize, Stop>
     requires { 1 ≤ nodes }
 {
-    let (_, replies) = replay_within(alloc, rule()?, 2, nodes, &events(alloc, steps)?)?;
+    let events = events(alloc, steps)?;
+    count_of_replies(alloc, nodes, &events)
+}
+
+fn count_of_replies(alloc: Global, nodes: u32, events: &[Event]) -> Result<usize, Stop>
+    requires { 1 ≤ nodes }
+{
+    let (_, replies) = replay_within(alloc, rule()?, 2, nodes, events)?;
     Ok(replies.len())
 }
 

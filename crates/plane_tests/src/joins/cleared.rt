@@ -1,6 +1,5 @@
 //! A clear, the same zeros listed, and either joined over a cell.
 
-use crate::joins::boxes::plane_of_edit;
 use crate::joins::ties::one_cell;
 use edit_stamps::{Edit, EditFault, Stamp};
 use samples::{AREA, show_the_same, zeros_listed};
@@ -23,18 +22,18 @@ fn covers_a_cell(alloc: Global, plane: &Plane) -> Result<bool, EditFault> {
     }
 }
 
-fn cleared(alloc: Global, stamp: Stamp) -> Result<Box<Plane>, EditFault> {
+fn cleared(alloc: Global, stamp: Stamp) -> Result<Plane, EditFault> {
     let clear = Edit::clear(alloc, stamp, AREA)?;
-    Ok(plane_of_edit(alloc, &clear)?)
+    Ok(Plane::of_edit(alloc, &clear)?)
 }
 
-fn listed(alloc: Global, stamp: Stamp) -> Result<Box<Plane>, EditFault> {
+fn listed(alloc: Global, stamp: Stamp) -> Result<Plane, EditFault> {
     let zeros = zeros_listed(alloc, stamp)?;
-    Ok(plane_of_edit(alloc, &zeros)?)
+    Ok(Plane::of_edit(alloc, &zeros)?)
 }
 
 /// Whether a plane is that of the zeros of its area, listed, and either covers a cell.
-fn is_listed(alloc: Global, plane: &Plane, zeros: Result<Box<Plane>, EditFault>) -> bool {
+fn is_listed(alloc: Global, plane: &Plane, zeros: Result<Plane, EditFault>) -> bool {
     match zeros {
         Ok(zeros) => {
             are_one(plane, &zeros)

@@ -1,6 +1,5 @@
 //! Joins of planes of random edits, beside the edits' own lists.
 
-use crate::joins::boxes::{boxed, plane_of_edit};
 use edit_stamps::{Corner, Edit, EditFault, Stamp, Write};
 use generations_rule::Rule;
 use samples::{CENTRES, REACH, edit_near, next, write_by};
@@ -86,7 +85,7 @@ fn compare(joined: &Plane, lists: Lists<'_>) -> Tally {
 
 /// Joins an edit.
 fn join_edit(alloc: Global, plane: &mut Plane, edit: &Edit) -> Result<(), EditFault> {
-    let drawn = plane_of_edit(alloc, edit)?;
+    let drawn = Plane::of_edit(alloc, edit)?;
     match join(alloc, plane, &drawn) {
         Ok(()) => Ok(()),
         Err(_) => Err(EditFault::Memory),
@@ -94,8 +93,8 @@ fn join_edit(alloc: Global, plane: &mut Plane, edit: &Edit) -> Result<(), EditFa
 }
 
 /// The plane of edits, joined one after another.
-fn plane_of(alloc: Global, edits: &[Edit]) -> Result<Box<Plane>, EditFault> {
-    let mut plane = boxed(alloc, Plane::new(alloc)?)?;
+fn plane_of(alloc: Global, edits: &[Edit]) -> Result<Plane, EditFault> {
+    let mut plane = Plane::new(alloc)?;
     for edit in edits {
         join_edit(alloc, &mut plane, edit)?;
     }
@@ -103,8 +102,8 @@ fn plane_of(alloc: Global, edits: &[Edit]) -> Result<Box<Plane>, EditFault> {
 }
 
 /// The join of two planes, in a store of its own.
-fn joined_with(alloc: Global, plane: &Plane, other: &Plane) -> Result<Box<Plane>, EditFault> {
-    let mut joined = boxed(alloc, plane.copy()?)?;
+fn joined_with(alloc: Global, plane: &Plane, other: &Plane) -> Result<Plane, EditFault> {
+    let mut joined = plane.copy()?;
     match join(alloc, &mut joined, other) {
         Ok(()) => Ok(joined),
         Err(_) => Err(EditFault::Memory),

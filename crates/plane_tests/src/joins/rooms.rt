@@ -1,6 +1,5 @@
 //! Joins into planes with little room.
 
-use crate::joins::boxes::boxed;
 use crate::joins::ties::{LATER, one_cell, two_draws};
 use edit_stamps::{EditFault, Write};
 use stamped_tree::{Plane, StoreFault};
@@ -11,7 +10,7 @@ use tree_join::join;
 /// What a plane of so much room answers that is joined with the two draws, how many squares it has then,
 /// and its write at the origin.
 fn with_room(alloc: Global, room: u32, draws: &Plane) -> Result<(bool, u32, Write), EditFault> {
-    let mut plane = boxed(alloc, Plane::with_room(alloc, room.max(1))?)?;
+    let mut plane = Plane::with_room(alloc, room.max(1))?;
     let answer = join(alloc, &mut plane, draws);
     Ok((
         answer == Err(StoreFault::StoreFull),
@@ -35,7 +34,7 @@ fn a_join_is_refused_below_thirty_squares(rt: HostRuntime) -> Result<(), Fail> {
 
 /// The same of a plane that has a cell: a leaf and 28 squares of four more.
 fn into_a_cell(alloc: Global, room: u32) -> Result<(bool, u32, u8), EditFault> {
-    let mut plane = boxed(alloc, Plane::with_room(alloc, room.max(1))?)?;
+    let mut plane = Plane::with_room(alloc, room.max(1))?;
     let first = join_cell(alloc, &mut plane, 1)?;
     let second = join_cell(alloc, &mut plane, 2)?;
     Ok((

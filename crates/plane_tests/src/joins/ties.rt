@@ -1,6 +1,5 @@
 //! Two edits of one cell with one counter, and what a plane of one square can take of them.
 
-use crate::joins::boxes::{boxed, plane_of_edit};
 use edit_stamps::{Cell, Edit, EditFault, Stamp, Write};
 use generations_rule::Rule;
 use stamped_tree::{Plane, StoreFault};
@@ -9,17 +8,17 @@ use std::test::Fail;
 use tree_join::{add_joined, at_most, join, same, same_remembered};
 
 /// The plane of a draw of the origin at counter 1.
-pub fn one_cell(alloc: Global, replica: u16, state: u8) -> Result<Box<Plane>, EditFault> {
+pub fn one_cell(alloc: Global, replica: u16, state: u8) -> Result<Plane, EditFault> {
     let (Ok(rule), Some(stamp)) = (Rule::parse(b"/2/3"), Stamp::new(1, replica)) else {
         return Err(EditFault::Nothing);
     };
     let cell = Cell { x: 0, y: 0, state };
     let edit = Edit::cells(alloc, &rule, stamp, &[cell])?;
-    Ok(plane_of_edit(alloc, &edit)?)
+    Ok(Plane::of_edit(alloc, &edit)?)
 }
 
 /// Replica 1 draws state 1, and replica 2 state 2.
-pub fn two_draws(alloc: Global) -> Result<Box<Plane>, EditFault> {
+pub fn two_draws(alloc: Global) -> Result<Plane, EditFault> {
     let mut plane = one_cell(alloc, 1, 1)?;
     let other = one_cell(alloc, 2, 2)?;
     match join(alloc, &mut plane, &other) {
@@ -47,7 +46,7 @@ fn joined(
 
 /// The same of a plane with room for one square.
 fn joined_full(alloc: Global) -> Result<(Result<(), StoreFault>, Write, u32), EditFault> {
-    let mut plane = boxed(alloc, Plane::with_room(alloc, 1)?)?;
+    let mut plane = Plane::with_room(alloc, 1)?;
     joined(alloc, &mut plane)
 }
 
@@ -59,7 +58,7 @@ fn a_full_plane_keeps_its_map(rt: HostRuntime) -> Result<(), Fail> {
 
 /// The same of a new plane.
 fn joined_new(alloc: Global) -> Result<(Result<(), StoreFault>, Write, u32), EditFault> {
-    let mut plane = boxed(alloc, Plane::new(alloc)?)?;
+    let mut plane = Plane::new(alloc)?;
     joined(alloc, &mut plane)
 }
 

@@ -2,7 +2,7 @@
 
 use crate::messages::deltas::{brians_brain, rewritten};
 use crate::messages::states::text_of;
-use delta_exchange::{ReadFault, read, write_delta, write_state};
+use delta_exchange::{Message, ReadFault, read, write_delta, write_state};
 use edit_stamps::{Cell, Edit, EditFault, Rect, Stamp};
 use generations_rule::Rule;
 use stamped_tree::Plane;
@@ -112,14 +112,25 @@ fn read_alike(a: &Plane, b: &Plane, edit: &Edit) -> bool {
 fn is_told_again(alloc: Global, rule: &Rule, edit: &Edit) -> Result<bool, AllocError> {
     let plane = Plane::of_edit(alloc, edit)?;
     let text = write_state(alloc, rule, &plane)?;
-    let message = match read(alloc, rule, &text) {
-        Ok(message) => message,
-        Err(ReadFault::Memory) => return Err(AllocError),
-        Err(_) => return Ok(false),
-    };
-    let same = text_of(alloc, rule, &message)?.as_slice() == text.as_slice();
+    match read(alloc, rule, &text) {
+        Ok(message) => tells(alloc, rule, &message, &text, &plane, edit),
+        Err(ReadFault::Memory) => Err(AllocError),
+        Err(_) => Ok(false),
+    }
+}
+
+/// Whether a message has this text, and a plane that reads as another does.
+fn tells(
+    alloc: Global,
+    rule: &Rule,
+    message: &Message,
+    text: &[u8],
+    plane: &Plane,
+    edit: &Edit,
+) -> Result<bool, AllocError> {
+    let is_same = text_of(alloc, rule, message)?.as_slice() == text;
     match message.plane() {
-        Some(again) => Ok(same && read_alike(&plane, again, edit)),
+        Some(again) => Ok(is_same && read_alike(plane, again, edit)),
         None => Ok(false),
     }
 }

@@ -1,5 +1,7 @@
 //! States: worked texts, each byte of one, and each room.
 
+ghost use Rattle.std.specs.Prelude.{◌≤◌};
+
 use crate::messages::deltas::{ONE_CELL, brians_brain};
 use delta_exchange::{Message, ReadFault, read, read_within, write_delta, write_state};
 use edit_stamps::{Cell, Edit, EditFault, Stamp, Write};
@@ -75,13 +77,29 @@ fn one_cell_text(alloc: Global) -> Result<Vec<u8>, Fail> {
     Ok(write_state(alloc, &rule, &plane)?)
 }
 
+/// Whether what is read of a text is written again as it was.
+fn is_retold(alloc: Global, rule: &Rule, text: &[u8]) -> Result<bool, AllocError> {
+    match retold(alloc, rule, text)? {
+        Ok(told) => Ok(told.as_slice() == text),
+        Err(_) => Ok(false),
+    }
+}
+
+/// The text of a new plane.
+fn empty_text(alloc: Global, rule: &Rule) -> Result<Vec<u8>, AllocError> {
+    write_state(alloc, rule, &Plane::new(alloc)?)
+}
+
 #[test]
 fn the_empty_plane_is_written_and_read(rt: HostRuntime) -> Result<(), Fail> {
     let rule = brians_brain()?;
-    let plane = Plane::new(rt.alloc())?;
-    assert!(rt; write_state(rt.alloc(), &rule, &plane)?.as_slice() == EMPTY.as_slice());
-    let told = retold(rt.alloc(), &rule, &EMPTY)??;
-    assert!(rt; told.as_slice() == EMPTY.as_slice());
+    assert!(rt; empty_text(rt.alloc(), &rule)?.as_slice() == EMPTY.as_slice());
+    assert!(rt; is_retold(rt.alloc(), &rule, &EMPTY)?);
+    Ok(())
+}
+
+#[test]
+fn nothing_may_stand_behind_a_plane(rt: HostRuntime) -> Result<(), Fail> {
     let mut longer = [0; 20];
     longer[..19].copy_from_slice(&EMPTY);
     assert_eq!(rt; fault_of(rt.alloc(), &longer)?, Some(ReadFault::Trailing));
@@ -101,24 +119,43 @@ fn a_blank_is_not_spelt_out(rt: HostRuntime) -> Result<(), Fail> {
     Ok(())
 }
 
+/// The writes at the origin and beside it that are read of a text, and how many squares.
+fn writes_read(
+    alloc: Global,
+    rule: &Rule,
+    text: &[u8],
+) -> Result<Option<(Write, Write, u32)>, ReadFault> {
+    let message = read(alloc, rule, text)?;
+    Ok(
+        message
+            .plane()
+            .map(|plane| (plane.get(0, 0), plane.get(1, 0), plane.nodes())),
+    )
+}
+
 #[test]
 fn one_written_cell_is_written_and_read(rt: HostRuntime) -> Result<(), Fail> {
     let rule = brians_brain()?;
     let text = one_cell_text(rt.alloc())?;
     assert_eq!(rt; text.len(), 1371);
-    let message = read(rt.alloc(), &rule, &text)?;
-    let plane = message.plane().ok_or("a map")?;
-    assert_eq!(rt;
-        plane.get(0, 0),
-        Write {
-            stamp: 65537,
-            state: 1
-        }
-    );
-    assert_eq!(rt; plane.get(1, 0), Write { stamp: 0, state: 0 });
-    assert_eq!(rt; plane.nodes(), 30);
-    assert!(rt; text_of(rt.alloc(), &rule, &message)?.as_slice() == text.as_slice());
+    let cell = Write {
+        stamp: 65537,
+        state: 1,
+    };
+    assert!(rt; writes_read(rt.alloc(), &rule, &text)? == Some((cell, Write::UNWRITTEN, 30)));
+    assert!(rt; is_retold(rt.alloc(), &rule, &text)?);
     Ok(())
+}
+
+/// Whether what is read of a text into so much room is written again as it was.
+fn is_retold_within(alloc: Global, rule: &Rule, text: &[u8], room: u32) -> Result<bool, ReadFault>
+    requires { 1 ≤ room }
+{
+    let message = read_within(alloc, rule, text, room)?;
+    match text_of(alloc, rule, &message) {
+        Ok(told) => Ok(told.as_slice() == text),
+        Err(AllocError) => Err(ReadFault::Memory),
+    }
 }
 
 /// The plane of one cell has 30 squares: with room for fewer its text is not read.
@@ -127,11 +164,10 @@ fn room_is_wanted_for_each_square(rt: HostRuntime) -> Result<(), Fail> {
     let rule = brians_brain()?;
     let text = one_cell_text(rt.alloc())?;
     for room in 1..30_u32 {
-        let answer = read_within(rt.alloc(), &rule, &text, room).map(|_message| ());
+        let answer = is_retold_within(rt.alloc(), &rule, &text, room);
         assert_eq!(rt; answer, Err(ReadFault::StoreFull));
     }
-    let message = read_within(rt.alloc(), &rule, &text, 30)?;
-    assert!(rt; text_of(rt.alloc(), &rule, &message)?.as_slice() == text.as_slice());
+    assert_eq!(rt; is_retold_within(rt.alloc(), &rule, &text, 30), Ok(true));
     Ok(())
 }
 
@@ -219,16 +255,56 @@ fn faults_of_squares_are_told(rt: HostRuntime) -> Result<(), Fail> {
     Ok(())
 }
 
-/// The fault of the text of one cell with three of its bytes set: the counter's last, the replica's
-/// last, and the state.
-fn fault_of_write(
-    alloc: Global,
+/// The text of one cell with three of its bytes set, and its first fault.
+struct Written {
+    /// The counter's last byte.
     counter: u8,
+    /// The replica's last.
     replica: u8,
     state: u8,
-) -> Result<Option<ReadFault>, Fail> {
+    fault: Option<ReadFault>,
+}
+
+static WRITTEN: [Written; 5] = [
+    Written {
+        counter: 1,
+        replica: 1,
+        state: 2,
+        fault: None,
+    },
+    Written {
+        counter: 1,
+        replica: 1,
+        state: 3,
+        fault: Some(ReadFault::StateRange),
+    },
+    Written {
+        counter: 0,
+        replica: 1,
+        state: 3,
+        fault: Some(ReadFault::StampRange),
+    },
+    Written {
+        counter: 0,
+        replica: 0,
+        state: 1,
+        fault: Some(ReadFault::StampRange),
+    },
+    Written {
+        counter: 0,
+        replica: 0,
+        state: 0,
+        fault: Some(ReadFault::NotCanonical),
+    },
+];
+
+fn fault_of_write(alloc: Global, written: &Written) -> Result<Option<ReadFault>, Fail> {
     let mut text = one_cell_text(alloc)?;
-    for (place, value) in [(71, counter), (73, replica), (74, state)] {
+    for (place, value) in [
+        (71, written.counter),
+        (73, written.replica),
+        (74, written.state),
+    ] {
         if let Some(byte) = text.get_mut(place) {
             *byte = value;
         }
@@ -238,23 +314,9 @@ fn fault_of_write(
 
 #[test]
 fn faults_of_a_write_are_told_in_order(rt: HostRuntime) -> Result<(), Fail> {
-    assert_eq!(rt; fault_of_write(rt.alloc(), 1, 1, 2)?, None);
-    assert_eq!(rt;
-        fault_of_write(rt.alloc(), 1, 1, 3)?,
-        Some(ReadFault::StateRange)
-    );
-    assert_eq!(rt;
-        fault_of_write(rt.alloc(), 0, 1, 3)?,
-        Some(ReadFault::StampRange)
-    );
-    assert_eq!(rt;
-        fault_of_write(rt.alloc(), 0, 0, 1)?,
-        Some(ReadFault::StampRange)
-    );
-    assert_eq!(rt;
-        fault_of_write(rt.alloc(), 0, 0, 0)?,
-        Some(ReadFault::NotCanonical)
-    );
+    for written in &WRITTEN {
+        assert_eq!(rt; fault_of_write(rt.alloc(), written)?, written.fault);
+    }
     Ok(())
 }
 
@@ -298,13 +360,17 @@ fn faults_of_either_head_are_told(rt: HostRuntime) -> Result<(), Fail> {
     Ok(())
 }
 
+/// How many edits are read of a text, and whether they are all of it, under this rule.
+fn edits_read(alloc: Global, rule: &Rule, text: &[u8]) -> Result<(Option<usize>, bool), ReadFault> {
+    let message = read(alloc, rule, text)?;
+    let edits = message.edits().map(|edits| edits.len());
+    Ok((edits, message.plane().is_none() && message.rule() == *rule))
+}
+
 #[test]
 fn a_delta_is_read_as_edits(rt: HostRuntime) -> Result<(), Fail> {
     let rule = brians_brain()?;
-    let message = read(rt.alloc(), &rule, &ONE_CELL)?;
-    assert_eq!(rt; message.edits().map(|edits| edits.len()), Some(1));
-    assert!(rt; message.plane().is_none());
-    assert!(rt; message.rule() == rule);
-    assert!(rt; text_of(rt.alloc(), &rule, &message)?.as_slice() == ONE_CELL.as_slice());
+    assert!(rt; edits_read(rt.alloc(), &rule, &ONE_CELL)? == (Some(1), true));
+    assert!(rt; is_retold(rt.alloc(), &rule, &ONE_CELL)?);
     Ok(())
 }

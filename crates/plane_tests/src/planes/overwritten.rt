@@ -185,19 +185,25 @@ fn with_room(alloc: Global, room: u32, edits: &(Edit, Edit)) -> Result<Drawn, Al
     })
 }
 
-/// A blank, a leaf and 28 squares of four are the first edit's plane.
+/// How many rooms, from one square on, are too small for the second edit; nothing where a plane is not
+/// as it should be. A blank, a leaf and 28 squares of four are the first edit's plane.
+fn rooms_refused(alloc: Global, edits: &(Edit, Edit)) -> Result<Option<u32>, AllocError> {
+    for room in 1..300 {
+        let drawn = with_room(alloc, room, edits)?;
+        if !drawn.is_right(room) || drawn.first.is_ok() != (room >= 30) {
+            return Ok(None);
+        }
+        if drawn.second.is_ok() {
+            return Ok(Some(room - 1));
+        }
+    }
+    Ok(None)
+}
+
 #[test]
 fn an_edit_that_finds_no_room_leaves_the_map(rt: HostRuntime) -> Result<(), Fail> {
     let edits = two_edits(rt.alloc())?;
-    for room in 1..300 {
-        let drawn = with_room(rt.alloc(), room, &edits)?;
-        assert!(rt; drawn.is_right(room), "{room}");
-        assert_eq!(rt; drawn.first.is_ok(), room >= 30, "{room}");
-        if drawn.second.is_ok() {
-            assert!(rt; room > 60, "{room}");
-            return Ok(());
-        }
-    }
-    assert!(rt; false, "no room is enough");
+    let refused = rooms_refused(rt.alloc(), &edits)?;
+    assert!(rt; refused.is_some_and(|rooms| rooms >= 60));
     Ok(())
 }
