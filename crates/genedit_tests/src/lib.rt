@@ -10,6 +10,8 @@ mod faulty;
 #[cfg(test)]
 mod patterns;
 #[cfg(test)]
+mod printed;
+#[cfg(test)]
 mod runs;
 #[cfg(test)]
 mod scripts;

@@ -3,6 +3,7 @@
 ghost use Rattle.std.specs.Prelude.{◌≤◌};
 
 use crate::faulty::{Broken, Pieces};
+use crate::printed::Printed;
 use crate::told;
 use devices::{ReadSource, WriteSink};
 use genedit_lib::{RunFault, run_script, run_script_within};
@@ -36,46 +37,55 @@ const EXCHANGE: &str = "rule /2/3\nreplicas 2\ncells 1 0 0 1\ncells 2 0 0 2\nsta
 const EXCHANGED: &str =
     "drawn 1 1\ndrawn 1 2\nsent 1\nsent 2\ntaken\ntaken\ncell 2 1 2\ncell 2 1 2\n";
 
-#[test]
-fn ties_go_to_the_greater_replica(rt: HostRuntime) -> Result<(), AllocError> {
-    assert_eq!(rt; run(rt.alloc(), EXCHANGE.as_bytes())?.as_str(), EXCHANGED);
-    Ok(())
-}
-
-#[test]
-fn counters_go_on_from_what_was_taken(rt: HostRuntime) -> Result<(), AllocError> {
-    let script =
-        b"rule /2/3\nreplicas 2\ncells 1 3 3 1\ncells 1 3 3 1\ncells 1 3 3 1\ncells 1 3 3 1\n\
-        cells 1 3 3 1\nstate 1\ndeliver 1 2\ncells 2 3 3 2\nstate 2\ndeliver 2 1\nshow 1 3 3\n";
-    assert_eq!(rt;
-        run(rt.alloc(), script)?.as_str(),
-        "drawn 1 1\ndrawn 2 1\ndrawn 3 1\ndrawn 4 1\ndrawn 5 1\nsent 1\ntaken\ndrawn 6 2\n\
-        sent 2\ntaken\ncell 2 6 2\n"
-    );
-    Ok(())
-}
-
-#[test]
-fn replicas_are_the_same_or_differ(rt: HostRuntime) -> Result<(), AllocError> {
-    let script = b"rule /2/3\nreplicas 2\nsame 1 2\ncells 1 0 0 1\nsame 1 2\nstate 1\n\
-        deliver 1 2\nsame 1 2\nsame 1 3\n";
-    assert_eq!(rt;
-        run(rt.alloc(), script)?.as_str(),
-        "same\ndrawn 1 1\ndiffer\nsent 1\ntaken\nsame\nrefused 26 NoReplica\n"
-    );
-    Ok(())
-}
-
-#[test]
-fn messages_are_dumped(rt: HostRuntime) -> Result<(), AllocError> {
-    let script =
-        b"rule /2/3\nreplicas 1\nstate 1\ncells 1 0 0 1\ndelta 1 0 1\ndump 1\ndump 2\ndump 3\n";
-    assert_eq!(rt;
-        run(rt.alloc(), script)?.as_str(),
-        "sent 1\ndrawn 1 1\nsent 2\n474c575301042f322f33000000000000000000\n\
+static SCRIPTS: [Printed; 6] = [
+    // Ties go to the greater replica.
+    Printed {
+        script: EXCHANGE,
+        printed: EXCHANGED,
+    },
+    // Counters go on from what was taken.
+    Printed {
+        script: "rule /2/3\nreplicas 2\ncells 1 3 3 1\ncells 1 3 3 1\ncells 1 3 3 1\ncells 1 3 3 1\n\
+        cells 1 3 3 1\nstate 1\ndeliver 1 2\ncells 2 3 3 2\nstate 2\ndeliver 2 1\nshow 1 3 3\n",
+        printed: "drawn 1 1\ndrawn 2 1\ndrawn 3 1\ndrawn 4 1\ndrawn 5 1\nsent 1\ntaken\ndrawn 6 2\n\
+        sent 2\ntaken\ncell 2 6 2\n",
+    },
+    // Replicas are the same or differ.
+    Printed {
+        script: "rule /2/3\nreplicas 2\nsame 1 2\ncells 1 0 0 1\nsame 1 2\nstate 1\n\
+        deliver 1 2\nsame 1 2\nsame 1 3\n",
+        printed: "same\ndrawn 1 1\ndiffer\nsent 1\ntaken\nsame\nrefused 26 NoReplica\n",
+    },
+    // Messages are dumped.
+    Printed {
+        script: "rule /2/3\nreplicas 1\nstate 1\ncells 1 0 0 1\ndelta 1 0 1\ndump 1\ndump 2\ndump 3\n",
+        printed: "sent 1\ndrawn 1 1\nsent 2\n474c575301042f322f33000000000000000000\n\
         474c574401042f322f330000000100000000000100010000000001400000004000000001\n\
-        refused 27 NoMessage\n"
-    );
+        refused 27 NoMessage\n",
+    },
+    // Refusals are printed.
+    Printed {
+        script: "rule 345/2/4\nreplicas 1\ncells 1 1073741824 0 1\ncells 1 0 0 4\nshow 1 0 0\n\
+        cells 1 0 0 3 0 0 2\nshow 1 0 0\nshow 2 0 0\ndeliver 1 2\n",
+        printed: "refused 10 OutOfPlane\nrefused 11 StateRange\ncell 0 0 0\ndrawn 1 1\ncell 2 1 1\n\
+        refused 26 NoReplica\nrefused 27 NoMessage\n",
+    },
+    // Lines and words are read.
+    Printed {
+        script: "# a\r\n\r\n \t# b\nrule /2/3\r\n\treplicas   064\t\n\n  cells\t64 -0002147483648 2147483647 255\n\
+        deliver 4294967295 4294967295\nshow 0 -1 0",
+        printed: "refused 10 OutOfPlane\nrefused 27 NoMessage\nrefused 26 NoReplica\n",
+    },
+];
+
+#[test]
+fn scripts_print_a_line_for_each_command(rt: HostRuntime) -> Result<(), AllocError> {
+    for case in &SCRIPTS {
+        assert_eq!(rt;
+            run(rt.alloc(), case.script.as_bytes())?.as_str(),
+            case.printed
+        );
+    }
     Ok(())
 }
 
@@ -98,43 +108,32 @@ fn shortened(alloc: Global, script: &[u8]) -> Result<String, AllocError> {
     Ok(told)
 }
 
-#[test]
-fn a_clear_comes_after_what_it_cleared(rt: HostRuntime) -> Result<(), AllocError> {
-    let script =
-        b"rule /2/3\nreplicas 2\ncells 1 0 0 1\nclear 1 0 0 8 8\ndelta 1 0 1\ndelta 1 1 1\n\
+static EXCHANGES: [Printed; 2] = [
+    // A clear comes after what it cleared.
+    Printed {
+        script: "rule /2/3\nreplicas 2\ncells 1 0 0 1\nclear 1 0 0 8 8\ndelta 1 0 1\ndelta 1 1 1\n\
         deliver 2 2\nstate 2\ndeliver 1 2\nstate 2\nstate 1\nshow 2 0 0\nshow 2 8 8\nsame 1 2\n\
-        dump 3\ndump 4\ndump 5\n";
-    assert_eq!(rt;
-        shortened(rt.alloc(), script)?.as_str(),
-        "drawn 1 1\ndrawn 2 1\nsent 1\nsent 2\ntaken\nsent 3\ntaken\nsent 4\nsent 5\ncell 0 2 1\n\
-        cell 0 0 0\nsame\n803 bytes\nagain\nagain\n"
-    );
-    Ok(())
-}
+        dump 3\ndump 4\ndump 5\n",
+        printed: "drawn 1 1\ndrawn 2 1\nsent 1\nsent 2\ntaken\nsent 3\ntaken\nsent 4\nsent 5\ncell 0 2 1\n\
+        cell 0 0 0\nsame\n803 bytes\nagain\nagain\n",
+    },
+    // A delta comes after its map.
+    Printed {
+        script: "rule /2/3\nreplicas 2\ncells 1 0 0 1\ndelta 1 0 1\nstate 1\ndeliver 1 2\nstate 2\n\
+        deliver 2 2\ndeliver 1 2\ndeliver 1 2\nstate 2\nsame 1 2\ndelta 2 1 1\ndump 2\ndump 3\ndump 4\n",
+        printed: "drawn 1 1\nsent 1\nsent 2\ntaken\nsent 3\ntaken\ntaken\ntaken\nsent 4\nsame\n\
+        refused 25 NoSuchEdit\n1371 bytes\nagain\nagain\n",
+    },
+];
 
 #[test]
-fn a_delta_comes_after_its_map(rt: HostRuntime) -> Result<(), AllocError> {
-    let script =
-        b"rule /2/3\nreplicas 2\ncells 1 0 0 1\ndelta 1 0 1\nstate 1\ndeliver 1 2\nstate 2\n\
-        deliver 2 2\ndeliver 1 2\ndeliver 1 2\nstate 2\nsame 1 2\ndelta 2 1 1\ndump 2\ndump 3\ndump 4\n";
-    assert_eq!(rt;
-        shortened(rt.alloc(), script)?.as_str(),
-        "drawn 1 1\nsent 1\nsent 2\ntaken\nsent 3\ntaken\ntaken\ntaken\nsent 4\nsame\n\
-        refused 25 NoSuchEdit\n1371 bytes\nagain\nagain\n"
-    );
-    Ok(())
-}
-
-#[test]
-fn areas_are_refused(rt: HostRuntime) -> Result<(), AllocError> {
-    let script =
-        b"rule /2/3\nreplicas 1\nclear 1 -4 -4 9 9\nshow 1 4 4\nshow 1 5 5\nclear 1 0 0 0 3\n\
-        clear 1 0 0 4097 1\nclear 1 1073741823 0 2 1\ncopy 1 q 0 0\n";
-    assert_eq!(rt;
-        run(rt.alloc(), script)?.as_str(),
-        "drawn 1 1\ncell 0 1 1\ncell 0 0 0\nrefused 9 Nothing\nrefused 12 AreaSide\n\
-        refused 10 OutOfPlane\nrefused 38 NoPattern\n"
-    );
+fn what_comes_again_or_late_changes_no_cell(rt: HostRuntime) -> Result<(), AllocError> {
+    for case in &EXCHANGES {
+        assert_eq!(rt;
+            shortened(rt.alloc(), case.script.as_bytes())?.as_str(),
+            case.printed
+        );
+    }
     Ok(())
 }
 
@@ -156,30 +155,6 @@ fn a_full_store_prints_nothing(rt: HostRuntime) -> Result<(), AllocError> {
         "store full, 0 bytes"
     );
     assert_eq!(rt; end_within(rt.alloc(), script, 30)?.as_str(), "drawn 1 1\n");
-    Ok(())
-}
-
-#[test]
-fn refusals_are_printed(rt: HostRuntime) -> Result<(), AllocError> {
-    let script = b"rule 345/2/4\nreplicas 1\ncells 1 1073741824 0 1\ncells 1 0 0 4\nshow 1 0 0\n\
-        cells 1 0 0 3 0 0 2\nshow 1 0 0\nshow 2 0 0\ndeliver 1 2\n";
-    assert_eq!(rt;
-        run(rt.alloc(), script)?.as_str(),
-        "refused 10 OutOfPlane\nrefused 11 StateRange\ncell 0 0 0\ndrawn 1 1\ncell 2 1 1\n\
-        refused 26 NoReplica\nrefused 27 NoMessage\n"
-    );
-    Ok(())
-}
-
-#[test]
-fn lines_and_words_are_read(rt: HostRuntime) -> Result<(), AllocError> {
-    let script =
-        b"# a\r\n\r\n \t# b\nrule /2/3\r\n\treplicas   064\t\n\n  cells\t64 -0002147483648 2147483647 255\n\
-        deliver 4294967295 4294967295\nshow 0 -1 0";
-    assert_eq!(rt;
-        run(rt.alloc(), script)?.as_str(),
-        "refused 10 OutOfPlane\nrefused 27 NoMessage\nrefused 26 NoReplica\n"
-    );
     Ok(())
 }
 

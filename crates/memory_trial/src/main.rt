@@ -27,20 +27,21 @@ fn main(rt: HostRuntime) -> io::Result<()> {
     try_replicas(&rt, alloc)
 }
 
-/// What stands below planes.
+/// Texts, edits and deltas.
 fn try_edits(rt: &impl Print, alloc: Global) -> io::Result<()> {
     tell_all(rt, &of_texts(alloc))?;
     tell_all(rt, &of_edits(alloc))?;
     tell_all(rt, &of_deltas(alloc))
 }
 
+/// Planes, states and universes.
 fn try_planes(rt: &impl Print, alloc: Global) -> io::Result<()> {
     tell_all(rt, &of_planes(alloc))?;
     tell_all(rt, &of_states(alloc))?;
     tell_all(rt, &of_engines(alloc))
 }
 
-/// Replicas, and what is made of them.
+/// Replicas, exports, frames and scripts.
 fn try_replicas(rt: &impl Print, alloc: Global) -> io::Result<()> {
     tell_all(rt, &of_replicas(alloc))?;
     tell_all(rt, &of_exchanges(alloc))?;
