@@ -1,8 +1,5 @@
-//! Who wrote what when, and which write wins: stamps, writes and edits of a shared plane.
-//!
-//! Each coordinate holds a last-writer-wins register (Shapiro et al., INRIA RR-7506) whose stamps
-//! are Lamport's (1978). Writes with equal stamps are ordered by their states, so that any two
-//! writes have one greater.
+//! Who wrote what when: stamps, which are Lamport's (1978), and edits of a shared plane. Which of two
+//! writes wins is told by `stamped_writes`.
 #![tactic(auto)]
 
 mod edit;

@@ -84,12 +84,7 @@ fn spelled_paste(arguments: &[u8]) -> Option<SpelledPaste<'_>>
     ensures { option_map (λ paste. record { replica = paste.replica; name = paste.name.now; x = paste.x; y = paste.y }) result ≡ paste_spelled (words arguments.now) }
 {
     let (replica, rest) = split_word(arguments)?;
-    let (name, rest) = split_word(rest)?;
-    let (x, rest) = split_word(rest)?;
-    let (y, rest) = split_word(rest)?;
-    if !ends(rest) {
-        return None;
-    }
+    let (name, x, y) = three_words(rest)?;
     let replica = unsigned(replica)?;
     let name = name_in(name)?;
     let x = signed(x)?;
@@ -172,10 +167,7 @@ fn draw_in(alloc: Global, arguments: &[u8]) -> Result<Option<Event>, AllocError>
 fn send_in(arguments: &[u8]) -> Option<Event>
     ensures { result ≡ sending_spelled (words arguments.now) }
 {
-    let (replica, rest) = split_word(arguments)?;
-    if !ends(rest) {
-        return None;
-    }
+    let replica = only_word(arguments)?;
     Some(Event::SendState(unsigned(replica)?))
 }
 
@@ -183,12 +175,7 @@ fn send_in(arguments: &[u8]) -> Option<Event>
 fn delta_in(arguments: &[u8]) -> Option<Event>
     ensures { result ≡ delta_spelled (words arguments.now) }
 {
-    let (replica, rest) = split_word(arguments)?;
-    let (from, rest) = split_word(rest)?;
-    let (count, rest) = split_word(rest)?;
-    if !ends(rest) {
-        return None;
-    }
+    let (replica, from, count) = three_words(arguments)?;
     Some(Event::SendDelta(unsigned(replica)?, unsigned(from)?, unsigned(count)?))
 }
 
@@ -196,11 +183,7 @@ fn delta_in(arguments: &[u8]) -> Option<Event>
 fn delivery_in(arguments: &[u8]) -> Option<Event>
     ensures { result ≡ delivery_spelled (words arguments.now) }
 {
-    let (message, rest) = split_word(arguments)?;
-    let (replica, rest) = split_word(rest)?;
-    if !ends(rest) {
-        return None;
-    }
+    let (message, replica) = two_words(arguments)?;
     let message = unsigned(message)?;
     Some(Event::Deliver(u64::from(message), unsigned(replica)?))
 }
@@ -209,12 +192,7 @@ fn delivery_in(arguments: &[u8]) -> Option<Event>
 fn show_in(arguments: &[u8]) -> Option<Event>
     ensures { result ≡ show_spelled (words arguments.now) }
 {
-    let (replica, rest) = split_word(arguments)?;
-    let (x, rest) = split_word(rest)?;
-    let (y, rest) = split_word(rest)?;
-    if !ends(rest) {
-        return None;
-    }
+    let (replica, x, y) = three_words(arguments)?;
     Some(Event::Show(unsigned(replica)?, signed(x)?, signed(y)?))
 }
 
@@ -222,11 +200,7 @@ fn show_in(arguments: &[u8]) -> Option<Event>
 fn same_in(arguments: &[u8]) -> Option<Event>
     ensures { result ≡ same_spelled (words arguments.now) }
 {
-    let (one, rest) = split_word(arguments)?;
-    let (other, rest) = split_word(rest)?;
-    if !ends(rest) {
-        return None;
-    }
+    let (one, other) = two_words(arguments)?;
     Some(Event::Same(unsigned(one)?, unsigned(other)?))
 }
 
@@ -234,10 +208,7 @@ fn same_in(arguments: &[u8]) -> Option<Event>
 fn dump_in(arguments: &[u8]) -> Option<Event>
     ensures { result ≡ dump_spelled (words arguments.now) }
 {
-    let (message, rest) = split_word(arguments)?;
-    if !ends(rest) {
-        return None;
-    }
+    let message = only_word(arguments)?;
     Some(Event::Dump(u64::from(unsigned(message)?)))
 }
 
@@ -245,11 +216,7 @@ fn dump_in(arguments: &[u8]) -> Option<Event>
 fn export_in(arguments: &[u8]) -> Option<Event>
     ensures { result ≡ export_spelled (words arguments.now) }
 {
-    let (replica, rest) = split_word(arguments)?;
-    let (generation, rest) = split_word(rest)?;
-    if !ends(rest) {
-        return None;
-    }
+    let (replica, generation) = two_words(arguments)?;
     Some(Event::Export(unsigned(replica)?, unsigned(generation)?))
 }
 
@@ -259,12 +226,7 @@ fn clear_in(arguments: &[u8]) -> Option<Event>
 {
     let (replica, rest) = split_word(arguments)?;
     let (x, rest) = split_word(rest)?;
-    let (y, rest) = split_word(rest)?;
-    let (width, rest) = split_word(rest)?;
-    let (height, rest) = split_word(rest)?;
-    if !ends(rest) {
-        return None;
-    }
+    let (y, width, height) = three_words(rest)?;
     let replica = unsigned(replica)?;
     let area = area_in(x, y, width, height)?;
     Some(Event::Draw(replica, EditSpec::Clear(area)))
@@ -337,15 +299,34 @@ fn unsigned(word: &[u8]) -> Option<u32>
 fn argument_of<'a>(name: &[u8], line: &'a [u8]) -> Option<&'a [u8]>
     ensures { option_map (λ a. a.now) result ≡ argument_behind name.now (words line.now) }
 {
+    let (first, argument) = two_words(line)?;
+    if first == name { Some(argument) } else { None }
+}
+
+/// The words of a line of just three.
+fn three_words(line: &[u8]) -> Option<(&[u8], &[u8], &[u8])>
+    ensures { MatchOption result (length (words line.now) ≡ 3 → ⊥) (λ p. words line.now ≡ p.0.now ∷ p.1.now ∷ p.2.now ∷ []) }
+{
     let (first, rest) = split_word(line)?;
-    if first != name {
-        return None;
-    }
-    let (argument, rest) = split_word(rest)?;
-    if !ends(rest) {
-        return None;
-    }
-    Some(argument)
+    let (second, third) = two_words(rest)?;
+    Some((first, second, third))
+}
+
+/// The words of a line of just two.
+fn two_words(line: &[u8]) -> Option<(&[u8], &[u8])>
+    ensures { MatchOption result (length (words line.now) ≡ 2 → ⊥) (λ p. words line.now ≡ p.0.now ∷ p.1.now ∷ []) }
+{
+    let (first, rest) = split_word(line)?;
+    let second = only_word(rest)?;
+    Some((first, second))
+}
+
+/// The word of a line of just one.
+fn only_word(line: &[u8]) -> Option<&[u8]>
+    ensures { MatchOption result (length (words line.now) ≡ 1 → ⊥) (λ word. words line.now ≡ word.now ∷ []) }
+{
+    let (word, rest) = split_word(line)?;
+    if ends(rest) { Some(word) } else { None }
 }
 
 /// Whether there is no further word.
