@@ -1,11 +1,16 @@
 .PHONY: test run bench memory trial
 
+# How many checks run at a time: one a processor, if there are 4 GB for each. The most that one has
+# taken is 3.3.
+JOBS := $(shell awk -v most="$$(nproc)" '/^MemAvailable/ { n = int($$2 / 4000000); \
+	print n < 1 ? 1 : n < most ? n : most }' /proc/meminfo)
+
 # Everything that must pass: each crate's proofs and tests from nothing, the edits that the prover
 # must refuse, each program's stored run, and then the example scripts through the built program.
 # The last line is `N passed, M failed`, of all of them. The prover's memory comes in large pages where
 # the system has them to give, which spares it some of its time.
 test:
-	@examples/count env GLIBC_TUNABLES=glibc.malloc.hugetlb=1 rt ci
+	@examples/count env GLIBC_TUNABLES=glibc.malloc.hugetlb=1 RT_JOBS=$(JOBS) rt ci
 
 # Runs `genedit` on its stored script. It is proved and built first, unless the gate or an earlier run
 # has built it of the same files.
