@@ -1,7 +1,7 @@
 .PHONY: test run bench memory trial
 
-# How many checks run at a time: one a processor, if there are 4 GB for each. The most that one has
-# taken is 3.3.
+# How many checks run at a time: one a processor, or fewer, so that each can have 4 GB. The most that
+# one has taken is 3.3.
 JOBS := $(shell awk -v most="$$(nproc)" '/^MemAvailable/ { n = int($$2 / 4000000); \
 	print n < 1 ? 1 : n < most ? n : most }' /proc/meminfo)
 

@@ -65,9 +65,9 @@ impl Script {
 /// without a word, and those whose first word begins with `#`, are skipped. The first line that is
 /// not skipped is `rule TEXT`, the second `replicas N` with N up to 64, and each later one is a
 /// command: `cells R x y s ..`, `clear R x y w h`, `copy R NAME x y`, `or R NAME x y`, `state R`,
-/// `deliver M R`, `show R x y` or `same A B`, or it opens a block: `pattern NAME`. R, A, B, M, N, w and h have 32 bits,
-/// coordinates 32 bits with a sign, states are up to 255, and a NAME is 1 to 16 ASCII letters and
-/// digits.
+/// `delta R FROM COUNT`, `deliver M R`, `show R x y`, `same A B`, `dump M` or `export R G`, or it
+/// opens a block: `pattern NAME`. R, A, B, M, w, h, FROM, COUNT and G have 32 bits, coordinates 32
+/// bits with a sign, states are up to 255, and a NAME is 1 to 16 ASCII letters and digits.
 ///
 /// A block's text is the lines behind its `pattern` line up to the first that is exactly `end`,
 /// none of them skipped, each with one LF behind it. A block without its `end` has its fault at its
