@@ -241,12 +241,11 @@ fn is_named(alloc: Global, fault: EditFault, number: u8, name: &str) -> Result<b
     Ok(fault.number() == number && text.as_str() == name)
 }
 
-static NAMES: [(EditFault, u8, &str); 6] = [
+static NAMES: [(EditFault, u8, &str); 5] = [
     (EditFault::TooMany, 8, "TooMany"),
     (EditFault::Nothing, 9, "Nothing"),
     (EditFault::OutOfPlane, 10, "OutOfPlane"),
     (EditFault::StateRange, 11, "StateRange"),
-    (EditFault::AreaSide, 12, "AreaSide"),
     (EditFault::Memory, 255, "Memory"),
 ];
 

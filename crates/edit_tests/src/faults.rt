@@ -25,7 +25,7 @@ fn refusals_have_names(rt: HostRuntime) -> Result<(), AllocError> {
         "refused 0 ?: 2\nrefused 1 Slashes: 2\nrefused 2 Digit: 2\nrefused 3 States: 2\n\
         refused 4 Header: 2\nrefused 5 Tag: 2\nrefused 6 Count: 2\nrefused 7 State: 2\n\
         refused 8 TooMany: 2\nrefused 9 Nothing: 2\nrefused 10 OutOfPlane: 2\n\
-        refused 11 StateRange: 2\nrefused 12 AreaSide: 2\nrefused 13 StoreFull: 2\n\
+        refused 11 StateRange: 2\nrefused 12 ?: 2\nrefused 13 StoreFull: 2\n\
         refused 16 OtherRule: 2\nrefused 24 ClockFull: 2\nrefused 26 NoReplica: 2\n\
         refused 27 NoMessage: 2\nrefused 38 NoPattern: 2\nrefused 99 ?: 2\n"
     );

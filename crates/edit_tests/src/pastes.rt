@@ -178,25 +178,27 @@ fn count(alloc: Global, mode: Mode, text: &'static [u8]) -> Option<Result<usize,
     Some(told::count(pasted(alloc, &paste)?))
 }
 
-/// Sides at the limit and past it, and a row of as many cells as a pattern may have.
-static BOUNDS: [(Mode, &[u8], Result<usize, EditFault>); 5] = [
+/// Sides of any length, and a row of as many cells as a pattern may have.
+static BOUNDS: [(Mode, &[u8], Result<usize, EditFault>); 7] = [
     (Mode::Copy, b"x = 4096, y = 4096\n!", Ok(0)),
+    (Mode::Copy, b"x = 1073741824, y = 1\n4097A!", Ok(4097)),
     (
         Mode::Copy,
-        b"x = 0, y = 0\n4097A!",
-        Err(EditFault::AreaSide),
+        b"x = 1073741825, y = 1\n4097A!",
+        Err(EditFault::OutOfPlane),
+    ),
+    (
+        Mode::Copy,
+        b"x = 4294967295, y = 4294967295\n!",
+        Err(EditFault::OutOfPlane),
     ),
     (Mode::Or, b"x = 0, y = 0\n4097A!", Ok(4097)),
-    (
-        Mode::Copy,
-        b"x = 0, y = 0\n1048576o!",
-        Err(EditFault::AreaSide),
-    ),
+    (Mode::Copy, b"x = 0, y = 0\n1048576o!", Ok(1_048_576)),
     (Mode::Or, b"x = 0, y = 0\n1048576o!", Ok(1_048_576)),
 ];
 
 #[test]
-fn bounds_the_sides(rt: HostRuntime) {
+fn pastes_boxes_of_any_size(rt: HostRuntime) {
     for (mode, text, cells) in &BOUNDS {
         assert!(rt; count(rt.alloc(), *mode, text) == Some(*cells));
     }
@@ -221,12 +223,25 @@ fn is_cleared(alloc: Global, area: Area, answer: &str) -> Result<bool, AllocErro
 }
 
 /// Areas, and what is answered to their clears.
-static CLEARS: [(Area, &str); 7] = [
+static CLEARS: [(Area, &str); 11] = [
     ((-4, -4, 9, 9), "1 1 area -4 -4 9 9"),
     ((0, 0, 4096, 4096), "1 1 area 0 0 4096 4096"),
     ((0, 0, 0, 3), "Nothing"),
     ((0x4000_0000, 0, 0, 1), "Nothing"),
-    ((0, 0, 4097, 1), "AreaSide"),
+    ((0, 0, 4097, 1), "1 1 area 0 0 4097 1"),
+    (
+        (-0x4000_0000, -0x4000_0000, 0x8000_0000, 0x8000_0000),
+        "1 1 area -1073741824 -1073741824 2147483648 2147483648",
+    ),
+    (
+        (-0x4000_0000, -0x4000_0000, 0x8000_0001, 0x8000_0000),
+        "OutOfPlane",
+    ),
+    (
+        (-0x4000_0000, -0x4000_0000, 0x8000_0000, 0x8000_0001),
+        "OutOfPlane",
+    ),
+    ((0, 0, u32::MAX, u32::MAX), "OutOfPlane"),
     ((0x3fff_ffff, 0, 2, 1), "OutOfPlane"),
     ((0x3fff_ffff, 0, 5000, 1), "OutOfPlane"),
 ];

@@ -39,9 +39,6 @@ out_of_plane = refl
 pub state_range : name_of_number 11 ≡ codes "StateRange"
 state_range = refl
 
-pub area_side : name_of_number 12 ≡ codes "AreaSide"
-area_side = refl
-
 pub full_store : name_of_number 13 ≡ codes "StoreFull"
 full_store = refl
 

@@ -23,7 +23,7 @@ abbrev pub names : List (ℕ × List ℕ)
 names =
     (1, codes "Slashes") ∷ (2, codes "Digit") ∷ (3, codes "States")
     ∷ (4, codes "Header") ∷ (5, codes "Tag") ∷ (6, codes "Count") ∷ (7, codes "State") ∷ (8, codes "TooMany")
-    ∷ (9, codes "Nothing") ∷ (10, codes "OutOfPlane") ∷ (11, codes "StateRange") ∷ (12, codes "AreaSide")
+    ∷ (9, codes "Nothing") ∷ (10, codes "OutOfPlane") ∷ (11, codes "StateRange")
     ∷ (13, codes "StoreFull") ∷ (14, codes "Magic") ∷ (15, codes "Version") ∷ (16, codes "OtherRule") ∷ (17, codes "Short")
     ∷ (18, codes "StampRange") ∷ (19, codes "NotCanonical") ∷ (20, codes "Trailing") ∷ (22, codes "GenRange") ∷ (23, codes "TooManyCells")
     ∷ (24, codes "ClockFull") ∷ (25, codes "NoSuchEdit") ∷ (26, codes "NoReplica") ∷ (27, codes "NoMessage")

@@ -108,7 +108,6 @@ fn name_of(number: u8) -> &'static str
         9 => "Nothing",
         10 => "OutOfPlane",
         11 => "StateRange",
-        12 => "AreaSide",
         13 => "StoreFull",
         14 => "Magic",
         15 => "Version",

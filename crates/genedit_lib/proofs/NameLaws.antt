@@ -46,7 +46,6 @@ edit_names edits.TooMany refused = refl
 edit_names edits.Nothing refused = refl
 edit_names edits.OutOfPlane refused = refl
 edit_names edits.StateRange refused = refl
-edit_names edits.AreaSide refused = refl
 edit_names edits.Memory refused = absurd (refused refl)
 
 read_names : (fault : ReadFault) → IsNamed (read_fault_number fault) None (read_fault_text fault)
@@ -54,7 +53,6 @@ read_names reads.TooMany refused = refl
 read_names reads.Nothing refused = refl
 read_names reads.OutOfPlane refused = refl
 read_names reads.StateRange refused = refl
-read_names reads.AreaSide refused = refl
 read_names reads.StoreFull refused = refl
 read_names reads.Magic refused = refl
 read_names reads.Version refused = refl

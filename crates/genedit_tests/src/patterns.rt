@@ -23,7 +23,7 @@ static PATTERNS: [Printed; 6] = [
     Printed {
         script: "rule /2/3\nreplicas 1\nclear 1 -4 -4 9 9\nshow 1 4 4\nshow 1 5 5\nclear 1 0 0 0 3\n\
         clear 1 0 0 4097 1\nclear 1 1073741823 0 2 1\ncopy 1 q 0 0\n",
-        printed: "drawn 1 1\ncell 0 1 1\ncell 0 0 0\nrefused 9 Nothing\nrefused 12 AreaSide\n\
+        printed: "drawn 1 1\ncell 0 1 1\ncell 0 0 0\nrefused 9 Nothing\ndrawn 2 1\n\
         refused 10 OutOfPlane\nrefused 38 NoPattern\n",
     },
     // What is no pattern is refused.
@@ -42,11 +42,11 @@ static PATTERNS: [Printed; 6] = [
         printed: "refused 5 Tag 14\nrefused 38 NoPattern\npattern a 1 1 1 -1 2 7\nrefused 5 Tag 14\n\
         drawn 1 1\ncell 1 1 1\npattern a 1 1 1 0 0 0\ndrawn 2 1\ncell 2 2 1\n",
     },
-    // Wide patterns are ored alone.
+    // Wide patterns are pasted in both ways.
     Printed {
         script: "rule /2/3\nreplicas 1\npattern w\nx = 0, y = 0\n4097o!\nend\ncopy 1 w 0 0\n\
         or 1 w 0 0\nshow 1 4096 0\nshow 1 4097 0\npattern none\nx = 0, y = 0\n!\nend\ncopy 1 none 0 0\n",
-        printed: "pattern w 4097 1 4097 0 0 0\nrefused 12 AreaSide\ndrawn 1 1\ncell 1 1 1\ncell 0 0 0\n\
+        printed: "pattern w 4097 1 4097 0 0 0\ndrawn 1 1\ndrawn 2 1\ncell 1 2 1\ncell 0 0 0\n\
         pattern none 0 0 0 0 0 0\nrefused 9 Nothing\n",
     },
 ];

@@ -79,7 +79,6 @@ fault_of_edit edit_faults.Nothing = Edit edit_faults.Nothing
 fault_of_edit edit_faults.TooMany = Edit edit_faults.TooMany
 fault_of_edit edit_faults.OutOfPlane = Edit edit_faults.OutOfPlane
 fault_of_edit edit_faults.StateRange = Edit edit_faults.StateRange
-fault_of_edit edit_faults.AreaSide = Edit edit_faults.AreaSide
 
 -- a text's refusal as a replica's
 abbrev pub fault_of_read : ReadFault → Fault
@@ -90,7 +89,6 @@ fault_of_read read_faults.TooMany = Read read_faults.TooMany
 fault_of_read read_faults.Nothing = Read read_faults.Nothing
 fault_of_read read_faults.OutOfPlane = Read read_faults.OutOfPlane
 fault_of_read read_faults.StateRange = Read read_faults.StateRange
-fault_of_read read_faults.AreaSide = Read read_faults.AreaSide
 fault_of_read read_faults.Magic = Read read_faults.Magic
 fault_of_read read_faults.Version = Read read_faults.Version
 fault_of_read read_faults.Short = Read read_faults.Short

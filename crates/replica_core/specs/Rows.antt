@@ -48,7 +48,7 @@ no_cell = refl
 pub state_of_the_rule_number : edit_drawn rule 0 1 (one_cell 3) ≡ Err (faults.Edit edit_faults.StateRange)
 state_of_the_rule_number = refl
 
-pub wide_clear : edit_drawn rule 0 1 (Clear (record { x = pos 0; y = pos 0; width = 4097; height = 1 })) ≡ Err (faults.Edit edit_faults.AreaSide)
+pub wide_clear : edit_drawn rule 0 1 (Clear (record { x = pos 0; y = pos 0; width = 1073741825; height = 1 })) ≡ Err (faults.Edit edit_faults.OutOfPlane)
 wide_clear = refl
 
 -- ---- numbers
@@ -80,7 +80,7 @@ replica_of_a_delivery = refl
 pub refused_draw_changes_nothing : after (opening rule 1) (Draw 2 (one_cell 1)) ≡ opening rule 1
 refused_draw_changes_nothing = refl
 
-pub numbers_of_edits : replica_fault_number (fault_of_edit edit_faults.AreaSide) ≡ 12
+pub numbers_of_edits : replica_fault_number (fault_of_edit edit_faults.OutOfPlane) ≡ 10
 numbers_of_edits = refl
 
 pub want_of_an_edit : fault_of_edit edit_faults.Memory ≡ faults.Memory

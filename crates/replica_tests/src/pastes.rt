@@ -65,7 +65,7 @@ fn clears_an_area(rt: HostRuntime) {
 const TOO_WIDE: Rect = Rect {
     x: 0,
     y: 0,
-    width: 4097,
+    width: 0x4000_0001,
     height: 1,
 };
 
@@ -90,7 +90,10 @@ static REFUSED: Case = Case {
             Act::Or(0, i32::MAX),
             Err(Fault::Edit(EditFault::OutOfPlane)),
         ),
-        (Act::Clear(TOO_WIDE), Err(Fault::Edit(EditFault::AreaSide))),
+        (
+            Act::Clear(TOO_WIDE),
+            Err(Fault::Edit(EditFault::OutOfPlane)),
+        ),
         (
             Act::Clear(WITHOUT_CELLS),
             Err(Fault::Edit(EditFault::Nothing)),

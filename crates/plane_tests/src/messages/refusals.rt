@@ -15,8 +15,8 @@ struct Refused {
 /// One edit of counter 1 and replica 1 begins.
 static EDIT: &[u8] = b"\0\0\0\x01\0\0\0\0\0\x01\0\x01";
 
-/// A flag that is none; areas that leave the plane, are empty, or too wide; cells that are none, too
-/// many, of no state or place, and twice one cell.
+/// A flag that is none; areas that leave the plane and are empty, are empty, or leave the plane by
+/// their width; cells that are none, too many, of no state or place, and twice one cell.
 static IN_AN_EDIT: [Refused; 9] = [
     Refused {
         rest: b"\x02",
@@ -31,8 +31,8 @@ static IN_AN_EDIT: [Refused; 9] = [
         fault: ReadFault::Nothing,
     },
     Refused {
-        rest: b"\x01\x40\0\0\0\x40\0\0\0\0\0\x10\x01\0\0\0\x01",
-        fault: ReadFault::AreaSide,
+        rest: b"\x01\x40\0\0\0\x40\0\0\0\x40\0\0\x01\0\0\0\x01",
+        fault: ReadFault::OutOfPlane,
     },
     Refused {
         rest: b"\0\0\0\0\0",
