@@ -7,7 +7,8 @@ use Rattle.stamped_tree.specs.Plane.{map_of}
 use Rattle.replica_core.specs.Replica.{ReplicaState, edit_drawn, IsDraw, IsJournalOf}
 use Rattle.replica_core.proofs.DrawLaws.{draws, next_above, refuses_made, stops}
 use Rattle.replica_core.proofs.NotedEdits.{below_drawn, drawn_journal, kept}
-use Rattle.replica_core.proofs.StateLaws.{states_drawn, states_kept}
+use Rattle.edit_stamps.proofs.StateLaws.{states_kept}
+use Rattle.replica_core.proofs.StateLaws.{states_drawn}
 use Rattle.replica_core.proofs.replica.Replica.draw_as.Goals as goal
 
 pub returns-in_err-edit : goal.returns-in_err-edit

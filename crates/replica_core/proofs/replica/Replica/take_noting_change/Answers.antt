@@ -4,7 +4,8 @@ use Rattle.edit_stamps.specs.Edit.{HaveStatesBelow}
 use Rattle.stamped_tree.specs.Plane.{map_of}
 use Rattle.replica_core.specs.Replica.{IsJournalOf}
 use Rattle.replica_core.proofs.NotedEdits.{below_same, below_taken, kept, taken_journal}
-use Rattle.replica_core.proofs.StateLaws.{states_kept, states_taken}
+use Rattle.edit_stamps.proofs.StateLaws.{states_kept}
+use Rattle.replica_core.proofs.StateLaws.{states_taken}
 use Rattle.replica_core.proofs.replica.Replica.take_noting_change.Goals as goal
 
 pub invariant_of-self : goal.invariant_of-self
