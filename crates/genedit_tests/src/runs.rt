@@ -37,7 +37,7 @@ const EXCHANGE: &str = "rule /2/3\nreplicas 2\ncells 1 0 0 1\ncells 2 0 0 2\nsta
 const EXCHANGED: &str =
     "drawn 1 1\ndrawn 1 2\nsent 1\nsent 2\ntaken\ntaken\ncell 2 1 2\ncell 2 1 2\n";
 
-static SCRIPTS: [Printed; 6] = [
+static SCRIPTS: [Printed; 7] = [
     // Ties go to the greater replica.
     Printed {
         script: EXCHANGE,
@@ -59,9 +59,15 @@ static SCRIPTS: [Printed; 6] = [
     // Messages are dumped.
     Printed {
         script: "rule /2/3\nreplicas 1\nstate 1\ncells 1 0 0 1\ndelta 1 0 1\ndump 1\ndump 2\ndump 3\n",
-        printed: "sent 1\ndrawn 1 1\nsent 2\n474c575301042f322f33000000000000000000\n\
+        printed: "sent 1\ndrawn 1 1\nsent 2\n474c575302042f322f33000000000000000000000000\n\
         474c574401042f322f330000000100000000000100010000000001400000004000000001\n\
         refused 27 NoMessage\n",
+    },
+    // The whole plane is cleared by one edit.
+    Printed {
+        script: "rule /2/3\nreplicas 1\nclear 1 -1073741824 -1073741824 2147483648 2147483648\n\
+        state 1\ndump 1\n",
+        printed: "drawn 1 1\nsent 1\n474c575302042f322f33000000000000000000010001\n",
     },
     // Refusals are printed.
     Printed {
@@ -115,14 +121,14 @@ static EXCHANGES: [Printed; 2] = [
         deliver 2 2\nstate 2\ndeliver 1 2\nstate 2\nstate 1\nshow 2 0 0\nshow 2 8 8\nsame 1 2\n\
         dump 3\ndump 4\ndump 5\n",
         printed: "drawn 1 1\ndrawn 2 1\nsent 1\nsent 2\ntaken\nsent 3\ntaken\nsent 4\nsent 5\ncell 0 2 1\n\
-        cell 0 0 0\nsame\n803 bytes\nagain\nagain\n",
+        cell 0 0 0\nsame\n942 bytes\nagain\nagain\n",
     },
     // A delta comes after its map.
     Printed {
         script: "rule /2/3\nreplicas 2\ncells 1 0 0 1\ndelta 1 0 1\nstate 1\ndeliver 1 2\nstate 2\n\
         deliver 2 2\ndeliver 1 2\ndeliver 1 2\nstate 2\nsame 1 2\ndelta 2 1 1\ndump 2\ndump 3\ndump 4\n",
         printed: "drawn 1 1\nsent 1\nsent 2\ntaken\nsent 3\ntaken\ntaken\ntaken\nsent 4\nsame\n\
-        refused 25 NoSuchEdit\n1371 bytes\nagain\nagain\n",
+        refused 25 NoSuchEdit\n1515 bytes\nagain\nagain\n",
     },
 ];
 

@@ -29,7 +29,7 @@ same_tree p q zero corner (Four nw ne sw se) same is = absurd is
 same_tree p q (suc above) corner (Leaf writes) same is = absurd is
 
 pub same_text : (rule : GenerationsRule) (p q : Writes) (text : List ℕ) → AreSame p q → IsStateText rule p text → IsStateText rule q text
-same_text rule p q text same is = record { tree = is.tree; of_map = same_tree p q 28 plane_corner is.tree same is.of_map; spelt = is.spelt }
+same_text rule p q text same is = record { tree = is.tree; of_map = same_tree p q 28 plane_corner is.tree same is.of_map; few = is.few; spelt = is.spelt }
 
 pub same_tellable : (states : ℕ) (p q : Writes) → AreSame p q → IsTellableMap states p → IsTellableMap states q
 same_tellable states p q same is = record {

@@ -20,6 +20,7 @@ use Rattle.delta_exchange.specs.MessageReading.{HasMap}
 use Rattle.delta_exchange.specs.Spelling.{delta_text}
 use Rattle.delta_exchange.specs.State.{IsTellableMap}
 use Rattle.delta_exchange.specs.StateText.{IsStateText}
+use Rattle.delta_exchange.specs.Versions.{IsReadableStateText}
 use Rattle.edit_journal.specs.Journal.{noted}
 use Rattle.replica_core.specs.Exchange.{IsTakingMap, IsTakingOf, TakesSome}
 use Rattle.replica_core.proofs.SameMaps.{same_tellable, same_text}
@@ -63,12 +64,12 @@ takes_content rule number h (State edits) old new (contents.Edits given) stands 
 abbrev pub IsTakingSent : {A : Type 0} → ReplicaState → ReplicaState → List ℕ → Result A Fault → Type 0
 IsTakingSent old new text result =
     ((meant : List PlaneEdit) → AreTellable old.rule.states meant → text ≡ delta_text old.rule meant → IsTakingOf old new (λ content. content ≡ contents.Edits meant) result)
-    × ((meant : Writes) → IsTellableMap old.rule.states meant → IsStateText old.rule meant text → IsTakingMap old new meant result)
+    × ((meant : Writes) → IsTellableMap old.rule.states meant → IsReadableStateText old.rule meant text → IsTakingMap old new meant result)
 
 taking_sent : {A : Type 0} (old new : ReplicaState) (sent : Sent) (text : List ℕ) (done : A) → StandsForSent old.rule sent text
     → IsTakingSent old new text (Ok done) → TakesSome old new (Carries sent)
 taking_sent old new (Delta edits) text done stands takes = takes.0 edits stands.tellable stands.spelt
-taking_sent old new (State edits) text done stands takes = takes.1 (greatest edits) stands.tellable stands.spelt
+taking_sent old new (State edits) text done stands takes = takes.1 (greatest edits) stands.tellable (inr stands.spelt)
 
 pub takes_sent : {A : Type 0} (rule : GenerationsRule) (number : ℕ) (h : ReplicaHistory) (sent : Sent) (old new : ReplicaState) (text : List ℕ) (done : A)
     → StandsFor rule number h old → StandsForSent rule sent text → IsTakingSent old new text (Ok done) → StandsFor rule number (after_message h sent) new

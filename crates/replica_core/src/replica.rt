@@ -73,6 +73,7 @@ impl Replica {
     ghost use Rattle.delta_exchange.specs.Spelling.{delta_text};
     ghost use Rattle.delta_exchange.specs.State.{IsTellableMap};
     ghost use Rattle.delta_exchange.specs.StateText.{IsStateText};
+    ghost use Rattle.delta_exchange.specs.Versions.{IsReadableStateText};
     ghost use Rattle.replica_core.specs.Exchange.{delta_given, IsTakingMap, IsTakingOf, IsTakingText};
     ghost use Rattle.replica_core.specs.Exporting.{IsExportFault, IsExportOf};
     ghost use Rattle.replica_core.specs.Replica.{edit_drawn, IsDraw, IsJournalOf, IsNew, IsReplica, IsSnapshot, IsTaking};
@@ -195,10 +196,10 @@ impl Replica {
     pub fn take_bytes(&mut self, text: &[u8]) -> Result<(), Fault>
         // What is taken, or which fault.
         ensures told { IsTakingText self.old self.new text.now (message_of self.old.rule text.now) result }
-        // The text of edits, and of a map, is taken.
+        // The text of edits, and of a map in either version, is taken.
         ensures edits { (meant : List PlaneEdit) → AreTellable self.old.rule.states meant → text.now ≡ delta_text self.old.rule meant
             → IsTakingOf self.old self.new (λ content. content ≡ Edits meant) result }
-        ensures map { (meant : Writes) → IsTellableMap self.old.rule.states meant → IsStateText self.old.rule meant text.now
+        ensures map { (meant : Writes) → IsTellableMap self.old.rule.states meant → IsReadableStateText self.old.rule meant text.now
             → IsTakingMap self.old self.new meant result }
     {
         match self.take_bytes_noting_change(text) {
@@ -213,7 +214,7 @@ impl Replica {
         ensures told { IsTakingText self.old self.new text.now (message_of self.old.rule text.now) result }
         ensures edits { (meant : List PlaneEdit) → AreTellable self.old.rule.states meant → text.now ≡ delta_text self.old.rule meant
             → IsTakingOf self.old self.new (λ content. content ≡ Edits meant) result }
-        ensures map { (meant : Writes) → IsTellableMap self.old.rule.states meant → IsStateText self.old.rule meant text.now
+        ensures map { (meant : Writes) → IsTellableMap self.old.rule.states meant → IsReadableStateText self.old.rule meant text.now
             → IsTakingMap self.old self.new meant result }
         ensures change { IfOk result (λ changed. (changed ≡ false) ↔ AreSame (map_of self.new.plane) (map_of self.old.plane)) }
     {

@@ -142,7 +142,48 @@ fn in_either_order(alloc: Global) -> Result<(usize, usize, usize, bool), Fail> {
 
 #[test]
 fn two_edits_of_one_stamp_in_either_order(rt: HostRuntime) -> Result<(), Fail> {
-    assert_eq!(rt; in_either_order(rt.alloc())?, (2, 2, 1371, true));
+    assert_eq!(rt; in_either_order(rt.alloc())?, (2, 2, 1515, true));
+    Ok(())
+}
+
+/// A head of a state of version 1.
+static FIRST_HEAD: [u8; 10] = [0x47, 0x4c, 0x57, 0x53, 1, 4, 0x2f, 0x32, 0x2f, 0x33];
+
+/// The map where nothing was written, in version 1.
+fn first_empty(alloc: Global) -> Result<Vec<u8>, AllocError> {
+    let mut text = Vec::from_slice(alloc, &FIRST_HEAD)?;
+    text.extend_from_slice(&[0; 9])?;
+    Ok(text)
+}
+
+/// State 1 at the origin with the first stamp, in version 1: squares of levels 31 to 4, a leaf, and the
+/// blanks of those squares that stand behind it.
+fn first_one_cell(alloc: Global) -> Result<Vec<u8>, AllocError> {
+    let mut text = Vec::from_slice(alloc, &FIRST_HEAD)?;
+    text.push(2)?;
+    text.extend_from_slice(&[0; 27])?;
+    text.extend_from_slice(&[2; 27])?;
+    text.extend_from_slice(&[1, 0, 0, 0, 0, 0, 1, 0, 1, 1])?;
+    text.extend_from_slice(&[0; 1296])?;
+    Ok(text)
+}
+
+/// What was taken in version 1 is given in version 2: the write at the origin, and the size of the state.
+fn retold(alloc: Global, text: &[u8]) -> Result<(Write, usize), Fail> {
+    let mut replica = Replica::new(alloc, rule()?, 2)?;
+    replica.take_bytes(text)?;
+    Ok((replica.get(0, 0), replica.state()?.len()))
+}
+
+#[test]
+fn states_of_version_1_are_taken(rt: HostRuntime) -> Result<(), Fail> {
+    let alloc = rt.alloc();
+    let one = Write {
+        stamp: 65537,
+        state: 1,
+    };
+    assert!(rt; retold(alloc, &first_empty(alloc)?)? == (Write::UNWRITTEN, 22));
+    assert!(rt; retold(alloc, &first_one_cell(alloc)?)? == (one, 1515));
     Ok(())
 }
 
@@ -210,7 +251,7 @@ fn given(alloc: Global, from: u32, count: u32) -> Result<(usize, usize, u8), Fai
 fn gives_what_its_journal_has(rt: HostRuntime) -> Result<(), Fail> {
     for portion in &PORTIONS {
         let told = given(rt.alloc(), portion.from, portion.count)?;
-        assert_eq!(rt; told, (1371, portion.bytes, portion.fault));
+        assert_eq!(rt; told, (1515, portion.bytes, portion.fault));
     }
     Ok(())
 }

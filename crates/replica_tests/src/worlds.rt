@@ -211,7 +211,7 @@ static EXCHANGED: [Step; 12] = [
 #[test]
 fn exchanges_bytes(rt: HostRuntime) {
     let lines = "drawn 1 1\nsent 1\nsent 2\ntaken\nsent 3\ntaken\ntaken\ntaken\nsent 4\nsame true\n\
-        NoSuchEdit\n1371 bytes\n";
+        NoSuchEdit\n1515 bytes\n";
     assert!(rt; is_answered(rt.alloc(), 2, &EXCHANGED, lines) == Ok(true));
 }
 
@@ -231,8 +231,8 @@ fn are_message_sizes(alloc: Global, steps: &[Step], sizes: &[usize]) -> Result<b
 
 #[test]
 fn keeps_each_message(rt: HostRuntime) {
-    assert!(rt; are_message_sizes(rt.alloc(), &EXCHANGED, &[36, 1371, 1371, 1371]) == Ok(true));
-    assert!(rt; are_message_sizes(rt.alloc(), &OLDER, &[19, 1371]) == Ok(true));
+    assert!(rt; are_message_sizes(rt.alloc(), &EXCHANGED, &[36, 1515, 1515, 1515]) == Ok(true));
+    assert!(rt; are_message_sizes(rt.alloc(), &OLDER, &[22, 1515]) == Ok(true));
 }
 
 /// A message keeps the map that was sent, whatever is drawn later.
@@ -466,8 +466,8 @@ fn state_of_all(alloc: Global, are_turned: bool) -> Result<Option<usize>, Stop> 
 
 #[test]
 fn each_writes_the_same_bytes(rt: HostRuntime) {
-    assert!(rt; state_of_all(rt.alloc(), false) == Ok(Some(1371)));
-    assert!(rt; state_of_all(rt.alloc(), true) == Ok(Some(1371)));
+    assert!(rt; state_of_all(rt.alloc(), false) == Ok(Some(1515)));
+    assert!(rt; state_of_all(rt.alloc(), true) == Ok(Some(1515)));
 }
 
 /// Generations that are exported.

@@ -1,6 +1,6 @@
-//! States: worked texts, each byte of one, and each room.
+//! States of either version: worked texts, each byte of some, and each room.
 
-ghost use Rattle.std.specs.Prelude.{◌≤◌};
+ghost use Rattle.std.specs.Prelude.{◌≤◌, length};
 
 use crate::messages::deltas::{ONE_CELL, brians_brain};
 use delta_exchange::{Message, ReadFault, read, read_within, write_delta, write_state};
@@ -11,10 +11,18 @@ use std::alloc::{AllocError, Global};
 use std::test::Fail;
 
 /// A head of a state under Brian's Brain.
-static HEAD: [u8; 10] = [0x47, 0x4c, 0x57, 0x53, 1, 4, 0x2f, 0x32, 0x2f, 0x33];
+static HEAD: [u8; 10] = [0x47, 0x4c, 0x57, 0x53, 2, 4, 0x2f, 0x32, 0x2f, 0x33];
+
+/// A head of a state of version 1.
+static FIRST_HEAD: [u8; 10] = [0x47, 0x4c, 0x57, 0x53, 1, 4, 0x2f, 0x32, 0x2f, 0x33];
 
 /// The plane where nothing was written, under Brian's Brain.
-static EMPTY: [u8; 19] = [
+static EMPTY: [u8; 22] = [
+    0x47, 0x4c, 0x57, 0x53, 2, 4, 0x2f, 0x32, 0x2f, 0x33, 0, 0, 0, 0, 0, 0, 0, 0, 0, 0, 0, 0,
+];
+
+/// The same in version 1.
+static FIRST_EMPTY: [u8; 19] = [
     0x47, 0x4c, 0x57, 0x53, 1, 4, 0x2f, 0x32, 0x2f, 0x33, 0, 0, 0, 0, 0, 0, 0, 0, 0,
 ];
 
@@ -27,9 +35,9 @@ pub fn fault_of(alloc: Global, text: &[u8]) -> Result<Option<ReadFault>, Fail> {
     }
 }
 
-/// The first fault of what stands behind a head of a state, if it has one.
-fn fault_behind(alloc: Global, rest: &[u8]) -> Result<Option<ReadFault>, Fail> {
-    let mut text = Vec::from_slice(alloc, &HEAD)?;
+/// The first fault of what stands behind a head, if it has one.
+fn fault_behind(alloc: Global, head: &[u8], rest: &[u8]) -> Result<Option<ReadFault>, Fail> {
+    let mut text = Vec::from_slice(alloc, head)?;
     text.extend_from_slice(rest)?;
     fault_of(alloc, &text)
 }
@@ -57,32 +65,76 @@ pub fn retold(
 }
 
 /// State 1 at the origin, of counter 1 and replica 1.
-fn one_cell(alloc: Global, rule: &Rule) -> Result<Plane, EditFault> {
-    let Some(stamp) = Stamp::new(1, 1) else {
-        return Err(EditFault::Nothing);
-    };
-    let cell = Cell {
+static ONE: [Cell; 1] = [Cell {
+    x: 0,
+    y: 0,
+    state: 1,
+}];
+
+/// The same, and once more eight columns further.
+static TWO_ALIKE: [Cell; 2] = [
+    Cell {
         x: 0,
         y: 0,
         state: 1,
+    },
+    Cell {
+        x: 8,
+        y: 0,
+        state: 1,
+    },
+];
+
+/// Some cells, of counter 1 and replica 1.
+fn plane_of(alloc: Global, rule: &Rule, cells: &[Cell]) -> Result<Plane, EditFault> {
+    let Some(stamp) = Stamp::new(1, 1) else {
+        return Err(EditFault::Nothing);
     };
-    let edit = Edit::cells(alloc, rule, stamp, &[cell])?;
+    let edit = Edit::cells(alloc, rule, stamp, cells)?;
     Ok(Plane::of_edit(alloc, &edit)?)
 }
 
-/// The text of that plane.
-fn one_cell_text(alloc: Global) -> Result<Vec<u8>, Fail> {
+/// The text of such a plane.
+fn text_of_cells(alloc: Global, cells: &[Cell]) -> Result<Vec<u8>, Fail> {
     let rule = brians_brain()?;
-    let plane = one_cell(alloc, &rule)?;
+    let plane = plane_of(alloc, &rule, cells)?;
     Ok(write_state(alloc, &rule, &plane)?)
+}
+
+/// The text of the plane of one cell.
+fn one_cell_text(alloc: Global) -> Result<Vec<u8>, Fail> {
+    text_of_cells(alloc, &ONE)
+}
+
+/// That text in version 1: the squares of levels 31 to 4, of which the first has the cell in its last
+/// quarter and the others in their first; a leaf; and the blanks of the others behind it.
+fn first_one_cell_text(alloc: Global) -> Result<Vec<u8>, AllocError> {
+    let mut text = Vec::from_slice(alloc, &FIRST_HEAD)?;
+    text.push(2)?;
+    text.extend_from_slice(&[0; 27])?;
+    text.extend_from_slice(&[2; 27])?;
+    text.extend_from_slice(&[1, 0, 0, 0, 0, 0, 1, 0, 1, 1])?;
+    text.extend_from_slice(&[0; 567])?;
+    text.extend_from_slice(&[0; 729])?;
+    Ok(text)
+}
+
+/// Whether what is read of a text is written as another, or the same, text.
+fn is_retold_as(
+    alloc: Global,
+    rule: &Rule,
+    text: &[u8],
+    written: &[u8],
+) -> Result<bool, AllocError> {
+    match retold(alloc, rule, text)? {
+        Ok(told) => Ok(told.as_slice() == written),
+        Err(_) => Ok(false),
+    }
 }
 
 /// Whether what is read of a text is written again as it was.
 fn is_retold(alloc: Global, rule: &Rule, text: &[u8]) -> Result<bool, AllocError> {
-    match retold(alloc, rule, text)? {
-        Ok(told) => Ok(told.as_slice() == text),
-        Err(_) => Ok(false),
-    }
+    is_retold_as(alloc, rule, text, text)
 }
 
 /// The text of a new plane.
@@ -95,22 +147,40 @@ fn the_empty_plane_is_written_and_read(rt: HostRuntime) -> Result<(), Fail> {
     let rule = brians_brain()?;
     assert!(rt; empty_text(rt.alloc(), &rule)?.as_slice() == EMPTY.as_slice());
     assert!(rt; is_retold(rt.alloc(), &rule, &EMPTY)?);
+    assert!(rt; is_retold_as(rt.alloc(), &rule, &FIRST_EMPTY, &EMPTY)?);
     Ok(())
 }
 
 #[test]
 fn nothing_may_stand_behind_a_plane(rt: HostRuntime) -> Result<(), Fail> {
-    let mut longer = [0; 20];
-    longer[..19].copy_from_slice(&EMPTY);
+    let mut longer = [0; 23];
+    longer[..22].copy_from_slice(&EMPTY);
     assert_eq!(rt; fault_of(rt.alloc(), &longer)?, Some(ReadFault::Trailing));
+    let mut first = [0; 20];
+    first[..19].copy_from_slice(&FIRST_EMPTY);
+    assert_eq!(rt; fault_of(rt.alloc(), &first)?, Some(ReadFault::Trailing));
     Ok(())
 }
 
 /// Four blanks where there should be one, and each text that is cut off before its end.
 #[test]
 fn a_blank_is_not_spelt_out(rt: HostRuntime) -> Result<(), Fail> {
-    let mut text = [0; 47];
+    let mut text = [0; 51];
     text[..10].copy_from_slice(&HEAD);
+    text[13] = 1;
+    text[14] = 31;
+    assert_eq!(rt; fault_of(rt.alloc(), &text)?, Some(ReadFault::NotCanonical));
+    for len in 0..51 {
+        assert_eq!(rt; fault_of(rt.alloc(), &text[..len])?, Some(ReadFault::Short));
+    }
+    Ok(())
+}
+
+/// The same in version 1.
+#[test]
+fn a_blank_is_not_spelt_out_in_version_1(rt: HostRuntime) -> Result<(), Fail> {
+    let mut text = [0; 47];
+    text[..10].copy_from_slice(&FIRST_HEAD);
     text[10] = 2;
     assert_eq!(rt; fault_of(rt.alloc(), &text)?, Some(ReadFault::NotCanonical));
     for len in 0..47 {
@@ -137,13 +207,43 @@ fn writes_read(
 fn one_written_cell_is_written_and_read(rt: HostRuntime) -> Result<(), Fail> {
     let rule = brians_brain()?;
     let text = one_cell_text(rt.alloc())?;
-    assert_eq!(rt; text.len(), 1371);
+    assert_eq!(rt; text.len(), 1515);
     let cell = Write {
         stamp: 65537,
         state: 1,
     };
     assert!(rt; writes_read(rt.alloc(), &rule, &text)? == Some((cell, Write::UNWRITTEN, 30)));
     assert!(rt; is_retold(rt.alloc(), &rule, &text)?);
+    let first = first_one_cell_text(rt.alloc())?;
+    assert_eq!(rt; first.len(), 1371);
+    assert!(rt; writes_read(rt.alloc(), &rule, &first)? == Some((cell, Write::UNWRITTEN, 30)));
+    assert!(rt; is_retold_as(rt.alloc(), &rule, &first, &text)?);
+    Ok(())
+}
+
+/// That text with its leaf listed once more: an entry more is announced, and stands behind the first.
+fn with_the_leaf_twice(alloc: Global, text: &[u8]) -> Result<Vec<u8>, AllocError>
+    requires { 591 ≤ length text.now }
+{
+    let mut longer = Vec::from_slice(alloc, &text[..10])?;
+    longer.extend_from_slice(&[0, 0, 0, 31])?;
+    longer.extend_from_slice(&text[14..591])?;
+    longer.extend_from_slice(&text[14..591])?;
+    longer.extend_from_slice(&text[591..])?;
+    Ok(longer)
+}
+
+/// Two leaves that look alike are one entry, which is not listed twice.
+#[test]
+fn equal_squares_are_one_entry(rt: HostRuntime) -> Result<(), Fail> {
+    let rule = brians_brain()?;
+    let text = text_of_cells(rt.alloc(), &TWO_ALIKE)?;
+    assert_eq!(rt; text.len(), 1511);
+    assert!(rt; is_retold(rt.alloc(), &rule, &text)?);
+    if text.len() == 1511 {
+        let longer = with_the_leaf_twice(rt.alloc(), &text)?;
+        assert_eq!(rt; fault_of(rt.alloc(), &longer)?, Some(ReadFault::NotCanonical));
+    }
     Ok(())
 }
 
@@ -171,7 +271,8 @@ fn room_is_wanted_for_each_square(rt: HostRuntime) -> Result<(), Fail> {
     Ok(())
 }
 
-/// Of how many values of a byte the text is read, each of which is written as it was.
+/// Of how many values of a byte the text is read, each of which is written as it was, or, of version 1, as
+/// what is written again so.
 fn values_read(alloc: Global, rule: &Rule, text: &[u8], place: usize) -> Result<u32, AllocError> {
     let mut changed = Vec::from_slice(alloc, text)?;
     let mut read = 0_u32;
@@ -180,7 +281,10 @@ fn values_read(alloc: Global, rule: &Rule, text: &[u8], place: usize) -> Result<
             *byte = value as u8;
         }
         if let Ok(again) = retold(alloc, rule, &changed)? {
-            if again.as_slice() != changed.as_slice() {
+            let is_first = changed.get(4) == Some(&1);
+            if again.as_slice() != changed.as_slice()
+                && !(is_first && is_retold(alloc, rule, &again)?)
+            {
                 return Ok(1000);
             }
             read = read.saturating_add(1);
@@ -189,14 +293,18 @@ fn values_read(alloc: Global, rule: &Rule, text: &[u8], place: usize) -> Result<
     Ok(read)
 }
 
-/// The head, the tags and the blanks have one value each. Of the one write the counter's bytes have
-/// all, but 0 in the last, the replica's likewise, and the state three. Where nothing was written no
-/// byte alone can say that something was.
-fn values_meant(place: usize) -> u32 {
-    match place {
-        66..=70 | 72 => 256,
-        71 | 73 => 255,
-        74 => 3,
+/// The head, the tags and the blanks have one value each, and so have the number of entries and the
+/// levels. Of the one write, which stands at a place, the counter's bytes have all, but 0 in the last, the
+/// replica's likewise, and the state three. Where nothing was written no byte alone can say that something
+/// was.
+fn values_meant(write: usize, place: usize) -> u32 {
+    if place < write {
+        return 1;
+    }
+    match place - write {
+        0..=4 | 6 => 256,
+        5 | 7 => 255,
+        8 => 3,
         _ => 1,
     }
 }
@@ -208,7 +316,20 @@ fn each_byte_is_refused_or_told_as_it_is(rt: HostRuntime) -> Result<(), Fail> {
     for place in 0..100 {
         assert_eq!(rt;
             values_read(rt.alloc(), &rule, &text, place)?,
-            values_meant(place)
+            values_meant(15, place)
+        );
+    }
+    Ok(())
+}
+
+#[test]
+fn each_byte_of_version_1_is_refused_or_told(rt: HostRuntime) -> Result<(), Fail> {
+    let rule = brians_brain()?;
+    let text = first_one_cell_text(rt.alloc())?;
+    for place in 0..100 {
+        assert_eq!(rt;
+            values_read(rt.alloc(), &rule, &text, place)?,
+            values_meant(66, place)
         );
     }
     Ok(())
@@ -220,7 +341,52 @@ struct Behind {
     fault: ReadFault,
 }
 
-static BEHIND: [Behind; 6] = [
+/// Numbers of entries, levels, flags, and numbers of entries that are none.
+static BEHIND: [Behind; 10] = [
+    Behind {
+        rest: &[0, 0, 0, 0, 0, 0, 0, 0, 0, 0, 0, 1],
+        fault: ReadFault::StampRange,
+    },
+    Behind {
+        rest: &[0, 0, 0, 0, 0, 0, 0, 0, 0, 1, 0, 0],
+        fault: ReadFault::StampRange,
+    },
+    Behind {
+        rest: &[0xff, 0xff, 0xff, 0xff],
+        fault: ReadFault::Short,
+    },
+    Behind {
+        rest: &[0, 0, 0, 1, 2],
+        fault: ReadFault::NotCanonical,
+    },
+    Behind {
+        rest: &[0, 0, 0, 1, 32],
+        fault: ReadFault::NotCanonical,
+    },
+    Behind {
+        rest: &[0, 0, 0, 1, 31, 2],
+        fault: ReadFault::NotCanonical,
+    },
+    Behind {
+        rest: &[0, 0, 0, 1, 31, 1, 0, 0, 0, 0],
+        fault: ReadFault::NotCanonical,
+    },
+    Behind {
+        rest: &[0, 0, 0, 1, 31, 0, 0, 0, 0, 0, 0, 0, 0, 1],
+        fault: ReadFault::StampRange,
+    },
+    Behind {
+        rest: &[0, 0, 0, 1, 31, 1, 0, 0, 0],
+        fault: ReadFault::Short,
+    },
+    Behind {
+        rest: &[0, 0, 0, 1, 3, 0, 0, 0, 0, 0, 0, 0, 0, 1],
+        fault: ReadFault::StampRange,
+    },
+];
+
+/// Tags, blanks and stamps of version 1.
+static FIRST_BEHIND: [Behind; 6] = [
     Behind {
         rest: &[2; 28],
         fault: ReadFault::Short,
@@ -250,7 +416,12 @@ static BEHIND: [Behind; 6] = [
 #[test]
 fn faults_of_squares_are_told(rt: HostRuntime) -> Result<(), Fail> {
     for behind in &BEHIND {
-        assert_eq!(rt; fault_behind(rt.alloc(), behind.rest)?, Some(behind.fault));
+        let fault = fault_behind(rt.alloc(), &HEAD, behind.rest)?;
+        assert_eq!(rt; fault, Some(behind.fault));
+    }
+    for behind in &FIRST_BEHIND {
+        let fault = fault_behind(rt.alloc(), &FIRST_HEAD, behind.rest)?;
+        assert_eq!(rt; fault, Some(behind.fault));
     }
     Ok(())
 }
@@ -301,9 +472,9 @@ static WRITTEN: [Written; 5] = [
 fn fault_of_write(alloc: Global, written: &Written) -> Result<Option<ReadFault>, Fail> {
     let mut text = one_cell_text(alloc)?;
     for (place, value) in [
-        (71, written.counter),
-        (73, written.replica),
-        (74, written.state),
+        (20, written.counter),
+        (22, written.replica),
+        (23, written.state),
     ] {
         if let Some(byte) = text.get_mut(place) {
             *byte = value;
@@ -321,7 +492,7 @@ fn faults_of_a_write_are_told_in_order(rt: HostRuntime) -> Result<(), Fail> {
 }
 
 /// Texts that are no head of a message under this rule.
-static HEADS: [Behind; 7] = [
+static HEADS: [Behind; 9] = [
     Behind {
         rest: b"",
         fault: ReadFault::Short,
@@ -339,8 +510,12 @@ static HEADS: [Behind; 7] = [
         fault: ReadFault::Version,
     },
     Behind {
-        rest: b"GLWS\x02",
+        rest: b"GLWS\x03",
         fault: ReadFault::Version,
+    },
+    Behind {
+        rest: b"GLWS\x02",
+        fault: ReadFault::Short,
     },
     Behind {
         rest: b"GLWD\x01\x04/3/3",
@@ -348,6 +523,10 @@ static HEADS: [Behind; 7] = [
     },
     Behind {
         rest: b"GLWS\x01\x04/3/3",
+        fault: ReadFault::OtherRule,
+    },
+    Behind {
+        rest: b"GLWS\x02\x04/3/3",
         fault: ReadFault::OtherRule,
     },
 ];

@@ -7,7 +7,7 @@ use Rattle.delta_exchange.specs.Delta.{AreTellable}
 use Rattle.delta_exchange.specs.Spelling.{delta_text}
 use Rattle.delta_exchange.specs.MessageReading.{HasMap, begins_as_delta, message_of}
 use Rattle.delta_exchange.specs.State.{IsTellableMap}
-use Rattle.delta_exchange.specs.StateText.{IsStateText}
+use Rattle.delta_exchange.specs.Versions.{IsReadableStateText}
 use Rattle.replica_core.specs.Exchange.{IsTakingMap, IsTakingOf, IsTakingText}
 use Rattle.replica_core.specs.Replica.{ReplicaState, IsTaking}
 use Rattle.replica_core.proofs.ExchangeLaws.{refuses_edits, refuses_map, refuses_text, takes_map, takes_some, takes_text}
@@ -25,7 +25,7 @@ pub returns-in_err-message-clause-map : goal.returns-in_err-message-clause-map
 returns-in_err-message-clause-map c =
     let is = err_from_is_err_and c.from_residual.result c.from_residual.ensures.1 in
     let old : ReplicaState = record { rule = c.self.inside.rule; number = c.self.inside.number; plane = c.self.inside.plane; journal = c.self.inside.journal } in
-    subst (λ r. (meant : Writes) → IsTellableMap r.rule.states meant → IsStateText r.rule meant c.args.text.now
+    subst (λ r. (meant : Writes) → IsTellableMap r.rule.states meant → IsReadableStateText r.rule meant c.args.text.now
     → IsTakingMap r r meant c.from_residual.result) c.self.view_is
     (λ meant tellable spelt. subst (IsTakingMap old old meant) (sym (is.1 ∙ ap Err is.2))
     (refuses_map old old.rule meant c.in_err-message.field-0.0 (c.in_err-message.ensures.only_map meant tellable spelt)))
@@ -41,7 +41,7 @@ pub returns-clause-map : goal.returns-clause-map
 returns-clause-map c =
     let old : ReplicaState = record { rule = c.self.inside.rule; number = c.self.inside.number; plane = c.self.inside.plane; journal = c.self.inside.journal } in
     let taking = subst (λ r. IsTaking r c.take_noting_change.new.self c.in_ok-message.message c.take_noting_change.result) (sym c.self.view_is) c.take_noting_change.ensures.taking in
-    subst (λ r. (meant : Writes) → IsTellableMap r.rule.states meant → IsStateText r.rule meant c.args.text.now
+    subst (λ r. (meant : Writes) → IsTellableMap r.rule.states meant → IsReadableStateText r.rule meant c.args.text.now
     → IsTakingMap r c.take_noting_change.new.self meant c.take_noting_change.result) c.self.view_is
     (λ meant tellable spelt.
     let stands = c.in_ok-message.ensures.only_map meant tellable spelt in
