@@ -77,6 +77,9 @@ module _ {L : Type 0} (writes : L → Grid) (side : ℕ) where
   pub adds_none : (s : Held L) (k : ℕ) (f : Grid) → AddsPiecesOfGrid writes side s s k f
   adds_none s k f q held = inl held
 
+  pub adds_unchanged : (old new : Held L) → new ≡ old → (k : ℕ) (f : Grid) → AddsPiecesOfGrid writes side old new k f
+  adds_unchanged old new e k f q held = inl (subst (λ s. IsHeld s q) e held)
+
   pub adds_as : (old new : Held L) (k : ℕ) (f g : Grid) → AreSameWithin (side_at side k) f g → AddsPiecesOfGrid writes side old new k f → AddsPiecesOfGrid writes side old new k g
   adds_as old new k f g same adds q held = elim (adds q held) [
     | inl there ↦ inl there

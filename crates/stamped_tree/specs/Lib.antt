@@ -8,6 +8,8 @@ pub mod View
 pub mod Area
 pub mod Drawing
 pub mod Filled
+pub mod Full
+pub mod MapPieces
 pub mod Overwriting
 pub mod OnPlane
 pub mod Walk
