@@ -1,6 +1,5 @@
 pub mod Copy
 pub mod LeafKind
-pub mod Pieces
 pub mod Plane
 pub mod PlaneSquare
 pub mod Tree
