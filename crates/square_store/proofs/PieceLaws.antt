@@ -77,6 +77,9 @@ module _ {L : Type 0} (writes : L → Grid) (side : ℕ) where
   pub adds_none : (s : Held L) (k : ℕ) (f : Grid) → AddsPiecesOfGrid writes side s s k f
   adds_none s k f q held = inl held
 
+  pub adds_unchanged : (old new : Held L) → new ≡ old → (k : ℕ) (f : Grid) → AddsPiecesOfGrid writes side old new k f
+  adds_unchanged old new e k f q held = inl (subst (λ s. IsHeld s q) e held)
+
   pub adds_as : (old new : Held L) (k : ℕ) (f g : Grid) → AreSameWithin (side_at side k) f g → AddsPiecesOfGrid writes side old new k f → AddsPiecesOfGrid writes side old new k g
   adds_as old new k f g same adds q held = elim (adds q held) [
     | inl there ↦ inl there
@@ -111,10 +114,11 @@ module _ {L : Type 0} (writes : L → Grid) (side : ℕ) where
   -- ---- the whole, by its quarters
 
   pub four_as : (s : Held L) (k a b c d : ℕ) (g : Grid) → 0 < k → (n : ℕ) → n ≡ side_at side (k - 1)
-      → AreSameWithin n (grid_at writes side s (k - 1) a) (grid_from 0 0 g) → AreSameWithin n (grid_at writes side s (k - 1) b) (grid_from n 0 g)
-      → AreSameWithin n (grid_at writes side s (k - 1) c) (grid_from 0 n g) → AreSameWithin n (grid_at writes side s (k - 1) d) (grid_from n n g)
+      → AreSameWithin (side_at side (k - 1)) (grid_at writes side s (k - 1) a) (grid_from 0 0 g) → AreSameWithin (side_at side (k - 1)) (grid_at writes side s (k - 1) b) (grid_from n 0 g)
+      → AreSameWithin (side_at side (k - 1)) (grid_at writes side s (k - 1) c) (grid_from 0 n g) → AreSameWithin (side_at side (k - 1)) (grid_at writes side s (k - 1) d) (grid_from n n g)
       → AreSameWithin (side_at side k) (four_grid writes side s (k - 1) (a ∷ b ∷ c ∷ d ∷ [])) g
   four_as s k a b c d g some n is ea eb ec ed u v hu hv =
+      let below : (m : ℕ) → m < n → m < side_at side (k - 1) = λ m h. omega (arith, h, is) in
       let fa = grid_at writes side s (k - 1) a in
       let fb = grid_at writes side s (k - 1) b in
       let fc = grid_at writes side s (k - 1) c in
@@ -123,12 +127,12 @@ module _ {L : Type 0} (writes : L → Grid) (side : ℕ) where
       let wide = twice_below side k some in
       ap (λ m. quartered m fa fb fc fd u v) (sym is) ∙ elim (cases_lt v n) [
         | inl top ↦ elim (cases_lt u n) [
-          | inl left ↦ quarter_nw n fa fb fc fd u v left top ∙ ea u v left top ∙ same_spot g (0 + u) (0 + v) u v (omega arith) (omega arith)
+          | inl left ↦ quarter_nw n fa fb fc fd u v left top ∙ ea u v (below u left) (below v top) ∙ same_spot g (0 + u) (0 + v) u v (omega arith) (omega arith)
           | inr right ↦ (let e : n + (u - n) ≡ u = omega (arith, right) in
-              same_spot whole u v (n + (u - n)) v (sym e) refl ∙ quarter_ne n fa fb fc fd (u - n) v top ∙ eb (u - n) v (omega (arith, hu, right, is, wide)) top ∙ same_spot g (n + (u - n)) (0 + v) u v e (omega arith))
+              same_spot whole u v (n + (u - n)) v (sym e) refl ∙ quarter_ne n fa fb fc fd (u - n) v top ∙ eb (u - n) v (omega (arith, hu, right, is, wide)) (below v top) ∙ same_spot g (n + (u - n)) (0 + v) u v e (omega arith))
         ]
-        | inr bottom ↦ (let h : n + (v - n) ≡ v = omega (arith, bottom) in let low : v - n < n = omega (arith, hv, bottom, is, wide) in elim (cases_lt u n) [
-          | inl left ↦ same_spot whole u v u (n + (v - n)) refl (sym h) ∙ quarter_sw n fa fb fc fd u (v - n) left ∙ ec u (v - n) left low ∙ same_spot g (0 + u) (n + (v - n)) u v (omega arith) h
+        | inr bottom ↦ (let h : n + (v - n) ≡ v = omega (arith, bottom) in let low : v - n < side_at side (k - 1) = omega (arith, hv, bottom, is, wide) in elim (cases_lt u n) [
+          | inl left ↦ same_spot whole u v u (n + (v - n)) refl (sym h) ∙ quarter_sw n fa fb fc fd u (v - n) left ∙ ec u (v - n) (below u left) low ∙ same_spot g (0 + u) (n + (v - n)) u v (omega arith) h
           | inr right ↦ (let e : n + (u - n) ≡ u = omega (arith, right) in
               same_spot whole u v (n + (u - n)) (n + (v - n)) (sym e) (sym h) ∙ quarter_se n fa fb fc fd (u - n) (v - n) ∙ ed (u - n) (v - n) (omega (arith, hu, right, is, wide)) low ∙ same_spot g (n + (u - n)) (n + (v - n)) u v e h)
         ])

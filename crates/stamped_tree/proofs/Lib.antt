@@ -11,6 +11,7 @@ pub mod Listing
 pub mod Drawing
 pub mod OnPlaneLaws
 pub mod Overwriting
+pub mod DrawnPieces
 pub mod Gathering
 pub mod Placing
 pub mod WalkLaws

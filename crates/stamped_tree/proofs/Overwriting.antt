@@ -8,7 +8,7 @@ use Rattle.square_store.specs.Squares.{Held, IsAt, side_at, grid_at, Draws}
 use Rattle.square_store.specs.Seen.{AreQuartersAt}
 use Rattle.square_store.specs.Store.{IsGrown}
 use Rattle.square_store.proofs.Quarters.{AreQuartersOf, quarters_of}
-use Rattle.square_store.proofs.Drawn.{twice_below}
+use Rattle.square_store.proofs.Drawn.{draws_as, twice_below}
 use Rattle.generations_rule.specs.Place.{Place}
 use Rattle.leaf_merge_lanes.specs.Leaf.{write_of, write_on_leaf}
 use Rattle.stamped_writes.specs.declared.write.Write.{Write}
@@ -89,6 +89,10 @@ leaf_written leaf mid new stamp a cells h first second u v hu hv =
 pub leaf_left : (leaf : List Write) (stamp : ℕ) (a : Area) → IsEmptyArea a → (i : ℕ) → write_on_leaf leaf i ≡ (if is_in_area a (i % 8) (i / 8) then write_of stamp 0 else write_on_leaf leaf i)
 leaf_left leaf stamp a h i = rw (not_covered a (i % 8) (i / 8) h) refl
 
+-- the same, over the square that the leaf is read from
+pub leaf_over : (leaf old f e : Grid) → AreSameWithin 8 leaf (overwritten_grid old e) → AreSameWithin 8 old f → AreSameWithin (side_at 8 0) leaf (overwritten_grid f e)
+leaf_over leaf old f e written read u v hu hv = written u v hu hv ∙ over_same 8 old f e e read (λ u v hu hv. refl) u v hu hv
+
 pub leaf_stamped : (n : ℕ) (f g : Grid) (stamp : ℕ) (a : Area) (cells : List ListedCell) → IsTrue (is_stamp stamp) → HasPlaneWrites n f → AreSameWithin n g (overwritten_grid f (edit_grid stamp a cells)) → HasPlaneWrites n g
 leaf_stamped n f g stamp a cells h has same u v hu hv = subst (λ w. IsTrue (is_plane_write w)) (sym (same u v hu hv)) (over_stamped (f u v) (edit_grid stamp a cells u v) (has u v hu hv) (edit_writes stamp a cells u v h))
 
@@ -107,11 +111,12 @@ stays s k p stamp a cells at none empty = record {
   same = λ u v hu hv. rw (none_of cells none, not_covered a u v empty) refl;
 }
 
+-- an area that is all of a square makes it a blank
+pub covered_whole : (s : Held PlaneLeaf) (k p stamp n : ℕ) (a : Area) (cells : List ListedCell) → IsTrue (is_stamp stamp) → n ≡ side_at 8 k → length cells ≡ 0 → IsWholeArea n a → AreSameWithin (side_at 8 k) (blank_grid stamp) (overwritten_grid (grid_at plane_grid 8 s k p) (edit_grid stamp a cells))
+covered_whole s k p stamp n a cells h side none whole u v hu hv = rw (none_of cells none, covered a n u v whole (omega (arith, hu, side)) (omega (arith, hv, side)), some_stamp stamp h) refl
+
 pub blank_over : (s t : Held PlaneLeaf) (k p stamp n b : ℕ) (a : Area) (cells : List ListedCell) → IsTrue (is_stamp stamp) → n ≡ side_at 8 k → length cells ≡ 0 → IsWholeArea n a → Draws plane_grid 8 t k (blank_grid stamp) b → Draws plane_grid 8 t k (overwritten_grid (grid_at plane_grid 8 s k p) (edit_grid stamp a cells)) b
-blank_over s t k p stamp n b a cells h side none whole drawn = record {
-  stands = drawn.stands;
-  same = λ u v hu hv. drawn.same u v hu hv ∙ rw (none_of cells none, covered a n u v whole (omega (arith, hu, side)) (omega (arith, hv, side)), some_stamp stamp h) refl;
-}
+blank_over s t k p stamp n b a cells h side none whole drawn = draws_as plane_grid 8 t k (blank_grid stamp) (overwritten_grid (grid_at plane_grid 8 s k p) (edit_grid stamp a cells)) b (covered_whole s k p stamp n a cells h side none whole) drawn
 
 pub area_over : (s : Held PlaneLeaf) (k p stamp d : ℕ) (a : Area) (cells : List ListedCell) → length cells ≡ 0 → Draws plane_grid 8 s k (overwritten_grid (grid_at plane_grid 8 s k p) (area_grid stamp a)) d → Draws plane_grid 8 s k (overwritten_grid (grid_at plane_grid 8 s k p) (edit_grid stamp a cells)) d
 area_over s k p stamp d a cells none drawn = rw (none_of cells none) drawn

@@ -6,7 +6,6 @@ use Rattle.square_store.specs.Squares.{Held, IsAt, grid_at, Draws}
 use Rattle.square_store.specs.Store.{IsHeld}
 use Rattle.stamped_tree.specs.declared.leaf_kind.PlaneLeaf.{PlaneLeaf}
 use Rattle.stamped_tree.specs.LeafKind.{plane_grid}
-use Rattle.stamped_tree.specs.Pieces.{IsPieceOf}
 
 -- each part that was copied, and its copy
 abbrev pub Copies : Type 0
@@ -42,7 +41,3 @@ AreAllCopies source target parts copied = (i : ℕ) → i < 4 → IsCopy source 
 -- the square at p, or nothing
 abbrev pub AddsAtMost : (old new : Held PlaneLeaf) → ℕ → Type 0
 AddsAtMost old new p = (q : ℕ) → IsHeld new q → IsHeld old q ⊎ (q ≡ p)
-
--- some of the pieces of the square of level k at p, or nothing
-abbrev pub AddsPiecesOf : (old new : Held PlaneLeaf) → ℕ → ℕ → Type 0
-AddsPiecesOf old new k p = (q : ℕ) → IsHeld new q → IsHeld old q ⊎ IsPieceOf new k p q

@@ -2,9 +2,13 @@
 use Rattle.std.specs.Prelude.{ℕ, ◌-◌, ◌==◌, ◌&&◌, Bool, nat_le, nat_lt, List, map, filter, Option, option_map, find}
 use Rattle.edit_stamps.specs.Edit.{write_by}
 use Rattle.square_store.specs.Grid.{Grid}
+use Rattle.square_store.specs.Squares.{Held, grid_at}
 use Rattle.stamped_tree.specs.Area.{is_in_area}
+use Rattle.stamped_tree.specs.LeafKind.{plane_grid}
+use Rattle.stamped_tree.specs.Overwriting.{overwritten_grid}
 use Rattle.stamped_tree.specs.declared.area.Area.{Area}
 use Rattle.stamped_tree.specs.declared.cells.ListedCell.{ListedCell}
+use Rattle.stamped_tree.specs.declared.leaf_kind.PlaneLeaf.{PlaneLeaf}
 
 -- the state of the first cell that is listed in a column and a row
 abbrev pub state_listed : List ListedCell → ℕ → ℕ → Option ℕ
@@ -13,6 +17,10 @@ state_listed cells u v = option_map (λ c. c.state) (find (λ c. c.column == u &
 -- the stamp with the listed state; with 0 elsewhere in the area; else nothing
 abbrev pub edit_grid : ℕ → Area → List ListedCell → Grid
 edit_grid stamp a cells u v = write_by stamp (state_listed cells u v) (is_in_area a u v)
+
+-- the square of level k at p, with an edit written over it
+abbrev pub drawn_grid : Held PlaneLeaf → (k p stamp : ℕ) → Area → List ListedCell → Grid
+drawn_grid s k p stamp a cells = overwritten_grid (grid_at plane_grid 8 s k p) (edit_grid stamp a cells)
 
 -- a coordinate lies on a side that begins there and is so long
 abbrev pub is_on_side : ℕ → ℕ → ℕ → Bool

@@ -1,5 +1,5 @@
 -- Squares over which areas were written.
-use Rattle.std.specs.Prelude.{◌≡◌, ℕ, Bool, ◌==◌, ◌&&◌, Some, length}
+use Rattle.std.specs.Prelude.{◌≡◌, ℕ, Bool, ◌==◌, ◌&&◌, Some}
 use Rattle.std.specs.HashMap.{HashMap, get}
 use Rattle.square_store.specs.Squares.{Held, IsAt, grid_at, Draws}
 use Rattle.stamped_tree.specs.declared.leaf_kind.PlaneLeaf.{PlaneLeaf}
@@ -21,7 +21,3 @@ is_area_key x y = (x.level == y.level) && ((x.part == y.part) && ((x.area.left =
 -- each square that is kept is that of its level, of the square that was there and of its area
 pub record AreFilled {S : Type 0} (s : Held PlaneLeaf) (stamp : ℕ) (kept : HashMap AreaKey ℕ S) : Type 0 where
   pub each : (key : AreaKey) (p : ℕ) → get is_area_key kept key ≡ Some p → IsFilled s stamp key.level key.area key.part p
-
--- the store holds as many squares as it has room for
-abbrev pub IsFull : Held PlaneLeaf → Type 0
-IsFull s = length s.squares ≡ s.room

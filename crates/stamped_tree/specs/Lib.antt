@@ -1,6 +1,5 @@
 pub mod Copy
 pub mod LeafKind
-pub mod Pieces
 pub mod Plane
 pub mod PlaneSquare
 pub mod Tree
@@ -8,6 +7,8 @@ pub mod View
 pub mod Area
 pub mod Drawing
 pub mod Filled
+pub mod Full
+pub mod MapPieces
 pub mod Overwriting
 pub mod OnPlane
 pub mod Walk

@@ -7,11 +7,11 @@ use Rattle.leaf_merge_lanes.specs.Leaf.{write_on_leaf}
 use Rattle.stamped_writes.specs.declared.write.Write.{Write}
 use Rattle.square_store.specs.Grid.{Grid}
 use Rattle.square_store.specs.Squares.{Held, side_at, IsAt, grid_at, four_grid, Draws}
-use Rattle.square_store.specs.Store.{IsHeld, IsGrown, IsAdded, IsFullFor, IsRoomFor}
+use Rattle.square_store.specs.Pieces.{HoldsPiecesOfGrid}
+use Rattle.square_store.specs.Store.{IsGrown, IsAdded, IsFullFor, IsRoomFor}
 use Rattle.square_store.specs.Seen.{AreAt}
 use Rattle.stamped_tree.specs.declared.leaf_kind.PlaneLeaf.{PlaneLeaf}
 use Rattle.stamped_tree.specs.LeafKind.{plane_grid}
-use Rattle.stamped_tree.specs.Pieces.{IsPieceOf}
 
 -- what contracts see of a plane: the squares that it stores, with its room, and the part that is the whole plane
 pub record StampedPlane : Type 0 where
@@ -97,4 +97,4 @@ rooted p part = record { store = p.store; root = part }
 
 -- a plane stores the root, and the squares that the root is cut into, and no other
 abbrev pub StoresRootAlone : StampedPlane → Type 0
-StoresRootAlone p = (q : ℕ) → IsHeld p.store q → IsPieceOf p.store (above_leaf 31) p.root q
+StoresRootAlone p = HoldsPiecesOfGrid plane_grid 8 p.store (above_leaf 31) (grid_at plane_grid 8 p.store (above_leaf 31) p.root)

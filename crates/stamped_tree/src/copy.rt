@@ -1,10 +1,11 @@
 //! Copies of squares into another store.
 
 ghost use Rattle.std.specs.Prelude.{◌≡◌, ◌-◌, ◌<◌, OnOk, IfOk, IfSome, IfNone, None};
+ghost use Rattle.square_store.specs.Pieces.{AddsPiecesOfGrid};
 ghost use Rattle.square_store.specs.Seen.{IsBlankAt, IsFourAt, IsLeafAt};
-ghost use Rattle.square_store.specs.Squares.{IsAt};
+ghost use Rattle.square_store.specs.Squares.{IsAt, grid_at};
 ghost use Rattle.square_store.specs.Store.{IsGrown};
-ghost use Rattle.stamped_tree.specs.Copy.{AreAllCopies, AreCopies, AddsAtMost, IsCopy, AddsPiecesOf, IsNoted};
+ghost use Rattle.stamped_tree.specs.Copy.{AreAllCopies, AreCopies, AddsAtMost, IsCopy, IsNoted};
 ghost use Rattle.stamped_tree.specs.LeafKind.{plane_grid};
 
 use crate::leaf_kind::PlaneLeaf;
@@ -25,7 +26,7 @@ pub(crate) fn copy_square(
     ensures grows { IsGrown plane_grid 8 target.old target.new }
     ensures copies { OnOk result (AreCopies source.now target.new copies.new.entries) }
     ensures copy { IfOk result (IsCopy source.now target.new part) }
-    ensures pieces { IfOk result (AddsPiecesOf target.old target.new level) }
+    ensures pieces { OnOk result (AddsPiecesOfGrid plane_grid 8 target.old target.new level (grid_at plane_grid 8 source.now level part)) }
 {
     if let Some(copy) = copies.get(&part) {
         return Ok(*copy);

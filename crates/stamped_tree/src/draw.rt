@@ -2,13 +2,15 @@
 
 ghost use Rattle.std.specs.Prelude.{◌≡◌, ◌≤◌, ◌<◌, IfOk, IsTrue, Err};
 ghost use Rattle.square_store.specs.Squares.{Draws, IsAt, grid_at};
-ghost use Rattle.square_store.specs.Store.{IsGrown};
+ghost use Rattle.square_store.specs.Store.{IsFullFor, IsGrown};
+ghost use Rattle.square_store.specs.Pieces.{AddsPiecesOfGrid};
 ghost use Rattle.edit_stamps.specs.Edit.{IsEdit};
 ghost use Rattle.edit_stamps.specs.Stamp.{is_stamp};
 ghost use Rattle.stamped_tree.specs.OnPlane.{plane_writes};
 ghost use Rattle.stamped_tree.specs.Plane.{HoldPlaneWrites};
-ghost use Rattle.stamped_tree.specs.Drawing.{edit_grid};
-ghost use Rattle.stamped_tree.specs.Filled.{AreFilled, IsFull};
+ghost use Rattle.stamped_tree.specs.Drawing.{drawn_grid};
+ghost use Rattle.stamped_tree.specs.Filled.{AreFilled};
+ghost use Rattle.stamped_tree.specs.Full.{IsFullStoreFor};
 ghost use Rattle.stamped_tree.specs.LeafKind.{plane_grid};
 ghost use Rattle.stamped_tree.specs.Overwriting.{overwritten_grid};
 
@@ -36,7 +38,8 @@ pub(crate) fn draw_edit(
     ensures edit { IsEdit edit.now }
     ensures grows { IsGrown plane_grid 8 store.old store.new }
     ensures writes { HoldPlaneWrites store.old → HoldPlaneWrites store.new }
-    ensures full { result ≡ Err StoreFault.StoreFull → IsFull store.new }
+    ensures pieces { AddsPiecesOfGrid plane_grid 8 store.old store.new 28 (overwritten_grid (grid_at plane_grid 8 store.old 28 root) (plane_writes edit.now)) }
+    ensures full { result ≡ Err StoreFault.StoreFull → IsFullFor plane_grid 8 store.new 28 (overwritten_grid (grid_at plane_grid 8 store.old 28 root) (plane_writes edit.now)) }
 {
     let stamp = edit.stamp().number();
     let cells = cells_on_plane(alloc, edit.listed_cells())?;
@@ -65,11 +68,12 @@ pub(crate) fn draw(
     requires part { IsAt store.old level part }
     requires stamp { IsTrue (is_stamp stamp) }
     requires kept { AreFilled store.old stamp kept.old }
-    ensures draws { IfOk result (Draws plane_grid 8 store.new level (overwritten_grid (grid_at plane_grid 8 store.old level part) (edit_grid stamp area.now cells.items))) }
+    ensures draws { IfOk result (Draws plane_grid 8 store.new level (drawn_grid store.old level part stamp area.now cells.items)) }
     ensures grows { IsGrown plane_grid 8 store.old store.new }
     ensures writes { HoldPlaneWrites store.old → HoldPlaneWrites store.new }
     ensures kept { AreFilled store.new stamp kept.new }
-    ensures full { result ≡ Err StoreFault.StoreFull → IsFull store.new }
+    ensures pieces { AddsPiecesOfGrid plane_grid 8 store.old store.new level (drawn_grid store.old level part stamp area.now cells.items) }
+    ensures full { result ≡ Err StoreFault.StoreFull → IsFullStoreFor store.new level (drawn_grid store.old level part stamp area.now cells.items) }
 {
     if !cells.is_empty() {
         let drawn = draw_anew(store, kept, level, part, stamp, area, cells)?;
@@ -79,6 +83,8 @@ pub(crate) fn draw(
         return Ok(part);
     }
     if area.is_whole(side_of(level)) {
+        // For the proof alone: the call tells that the laws of stores hold.
+        store.store_laws();
         let blank = store.add_blank(stamp)?;
         return Ok(blank);
     }
@@ -105,11 +111,12 @@ fn draw_anew(
     requires part { IsAt store.old level part }
     requires stamp { IsTrue (is_stamp stamp) }
     requires kept { AreFilled store.old stamp kept.old }
-    ensures draws { IfOk result (Draws plane_grid 8 store.new level (overwritten_grid (grid_at plane_grid 8 store.old level part) (edit_grid stamp area.now cells.items))) }
+    ensures draws { IfOk result (Draws plane_grid 8 store.new level (drawn_grid store.old level part stamp area.now cells.items)) }
     ensures grows { IsGrown plane_grid 8 store.old store.new }
     ensures writes { HoldPlaneWrites store.old → HoldPlaneWrites store.new }
     ensures kept { AreFilled store.new stamp kept.new }
-    ensures full { result ≡ Err StoreFault.StoreFull → IsFull store.new }
+    ensures pieces { AddsPiecesOfGrid plane_grid 8 store.old store.new level (drawn_grid store.old level part stamp area.now cells.items) }
+    ensures full { result ≡ Err StoreFault.StoreFull → IsFullStoreFor store.new level (drawn_grid store.old level part stamp area.now cells.items) }
 {
     if level == 0 {
         let drawn = draw_leaf(store, part, stamp, *area, &cells)?;
@@ -155,6 +162,8 @@ fn draw_anew(
         &area.of_part(half, half, half),
         se,
     )?;
+    // For the proof alone, as above.
+    store.store_laws();
     let drawn = store.add_four(level, [nw, ne, sw, se])?;
     Ok(drawn)
 }
@@ -168,12 +177,15 @@ fn draw_leaf(
 ) -> Result<Part, StoreFault>
     requires part { IsAt store.old 0 part }
     requires stamp { IsTrue (is_stamp stamp) }
-    ensures draws { IfOk result (Draws plane_grid 8 store.new 0 (overwritten_grid (grid_at plane_grid 8 store.old 0 part) (edit_grid stamp area cells.now))) }
+    ensures draws { IfOk result (Draws plane_grid 8 store.new 0 (drawn_grid store.old 0 part stamp area cells.now)) }
     ensures grows { IsGrown plane_grid 8 store.old store.new }
     ensures writes { HoldPlaneWrites store.old → HoldPlaneWrites store.new }
-    ensures full { result ≡ Err StoreFault.StoreFull → IsFull store.new }
+    ensures pieces { AddsPiecesOfGrid plane_grid 8 store.old store.new 0 (drawn_grid store.old 0 part stamp area cells.now) }
+    ensures full { result ≡ Err StoreFault.StoreFull → IsFullStoreFor store.new 0 (drawn_grid store.old 0 part stamp area cells.now) }
 {
     let leaf = overwritten_leaf(leaf_at(store, part), stamp, area, cells);
+    // For the proof alone, as above.
+    store.store_laws();
     let drawn = store.add_leaf(leaf)?;
     Ok(drawn)
 }

@@ -12,6 +12,7 @@ ghost use Rattle.square_store.specs.Seen.{IsBlankAt};
 ghost use Rattle.square_store.specs.Store.{IsAdded, IsFullFor, IsHeld, IsOnePartEach, IsRoomFor, IsStore};
 ghost use Rattle.stamped_tree.specs.LeafKind.{IsPlaneLeaf, plane_grid};
 ghost use Rattle.stamped_tree.specs.Plane.{ArePlaneWrites, AreQuarterParts, DrawsPart, HasGrown, HasRoomForPart, IsFullForPart, IsPart, IsPartAdded, IsPlane, StoresRootAlone, grid_of_leaf, map_of, grid_of_parts, rooted};
+ghost use Rattle.stamped_tree.specs.MapPieces.{AddsPiecesOfMap, IsFullForMap};
 ghost use Rattle.stamped_tree.specs.Overwriting.{overwritten};
 ghost use Rattle.stamped_tree.specs.Tree.{OneMap, OneTree};
 ghost use Rattle.stamped_tree.specs.Walk.{AreNonzeroCells};
@@ -224,14 +225,15 @@ impl Plane {
     /// square has. No stamps are compared, so this is a join only where the edit's stamp is above those of
     /// the square. The map is as before.
     ///
-    /// `StoreFull` comes only where the plane has no room for a square of it; what was added by then is
-    /// stored until `copy`.
+    /// What is stored is that square and those that it is cut into, and no other; `StoreFull` comes only
+    /// where the plane has no room for one of them, and what was added by then is stored until `copy`.
     pub fn add_overwritten(&mut self, root: Part, edit: &Edit) -> Result<Part, StoreFault>
         requires { IsPart self.old.store 31 root }
         ensures part { IfOk result (λ part. IsPart self.new.store 31 part) }
         ensures overwrites { IfOk result (λ part. AreSame (map_of (rooted self.new part)) (overwritten (map_of (rooted self.old root)) (writes_of edit.now))) }
         ensures grows { HasGrown self.old self.new }
-        ensures full { result ≡ Err StoreFault.StoreFull → length self.new.store.squares ≡ self.new.store.room }
+        ensures pieces { AddsPiecesOfMap self.old self.new (overwritten (map_of (rooted self.old root)) (writes_of edit.now)) }
+        ensures full { result ≡ Err StoreFault.StoreFull → IsFullForMap self.new (overwritten (map_of (rooted self.old root)) (writes_of edit.now)) }
     {
         let _ = &self.root;
         let part = draw_edit(self.alloc, &mut self.store, root, edit)?;

@@ -1,9 +1,8 @@
 -- Growth in steps.
-use Rattle.std.proofs.Common.{◌∙◌, ◌≡◌, ℕ, ◌+◌, ◌-◌, ◌*◌, ◌<◌, ◌≤◌, List, length, sym, subst, arith}
+use Rattle.std.proofs.Common.{◌∙◌, ◌≡◌, ℕ, ◌+◌, ◌-◌, ◌*◌, ◌<◌, ◌≤◌, List, sym, subst, arith}
 use Rattle.std.specs.Prelude.{slice_index_or}
 use Rattle.square_store.specs.Seen.{IsFourAt}
 use Rattle.square_store.specs.Squares.{Held, IsAt}
-use Rattle.square_store.specs.Store.{IsGrown}
 use Rattle.stamped_tree.specs.declared.leaf_kind.PlaneLeaf.{PlaneLeaf}
 use Rattle.stamped_tree.specs.LeafKind.{plane_grid}
 use Rattle.stamped_tree.specs.Plane.{HasGrown, StampedPlane}

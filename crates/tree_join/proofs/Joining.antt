@@ -147,7 +147,7 @@ module _ (there s0 s1 s2 s3 s4 s5 : Held PlaneLeaf) (k a b : ℕ) (pa pb : List 
         ∙ each_of_three (λ p q _. p ≡ q) n (f 0) (f 1) (f 2) (f 3) (g 0) (g 1) (g 2) (g 3) (g 0) (g 1) (g 2) (g 3) (still 0 (omega arith)) (still 1 (omega arith)) (still 2 (omega arith)) (still 3 (omega arith)) u v (omega (arith, hu, wide)) (omega (arith, hv, wide)));
   }
 
-  four_joined : AreSameWithin (side_at 8 k) (four_grid plane_grid 8 s4 (k - 1) (p0 ∷ p1 ∷ p2 ∷ p3 ∷ [])) (join_grid s4 there k a b)
+  pub four_joined : AreSameWithin (side_at 8 k) (four_grid plane_grid 8 s4 (k - 1) (p0 ∷ p1 ∷ p2 ∷ p3 ∷ [])) (join_grid s4 there k a b)
   four_joined u v hu hv =
       let wide = twice_below 8 k some in
       let n = side_at 8 (k - 1) in

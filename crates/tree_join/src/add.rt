@@ -3,9 +3,11 @@
 ghost use Rattle.std.specs.Prelude.{◌≡◌, ◌<◌, ◌≤◌, ◌-◌, ℕ, Err, IfOk, IsTrue, slice_index_or};
 ghost use Rattle.edit_stamps.specs.PlaneMap.{is_plane_write};
 ghost use Rattle.leaf_merge_lanes.specs.Leaf.{write_of};
+ghost use Rattle.square_store.specs.Grid.{blank_grid};
+ghost use Rattle.square_store.specs.Pieces.{AddsPiecesOfGrid};
 ghost use Rattle.square_store.specs.Seen.{AreAt, IsBlankAt};
 ghost use Rattle.square_store.specs.Squares.{Draws, IsAt, four_grid};
-ghost use Rattle.stamped_tree.specs.Filled.{IsFull};
+ghost use Rattle.stamped_tree.specs.Full.{IsFullStoreFor};
 ghost use Rattle.stamped_tree.specs.LeafKind.{plane_grid};
 ghost use Rattle.stamped_tree.specs.Plane.{ArePlaneWrites, HasGrown, grid_of_leaf};
 ghost use Rattle.tree_join.specs.Squares.{AreQuarters};
@@ -20,8 +22,11 @@ pub(crate) fn add_blank(plane: &mut Plane, stamp: u64) -> Result<Part, StoreFaul
     requires { IsTrue (is_plane_write (write_of stamp 0)) }
     ensures draws { IfOk result (λ part. IsBlankAt plane_grid 8 plane.new.store stamp part) }
     ensures grows { HasGrown plane.old plane.new }
-    ensures full { result ≡ Err StoreFault.StoreFull → IsFull plane.new.store }
+    ensures pieces { (k : ℕ) → AddsPiecesOfGrid plane_grid 8 plane.old.store plane.new.store k (blank_grid stamp) }
+    ensures full { result ≡ Err StoreFault.StoreFull → (k : ℕ) → IsFullStoreFor plane.new.store k (blank_grid stamp) }
 {
+    // For the proof alone: the call tells that the laws of stores hold.
+    plane.plane_laws(plane);
     let part = plane.add_blank(stamp)?;
     Ok(part)
 }
@@ -30,8 +35,11 @@ pub(crate) fn add_leaf(plane: &mut Plane, leaf: Leaf) -> Result<Part, StoreFault
     requires { ArePlaneWrites leaf }
     ensures draws { IfOk result (λ part. Draws plane_grid 8 plane.new.store 0 (grid_of_leaf leaf) part) }
     ensures grows { HasGrown plane.old plane.new }
-    ensures full { result ≡ Err StoreFault.StoreFull → IsFull plane.new.store }
+    ensures pieces { AddsPiecesOfGrid plane_grid 8 plane.old.store plane.new.store 0 (grid_of_leaf leaf) }
+    ensures full { result ≡ Err StoreFault.StoreFull → IsFullStoreFor plane.new.store 0 (grid_of_leaf leaf) }
 {
+    // For the proof alone, as above.
+    plane.plane_laws(plane);
     let part = plane.add_leaf(leaf)?;
     Ok(part)
 }
@@ -43,8 +51,11 @@ pub(crate) fn add_four(plane: &mut Plane, above: u32, parts: [Part; 4]) -> Resul
     requires parts { AreAt plane.old.store (above - 1) parts }
     ensures draws { IfOk result (λ part. Draws plane_grid 8 plane.new.store above (four_grid plane_grid 8 plane.old.store (above - 1) parts) part) }
     ensures grows { HasGrown plane.old plane.new }
-    ensures full { result ≡ Err StoreFault.StoreFull → IsFull plane.new.store }
+    ensures pieces { AddsPiecesOfGrid plane_grid 8 plane.old.store plane.new.store above (four_grid plane_grid 8 plane.old.store (above - 1) parts) }
+    ensures full { result ≡ Err StoreFault.StoreFull → IsFullStoreFor plane.new.store above (four_grid plane_grid 8 plane.old.store (above - 1) parts) }
 {
+    // For the proof alone, as above.
+    plane.plane_laws(plane);
     let part = plane.add_four(above + LEAF_LEVEL, parts)?;
     Ok(part)
 }
@@ -64,7 +75,8 @@ pub(crate) fn add_four_over(
     requires parts { AreAt plane.old.store (above - 1) parts }
     ensures draws { IfOk result (λ part. Draws plane_grid 8 plane.new.store above (four_grid plane_grid 8 plane.old.store (above - 1) parts) part) }
     ensures grows { HasGrown plane.old plane.new }
-    ensures full { result ≡ Err StoreFault.StoreFull → IsFull plane.new.store }
+    ensures pieces { AddsPiecesOfGrid plane_grid 8 plane.old.store plane.new.store above (four_grid plane_grid 8 plane.old.store (above - 1) parts) }
+    ensures full { result ≡ Err StoreFault.StoreFull → IsFullStoreFor plane.new.store above (four_grid plane_grid 8 plane.old.store (above - 1) parts) }
 {
     if are_same_parts(quarters, &parts) {
         return Ok(here);

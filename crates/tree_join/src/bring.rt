@@ -1,10 +1,11 @@
 //! Squares of the other plane that win everywhere, brought over.
 
-ghost use Rattle.std.specs.Prelude.{◌≡◌, ◌<◌, ◌≤◌, Err, IfOk};
+ghost use Rattle.std.specs.Prelude.{◌≡◌, ◌<◌, ◌≤◌, ℕ, Err, IfOk};
+ghost use Rattle.square_store.specs.Pieces.{AddsPiecesOfGrid};
 ghost use Rattle.square_store.specs.Seen.{IsBlankAt, IsFourAt, IsLeafAt};
-ghost use Rattle.square_store.specs.Squares.{IsAt};
+ghost use Rattle.square_store.specs.Squares.{IsAt, grid_at};
 ghost use Rattle.stamped_tree.specs.Copy.{IsCopy};
-ghost use Rattle.stamped_tree.specs.Filled.{IsFull};
+ghost use Rattle.stamped_tree.specs.Full.{IsFullStoreFor};
 ghost use Rattle.stamped_tree.specs.LeafKind.{plane_grid};
 ghost use Rattle.stamped_tree.specs.Plane.{HasGrown};
 ghost use Rattle.tree_join.specs.Leaves.{leaf_listed};
@@ -32,7 +33,8 @@ pub(crate) fn bring(
     ensures copy { IfOk result (IsCopy other.now.store plane.new.store there) }
     ensures grows { HasGrown plane.old plane.new }
     ensures copies { RemembersCopies plane.new.store other.now.store copies.new }
-    ensures full { result ≡ Err StoreFault.StoreFull → IsFull plane.new.store }
+    ensures pieces { AddsPiecesOfGrid plane_grid 8 plane.old.store plane.new.store above (grid_at plane_grid 8 other.now.store above there) }
+    ensures full { result ≡ Err StoreFault.StoreFull → IsFullStoreFor plane.new.store above (grid_at plane_grid 8 other.now.store above there) }
 {
     match other.square(there).view() {
         View::Blank(stamp) => bring_blank(plane, other, there, stamp),
@@ -53,7 +55,8 @@ fn bring_blank(
     requires { IsBlankAt plane_grid 8 other.now.store stamp there }
     ensures copy { IfOk result (IsCopy other.now.store plane.new.store there) }
     ensures grows { HasGrown plane.old plane.new }
-    ensures full { result ≡ Err StoreFault.StoreFull → IsFull plane.new.store }
+    ensures pieces { (k : ℕ) → IsAt other.now.store k there → AddsPiecesOfGrid plane_grid 8 plane.old.store plane.new.store k (grid_at plane_grid 8 other.now.store k there) }
+    ensures full { result ≡ Err StoreFault.StoreFull → (k : ℕ) → IsAt other.now.store k there → IsFullStoreFor plane.new.store k (grid_at plane_grid 8 other.now.store k there) }
 {
     other.plane_laws(plane);
     let copy = add_blank(plane, stamp)?;
@@ -69,7 +72,8 @@ fn bring_leaf(
     requires { IsLeafAt plane_grid 8 other.now.store (leaf_listed leaf.now) there }
     ensures copy { IfOk result (IsCopy other.now.store plane.new.store there) }
     ensures grows { HasGrown plane.old plane.new }
-    ensures full { result ≡ Err StoreFault.StoreFull → IsFull plane.new.store }
+    ensures pieces { (k : ℕ) → IsAt other.now.store k there → AddsPiecesOfGrid plane_grid 8 plane.old.store plane.new.store k (grid_at plane_grid 8 other.now.store k there) }
+    ensures full { result ≡ Err StoreFault.StoreFull → (k : ℕ) → IsAt other.now.store k there → IsFullStoreFor plane.new.store k (grid_at plane_grid 8 other.now.store k there) }
 {
     other.plane_laws(plane);
     let copy = add_leaf(plane, *leaf)?;
@@ -91,7 +95,8 @@ fn bring_four(
     ensures copy { IfOk result (IsCopy other.now.store plane.new.store there) }
     ensures grows { HasGrown plane.old plane.new }
     ensures copies { RemembersCopies plane.new.store other.now.store copies.new }
-    ensures full { result ≡ Err StoreFault.StoreFull → IsFull plane.new.store }
+    ensures pieces { AddsPiecesOfGrid plane_grid 8 plane.old.store plane.new.store above (grid_at plane_grid 8 other.now.store above there) }
+    ensures full { result ≡ Err StoreFault.StoreFull → IsFullStoreFor plane.new.store above (grid_at plane_grid 8 other.now.store above there) }
 {
     if let Some(copy) = copy_made(copies, plane, other, there) {
         return Ok(copy);

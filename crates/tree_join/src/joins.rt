@@ -2,13 +2,15 @@
 
 ghost use Rattle.std.specs.Prelude.{◌≡◌, ◌<◌, ◌≤◌, Err, IfOk, OnErr, OnOk, length};
 ghost use Rattle.stamped_writes.specs.Write.{AreSame, joined};
+ghost use Rattle.square_store.specs.Pieces.{AddsPiecesOfGrid};
 ghost use Rattle.square_store.specs.Squares.{IsAt};
 ghost use Rattle.square_store.specs.Store.{IsGrown};
-ghost use Rattle.stamped_tree.specs.Filled.{IsFull};
+ghost use Rattle.stamped_tree.specs.Full.{IsFullStoreFor};
 ghost use Rattle.stamped_tree.specs.LeafKind.{plane_grid};
+ghost use Rattle.stamped_tree.specs.MapPieces.{AddsPiecesOfMap, IsFullForMap};
 ghost use Rattle.stamped_tree.specs.Plane.{HasGrown, IsPart, map_of, rooted};
 ghost use Rattle.tree_join.specs.Remembered.{RemembersCopies, RemembersJoins};
-ghost use Rattle.tree_join.specs.Squares.{IsSquareJoin};
+ghost use Rattle.tree_join.specs.Squares.{IsSquareJoin, join_grid};
 
 use crate::add::add_four_over;
 use crate::bring::bring;
@@ -22,14 +24,17 @@ use std::alloc::Global;
 
 /// Joins another plane: at each coordinate the greater write stands (RR-7506's merge of two states).
 ///
-/// After an error the map is as it was. `StoreFull` comes only where the plane has no room for a square
-/// of the join; what was added by then is stored until `Plane::copy`.
+/// What is stored is the square of the joined map and those that it is cut into, and no other; so a join
+/// that changes nothing stores nothing. After an error the map is as it was. `StoreFull` comes only where
+/// the plane has no room for one of these squares; what was added by then is stored until `Plane::copy`.
 pub fn join(alloc: Global, plane: &mut Plane, other: &Plane) -> Result<(), StoreFault>
     ensures ok { OnOk result (AreSame (map_of plane.new) (joined (map_of plane.old) (map_of other.now))) }
     ensures err { OnErr result (HasGrown plane.old plane.new) }
     ensures grows { IsGrown plane_grid 8 plane.old.store plane.new.store }
     ensures room { plane.new.store.room ≡ plane.old.store.room }
-    ensures full { result ≡ Err StoreFault.StoreFull → length plane.new.store.squares ≡ plane.new.store.room }
+    ensures pieces { AddsPiecesOfMap plane.old plane.new (joined (map_of plane.old) (map_of other.now)) }
+    ensures full { result ≡ Err StoreFault.StoreFull → IsFullForMap plane.new (joined (map_of plane.old) (map_of other.now)) }
+    ensures kept { AreSame (joined (map_of plane.old) (map_of other.now)) (map_of plane.old) → length plane.new.store.squares ≡ length plane.old.store.squares }
 {
     let root = plane.root().part();
     let part = add_joined(alloc, plane, root, other)?;
@@ -38,7 +43,8 @@ pub fn join(alloc: Global, plane: &mut Plane, other: &Plane) -> Result<(), Store
 }
 
 /// Adds a square of level 31 of the plane joined with another plane: the part at which, were it the
-/// root, the greater write would stand at each coordinate. The map is as before.
+/// root, the greater write would stand at each coordinate. The map is as before, and what is stored is as
+/// `join` says.
 pub fn add_joined(
     alloc: Global,
     plane: &mut Plane,
@@ -49,10 +55,16 @@ pub fn add_joined(
     ensures part { IfOk result (λ added. IsPart plane.new.store 31 added) }
     ensures joins { IfOk result (λ added. AreSame (map_of (rooted plane.new added)) (joined (map_of (rooted plane.old part)) (map_of other.now))) }
     ensures grows { HasGrown plane.old plane.new }
-    ensures full { result ≡ Err StoreFault.StoreFull → length plane.new.store.squares ≡ plane.new.store.room }
+    ensures pieces { AddsPiecesOfMap plane.old plane.new (joined (map_of (rooted plane.old part)) (map_of other.now)) }
+    ensures full { result ≡ Err StoreFault.StoreFull → IsFullForMap plane.new (joined (map_of (rooted plane.old part)) (map_of other.now)) }
+    ensures kept { AreSame (joined (map_of (rooted plane.old part)) (map_of other.now)) (map_of (rooted plane.old part)) → length plane.new.store.squares ≡ length plane.old.store.squares }
 {
+    // For the proof alone: the calls tell that equal squares are equal parts, before and after.
+    plane.plane_laws(other);
     let there = other.root().part();
-    let added = join_roots(alloc, plane, other, part, there)?;
+    let added = join_roots(alloc, plane, other, part, there);
+    plane.plane_laws(other);
+    let added = added?;
     Ok(added)
 }
 
@@ -68,7 +80,8 @@ fn join_roots(
     requires there { IsAt other.now.store 28 there }
     ensures join { IfOk result (IsSquareJoin plane.new.store other.now.store 28 here there) }
     ensures grows { HasGrown plane.old plane.new }
-    ensures full { result ≡ Err StoreFault.StoreFull → IsFull plane.new.store }
+    ensures pieces { AddsPiecesOfGrid plane_grid 8 plane.old.store plane.new.store 28 (join_grid plane.old.store other.now.store 28 here there) }
+    ensures full { result ≡ Err StoreFault.StoreFull → IsFullStoreFor plane.new.store 28 (join_grid plane.old.store other.now.store 28 here there) }
 {
     let mut joins = IndexMap::new(alloc);
     let mut copies = IndexMap::new(alloc);
@@ -103,7 +116,8 @@ fn join_squares(
     ensures grows { HasGrown plane.old plane.new }
     ensures joins { RemembersJoins plane.new.store other.now.store joins.new }
     ensures copies { RemembersCopies plane.new.store other.now.store copies.new }
-    ensures full { result ≡ Err StoreFault.StoreFull → IsFull plane.new.store }
+    ensures pieces { AddsPiecesOfGrid plane_grid 8 plane.old.store plane.new.store above (join_grid plane.old.store other.now.store above here there) }
+    ensures full { result ≡ Err StoreFault.StoreFull → IsFullStoreFor plane.new.store above (join_grid plane.old.store other.now.store above here there) }
 {
     if stays(plane, other, above, here, there) {
         return Ok(here);
@@ -144,7 +158,8 @@ fn join_quarters(
     ensures grows { HasGrown plane.old plane.new }
     ensures joins { RemembersJoins plane.new.store other.now.store joins.new }
     ensures copies { RemembersCopies plane.new.store other.now.store copies.new }
-    ensures full { result ≡ Err StoreFault.StoreFull → IsFull plane.new.store }
+    ensures pieces { AddsPiecesOfGrid plane_grid 8 plane.old.store plane.new.store above (join_grid plane.old.store other.now.store above here there) }
+    ensures full { result ≡ Err StoreFault.StoreFull → IsFullStoreFor plane.new.store above (join_grid plane.old.store other.now.store above here there) }
 {
     let a = quarter_parts(above, &plane.square(here));
     let b = quarter_parts(above, &other.square(there));

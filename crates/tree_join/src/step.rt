@@ -2,11 +2,12 @@
 
 ghost use Rattle.std.specs.Prelude.{◌≡◌, Err, IfOk, IsTrue};
 ghost use Rattle.square_store.specs.Grid.{AreSameWithin};
+ghost use Rattle.square_store.specs.Pieces.{AddsPiecesOfGrid};
 ghost use Rattle.square_store.specs.Squares.{IsAt, grid_at};
-ghost use Rattle.stamped_tree.specs.Filled.{IsFull};
+ghost use Rattle.stamped_tree.specs.Full.{IsFullStoreFor};
 ghost use Rattle.stamped_tree.specs.LeafKind.{plane_grid};
 ghost use Rattle.stamped_tree.specs.Plane.{HasGrown, grid_of_leaf};
-ghost use Rattle.tree_join.specs.Squares.{AreSquaresAtMost, IsSquareJoin};
+ghost use Rattle.tree_join.specs.Squares.{AreSquaresAtMost, IsSquareJoin, join_grid};
 
 use crate::add::add_leaf;
 use crate::leaf::{leaf_writes, merged_leaf};
@@ -43,7 +44,8 @@ pub(crate) fn join_leaves(
     requires there { IsAt other.now.store 0 there }
     ensures joins { IfOk result (IsSquareJoin plane.new.store other.now.store 0 here there) }
     ensures grows { HasGrown plane.old plane.new }
-    ensures full { result ≡ Err StoreFault.StoreFull → IsFull plane.new.store }
+    ensures pieces { AddsPiecesOfGrid plane_grid 8 plane.old.store plane.new.store 0 (join_grid plane.old.store other.now.store 0 here there) }
+    ensures full { result ≡ Err StoreFault.StoreFull → IsFullStoreFor plane.new.store 0 (join_grid plane.old.store other.now.store 0 here there) }
 {
     plane.plane_laws(other);
     other.plane_laws(plane);

@@ -3,21 +3,21 @@ use Rattle.std.specs.Prelude.{slice_index_or}
 use Rattle.square_store.specs.declared.fault.StoreFault.TheVariants.{StoreFull, Memory}
 use Rattle.square_store.proofs.Made.{told}
 use Rattle.square_store.specs.Grid.{blank_grid}
+use Rattle.square_store.specs.Pieces.{AddsPiecesOfGrid}
 use Rattle.square_store.specs.Squares.{IsAt, side_at, four_grid, grid_at}
 use Rattle.stamped_tree.specs.LeafKind.{plane_grid}
-use Rattle.stamped_tree.specs.Drawing.{edit_grid}
-use Rattle.stamped_tree.specs.Filled.{IsFull}
+use Rattle.stamped_tree.specs.Drawing.{drawn_grid, edit_grid}
+use Rattle.stamped_tree.specs.Full.{IsFullStoreFor}
 use Rattle.stamped_tree.specs.Overwriting.{overwritten_grid}
 use Rattle.stamped_tree.specs.Plane.{HoldPlaneWrites}
 use Rattle.stamped_tree.proofs.Held.{holds_added, blank_has, four_has}
-use Rattle.square_store.proofs.Drawn.{draws_later, draws_four, grown_more, four_at}
+use Rattle.square_store.proofs.Drawn.{draws_as, draws_later, draws_four, grown_more, four_at}
 use Rattle.stamped_tree.proofs.Drawing.{stamped_write}
-use Rattle.stamped_tree.proofs.Overwriting.{stays, blank_over, area_over, no_length, filled_drawn, filled_later, grown_none, over_nw, over_ne, over_sw, over_se}
+use Rattle.stamped_tree.proofs.Overwriting.{stays, blank_over, covered_whole, area_over, no_length, filled_drawn, filled_later, grown_none, over_nw, over_ne, over_sw, over_se}
+use Rattle.square_store.proofs.PieceLaws.{adds_none, adds_unchanged, adds_more, adds_itself, four_as}
+use Rattle.stamped_tree.proofs.DrawnPieces.{same_full, made_nw, made_ne, made_sw, made_se, adds_nw, adds_ne, adds_sw, adds_se, full_nw, full_ne, full_sw, full_se}
 use Rattle.stamped_tree.proofs.Parts.{nw_later, ne_later, sw_later, se_later, some_level, level_below, anew_falls, quarter_falls}
 use Rattle.stamped_tree.proofs.draw.+draw.Goals as goal
-
-pub draw-returns-in_err-blank-clause-full : goal.draw-returns-in_err-blank-clause-full
-draw-returns-in_err-blank-clause-full t c = λ e. let full = c.in_err-blank.ensures.full (ap (λ e. Err e) (told _ _ _ c.from_residual-in_err-blank.ensures.1 e)) 0 in subst IsFull (sym c.in_err-blank.ensures.err) full.full
 
 pub draw-returns-then-is_whole-clause-writes : goal.draw-returns-then-is_whole-clause-writes
 draw-returns-then-is_whole-clause-writes t c =
@@ -213,7 +213,7 @@ pub draw_anew-draw_leaf-requires-clause-part : goal.draw_anew-draw_leaf-requires
 draw_anew-draw_leaf-requires-clause-part t c = subst (λ k. IsAt c.args.store.now k c.args.part) c.if-level-eq0.true c.requires.part
 
 pub draw_anew-returns-in_err-drawn-clause-full : goal.draw_anew-returns-in_err-drawn-clause-full
-draw_anew-returns-in_err-drawn-clause-full t c = λ e. c.in_err-drawn.ensures.full (ap (λ e. Err e) (told _ _ _ c.from_residual.ensures.1 e))
+draw_anew-returns-in_err-drawn-clause-full t c = λ e. subst (λ k. IsFullStoreFor c.draw_leaf.new.store k (drawn_grid c.args.store.now k c.args.part c.args.stamp c.args.area.now c.args.cells.items)) (sym c.if-level-eq0.true) (rw c.deref.ensures.value at (c.in_err-drawn.ensures.full (ap (λ e. Err e) (told _ _ _ c.from_residual.ensures.1 e))))
 
 pub draw_anew-returns-in_err-drawn-clause-grows : goal.draw_anew-returns-in_err-drawn-clause-grows
 draw_anew-returns-in_err-drawn-clause-grows t c = c.in_err-drawn.ensures.grows
@@ -237,9 +237,6 @@ draw_anew-returns-in_err-nw-clause-grows t c = c.in_err-nw.ensures.grows
 pub draw_anew-returns-in_err-nw-clause-kept : goal.draw_anew-returns-in_err-nw-clause-kept
 draw_anew-returns-in_err-nw-clause-kept t c = c.in_err-nw.ensures.kept
 
-pub draw_anew-returns-in_err-nw-clause-full : goal.draw_anew-returns-in_err-nw-clause-full
-draw_anew-returns-in_err-nw-clause-full t c = λ e. c.in_err-nw.ensures.full (ap (λ e. Err e) (told _ _ _ c.from_residual-in_err-nw.ensures.1 e))
-
 pub draw_anew-draw-requires-2 : goal.draw_anew-draw-requires-2
 draw_anew-draw-requires-2 t c =
     (quarter_falls c.args.level t (some_level c.args.level c.if-level-eq0.false) c.decreases, (level_below c.args.level c.requires.level, (ne_later c.args.store.now c.draw.new.store c.args.level c.args.part c.quarters-parts.result c.quarters-parts.ensures c.in_ok-nw.ensures.grows c.index-parts-1.result, (c.requires.stamp, c.in_ok-nw.ensures.kept))))
@@ -249,9 +246,6 @@ draw_anew-returns-in_err-ne-clause-grows t c = grown_more plane_grid 8 c.args.st
 
 pub draw_anew-returns-in_err-ne-clause-kept : goal.draw_anew-returns-in_err-ne-clause-kept
 draw_anew-returns-in_err-ne-clause-kept t c = c.in_err-ne.ensures.kept
-
-pub draw_anew-returns-in_err-ne-clause-full : goal.draw_anew-returns-in_err-ne-clause-full
-draw_anew-returns-in_err-ne-clause-full t c = λ e. c.in_err-ne.ensures.full (ap (λ e. Err e) (told _ _ _ c.from_residual-in_err-ne.ensures.1 e))
 
 pub draw_anew-draw-requires-3 : goal.draw_anew-draw-requires-3
 draw_anew-draw-requires-3 t c =
@@ -263,9 +257,6 @@ draw_anew-returns-in_err-sw-clause-grows t c = grown_more plane_grid 8 c.args.st
 pub draw_anew-returns-in_err-sw-clause-kept : goal.draw_anew-returns-in_err-sw-clause-kept
 draw_anew-returns-in_err-sw-clause-kept t c = c.in_err-sw.ensures.kept
 
-pub draw_anew-returns-in_err-sw-clause-full : goal.draw_anew-returns-in_err-sw-clause-full
-draw_anew-returns-in_err-sw-clause-full t c = λ e. c.in_err-sw.ensures.full (ap (λ e. Err e) (told _ _ _ c.from_residual-in_err-sw.ensures.1 e))
-
 pub draw_anew-draw-requires-4 : goal.draw_anew-draw-requires-4
 draw_anew-draw-requires-4 t c =
     (quarter_falls c.args.level t (some_level c.args.level c.if-level-eq0.false) c.decreases, (level_below c.args.level c.requires.level, (se_later c.args.store.now c.draw-3.new.store c.args.level c.args.part c.quarters-parts.result c.quarters-parts.ensures (grown_more plane_grid 8 c.args.store.now c.draw.new.store c.draw-3.new.store c.in_ok-nw.ensures.grows (grown_more plane_grid 8 c.draw.new.store c.draw-2.new.store c.draw-3.new.store c.in_ok-ne.ensures.grows c.in_ok-sw.ensures.grows)) c.index-parts-3.result, (c.requires.stamp, c.in_ok-sw.ensures.kept))))
@@ -276,9 +267,6 @@ draw_anew-returns-in_err-se-clause-grows t c = grown_more plane_grid 8 c.args.st
 pub draw_anew-returns-in_err-se-clause-kept : goal.draw_anew-returns-in_err-se-clause-kept
 draw_anew-returns-in_err-se-clause-kept t c = c.in_err-se.ensures.kept
 
-pub draw_anew-returns-in_err-se-clause-full : goal.draw_anew-returns-in_err-se-clause-full
-draw_anew-returns-in_err-se-clause-full t c = λ e. c.in_err-se.ensures.full (ap (λ e. Err e) (told _ _ _ c.from_residual-in_err-se.ensures.1 e))
-
 pub draw_anew-returns-in_err-nw-clause-writes : goal.draw_anew-returns-in_err-nw-clause-writes
 draw_anew-returns-in_err-nw-clause-writes t c = c.in_err-nw.ensures.writes
 
@@ -287,9 +275,6 @@ draw_anew-returns-in_err-ne-clause-writes t c = λ holds. c.in_err-ne.ensures.wr
 
 pub draw_anew-returns-in_err-drawn-2-clause-kept : goal.draw_anew-returns-in_err-drawn-2-clause-kept
 draw_anew-returns-in_err-drawn-2-clause-kept t c = filled_later c.draw-4.new.store c.add_four.new.self c.args.stamp c.draw-4.new.kept c.in_err-drawn-2.ensures.grows c.in_ok-se.ensures.kept
-
-pub draw_anew-returns-in_err-drawn-2-clause-full : goal.draw_anew-returns-in_err-drawn-2-clause-full
-draw_anew-returns-in_err-drawn-2-clause-full t c = λ e. let full = c.in_err-drawn-2.ensures.full (ap (λ e. Err e) (told _ _ _ c.from_residual-in_err-drawn-2.ensures.1 e)) in subst IsFull (sym c.in_err-drawn-2.ensures.err) full.full
 
 pub draw_anew-add_four-requires-clause-parts : goal.draw_anew-add_four-requires-clause-parts
 draw_anew-add_four-requires-clause-parts t c =
@@ -304,3 +289,308 @@ draw_anew-add_four-requires-clause-parts t c =
     let se = c.in_ok-se in
     let later = grown_more plane_grid 8 s2 s3 s4 sw.ensures.grows se.ensures.grows in
     four_at s4 k nw.nw ne.ne sw.sw se.se ((grown_more plane_grid 8 s1 s2 s4 ne.ensures.grows later).stands k nw.nw nw.ensures.draws.stands) (later.stands k ne.ne ne.ensures.draws.stands) (se.ensures.grows.stands k sw.sw sw.ensures.draws.stands) se.ensures.draws.stands
+
+pub draw_anew-returns-in_err-nw-clause-pieces : goal.draw_anew-returns-in_err-nw-clause-pieces
+draw_anew-returns-in_err-nw-clause-pieces t c =
+    let a = c.args in
+    let n = c.side_of-half.result in
+    let is = c.side_of-half.ensures in
+    let parts = c.quarters-parts.result in
+    let cut = c.quarters-parts.ensures in
+    let its = c.in_ok-quarters.quarters in
+    let cells = c.in_ok-quarters.ensures in
+    let some = some_level a.level c.if-level-eq0.false in
+    let s0 = a.store.now in
+    let s1 = c.draw.new.store in
+    let w = drawn_grid s0 a.level a.part a.stamp a.area.now a.cells.items in
+    adds_nw s0 a.level a.part parts some cut n is s0 (grown_none plane_grid 8 s0) a.stamp a.area.now c.of_part.result a.cells.items its.nw.items c.index-parts-0.result cells.nw c.of_part.ensures.part s1 c.in_err-nw.ensures.pieces
+
+pub draw_anew-returns-in_err-ne-clause-pieces : goal.draw_anew-returns-in_err-ne-clause-pieces
+draw_anew-returns-in_err-ne-clause-pieces t c =
+    let a = c.args in
+    let n = c.side_of-half.result in
+    let is = c.side_of-half.ensures in
+    let parts = c.quarters-parts.result in
+    let cut = c.quarters-parts.ensures in
+    let its = c.in_ok-quarters.quarters in
+    let cells = c.in_ok-quarters.ensures in
+    let some = some_level a.level c.if-level-eq0.false in
+    let s0 = a.store.now in
+    let s1 = c.draw.new.store in
+    let s2 = c.draw-2.new.store in
+    let g1 = c.in_ok-nw.ensures.grows in
+    let w = drawn_grid s0 a.level a.part a.stamp a.area.now a.cells.items in
+    adds_more plane_grid 8 s0 s1 s2 a.level w c.in_err-ne.ensures.grows
+    (adds_nw s0 a.level a.part parts some cut n is s0 (grown_none plane_grid 8 s0) a.stamp a.area.now c.of_part.result a.cells.items its.nw.items c.index-parts-0.result cells.nw c.of_part.ensures.part s1 c.in_ok-nw.ensures.pieces)
+    (adds_ne s0 a.level a.part parts some cut n is s1 g1 a.stamp a.area.now c.of_part-2.result a.cells.items its.ne.items c.index-parts-1.result cells.ne c.of_part-2.ensures.part s2 c.in_err-ne.ensures.pieces)
+
+pub draw_anew-returns-in_err-sw-clause-pieces : goal.draw_anew-returns-in_err-sw-clause-pieces
+draw_anew-returns-in_err-sw-clause-pieces t c =
+    let a = c.args in
+    let n = c.side_of-half.result in
+    let is = c.side_of-half.ensures in
+    let parts = c.quarters-parts.result in
+    let cut = c.quarters-parts.ensures in
+    let its = c.in_ok-quarters.quarters in
+    let cells = c.in_ok-quarters.ensures in
+    let some = some_level a.level c.if-level-eq0.false in
+    let s0 = a.store.now in
+    let s1 = c.draw.new.store in
+    let s2 = c.draw-2.new.store in
+    let s3 = c.draw-3.new.store in
+    let g1 = c.in_ok-nw.ensures.grows in
+    let g2 = grown_more plane_grid 8 s0 s1 s2 g1 c.in_ok-ne.ensures.grows in
+    let w = drawn_grid s0 a.level a.part a.stamp a.area.now a.cells.items in
+    adds_more plane_grid 8 s0 s2 s3 a.level w c.in_err-sw.ensures.grows
+    (adds_more plane_grid 8 s0 s1 s2 a.level w c.in_ok-ne.ensures.grows
+    (adds_nw s0 a.level a.part parts some cut n is s0 (grown_none plane_grid 8 s0) a.stamp a.area.now c.of_part.result a.cells.items its.nw.items c.index-parts-0.result cells.nw c.of_part.ensures.part s1 c.in_ok-nw.ensures.pieces)
+    (adds_ne s0 a.level a.part parts some cut n is s1 g1 a.stamp a.area.now c.of_part-2.result a.cells.items its.ne.items c.index-parts-1.result cells.ne c.of_part-2.ensures.part s2 c.in_ok-ne.ensures.pieces))
+    (adds_sw s0 a.level a.part parts some cut n is s2 g2 a.stamp a.area.now c.of_part-3.result a.cells.items its.sw.items c.index-parts-2.result cells.sw c.of_part-3.ensures.part s3 c.in_err-sw.ensures.pieces)
+
+pub draw_anew-returns-in_err-se-clause-pieces : goal.draw_anew-returns-in_err-se-clause-pieces
+draw_anew-returns-in_err-se-clause-pieces t c =
+    let a = c.args in
+    let n = c.side_of-half.result in
+    let is = c.side_of-half.ensures in
+    let parts = c.quarters-parts.result in
+    let cut = c.quarters-parts.ensures in
+    let its = c.in_ok-quarters.quarters in
+    let cells = c.in_ok-quarters.ensures in
+    let some = some_level a.level c.if-level-eq0.false in
+    let s0 = a.store.now in
+    let s1 = c.draw.new.store in
+    let s2 = c.draw-2.new.store in
+    let s3 = c.draw-3.new.store in
+    let s4 = c.draw-4.new.store in
+    let g1 = c.in_ok-nw.ensures.grows in
+    let g2 = grown_more plane_grid 8 s0 s1 s2 g1 c.in_ok-ne.ensures.grows in
+    let g3 = grown_more plane_grid 8 s0 s2 s3 g2 c.in_ok-sw.ensures.grows in
+    let w = drawn_grid s0 a.level a.part a.stamp a.area.now a.cells.items in
+    adds_more plane_grid 8 s0 s3 s4 a.level w c.in_err-se.ensures.grows
+    (adds_more plane_grid 8 s0 s2 s3 a.level w c.in_ok-sw.ensures.grows
+    (adds_more plane_grid 8 s0 s1 s2 a.level w c.in_ok-ne.ensures.grows
+    (adds_nw s0 a.level a.part parts some cut n is s0 (grown_none plane_grid 8 s0) a.stamp a.area.now c.of_part.result a.cells.items its.nw.items c.index-parts-0.result cells.nw c.of_part.ensures.part s1 c.in_ok-nw.ensures.pieces)
+    (adds_ne s0 a.level a.part parts some cut n is s1 g1 a.stamp a.area.now c.of_part-2.result a.cells.items its.ne.items c.index-parts-1.result cells.ne c.of_part-2.ensures.part s2 c.in_ok-ne.ensures.pieces))
+    (adds_sw s0 a.level a.part parts some cut n is s2 g2 a.stamp a.area.now c.of_part-3.result a.cells.items its.sw.items c.index-parts-2.result cells.sw c.of_part-3.ensures.part s3 c.in_ok-sw.ensures.pieces))
+    (adds_se s0 a.level a.part parts some cut n is s3 g3 a.stamp a.area.now c.of_part-4.result a.cells.items its.se.items c.index-parts-3.result cells.se c.of_part-4.ensures.part s4 c.in_err-se.ensures.pieces)
+
+pub draw_anew-returns-in_err-nw-clause-full : goal.draw_anew-returns-in_err-nw-clause-full
+draw_anew-returns-in_err-nw-clause-full t c =
+    let a = c.args in
+    let n = c.side_of-half.result in
+    let is = c.side_of-half.ensures in
+    let parts = c.quarters-parts.result in
+    let cut = c.quarters-parts.ensures in
+    let its = c.in_ok-quarters.quarters in
+    let cells = c.in_ok-quarters.ensures in
+    let some = some_level a.level c.if-level-eq0.false in
+    let s0 = a.store.now in
+    let s1 = c.draw.new.store in
+    λ e. full_nw s0 a.level a.part parts some cut n is s0 (grown_none plane_grid 8 s0) a.stamp a.area.now c.of_part.result a.cells.items its.nw.items c.index-parts-0.result cells.nw c.of_part.ensures.part s1 (c.in_err-nw.ensures.full (ap (λ e. Err e) (told _ _ _ c.from_residual-in_err-nw.ensures.1 e)))
+
+pub draw_anew-returns-in_err-ne-clause-full : goal.draw_anew-returns-in_err-ne-clause-full
+draw_anew-returns-in_err-ne-clause-full t c =
+    let a = c.args in
+    let n = c.side_of-half.result in
+    let is = c.side_of-half.ensures in
+    let parts = c.quarters-parts.result in
+    let cut = c.quarters-parts.ensures in
+    let its = c.in_ok-quarters.quarters in
+    let cells = c.in_ok-quarters.ensures in
+    let some = some_level a.level c.if-level-eq0.false in
+    let s0 = a.store.now in
+    let s1 = c.draw.new.store in
+    let s2 = c.draw-2.new.store in
+    let g1 = c.in_ok-nw.ensures.grows in
+    λ e. full_ne s0 a.level a.part parts some cut n is s1 g1 a.stamp a.area.now c.of_part-2.result a.cells.items its.ne.items c.index-parts-1.result cells.ne c.of_part-2.ensures.part s2 (c.in_err-ne.ensures.full (ap (λ e. Err e) (told _ _ _ c.from_residual-in_err-ne.ensures.1 e)))
+
+pub draw_anew-returns-in_err-sw-clause-full : goal.draw_anew-returns-in_err-sw-clause-full
+draw_anew-returns-in_err-sw-clause-full t c =
+    let a = c.args in
+    let n = c.side_of-half.result in
+    let is = c.side_of-half.ensures in
+    let parts = c.quarters-parts.result in
+    let cut = c.quarters-parts.ensures in
+    let its = c.in_ok-quarters.quarters in
+    let cells = c.in_ok-quarters.ensures in
+    let some = some_level a.level c.if-level-eq0.false in
+    let s0 = a.store.now in
+    let s1 = c.draw.new.store in
+    let s2 = c.draw-2.new.store in
+    let s3 = c.draw-3.new.store in
+    let g1 = c.in_ok-nw.ensures.grows in
+    let g2 = grown_more plane_grid 8 s0 s1 s2 g1 c.in_ok-ne.ensures.grows in
+    λ e. full_sw s0 a.level a.part parts some cut n is s2 g2 a.stamp a.area.now c.of_part-3.result a.cells.items its.sw.items c.index-parts-2.result cells.sw c.of_part-3.ensures.part s3 (c.in_err-sw.ensures.full (ap (λ e. Err e) (told _ _ _ c.from_residual-in_err-sw.ensures.1 e)))
+
+pub draw_anew-returns-in_err-se-clause-full : goal.draw_anew-returns-in_err-se-clause-full
+draw_anew-returns-in_err-se-clause-full t c =
+    let a = c.args in
+    let n = c.side_of-half.result in
+    let is = c.side_of-half.ensures in
+    let parts = c.quarters-parts.result in
+    let cut = c.quarters-parts.ensures in
+    let its = c.in_ok-quarters.quarters in
+    let cells = c.in_ok-quarters.ensures in
+    let some = some_level a.level c.if-level-eq0.false in
+    let s0 = a.store.now in
+    let s1 = c.draw.new.store in
+    let s2 = c.draw-2.new.store in
+    let s3 = c.draw-3.new.store in
+    let s4 = c.draw-4.new.store in
+    let g1 = c.in_ok-nw.ensures.grows in
+    let g2 = grown_more plane_grid 8 s0 s1 s2 g1 c.in_ok-ne.ensures.grows in
+    let g3 = grown_more plane_grid 8 s0 s2 s3 g2 c.in_ok-sw.ensures.grows in
+    λ e. full_se s0 a.level a.part parts some cut n is s3 g3 a.stamp a.area.now c.of_part-4.result a.cells.items its.se.items c.index-parts-3.result cells.se c.of_part-4.ensures.part s4 (c.in_err-se.ensures.full (ap (λ e. Err e) (told _ _ _ c.from_residual-in_err-se.ensures.1 e)))
+
+pub draw_anew-returns-in_err-drawn-2-clause-pieces : goal.draw_anew-returns-in_err-drawn-2-clause-pieces
+draw_anew-returns-in_err-drawn-2-clause-pieces t c =
+    let a = c.args in
+    let n = c.side_of-half.result in
+    let is = c.side_of-half.ensures in
+    let parts = c.quarters-parts.result in
+    let cut = c.quarters-parts.ensures in
+    let its = c.in_ok-quarters.quarters in
+    let cells = c.in_ok-quarters.ensures in
+    let some = some_level a.level c.if-level-eq0.false in
+    let s0 = a.store.now in
+    let s1 = c.draw.new.store in
+    let s2 = c.draw-2.new.store in
+    let s3 = c.draw-3.new.store in
+    let s4 = c.draw-4.new.store in
+    let s5 = c.add_four.new.self in
+    let g1 = c.in_ok-nw.ensures.grows in
+    let g2 = grown_more plane_grid 8 s0 s1 s2 g1 c.in_ok-ne.ensures.grows in
+    let g3 = grown_more plane_grid 8 s0 s2 s3 g2 c.in_ok-sw.ensures.grows in
+    let w = drawn_grid s0 a.level a.part a.stamp a.area.now a.cells.items in
+    adds_more plane_grid 8 s0 s4 s5 a.level w c.in_err-drawn-2.ensures.grows
+    (adds_more plane_grid 8 s0 s3 s4 a.level w c.in_ok-se.ensures.grows
+    (adds_more plane_grid 8 s0 s2 s3 a.level w c.in_ok-sw.ensures.grows
+    (adds_more plane_grid 8 s0 s1 s2 a.level w c.in_ok-ne.ensures.grows
+    (adds_nw s0 a.level a.part parts some cut n is s0 (grown_none plane_grid 8 s0) a.stamp a.area.now c.of_part.result a.cells.items its.nw.items c.index-parts-0.result cells.nw c.of_part.ensures.part s1 c.in_ok-nw.ensures.pieces)
+    (adds_ne s0 a.level a.part parts some cut n is s1 g1 a.stamp a.area.now c.of_part-2.result a.cells.items its.ne.items c.index-parts-1.result cells.ne c.of_part-2.ensures.part s2 c.in_ok-ne.ensures.pieces))
+    (adds_sw s0 a.level a.part parts some cut n is s2 g2 a.stamp a.area.now c.of_part-3.result a.cells.items its.sw.items c.index-parts-2.result cells.sw c.of_part-3.ensures.part s3 c.in_ok-sw.ensures.pieces))
+    (adds_se s0 a.level a.part parts some cut n is s3 g3 a.stamp a.area.now c.of_part-4.result a.cells.items its.se.items c.index-parts-3.result cells.se c.of_part-4.ensures.part s4 c.in_ok-se.ensures.pieces))
+    (adds_unchanged plane_grid 8 s4 s5 c.in_err-drawn-2.ensures.err a.level w)
+
+pub draw_anew-returns-clause-pieces : goal.draw_anew-returns-clause-pieces
+draw_anew-returns-clause-pieces t c =
+    let a = c.args in
+    let n = c.side_of-half.result in
+    let is = c.side_of-half.ensures in
+    let parts = c.quarters-parts.result in
+    let cut = c.quarters-parts.ensures in
+    let its = c.in_ok-quarters.quarters in
+    let cells = c.in_ok-quarters.ensures in
+    let some = some_level a.level c.if-level-eq0.false in
+    let s0 = a.store.now in
+    let s1 = c.draw.new.store in
+    let s2 = c.draw-2.new.store in
+    let s3 = c.draw-3.new.store in
+    let s4 = c.draw-4.new.store in
+    let s5 = c.add_four.new.self in
+    let g1 = c.in_ok-nw.ensures.grows in
+    let g2 = grown_more plane_grid 8 s0 s1 s2 g1 c.in_ok-ne.ensures.grows in
+    let g3 = grown_more plane_grid 8 s0 s2 s3 g2 c.in_ok-sw.ensures.grows in
+    let w = drawn_grid s0 a.level a.part a.stamp a.area.now a.cells.items in
+    let four = four_grid plane_grid 8 s4 (a.level - 1) (c.in_ok-nw.nw ∷ c.in_ok-ne.ne ∷ c.in_ok-sw.sw ∷ c.in_ok-se.se ∷ []) in
+    let h3 = c.in_ok-se.ensures.grows in
+    let h2 = grown_more plane_grid 8 s2 s3 s4 c.in_ok-sw.ensures.grows h3 in
+    let h1 = grown_more plane_grid 8 s1 s2 s4 c.in_ok-ne.ensures.grows h2 in
+    let same = four_as plane_grid 8 s4 a.level c.in_ok-nw.nw c.in_ok-ne.ne c.in_ok-sw.sw c.in_ok-se.se w some n is
+    (made_nw s0 a.level a.part parts some cut n is s0 (grown_none plane_grid 8 s0) a.stamp a.area.now c.of_part.result a.cells.items its.nw.items c.index-parts-0.result cells.nw c.of_part.ensures.part s1 s4 h1 c.in_ok-nw.nw c.in_ok-nw.ensures.draws)
+    (made_ne s0 a.level a.part parts some cut n is s1 g1 a.stamp a.area.now c.of_part-2.result a.cells.items its.ne.items c.index-parts-1.result cells.ne c.of_part-2.ensures.part s2 s4 h2 c.in_ok-ne.ne c.in_ok-ne.ensures.draws)
+    (made_sw s0 a.level a.part parts some cut n is s2 g2 a.stamp a.area.now c.of_part-3.result a.cells.items its.sw.items c.index-parts-2.result cells.sw c.of_part-3.ensures.part s3 s4 h3 c.in_ok-sw.sw c.in_ok-sw.ensures.draws)
+    (made_se s0 a.level a.part parts some cut n is s3 g3 a.stamp a.area.now c.of_part-4.result a.cells.items its.se.items c.index-parts-3.result cells.se c.of_part-4.ensures.part s4 s4 (grown_none plane_grid 8 s4) c.in_ok-se.se c.in_ok-se.ensures.draws) in
+    adds_more plane_grid 8 s0 s4 s5 a.level w c.in_ok-drawn-2.ensures.grows
+    (adds_more plane_grid 8 s0 s3 s4 a.level w c.in_ok-se.ensures.grows
+    (adds_more plane_grid 8 s0 s2 s3 a.level w c.in_ok-sw.ensures.grows
+    (adds_more plane_grid 8 s0 s1 s2 a.level w c.in_ok-ne.ensures.grows
+    (adds_nw s0 a.level a.part parts some cut n is s0 (grown_none plane_grid 8 s0) a.stamp a.area.now c.of_part.result a.cells.items its.nw.items c.index-parts-0.result cells.nw c.of_part.ensures.part s1 c.in_ok-nw.ensures.pieces)
+    (adds_ne s0 a.level a.part parts some cut n is s1 g1 a.stamp a.area.now c.of_part-2.result a.cells.items its.ne.items c.index-parts-1.result cells.ne c.of_part-2.ensures.part s2 c.in_ok-ne.ensures.pieces))
+    (adds_sw s0 a.level a.part parts some cut n is s2 g2 a.stamp a.area.now c.of_part-3.result a.cells.items its.sw.items c.index-parts-2.result cells.sw c.of_part-3.ensures.part s3 c.in_ok-sw.ensures.pieces))
+    (adds_se s0 a.level a.part parts some cut n is s3 g3 a.stamp a.area.now c.of_part-4.result a.cells.items its.se.items c.index-parts-3.result cells.se c.of_part-4.ensures.part s4 c.in_ok-se.ensures.pieces))
+    (adds_itself plane_grid 8 s4 s5 a.level four w c.in_ok-drawn-2.drawn (draws_as plane_grid 8 s5 a.level four w c.in_ok-drawn-2.drawn same c.in_ok-drawn-2.ensures.draws) c.in_ok-drawn-2.ensures.added)
+
+pub draw_anew-returns-in_err-drawn-2-clause-full : goal.draw_anew-returns-in_err-drawn-2-clause-full
+draw_anew-returns-in_err-drawn-2-clause-full t c =
+    let a = c.args in
+    let n = c.side_of-half.result in
+    let is = c.side_of-half.ensures in
+    let parts = c.quarters-parts.result in
+    let cut = c.quarters-parts.ensures in
+    let its = c.in_ok-quarters.quarters in
+    let cells = c.in_ok-quarters.ensures in
+    let some = some_level a.level c.if-level-eq0.false in
+    let s0 = a.store.now in
+    let s1 = c.draw.new.store in
+    let s2 = c.draw-2.new.store in
+    let s3 = c.draw-3.new.store in
+    let s4 = c.draw-4.new.store in
+    let s5 = c.add_four.new.self in
+    let g1 = c.in_ok-nw.ensures.grows in
+    let g2 = grown_more plane_grid 8 s0 s1 s2 g1 c.in_ok-ne.ensures.grows in
+    let g3 = grown_more plane_grid 8 s0 s2 s3 g2 c.in_ok-sw.ensures.grows in
+    let w = drawn_grid s0 a.level a.part a.stamp a.area.now a.cells.items in
+    let four = four_grid plane_grid 8 s4 (a.level - 1) (c.in_ok-nw.nw ∷ c.in_ok-ne.ne ∷ c.in_ok-sw.sw ∷ c.in_ok-se.se ∷ []) in
+    let h3 = c.in_ok-se.ensures.grows in
+    let h2 = grown_more plane_grid 8 s2 s3 s4 c.in_ok-sw.ensures.grows h3 in
+    let h1 = grown_more plane_grid 8 s1 s2 s4 c.in_ok-ne.ensures.grows h2 in
+    let same = four_as plane_grid 8 s4 a.level c.in_ok-nw.nw c.in_ok-ne.ne c.in_ok-sw.sw c.in_ok-se.se w some n is
+    (made_nw s0 a.level a.part parts some cut n is s0 (grown_none plane_grid 8 s0) a.stamp a.area.now c.of_part.result a.cells.items its.nw.items c.index-parts-0.result cells.nw c.of_part.ensures.part s1 s4 h1 c.in_ok-nw.nw c.in_ok-nw.ensures.draws)
+    (made_ne s0 a.level a.part parts some cut n is s1 g1 a.stamp a.area.now c.of_part-2.result a.cells.items its.ne.items c.index-parts-1.result cells.ne c.of_part-2.ensures.part s2 s4 h2 c.in_ok-ne.ne c.in_ok-ne.ensures.draws)
+    (made_sw s0 a.level a.part parts some cut n is s2 g2 a.stamp a.area.now c.of_part-3.result a.cells.items its.sw.items c.index-parts-2.result cells.sw c.of_part-3.ensures.part s3 s4 h3 c.in_ok-sw.sw c.in_ok-sw.ensures.draws)
+    (made_se s0 a.level a.part parts some cut n is s3 g3 a.stamp a.area.now c.of_part-4.result a.cells.items its.se.items c.index-parts-3.result cells.se c.of_part-4.ensures.part s4 s4 (grown_none plane_grid 8 s4) c.in_ok-se.se c.in_ok-se.ensures.draws) in
+    λ e. subst (λ s. IsFullStoreFor s a.level w) (sym c.in_err-drawn-2.ensures.err) (same_full s4 a.level four w same (record {
+      full = c.in_err-drawn-2.ensures.full (ap (λ e. Err e) (told _ _ _ c.from_residual-in_err-drawn-2.ensures.1 e));
+      store = c.store_laws.ensures.store;
+    }))
+
+pub draw_anew-returns-in_err-drawn-clause-pieces : goal.draw_anew-returns-in_err-drawn-clause-pieces
+draw_anew-returns-in_err-drawn-clause-pieces t c = subst (λ k. AddsPiecesOfGrid plane_grid 8 c.args.store.now c.draw_leaf.new.store k (drawn_grid c.args.store.now k c.args.part c.args.stamp c.args.area.now c.args.cells.items)) (sym c.if-level-eq0.true) (rw c.deref.ensures.value at c.in_err-drawn.ensures.pieces)
+
+pub draw_anew-returns-then-level-eq0-clause-pieces : goal.draw_anew-returns-then-level-eq0-clause-pieces
+draw_anew-returns-then-level-eq0-clause-pieces t c = subst (λ k. AddsPiecesOfGrid plane_grid 8 c.args.store.now c.draw_leaf.new.store k (drawn_grid c.args.store.now k c.args.part c.args.stamp c.args.area.now c.args.cells.items)) (sym c.if-level-eq0.true) (rw c.deref.ensures.value at c.in_ok-drawn.ensures.pieces)
+
+pub draw-returns-in_err-blank-clause-full : goal.draw-returns-in_err-blank-clause-full
+draw-returns-in_err-blank-clause-full t c =
+    let a = c.args in
+    let w = drawn_grid a.store.now a.level a.part a.stamp a.area.now a.cells.items in
+    let same = covered_whole a.store.now a.level a.part a.stamp c.side_of.result a.area.now a.cells.items c.requires.stamp c.side_of.ensures (sym a.cells.ok.0 ∙ no_length a.cells.len c.if-not-is_empty.ensures) (c.if-is_whole.ensures.0 refl) in
+    λ e. subst (λ s. IsFullStoreFor s a.level w) (sym c.in_err-blank.ensures.err) (same_full a.store.now a.level (blank_grid a.stamp) w same (record {
+      full = c.in_err-blank.ensures.full (ap (λ e. Err e) (told _ _ _ c.from_residual-in_err-blank.ensures.1 e)) a.level;
+      store = c.store_laws.ensures.store;
+    }))
+
+pub draw-returns-in_err-drawn-clause-pieces : goal.draw-returns-in_err-drawn-clause-pieces
+draw-returns-in_err-drawn-clause-pieces t c = c.in_err-drawn.ensures.pieces
+
+pub draw-returns-then-not-is_empty-clause-pieces : goal.draw-returns-then-not-is_empty-clause-pieces
+draw-returns-then-not-is_empty-clause-pieces t c = c.in_ok-drawn.ensures.pieces
+
+pub draw-returns-then-is_empty-clause-pieces : goal.draw-returns-then-is_empty-clause-pieces
+draw-returns-then-is_empty-clause-pieces t c = adds_none plane_grid 8 c.args.store.now c.args.level (drawn_grid c.args.store.now c.args.level c.args.part c.args.stamp c.args.area.now c.args.cells.items)
+
+pub draw-returns-in-Some-clause-pieces : goal.draw-returns-in-Some-clause-pieces
+draw-returns-in-Some-clause-pieces t c = adds_none plane_grid 8 c.args.store.now c.args.level (drawn_grid c.args.store.now c.args.level c.args.part c.args.stamp c.args.area.now c.args.cells.items)
+
+pub draw-returns-in_err-drawn-2-clause-pieces : goal.draw-returns-in_err-drawn-2-clause-pieces
+draw-returns-in_err-drawn-2-clause-pieces t c = c.in_err-drawn-2.ensures.pieces
+
+pub draw-returns-in_err-keep-clause-pieces : goal.draw-returns-in_err-keep-clause-pieces
+draw-returns-in_err-keep-clause-pieces t c = c.in_ok-drawn-2.ensures.pieces
+
+pub draw-returns-clause-pieces : goal.draw-returns-clause-pieces
+draw-returns-clause-pieces t c = c.in_ok-drawn-2.ensures.pieces
+
+pub draw-returns-in_err-blank-clause-pieces : goal.draw-returns-in_err-blank-clause-pieces
+draw-returns-in_err-blank-clause-pieces t c =
+    let a = c.args in
+    let w = drawn_grid a.store.now a.level a.part a.stamp a.area.now a.cells.items in
+    adds_unchanged plane_grid 8 a.store.now c.add_blank.new.self c.in_err-blank.ensures.err a.level w
+
+pub draw-returns-then-is_whole-clause-pieces : goal.draw-returns-then-is_whole-clause-pieces
+draw-returns-then-is_whole-clause-pieces t c =
+    let a = c.args in
+    let w = drawn_grid a.store.now a.level a.part a.stamp a.area.now a.cells.items in
+    adds_itself plane_grid 8 a.store.now c.add_blank.new.self a.level (blank_grid a.stamp) w c.in_ok-blank.blank
+    (draws_as plane_grid 8 c.add_blank.new.self a.level (blank_grid a.stamp) w c.in_ok-blank.blank (covered_whole a.store.now a.level a.part a.stamp c.side_of.result a.area.now a.cells.items c.requires.stamp c.side_of.ensures (sym a.cells.ok.0 ∙ no_length a.cells.len c.if-not-is_empty.ensures) (c.if-is_whole.ensures.0 refl)) (c.in_ok-blank.ensures.draws a.level)) (c.in_ok-blank.ensures.added a.level)
