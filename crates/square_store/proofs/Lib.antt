@@ -5,3 +5,4 @@ pub mod Places
 pub mod Growth
 pub mod Made
 pub mod Nodes
+pub mod Counting
