@@ -7,7 +7,7 @@ use Rattle.std.proofs.lemmas.Map.Keys.{IsDistinct-cons}
 use Rattle.std.proofs.lemmas.Map.Steps.{length-le_from_distinct_below}
 use Rattle.square_store.specs.declared.node.Node.{Node}
 use Rattle.square_store.specs.declared.node.Node.TheVariants.{Blank, Leaf, Four}
-use Rattle.square_store.specs.Grid.{Grid, blank_grid, AreSameWithin}
+use Rattle.square_store.specs.Grid.{Grid, blank_grid, quartered, AreSameWithin}
 use Rattle.square_store.specs.Squares.{Held, side_at, grid_at, Draws}
 use Rattle.square_store.specs.Store.{IsHeld, IsCanonical, IsGrown, IsAbsent, IsAdded, Stood, Added, IsFullFor, IsOnePartEach}
 use Rattle.square_store.specs.Pieces.{grid_from, IsQuarterCorner, IsPieceOfGrid, AddsPiecesOfGrid}
@@ -161,6 +161,64 @@ module _ {L : Type 0} (writes : L → Grid) (side : ℕ) (IsLeaf : L → Type 0)
     | inl here ↦ (p, record { level = suc k; grid = f; here = here; there = drawn })
     | inr b ↦ (let quarter = quarter_drawn k p b.0 b.1.0 f b.1.1.0 drawn in shared_piece s k q (grid_from b.0 b.1.0 f) quarter.0 b.1.1.1 quarter.1)
   ]
+
+-- ---- four quarters
+
+-- four squares of side n are the quarters of one: NW, NE, SW and SE
+pub record AreItsQuarters (n : ℕ) (f a b c d : Grid) : Type 0 where
+  pub nw : AreSameWithin n a (grid_from 0 0 f)
+  pub ne : AreSameWithin n b (grid_from n 0 f)
+  pub sw : AreSameWithin n c (grid_from 0 n f)
+  pub se : AreSameWithin n d (grid_from n n f)
+
+pub cut_quarters : (n : ℕ) (f a b c d : Grid) → AreSameWithin (n + n) (quartered n a b c d) f → AreItsQuarters n f a b c d
+cut_quarters n f a b c d same =
+    let each = quarters_of n a b c d f same in
+    record {
+      nw = λ u v hu hv. each.nw u v hu hv ∙ moved_grid f u v (0 + u) (0 + v) (omega arith) (omega arith);
+      ne = λ u v hu hv. each.ne u v hu hv ∙ moved_grid f (n + u) v (n + u) (0 + v) refl (omega arith);
+      sw = λ u v hu hv. each.sw u v hu hv ∙ moved_grid f u (n + v) (0 + u) (n + v) (omega arith) refl;
+      se = λ u v hu hv. each.se u v hu hv;
+    }
+
+module _ {L : Type 0} (writes : L → Grid) (side k : ℕ) (f a b c d : Grid) (above : 0 < k) (are : AreItsQuarters (side_at side (k - 1)) f a b c d) where
+  -- what is added of a quarter is added of the whole
+  pub adds_nw : (s t : Held L) → AddsPiecesOfGrid writes side s t (k - 1) a → AddsPiecesOfGrid writes side s t k f
+  adds_nw s t adds = adds_quarter_of writes side s t k f 0 0 above (record { left = inl refl; upper = inl refl }) (adds_as writes side s t (k - 1) a (grid_from 0 0 f) are.nw adds)
+
+  pub adds_ne : (s t : Held L) → AddsPiecesOfGrid writes side s t (k - 1) b → AddsPiecesOfGrid writes side s t k f
+  adds_ne s t adds = adds_quarter_of writes side s t k f (side_at side (k - 1)) 0 above (record { left = inr refl; upper = inl refl }) (adds_as writes side s t (k - 1) b (grid_from (side_at side (k - 1)) 0 f) are.ne adds)
+
+  pub adds_sw : (s t : Held L) → AddsPiecesOfGrid writes side s t (k - 1) c → AddsPiecesOfGrid writes side s t k f
+  adds_sw s t adds = adds_quarter_of writes side s t k f 0 (side_at side (k - 1)) above (record { left = inl refl; upper = inr refl }) (adds_as writes side s t (k - 1) c (grid_from 0 (side_at side (k - 1)) f) are.sw adds)
+
+  pub adds_se : (s t : Held L) → AddsPiecesOfGrid writes side s t (k - 1) d → AddsPiecesOfGrid writes side s t k f
+  adds_se s t adds = adds_quarter_of writes side s t k f (side_at side (k - 1)) (side_at side (k - 1)) above (record { left = inr refl; upper = inr refl }) (adds_as writes side s t (k - 1) d (grid_from (side_at side (k - 1)) (side_at side (k - 1)) f) are.se adds)
+
+  pub adds_two : (s0 s1 s2 : Held L) → IsGrown writes side s1 s2 → AddsPiecesOfGrid writes side s0 s1 (k - 1) a → AddsPiecesOfGrid writes side s1 s2 (k - 1) b → AddsPiecesOfGrid writes side s0 s2 k f
+  adds_two s0 s1 s2 g first second = adds_more writes side s0 s1 s2 k f g (adds_nw s0 s1 first) (adds_ne s1 s2 second)
+
+  pub adds_three : (s0 s1 s2 s3 : Held L) → IsGrown writes side s1 s2 → IsGrown writes side s2 s3 → AddsPiecesOfGrid writes side s0 s1 (k - 1) a → AddsPiecesOfGrid writes side s1 s2 (k - 1) b → AddsPiecesOfGrid writes side s2 s3 (k - 1) c
+      → AddsPiecesOfGrid writes side s0 s3 k f
+  adds_three s0 s1 s2 s3 g h first second third = adds_more writes side s0 s2 s3 k f h (adds_two s0 s1 s2 g first second) (adds_sw s2 s3 third)
+
+  pub adds_all : (s0 s1 s2 s3 s4 : Held L) → IsGrown writes side s1 s2 → IsGrown writes side s2 s3 → IsGrown writes side s3 s4 → AddsPiecesOfGrid writes side s0 s1 (k - 1) a → AddsPiecesOfGrid writes side s1 s2 (k - 1) b → AddsPiecesOfGrid writes side s2 s3 (k - 1) c
+      → AddsPiecesOfGrid writes side s3 s4 (k - 1) d → AddsPiecesOfGrid writes side s0 s4 k f
+  adds_all s0 s1 s2 s3 s4 g h i first second third fourth = adds_more writes side s0 s3 s4 k f i (adds_three s0 s1 s2 s3 g h first second third) (adds_se s3 s4 fourth)
+
+  -- what lacks a quarter lacks the whole
+  module _ (IsLeaf : L → Type 0) (s : Held L) (can : IsCanonical writes side IsLeaf s) where
+    pub lacks_nw : IsAbsent writes side s (k - 1) a → IsAbsent writes side s k f
+    lacks_nw absent = absent_quarter_of writes side IsLeaf s can k 0 0 f above (record { left = inl refl; upper = inl refl }) (absent_as writes side s (k - 1) a (grid_from 0 0 f) are.nw absent)
+
+    pub lacks_ne : IsAbsent writes side s (k - 1) b → IsAbsent writes side s k f
+    lacks_ne absent = absent_quarter_of writes side IsLeaf s can k (side_at side (k - 1)) 0 f above (record { left = inr refl; upper = inl refl }) (absent_as writes side s (k - 1) b (grid_from (side_at side (k - 1)) 0 f) are.ne absent)
+
+    pub lacks_sw : IsAbsent writes side s (k - 1) c → IsAbsent writes side s k f
+    lacks_sw absent = absent_quarter_of writes side IsLeaf s can k 0 (side_at side (k - 1)) f above (record { left = inl refl; upper = inr refl }) (absent_as writes side s (k - 1) c (grid_from 0 (side_at side (k - 1)) f) are.sw absent)
+
+    pub lacks_se : IsAbsent writes side s (k - 1) d → IsAbsent writes side s k f
+    lacks_se absent = absent_quarter_of writes side IsLeaf s can k (side_at side (k - 1)) (side_at side (k - 1)) f above (record { left = inr refl; upper = inr refl }) (absent_as writes side s (k - 1) d (grid_from (side_at side (k - 1)) (side_at side (k - 1)) f) are.se absent)
 
 -- ---- counting
 
