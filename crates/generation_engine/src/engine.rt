@@ -5,9 +5,11 @@ ghost use Rattle.generations_rule.specs.Place.{Place};
 ghost use Rattle.generations_rule.specs.Evolution.{at};
 ghost use Rattle.edit_stamps.specs.PlaneMap.{HasStatesBelow};
 ghost use Rattle.stamped_tree.specs.Plane.{map_of};
+ghost use Rattle.square_store.specs.Store.{IsStore};
+ghost use Rattle.generation_engine.specs.EngineLeaf.{IsEngineLeaf, leaf_grid};
 ghost use Rattle.generation_engine.specs.Loading.{IsStoreFull, IsTooSmallFor};
 ghost use Rattle.generation_engine.specs.Running.{HasSameCells, IsEvolutionOf};
-ghost use Rattle.generation_engine.specs.Universe.{AreSameStates, population_of, states_in_writes, states_of};
+ghost use Rattle.generation_engine.specs.Universe.{AreSameStates, IsEngine, population_of, states_in_writes, states_of};
 ghost use Rattle.generation_engine.specs.Walk.{AreCellsOf};
 
 use crate::fault::EngineFault;
@@ -165,5 +167,13 @@ impl Engine {
     {
         let _ = &self.root;
         self.squares.store().len()
+    }
+    /// What holds of every engine: the root is that of a universe, and each square is stored once.
+    pub fn universe_laws(&self)
+        ensures engine { IsEngine self.now }
+        ensures store { IsStore leaf_grid 8 IsEngineLeaf self.now.store }
+    {
+        let _ = &self.root;
+        self.squares.store().store_laws();
     }
 }
