@@ -7,7 +7,11 @@ use Rattle.multistate_rle.specs.declared.cell.Cell.{Cell}
 use Rattle.multistate_rle.specs.Cells.{are_states_below}
 use Rattle.multistate_rle.specs.Writing.{text_of_cells}
 use Rattle.bitplane_kernel.specs.Population.{population}
-use Rattle.generation_engine.specs.Universe.{universe_corner}
+use Rattle.square_store.specs.Store.{IsStore}
+use Rattle.stamped_tree.specs.Plane.{StampedPlane, map_of}
+use Rattle.generation_engine.specs.EngineLeaf.{IsEngineLeaf, leaf_grid}
+use Rattle.generation_engine.specs.Loading.{IsStoreFull, IsTooSmallFor}
+use Rattle.generation_engine.specs.Universe.{AreSameStates, EngineValue, IsEngine, states_in_writes, states_of, universe_corner}
 use Rattle.generation_engine.specs.Walk.{AreCellsOf}
 use Rattle.export.specs.declared.fault.ExportFault.{ExportFault}
 use Rattle.export.specs.declared.fault.ExportFault.TheVariants.{GenRange, TooManyCells, StoreFull, Memory}
@@ -56,3 +60,18 @@ IsWant TooManyCells = ⊥
 -- An export is refused as it is meant to be, or meets a want, but only at a generation that is one.
 abbrev pub IsExportRefused : GenerationsRule → (Place → ℕ) → ℕ → ℕ → ExportFault → Type 0
 IsExportRefused r f g limit fault = (IsWant fault × (g ≤ last_generation)) ⊎ IsExport r f g limit (Err fault)
+
+-- A full engine of a rule and a room shows what the rule makes of a map of states in some generations, at most g.
+pub record IsFullOnTheWay (r : GenerationsRule) (f : Place → ℕ) (g nodes : ℕ) (e : EngineValue) : Type 0 where
+  pub engine : IsEngine e
+  pub store : IsStore leaf_grid 8 IsEngineLeaf e.store
+  pub rule : e.rule ≡ r
+  pub room : e.store.room ≡ nodes
+  pub full : IsStoreFull e.store
+  pub generation : ℕ
+  pub within : generation ≤ g
+  pub shows : AreSameStates (states_of e) (at r f generation)
+
+-- An export wants more room than so many squares: no universe of that room holds the plane's states, or one became full on the way.
+abbrev pub IsRoomWanted : GenerationsRule → StampedPlane → ℕ → ℕ → Type 0
+IsRoomWanted r p g nodes = IsTooSmallFor nodes p ⊎ ((e : EngineValue) × IsFullOnTheWay r (states_in_writes (map_of p)) g nodes e)

@@ -1,10 +1,11 @@
 //! Exports.
 
-ghost use Rattle.std.specs.Prelude.{◌^◌, ◌≤◌, IfErr, IfOk, Ok};
+ghost use Rattle.std.specs.Prelude.{◌≡◌, ◌^◌, ◌<◌, ◌≤◌, ◌⊎◌, ◌↔◌, IfErr, IfOk, Ok, Err};
 ghost use Rattle.edit_stamps.specs.PlaneMap.{HasStatesBelow};
 ghost use Rattle.stamped_tree.specs.Plane.{map_of};
-ghost use Rattle.generation_engine.specs.Universe.{states_in_writes};
-ghost use Rattle.export.specs.Export.{AreExported, IsExport, IsExportRefused, most_cells};
+ghost use Rattle.generation_engine.specs.Universe.{population_of, states_in_writes, states_of};
+ghost use Rattle.generation_engine.specs.Walk.{AreCellsOf};
+ghost use Rattle.export.specs.Export.{AreExported, IsExport, IsExportRefused, IsRoomWanted, most_cells};
 
 use crate::fault::ExportFault;
 use generation_engine::Engine;
@@ -35,6 +36,7 @@ pub fn export(
     requires { HasStatesBelow rule.now.states (map_of plane.now) }
     ensures text { IfOk result (λ text. IsExport rule.now (states_in_writes (map_of plane.now)) generation most_cells (Ok text.items)) }
     ensures err { IfErr result (IsExportRefused rule.now (states_in_writes (map_of plane.now)) generation most_cells) }
+    ensures full { result ≡ Err ExportFault.StoreFull → IsRoomWanted rule.now plane.now generation (2 ^ 26) }
 {
     export_within(alloc, rule, plane, generation, MOST_CELLS)
 }
@@ -50,6 +52,7 @@ pub fn export_within(
     requires { HasStatesBelow rule.now.states (map_of plane.now) }
     ensures text { IfOk result (λ text. IsExport rule.now (states_in_writes (map_of plane.now)) generation limit (Ok text.items)) }
     ensures err { IfErr result (IsExportRefused rule.now (states_in_writes (map_of plane.now)) generation limit) }
+    ensures full { result ≡ Err ExportFault.StoreFull → IsRoomWanted rule.now plane.now generation (2 ^ 26) }
 {
     export_in_room(alloc, rule, plane, generation, limit, ROOM)
 }
@@ -67,6 +70,7 @@ pub fn export_in_room(
     requires nodes { 64 ≤ nodes }
     ensures text { IfOk result (λ text. IsExport rule.now (states_in_writes (map_of plane.now)) generation limit (Ok text.items)) }
     ensures err { IfErr result (IsExportRefused rule.now (states_in_writes (map_of plane.now)) generation limit) }
+    ensures full { result ≡ Err ExportFault.StoreFull → IsRoomWanted rule.now plane.now generation nodes }
 {
     if generation > LAST {
         return Err(ExportFault::GenRange);
@@ -91,12 +95,26 @@ fn cells_at(
     requires generation { generation ≤ 2 ^ 29 }
     ensures cells { IfOk result (λ cells. AreExported rule.now (states_in_writes (map_of plane.now)) generation limit cells.items) }
     ensures err { IfErr result (IsExportRefused rule.now (states_in_writes (map_of plane.now)) generation limit) }
+    ensures full { result ≡ Err ExportFault.StoreFull → IsRoomWanted rule.now plane.now generation nodes }
 {
     // For the proof alone: the call tells that what is held is a rule.
     let _states = rule.states();
     let mut engine = Engine::with_room(alloc, *rule, nodes)?;
     engine.load(plane)?;
-    engine.run(generation)?;
+    let run = engine.run(generation);
+    // The same, of the engine, which is what it was where it became full.
+    engine.universe_laws();
+    run?;
+    cells_within(&engine, limit)
+}
+
+/// The cells that an engine shows, sorted by `y`, then `x`, if they are at most so many. They are counted,
+/// in constant time, before they are listed.
+pub fn cells_within(engine: &Engine, limit: u64) -> Result<Vec<Cell>, ExportFault>
+    ensures cells { IfOk result (λ cells. AreCellsOf (states_of engine.now) cells.items) }
+    ensures too_many { (result ≡ Err ExportFault.TooManyCells) ↔ (limit < population_of engine.now) }
+    ensures err { IfErr result (λ fault. (fault ≡ ExportFault.TooManyCells) ⊎ (fault ≡ ExportFault.Memory)) }
+{
     if engine.population() > u128::from(limit) {
         return Err(ExportFault::TooManyCells);
     }

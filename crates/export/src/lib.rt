@@ -8,6 +8,6 @@ mod exporting;
 mod fault;
 mod laws;
 
-pub use exporting::{export, export_in_room, export_within};
+pub use exporting::{cells_within, export, export_in_room, export_within};
 pub use fault::ExportFault;
 pub use laws::export_laws;

@@ -90,28 +90,25 @@ module _ (q nw ne sw se : PlaneSquare) (s1 s2 s3 s4 s5 : Held EngineLeaf) (k a b
   pub four_stand : AreAt s4 (k - 1) (a ∷ b ∷ c ∷ d ∷ [])
   four_stand = each_of_four (λ p. IsAt s4 (k - 1) p) a b c d da.stands db.stands dc.stands dd.stands
 
+  -- the four make a square with the states of the one brought
+  pub four_same : AreSameWithin (side_at 8 k) (four_grid leaf_grid 8 s4 (k - 1) (a ∷ b ∷ c ∷ d ∷ [])) (states_on (grid_at plane_grid 8 q.store k q.part))
+  four_same u v hu hv =
+      let n = side_at 8 (k - 1) in
+      let some : 0 < k = (let h = seen.four.positive in omega (arith, h, level)) in
+      let e = twice_below 8 k some in
+      let fa = grid_at plane_grid 8 q.store (k - 1) nw.part in let fb = grid_at plane_grid 8 q.store (k - 1) ne.part in
+      let fc = grid_at plane_grid 8 q.store (k - 1) sw.part in let fd = grid_at plane_grid 8 q.store (k - 1) se.part in
+      let source : AreSameWithin (side_at 8 k) (grid_at plane_grid 8 q.store k q.part) (quartered n fa fb fc fd) =
+      subst (λ i. AreSameWithin (side_at 8 i) (grid_at plane_grid 8 q.store i q.part) (four_grid plane_grid 8 q.store (i - 1) (nw.part ∷ ne.part ∷ sw.part ∷ se.part ∷ []))) (sym level) seen.four.draws.same in
+      quartered_same n _ _ _ _ (states_on fa) (states_on fb) (states_on fc) (states_on fd) da.same db.same dc.same dd.same u v (omega (arith, hu, e)) (omega (arith, hv, e))
+      ∙ states_of_four n fa fb fc fd u v
+      ∙ sym (ap (λ (x : Write). unstamped x.state) (source u v hu hv))
+
   pub four_brought : Draws leaf_grid 8 s5 k (four_grid leaf_grid 8 s4 (k - 1) (a ∷ b ∷ c ∷ d ∷ [])) w → IsBrought q.store s5 q.part w
   four_brought drawn = record {
-    draws = λ j here. subst (λ i. Draws leaf_grid 8 s5 i (states_on (grid_at plane_grid 8 q.store i q.part)) w) (level ∙ sym (seen.four.level j here)) whole;
+    draws = λ j here. subst (λ i. Draws leaf_grid 8 s5 i (states_on (grid_at plane_grid 8 q.store i q.part)) w) (level ∙ sym (seen.four.level j here))
+        (record { stands = drawn.stands; same = λ u v hu hv. drawn.same u v hu hv ∙ four_same u v hu hv });
   }
-    where
-      whole : Draws leaf_grid 8 s5 k (states_on (grid_at plane_grid 8 q.store k q.part)) w
-      whole =
-          let n = side_at 8 (k - 1) in
-          let some : 0 < k = (let h = seen.four.positive in omega (arith, h, level)) in
-          let e = twice_below 8 k some in
-          let fa = grid_at plane_grid 8 q.store (k - 1) nw.part in let fb = grid_at plane_grid 8 q.store (k - 1) ne.part in
-          let fc = grid_at plane_grid 8 q.store (k - 1) sw.part in let fd = grid_at plane_grid 8 q.store (k - 1) se.part in
-          let source : AreSameWithin (side_at 8 k) (grid_at plane_grid 8 q.store k q.part) (quartered n fa fb fc fd) =
-          subst (λ i. AreSameWithin (side_at 8 i) (grid_at plane_grid 8 q.store i q.part) (four_grid plane_grid 8 q.store (i - 1) (nw.part ∷ ne.part ∷ sw.part ∷ se.part ∷ []))) (sym level) seen.four.draws.same in
-          record {
-            stands = drawn.stands;
-            same = λ u v hu hv.
-                drawn.same u v hu hv
-                ∙ quartered_same n _ _ _ _ (states_on fa) (states_on fb) (states_on fc) (states_on fd) da.same db.same dc.same dd.same u v (omega (arith, hu, e)) (omega (arith, hv, e))
-                ∙ states_of_four n fa fb fc fd u v
-                ∙ sym (ap (λ (x : Write). unstamped x.state) (source u v hu hv));
-          }
 
 pub moved_source : (s t : Held PlaneLeaf) (target : Held EngineLeaf) (a b : ℕ) → s ≡ t → IsBrought s target a b → IsBrought t target a b
 moved_source s t target a b e is = subst (λ z. IsBrought z target a b) e is

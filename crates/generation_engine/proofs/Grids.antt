@@ -40,7 +40,7 @@ is_middle n u = nat_le n u && nat_lt u (n + n + n)
 middle_of : (n u : ℕ) → n ≤ u → u < n + n + n → is_middle n u ≡ true
 middle_of n u h k = grind (arith, nat_tests, h, k)
 
-before_middle : (n u : ℕ) → u < n → is_middle n u ≡ false
+pub before_middle : (n u : ℕ) → u < n → is_middle n u ≡ false
 before_middle n u h = grind (arith, nat_tests, h)
 
 behind_middle : (n u : ℕ) → n + n + n ≤ u → is_middle n u ≡ false
@@ -112,6 +112,22 @@ module _ (n : ℕ) (a b c d f : Grid) (is : AreSameWithin (n + n) (quartered n a
       (λ u v hu hv. quarter_ne (n + n) p q r s u v hv ∙ hq u v hu hv ∙ north_east u v hu hv)
       (λ u v hu hv. quarter_sw (n + n) p q r s u v hu ∙ hr u v hu hv ∙ south_west u v hu hv)
       (λ u v hu hv. quarter_se (n + n) p q r s u v ∙ hs u v hu hv ∙ south_east u v hu hv)
+
+-- squares with the same states in the middle of dead ones
+pub centred_same : (n m : ℕ) (f g : Grid) → AreSameWithin (n + n) f g → AreSameWithin m (centred n f) (centred n g)
+centred_same n m f g same u v hu hv = elim (cases_lt u n) [
+  | inl left ↦ centred_beside n f u v (before_middle n u left) ∙ sym (centred_beside n g u v (before_middle n u left))
+  | inr inside ↦ elim (cases_lt u (n + n + n)) [
+    | inr right ↦ centred_beside n f u v (behind_middle n u right) ∙ sym (centred_beside n g u v (behind_middle n u right))
+    | inl within ↦ elim (cases_lt v n) [
+      | inl top ↦ centred_above n f u v (before_middle n v top) ∙ sym (centred_above n g u v (before_middle n v top))
+      | inr below ↦ elim (cases_lt v (n + n + n)) [
+        | inr bottom ↦ centred_above n f u v (behind_middle n v bottom) ∙ sym (centred_above n g u v (behind_middle n v bottom))
+        | inl middle ↦ centred_in n f u v inside within below middle ∙ same (u - n) (v - n) (omega (arith, inside, within)) (omega (arith, below, middle)) ∙ sym (centred_in n g u v inside within below middle)
+      ]
+    ]
+  ]
+]
 
 -- the middle of a square, by the quarters of its quarters that are next to it
 pub middle_is : (n : ℕ) (f fa fb fc fd a a1 a2 a3 b b1 b2 b4 c c1 c3 c4 d d2 d3 d4 : Grid)

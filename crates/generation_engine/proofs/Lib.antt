@@ -3,6 +3,7 @@ pub mod Counting
 pub mod Grids
 pub mod Squares
 pub mod Bringing
+pub mod Pieces
 pub mod Reading
 pub mod Gathering
 pub mod Spots

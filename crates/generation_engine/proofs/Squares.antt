@@ -1,11 +1,10 @@
 -- Squares of a store that grows, and what they are cut into.
-use Rattle.std.proofs.Common.{◌≡◌, ℕ, zero, suc, ◌+◌, ◌-◌, ◌<◌, List, [], ◌∷◌, length, refl, sym, ◌∙◌, ap, subst, arith}
+use Rattle.std.proofs.Common.{◌≡◌, ℕ, ◌+◌, ◌-◌, ◌<◌, List, [], ◌∷◌, length, refl, sym, ◌∙◌, ap, subst, arith}
 use Rattle.std.specs.Prelude.{slice_index_or}
 use Rattle.square_store.specs.Grid.{Grid, quartered, blank_grid, AreSameWithin}
 use Rattle.square_store.specs.Squares.{Held, side_at, IsAt, grid_at, four_grid, Draws}
 use Rattle.square_store.specs.Store.{IsGrown}
 use Rattle.square_store.specs.Seen.{AreQuartersAt, IsBlankAt}
-use Rattle.square_store.proofs.Quarters.{blank_quarters}
 use Rattle.square_store.proofs.Drawn.{draws_later, each_of_four, twice_below}
 use Rattle.generation_engine.specs.declared.leaf_kind.EngineLeaf.{EngineLeaf}
 use Rattle.generation_engine.specs.EngineLeaf.{leaf_grid}
@@ -38,12 +37,12 @@ module _ (s0 s1 s2 s3 s4 s5 s6 : Held EngineLeaf) (k p : ℕ) (parts : List ℕ)
   part_at : (i q : ℕ) → i < 4 → q ≡ slice_index_or parts i 0 → Draws leaf_grid 8 s1 (k - 1) (grid s1 (k - 1) q) q
   part_at i q h e = own s1 (k - 1) q (subst (λ r. IsAt s1 (k - 1) r) (sym e) (cut.stand i h))
 
-  pub padded_drawn : Draws leaf_grid 8 s2 k (four_grid leaf_grid 8 s1 (k - 1) (z ∷ z ∷ z ∷ q0 ∷ [])) a → Draws leaf_grid 8 s3 k (four_grid leaf_grid 8 s2 (k - 1) (z ∷ z ∷ q1 ∷ z ∷ [])) b
+  -- the four of them make the square in the middle of a dead one
+  pub padded_same : Draws leaf_grid 8 s2 k (four_grid leaf_grid 8 s1 (k - 1) (z ∷ z ∷ z ∷ q0 ∷ [])) a → Draws leaf_grid 8 s3 k (four_grid leaf_grid 8 s2 (k - 1) (z ∷ z ∷ q1 ∷ z ∷ [])) b
       → Draws leaf_grid 8 s4 k (four_grid leaf_grid 8 s3 (k - 1) (z ∷ q2 ∷ z ∷ z ∷ [])) c → Draws leaf_grid 8 s5 k (four_grid leaf_grid 8 s4 (k - 1) (q3 ∷ z ∷ z ∷ z ∷ [])) d
-      → Draws leaf_grid 8 s6 (k + 1) (four_grid leaf_grid 8 s5 (k + 1 - 1) (a ∷ b ∷ c ∷ d ∷ [])) w
-      → Draws leaf_grid 8 s6 (k + 1) (centred (side_at 8 (k - 1)) (grid_at leaf_grid 8 s0 k p)) w
+      → AreSameWithin (side_at 8 (k + 1)) (four_grid leaf_grid 8 s5 (k + 1 - 1) (a ∷ b ∷ c ∷ d ∷ [])) (centred (side_at 8 (k - 1)) (grid_at leaf_grid 8 s0 k p))
   unfolding grid
-  padded_drawn da db dc dd dw =
+  padded_same da db dc dd u v hu hv =
       let n = side_at 8 (k - 1) in
       let dead1 : Draws leaf_grid 8 s1 (k - 1) (blank_grid 0) z = dead (k - 1) in
       let p0 = part_at 0 q0 (omega arith) e0 in let p1 = part_at 1 q1 (omega arith) e1 in let p2 = part_at 2 q2 (omega arith) e2 in let p3 = part_at 3 q3 (omega arith) e3 in
@@ -62,18 +61,19 @@ module _ (s0 s1 s2 s3 s4 s5 s6 : Held EngineLeaf) (k p : ℕ) (parts : List ℕ)
       let e' : side_at 8 (k + 1) ≡ side_at 8 k + side_at 8 k = twice_below 8 (k + 1) (omega arith) ∙ (λ i. side_at 8 (level i) + side_at 8 (level i)) in
       let four : AreSameWithin (n + n) (quartered n f0 f1 f2 f3) (grid_at leaf_grid 8 s0 k p) = λ u v hu hv.
       rw (e0, e1, e2, e3) (sym (cut.draws.same u v (omega (arith, hu, e)) (omega (arith, hv, e)))) ∙ ap (λ (g : Grid). g u v) (g1.same k p at) in
-      record {
-        stands = dw.stands;
-        same = λ u v hu hv.
-            (dw.same u v hu hv
-            ∙ ap (λ j. four_grid leaf_grid 8 s5 j (a ∷ b ∷ c ∷ d ∷ []) u v) level
-            ∙ ap (λ m. quartered m (grid_at leaf_grid 8 s5 k a) (grid_at leaf_grid 8 s5 k b) (grid_at leaf_grid 8 s5 k c) (grid_at leaf_grid 8 s5 k d) u v) e
-            ∙ middle_drawn n f0 f1 f2 f3 (grid_at leaf_grid 8 s0 k p) four (grid_at leaf_grid 8 s5 k a) (grid_at leaf_grid 8 s5 k b) (grid_at leaf_grid 8 s5 k c) (grid_at leaf_grid 8 s5 k d)
-            (narrow wa.same e) (narrow wb.same e) (narrow wc.same e) (narrow wd.same e) u v (omega (arith, hu, e, e')) (omega (arith, hv, e, e')));
-      }
+      ap (λ j. four_grid leaf_grid 8 s5 j (a ∷ b ∷ c ∷ d ∷ []) u v) level
+      ∙ ap (λ m. quartered m (grid_at leaf_grid 8 s5 k a) (grid_at leaf_grid 8 s5 k b) (grid_at leaf_grid 8 s5 k c) (grid_at leaf_grid 8 s5 k d) u v) e
+      ∙ middle_drawn n f0 f1 f2 f3 (grid_at leaf_grid 8 s0 k p) four (grid_at leaf_grid 8 s5 k a) (grid_at leaf_grid 8 s5 k b) (grid_at leaf_grid 8 s5 k c) (grid_at leaf_grid 8 s5 k d)
+      (narrow wa.same e) (narrow wb.same e) (narrow wc.same e) (narrow wd.same e) u v (omega (arith, hu, e, e')) (omega (arith, hv, e, e'))
     where
       narrow : {m n : ℕ} {f g : Grid} → AreSameWithin m f g → m ≡ n → AreSameWithin n f g
       narrow same e u v hu hv = same u v (omega (arith, hu, e)) (omega (arith, hv, e))
+
+  pub padded_drawn : Draws leaf_grid 8 s2 k (four_grid leaf_grid 8 s1 (k - 1) (z ∷ z ∷ z ∷ q0 ∷ [])) a → Draws leaf_grid 8 s3 k (four_grid leaf_grid 8 s2 (k - 1) (z ∷ z ∷ q1 ∷ z ∷ [])) b
+      → Draws leaf_grid 8 s4 k (four_grid leaf_grid 8 s3 (k - 1) (z ∷ q2 ∷ z ∷ z ∷ [])) c → Draws leaf_grid 8 s5 k (four_grid leaf_grid 8 s4 (k - 1) (q3 ∷ z ∷ z ∷ z ∷ [])) d
+      → Draws leaf_grid 8 s6 (k + 1) (four_grid leaf_grid 8 s5 (k + 1 - 1) (a ∷ b ∷ c ∷ d ∷ [])) w
+      → Draws leaf_grid 8 s6 (k + 1) (centred (side_at 8 (k - 1)) (grid_at leaf_grid 8 s0 k p)) w
+  padded_drawn da db dc dd dw = record { stands = dw.stands; same = λ u v hu hv. dw.same u v hu hv ∙ padded_same da db dc dd u v hu hv }
 
 -- the four of them, made one after another, stand
 pub padded_parts : (s2 s3 s4 s5 : Held EngineLeaf) (k a b c d : ℕ) → IsGrown leaf_grid 8 s2 s3 → IsGrown leaf_grid 8 s3 s4 → IsGrown leaf_grid 8 s4 s5

@@ -5,9 +5,11 @@ ghost use Rattle.generations_rule.specs.Place.{Place};
 ghost use Rattle.generations_rule.specs.Evolution.{at};
 ghost use Rattle.edit_stamps.specs.PlaneMap.{HasStatesBelow};
 ghost use Rattle.stamped_tree.specs.Plane.{map_of};
-ghost use Rattle.generation_engine.specs.Loading.{IsStoreFull};
+ghost use Rattle.square_store.specs.Store.{IsStore};
+ghost use Rattle.generation_engine.specs.EngineLeaf.{IsEngineLeaf, leaf_grid};
+ghost use Rattle.generation_engine.specs.Loading.{IsStoreFull, IsTooSmallFor};
 ghost use Rattle.generation_engine.specs.Running.{HasSameCells, IsEvolutionOf};
-ghost use Rattle.generation_engine.specs.Universe.{AreSameStates, population_of, states_in_writes, states_of};
+ghost use Rattle.generation_engine.specs.Universe.{AreSameStates, IsEngine, population_of, states_in_writes, states_of};
 ghost use Rattle.generation_engine.specs.Walk.{AreCellsOf};
 
 use crate::fault::EngineFault;
@@ -94,7 +96,8 @@ impl Engine {
 
     /// Makes the universe that of a plane's states, at generation 0. A new store of the same room is
     /// filled and put in place last: what was there before takes no room, and stays where this is
-    /// refused. `StoreFull` is answered where that new store is full.
+    /// refused. `StoreFull` is answered only where no store of that room holds the universe that is wanted,
+    /// with the squares that stand on its way.
     pub fn load(&mut self, plane: &Plane) -> Result<(), StoreFault>
         requires { HasStatesBelow self.old.rule.states (map_of plane.now) }
         ensures states { OnOk result (AreSameStates (states_of self.new) (states_in_writes (map_of plane.now))) }
@@ -102,6 +105,7 @@ impl Engine {
         ensures rule { self.new.rule ≡ self.old.rule }
         ensures room { self.new.store.room ≡ self.old.store.room }
         ensures err { OnErr result (self.new ≡ self.old) }
+        ensures full { result ≡ Err StoreFault.StoreFull → IsTooSmallFor self.old.store.room plane.now }
     {
         let mut store = Store::new(self.alloc, self.squares.store().room());
         let root = universe_of(self.alloc, &mut store, plane)?;
@@ -164,11 +168,12 @@ impl Engine {
         let _ = &self.root;
         self.squares.store().len()
     }
-
-    /// How many results of squares are kept until `load`. That is no part of what contracts see of an
-    /// engine, so none says how many there are.
-    pub fn kept_results(&self) -> u64 {
+    /// What holds of every engine: the root is that of a universe, and each square is stored once.
+    pub fn universe_laws(&self)
+        ensures engine { IsEngine self.now }
+        ensures store { IsStore leaf_grid 8 IsEngineLeaf self.now.store }
+    {
         let _ = &self.root;
-        self.squares.kept_len()
+        self.squares.store().store_laws();
     }
 }

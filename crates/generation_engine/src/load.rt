@@ -1,12 +1,12 @@
 //! Squares of a plane, brought into the store of an engine.
 
-ghost use Rattle.std.specs.Prelude.{◌≡◌, ◌-◌, IfOk, OnOk, Err};
+ghost use Rattle.std.specs.Prelude.{◌≡◌, ◌-◌, IfOk, OnOk, Err, length};
+ghost use Rattle.square_store.specs.Pieces.{AddsPiecesOfGrid};
 ghost use Rattle.square_store.specs.Squares.{IsAt, Draws};
-ghost use Rattle.square_store.specs.Store.{IsGrown};
+ghost use Rattle.square_store.specs.Store.{IsAbsent, IsGrown, IsOnePartEach, IsStore};
 ghost use Rattle.leaf_merge_lanes.specs.Leaf.{states_of};
-ghost use Rattle.stamped_tree.specs.LeafKind.{plane_grid};
-ghost use Rattle.generation_engine.specs.EngineLeaf.{leaf_grid};
-ghost use Rattle.generation_engine.specs.Loading.{AreBrought, IsBrought, IsBroughtNoted, IsStoreFull, plane_in_universe};
+ghost use Rattle.generation_engine.specs.EngineLeaf.{IsEngineLeaf, leaf_grid};
+ghost use Rattle.generation_engine.specs.Loading.{AreBrought, IsBrought, IsBroughtNoted, IsStoreFull, IsTooSmallFor, plane_in_universe, states_of_square};
 
 use crate::leaf_kind::EngineLeaf;
 use crate::quarters::padded;
@@ -33,7 +33,10 @@ pub(crate) fn bring(
     ensures grows { IsGrown leaf_grid 8 target.old target.new }
     ensures brought { OnOk result (AreBrought square.now.store target.new brought.new.entries) }
     ensures part { IfOk result (IsBrought square.now.store target.new square.now.part) }
+    // After a refusal too.
+    ensures pieces { AddsPiecesOfGrid leaf_grid 8 target.old target.new level (states_of_square square.now.store level square.now.part) }
     ensures full { result ≡ Err StoreFault.StoreFull → IsStoreFull target.new }
+    ensures absent { result ≡ Err StoreFault.StoreFull → IsStore leaf_grid 8 IsEngineLeaf target.new → IsAbsent leaf_grid 8 target.new level (states_of_square square.now.store level square.now.part) }
 {
     let part = square.part();
     if let Some(there) = brought.get(&part) {
@@ -79,15 +82,35 @@ fn note(brought: &mut IndexMap<Part, Part>, part: Part, there: Part) -> Result<(
     }
 }
 
-/// Brings a plane's states into the middle of a dead universe.
+/// Brings a plane's states into the middle of a dead universe, in a store that was empty. `StoreFull` is
+/// answered only where no store of that room would do.
 pub(crate) fn universe_of(
     alloc: Global,
     target: &mut Store<EngineLeaf>,
     plane: &Plane,
 ) -> Result<Part, StoreFault>
+    requires { length target.old.squares ≡ 0 }
     ensures draws { IfOk result (Draws leaf_grid 8 target.new 30 (plane_in_universe plane.now)) }
     ensures grows { IsGrown leaf_grid 8 target.old target.new }
     ensures full { result ≡ Err StoreFault.StoreFull → IsStoreFull target.new }
+    ensures small { result ≡ Err StoreFault.StoreFull → IsTooSmallFor target.old.room plane.now }
+{
+    let root = add_universe(alloc, target, plane);
+    // For the proof alone: the call tells what holds of the store, after a refusal too.
+    target.store_laws();
+    root
+}
+
+fn add_universe(
+    alloc: Global,
+    target: &mut Store<EngineLeaf>,
+    plane: &Plane,
+) -> Result<Part, StoreFault>
+    requires { length target.old.squares ≡ 0 }
+    ensures draws { IfOk result (Draws leaf_grid 8 target.new 30 (plane_in_universe plane.now)) }
+    ensures grows { IsGrown leaf_grid 8 target.old target.new }
+    ensures full { result ≡ Err StoreFault.StoreFull → IsStoreFull target.new }
+    ensures small { result ≡ Err StoreFault.StoreFull → IsStore leaf_grid 8 IsEngineLeaf target.new → IsOnePartEach leaf_grid 8 target.new → IsTooSmallFor target.new.room plane.now }
 {
     let mut brought = IndexMap::new(alloc);
     let middle = bring(target, &mut brought, PLANE_ABOVE_LEAF, &plane.root())?;

@@ -1,9 +1,10 @@
 //! Squares and what they are cut into.
 
 ghost use Rattle.std.specs.Prelude.{◌≡◌, ◌<◌, ◌+◌, ◌-◌, IfOk, Err};
+ghost use Rattle.square_store.specs.Pieces.{AddsPiecesOfGrid};
 ghost use Rattle.square_store.specs.Squares.{IsAt, grid_at, side_at, Draws};
-ghost use Rattle.square_store.specs.Store.{IsGrown};
-ghost use Rattle.generation_engine.specs.EngineLeaf.{leaf_grid};
+ghost use Rattle.square_store.specs.Store.{IsAbsent, IsGrown, IsStore};
+ghost use Rattle.generation_engine.specs.EngineLeaf.{IsEngineLeaf, leaf_grid};
 ghost use Rattle.generation_engine.specs.Loading.{IsStoreFull, centred};
 ghost use Rattle.generation_engine.specs.Walk.{AreMiddleParts};
 
@@ -21,7 +22,10 @@ pub(crate) fn padded(
     requires stands { IsAt store.old level part }
     ensures draws { IfOk result (Draws leaf_grid 8 store.new (level + 1) (centred (side_at 8 (level - 1)) (grid_at leaf_grid 8 store.old level part))) }
     ensures grows { IsGrown leaf_grid 8 store.old store.new }
+    // After a refusal too.
+    ensures pieces { AddsPiecesOfGrid leaf_grid 8 store.old store.new (level + 1) (centred (side_at 8 (level - 1)) (grid_at leaf_grid 8 store.old level part)) }
     ensures full { result ≡ Err StoreFault.StoreFull → IsStoreFull store.new }
+    ensures absent { result ≡ Err StoreFault.StoreFull → IsStore leaf_grid 8 IsEngineLeaf store.new → IsAbsent leaf_grid 8 store.new (level + 1) (centred (side_at 8 (level - 1)) (grid_at leaf_grid 8 store.old level part)) }
 {
     let dead = store.add_blank(0)?;
     let quarters = store.quarters(level, part);

@@ -98,12 +98,6 @@ impl ResultStore {
         &self.store
     }
 
-    /// How many results are kept.
-    pub(crate) fn kept_len(&self) -> u64 {
-        let firsts = self.firsts.iter().filter(|first| first.is_some()).count();
-        (firsts as u64).saturating_add(self.others.len() as u64)
-    }
-
     /// Whether a square is a blank: what is dead stays so.
     fn is_dead(&self, level: u32, part: Part) -> bool
         requires { IsAt self.now.store level part }

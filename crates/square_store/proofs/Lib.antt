@@ -6,3 +6,4 @@ pub mod Growth
 pub mod Made
 pub mod Nodes
 pub mod PieceLaws
+pub mod Counting

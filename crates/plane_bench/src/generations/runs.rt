@@ -76,7 +76,7 @@ fn run(
     engine.run(generation.saturating_sub(engine.generation()))?;
     let time = start.elapsed(rt)?;
     tell_cells(rt, engine.generation(), engine.population())?;
-    tell_squares(rt, engine.nodes(), engine.kept_results())?;
+    tell_squares(rt, engine.nodes())?;
     Ok(tell_time(rt, "run", is_timed, time)?)
 }
 
@@ -84,6 +84,6 @@ fn tell_cells(rt: &impl Print, generation: u32, cells: u128) -> io::Result<()> {
     print!(rt; "  generation {generation}: {cells} cells; ")
 }
 
-fn tell_squares(rt: &impl Print, squares: u32, kept: u64) -> io::Result<()> {
-    println!(rt; "{squares} squares, {kept} kept results")
+fn tell_squares(rt: &impl Print, squares: u32) -> io::Result<()> {
+    println!(rt; "{squares} squares")
 }
