@@ -1,9 +1,12 @@
-.PHONY: test run bench memory trial
+.PHONY: test run look build bench memory trial
 
 # How many checks run at a time: one a processor, or fewer, so that each can have 4 GB. The most that
 # one has taken is 3.3.
 JOBS := $(shell awk -v most="$$(nproc)" '/^MemAvailable/ { n = int($$2 / 4000000); \
 	print n < 1 ? 1 : n < most ? n : most }' /proc/meminfo)
+
+# The proved program.
+PROGRAM := crates/genedit/out/genedit
 
 # Everything that must pass: each crate's proofs and tests from nothing, the edits that the prover
 # must refuse, each program's stored run, and then the example scripts through the built program.
@@ -12,28 +15,34 @@ JOBS := $(shell awk -v most="$$(nproc)" '/^MemAvailable/ { n = int($$2 / 4000000
 test:
 	@examples/count env GLIBC_TUNABLES=glibc.malloc.hugetlb=1 RT_JOBS=$(JOBS) rt ci
 
-# Runs `genedit` on its stored script. It is proved and built first, unless the gate or an earlier run
-# has built it of the same files.
-run: crates/genedit/out/genedit
-	@crates/genedit/out/genedit run < crates/genedit/stdin
+# Runs `genedit` on its stored script: the proved program, where it stands and is no older than its
+# sources; else an unproved one that is made in a minute or two, which is said on standard error.
+run:
+	@if $(MAKE) -s -q $(PROGRAM); then $(PROGRAM) run < crates/genedit/stdin; \
+	else examples/look crates/genedit/stdin; fi
+
+# Runs an unproved `genedit` on a script: `make look SCRIPT=FILE`.
+look:
+	@examples/look "$(SCRIPT)"
+
+# Proves the program and all that it stands on, and builds it: a line for each crate that is done.
+build: $(PROGRAM)
 
 # What is proved and built with the program: all that the gate reads of the crates, tests and programs
 # that measure aside.
 SOURCES := $(shell find crates -name out -prune -o -name trials -prune -o -name must-fail -prune \
-	-o -path '*_tests/*' -prune -o -path '*bench/*' -prune -o -path 'crates/memory_trial/*' -prune \
+	-o -path '*_tests/*' -prune -o -path 'crates/bench/*' -prune -o -path 'crates/memory_trial/*' -prune \
 	-o -path 'crates/samples/*' -prune \
 	-o \( -name '*.rt' -o -name '*.antt' -o -name src -o -name specs -o -name proofs \) -print)
 
-crates/genedit/out/genedit: $(SOURCES) crates.txt HANDLES
-	@cd crates/genedit && rt run -- --version > /dev/null
+$(PROGRAM): $(SOURCES) crates.txt HANDLES
+	@examples/build $(JOBS)
 	@touch $@
 
-# Measures; asserts nothing.
+# Measures; asserts nothing: scripts through the program, and what no script reaches.
 bench:
-	@cd crates/bench && rt run -- --time
-	@cd crates/plane_bench && rt run -- --time
-	@cd crates/replica_bench && rt run -- --time
 	@examples/measure
+	@cd crates/bench && rt run -- --time
 
 # Runs each call that takes memory with each allocation refused in turn. Needs a C compiler.
 memory:

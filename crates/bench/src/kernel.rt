@@ -4,10 +4,10 @@
 mod cells;
 mod race;
 
+use crate::timing::{millions_a_second, quickest};
 use anyhow::Result;
 use generations_rule::Rule;
 use race::Race;
-use samples::{millions_a_second, quickest};
 use std::alloc::Global;
 use std::io;
 use std::rt::Clock;

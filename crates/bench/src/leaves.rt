@@ -4,12 +4,12 @@
 mod pairs;
 mod passes;
 
+use crate::timing::quickest;
 use anyhow::Result;
 use indexmap::IndexSet;
 use leaf_merge_lanes::Leaf;
 use pairs::{Pair, insert, merge, right_places, scattered};
 use passes::{copy_often, hash_often, insert_often, merge_often};
-use samples::quickest;
 use std::alloc::{AllocError, Global};
 use std::io;
 use std::rt::Clock;

@@ -1,26 +1,41 @@
-//! Measures edits, pattern texts, blocks on bit planes and leaves. Prints what came of each, which is the
-//! same on every machine, and asserts nothing. With the word `--time` more is done of some, and it is
+//! Measures what no script through the program reaches: merges of leaves, generations of blocks, texts of
+//! states and deltas, frames, and squares that are added to a store. Prints what came of each, which is
+//! the same on every machine, and asserts nothing. With the word `--time` more is done of some, and it is
 //! also told how fast.
 #![tactic(auto)]
 
-mod edits;
+mod drawing;
+mod frames;
 mod kernel;
 mod leaves;
-mod patterns;
+mod store;
+mod texts;
+mod timing;
 
 use anyhow::Result;
-use samples::has_word;
 use std::alloc::Global;
 use std::rt::Clock;
+use std::{env, io};
 
 fn main(rt: HostRuntime) -> Result<()> {
-    let is_timed = has_word(&rt, "--time")?;
+    let is_timed = has_time(&rt)?;
     run_all(&rt, rt.alloc(), is_timed)
 }
 
+/// Whether the word `--time` stands on the command line.
+fn has_time(rt: &(impl env::Env + Alloc)) -> io::Result<bool> {
+    for word in env::args(rt)? {
+        if word.as_str() == "--time" {
+            return Ok(true);
+        }
+    }
+    Ok(false)
+}
+
 fn run_all(rt: &(impl Clock + Print), alloc: Global, is_timed: bool) -> Result<()> {
-    edits::run(rt, alloc, is_timed)?;
-    patterns::run(rt, alloc, is_timed)?;
     kernel::run(rt, alloc, is_timed)?;
-    leaves::run(rt, alloc, is_timed)
+    leaves::run(rt, alloc, is_timed)?;
+    store::run(rt, alloc, is_timed)?;
+    texts::run(rt, alloc, is_timed)?;
+    frames::run(rt, alloc, is_timed)
 }

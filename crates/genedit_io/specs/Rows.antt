@@ -63,6 +63,9 @@ not_canonical = refl
 pub trailing : name_of_number 20 ≡ codes "Trailing"
 trailing = refl
 
+pub frame_too_long : name_of_number 21 ≡ codes "FrameTooLong"
+frame_too_long = refl
+
 pub gen_range : name_of_number 22 ≡ codes "GenRange"
 gen_range = refl
 
@@ -81,8 +84,41 @@ no_replica = refl
 pub no_message : name_of_number 27 ≡ codes "NoMessage"
 no_message = refl
 
+pub not_yours : name_of_number 28 ≡ codes "NotYours"
+not_yours = refl
+
+pub full : name_of_number 29 ≡ codes "Full"
+full = refl
+
+pub closed : name_of_number 30 ≡ codes "Closed"
+closed = refl
+
+pub no_place : name_of_number 31 ≡ codes "NoPlace"
+no_place = refl
+
+pub size : name_of_number 32 ≡ codes "Size"
+size = refl
+
+pub request : name_of_number 33 ≡ codes "Request"
+request = refl
+
+pub cut : name_of_number 34 ≡ codes "Cut"
+cut = refl
+
+pub turns : name_of_number 35 ≡ codes "Turns"
+turns = refl
+
+pub read : name_of_number 36 ≡ codes "Read"
+read = refl
+
+pub write : name_of_number 37 ≡ codes "Write"
+write = refl
+
 pub no_pattern : name_of_number 38 ≡ codes "NoPattern"
 no_pattern = refl
+
+pub script : name_of_number 39 ≡ codes "Script"
+script = refl
 
 pub no_name : name_of_number 255 ≡ codes "?"
 no_name = refl

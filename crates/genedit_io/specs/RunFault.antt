@@ -25,10 +25,14 @@ names =
     ∷ (4, codes "Header") ∷ (5, codes "Tag") ∷ (6, codes "Count") ∷ (7, codes "State") ∷ (8, codes "TooMany")
     ∷ (9, codes "Nothing") ∷ (10, codes "OutOfPlane") ∷ (11, codes "StateRange")
     ∷ (13, codes "StoreFull") ∷ (14, codes "Magic") ∷ (15, codes "Version") ∷ (16, codes "OtherRule") ∷ (17, codes "Short")
-    ∷ (18, codes "StampRange") ∷ (19, codes "NotCanonical") ∷ (20, codes "Trailing") ∷ (22, codes "GenRange") ∷ (23, codes "TooManyCells")
+    ∷ (18, codes "StampRange") ∷ (19, codes "NotCanonical") ∷ (20, codes "Trailing") ∷ (21, codes "FrameTooLong")
+    ∷ (22, codes "GenRange") ∷ (23, codes "TooManyCells")
     ∷ (24, codes "ClockFull") ∷ (25, codes "NoSuchEdit") ∷ (26, codes "NoReplica") ∷ (27, codes "NoMessage")
-    ∷ (38, codes "NoPattern") ∷ []
+    ∷ (28, codes "NotYours") ∷ (29, codes "Full") ∷ (30, codes "Closed") ∷ (31, codes "NoPlace") ∷ (32, codes "Size")
+    ∷ (33, codes "Request") ∷ (34, codes "Cut") ∷ (35, codes "Turns") ∷ (36, codes "Read") ∷ (37, codes "Write")
+    ∷ (38, codes "NoPattern") ∷ (39, codes "Script") ∷ []
 
+-- the name of a number; a number that the table has not is "?"
 abbrev pub name_of_number : ℕ → List ℕ
 name_of_number number = named_in names number
 

@@ -1,18 +1,17 @@
-//! A delta of 2^20 cells: how fast it is written and read, beside a copy of its bytes.
+//! A delta of cells close together: how fast it is written and read.
 
-use crate::cells::edit;
-use crate::messages::beside::{measure_copy, measure_text};
+use crate::drawing::{brain, dense};
+use crate::texts::beside::{measure_copy, measure_text};
 use anyhow::Result;
 use delta_exchange::{read_delta, write_delta};
 use edit_stamps::Edit;
 use generations_rule::Rule;
-use samples::{brain, dense};
 use std::alloc::{AllocError, Global};
 use std::io;
 use std::rt::Clock;
 
 pub fn run(rt: &(impl Clock + Print), alloc: Global, is_timed: bool) -> Result<()> {
-    let edits = [edit(alloc, 1, 1, &dense(alloc, 1, 0, -512)?)?];
+    let edits = [dense(alloc, is_timed)?];
     run_edits(rt, alloc, &brain()?, &edits, is_timed)
 }
 
@@ -47,7 +46,7 @@ fn written(alloc: Global, rule: &Rule, edits: &[Edit]) -> Result<Vec<u8>, AllocE
 }
 
 fn tell_delta(rt: &impl Print, bytes: usize, is_same: bool) -> io::Result<()> {
-    println!(rt; "delta of 1048576 cells: {bytes} bytes, written again the same: {is_same}")
+    println!(rt; "delta of the same cells: {bytes} bytes, written again the same: {is_same}")
 }
 
 fn measure(

@@ -1,7 +1,7 @@
 //! Work on a text, beside a copy of its bytes.
 
+use crate::timing::{millions_a_second, quickest};
 use anyhow::Result;
-use samples::{millions_a_second, quickest, tell_time};
 use std::alloc::Global;
 use std::io;
 use std::rt::Clock;
@@ -16,7 +16,7 @@ pub fn measure_copy(rt: &(impl Clock + Print), alloc: Global, text: &[u8]) -> Re
         let _copy = Vec::from_slice(alloc, text)?;
         Ok(())
     })?;
-    tell_time(rt, "copied", copying)?;
+    println!(rt; "  copied: {} us", copying.as_micros())?;
     Ok(copying)
 }
 
@@ -35,7 +35,7 @@ pub fn measure_text<F: FnMut() -> Result<()>>(
 }
 
 /// A time of a text of so many bytes, beside that of a copy.
-pub fn tell_text(
+fn tell_text(
     rt: &impl Print,
     what: &str,
     bytes: usize,

@@ -1,8 +1,8 @@
 //! Streams of frames, large and small, in pieces of 4,096 bytes: how fast their bodies are taken.
 
+use crate::timing::{millions_a_second, quickest};
 use anyhow::Result;
 use delta_exchange::{FrameFault, Frames, frame};
-use samples::{millions_a_second, quickest};
 use std::alloc::Global;
 use std::io;
 use std::rt::Clock;
@@ -15,8 +15,9 @@ const PIECE: usize = 4096;
 const ROUNDS: u32 = 16;
 
 pub fn run(rt: &(impl Clock + Print), alloc: Global, is_timed: bool) -> Result<()> {
-    run_bodies(rt, alloc, 4096, &[7; 4096], is_timed)?;
-    run_bodies(rt, alloc, 200_000, &[7; 36], is_timed)
+    let many = if is_timed { 4096 } else { 16 };
+    run_bodies(rt, alloc, many, &[7; 4096], is_timed)?;
+    run_bodies(rt, alloc, 50 * many, &[7; 36], is_timed)
 }
 
 /// So many frames of a body.

@@ -1,7 +1,6 @@
-//! How long work takes, how it is told, and how much is done in a time.
+//! How long work takes, and how much is done in a time.
 
 use anyhow::Result;
-use std::io;
 use std::rt::Clock;
 use std::time::{Duration, Instant};
 
@@ -20,24 +19,6 @@ pub fn quickest<F: FnMut() -> Result<()>>(
         best = best.min(start.elapsed(clock)?);
     }
     Ok(best)
-}
-
-/// Measures some work, in so many rounds, and tells the least time.
-pub fn measure<F: FnMut() -> Result<()>>(
-    rt: &(impl Clock + Print),
-    what: &str,
-    rounds: u32,
-    work: F,
-) -> Result<()>
-    requires { F.IsAlwaysCallable work }
-{
-    let time = quickest(rt, rounds, work)?;
-    Ok(tell_time(rt, what, time)?)
-}
-
-/// A time of something, in microseconds.
-pub fn tell_time(rt: &impl Print, what: &str, time: Duration) -> io::Result<()> {
-    println!(rt; "  {what}: {} us", time.as_micros())
 }
 
 /// How many millions of things are done a second, where so many took a time.
