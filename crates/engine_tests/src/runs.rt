@@ -174,9 +174,15 @@ fn turns_within(alloc: Global, rule: Rule, nodes: u32) -> Result<bool, EditFault
     turns(alloc, &mut engine, &rule)
 }
 
+fn turns_anew(alloc: Global, rule: Rule) -> Result<bool, EditFault> {
+    let mut engine = Engine::new(alloc, rule)?;
+    turns(alloc, &mut engine, &rule)
+}
+
 #[test]
 fn a_blinker_turns(rt: HostRuntime) -> Result<(), Fail> {
     let life = Rule::parse(b"23/3/2")?;
+    assert!(rt; turns_anew(rt.alloc(), life)?);
     assert!(rt; turns_within(rt.alloc(), life, 0x400_0000)?);
     assert!(rt; turns_within(rt.alloc(), life, 0x10_0000)?);
     Ok(())

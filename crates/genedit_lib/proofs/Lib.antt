@@ -1,2 +1,3 @@
 mod NameLaws
 pub mod PlanLaws
+pub mod OutputLaws

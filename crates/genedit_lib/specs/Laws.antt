@@ -1,4 +1,4 @@
--- The names of refusals, which the program keeps in one table, are those of the crates that refuse.
+-- The names of refusals, which the program keeps in one table, are those of the crates that refuse; and a script has one output.
 use Rattle.std.specs.Prelude.{◌≡◌, ℕ, List, Option, None, nat_eq, bytes_eq}
 use Rattle.std.specs.List.{IsDistinct}
 use Rattle.std.specs.Map.{keys_of, values_of}
@@ -16,6 +16,7 @@ use Rattle.replica_core.specs.declared.fault.Fault.{Fault}
 use Rattle.replica_core.specs.declared.event.Stop.{Stop}
 use Rattle.replica_core.specs.Fault.{replica_fault_number, replica_fault_text, stop_number, stop_text}
 use Rattle.genedit_io.specs.RunFault.{names, refusal_text}
+use Rattle.genedit_lib.specs.Run.{PrintsAs}
 
 -- a refusal's own text is what the program says behind its number; 255 is want of memory, and no refusal
 abbrev pub IsNamed : ℕ → Option ℕ → List ℕ → Type 0
@@ -35,3 +36,7 @@ pub record NamesAgree : Type 0 where
 pub record NamesAreDistinct : Type 0 where
   pub numbers_differ : IsDistinct nat_eq (keys_of names)
   pub names_differ : IsDistinct bytes_eq (values_of names)
+
+-- a text prints one output, if any
+abbrev pub HasOneOutput : Type 0
+HasOneOutput = (text a b : List ℕ) → PrintsAs text a → PrintsAs text b → a ≡ b

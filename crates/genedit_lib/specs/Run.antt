@@ -10,7 +10,9 @@ use Rattle.genedit_script.specs.declared.fault.ScriptFault.{ScriptFault}
 use Rattle.genedit_script.specs.declared.fault.ScriptFault.TheVariants as script_faults
 use Rattle.replica_core.specs.declared.event.Stop.{Stop}
 use Rattle.replica_core.specs.declared.event.Stop.TheVariants as stops
-use Rattle.genedit_lib.specs.Output.{IsScriptOutput}
+use Rattle.replica_events.specs.declared.event.Event.{Event}
+use Rattle.replica_core.specs.World.{History, IsStoppedAt, opening}
+use Rattle.genedit_lib.specs.Output.{IsScriptOutput, events_among, no_patterns, steps}
 
 -- the text is a script, and this is its output
 pub record PrintsAs (text out : List ℕ) : Type 0 where
@@ -24,11 +26,19 @@ pub record IsFaultyScript (text : List ℕ) (fault : RunFault) : Type 0 where
   pub told : fault ≡ Script line
   pub first : script_of text ≡ Err line
 
--- the text is a script, and a replica's store was full in its run
+-- the events of a script, in its world
+abbrev pub script_events : ScriptValue → List Event
+script_events script = events_among (steps no_patterns script.commands)
+
+abbrev pub script_opening : ScriptValue → History
+script_opening script = opening script.rule script.replicas
+
+-- the text is a script, and its run was stopped for want of room at one of its events, a draw, a delivery or an export, before which all were replied to
 pub record IsStopped (text : List ℕ) (fault : RunFault) : Type 0 where
   pub script : ScriptValue
   pub told : fault ≡ StoreFull
   pub read : script_of text ≡ Ok script
+  pub stopped : IsStoppedAt (script_opening script) (script_events script) stops.StoreFull
 
 -- the text is no script, or its run was stopped
 abbrev pub IsUnprinted : List ℕ → RunFault → Type 0

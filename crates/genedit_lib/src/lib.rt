@@ -9,5 +9,5 @@ mod run;
 mod step;
 
 pub use genedit_io::RunFault;
-pub use laws::name_laws;
+pub use laws::{name_laws, output_laws};
 pub use run::{run_script, run_script_within};

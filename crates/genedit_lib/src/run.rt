@@ -3,8 +3,8 @@
 ghost use Rattle.std.specs.Prelude.{◌≡◌, ◌≤◌, ◌⊎◌, ◌^◌, IfOk, IfErr};
 ghost use Rattle.genedit_io.specs.RunFault.{IsWant};
 ghost use Rattle.genedit_lib.specs.Output.{IsScriptOutput};
-ghost use Rattle.replica_core.specs.World.{AreReplies, opening};
-ghost use Rattle.genedit_lib.specs.Run.{IsScriptRun, IsUnprinted, PrintsAs, run_fault_of, run_fault_of_stop};
+ghost use Rattle.replica_core.specs.World.{AreReplies, HaveRoom, IsStopOf, opening};
+ghost use Rattle.genedit_lib.specs.Run.{IsScriptRun, IsUnprinted, PrintsAs, run_fault_of, run_fault_of_stop, script_events, script_opening};
 
 use crate::output::output;
 use crate::plan::planned;
@@ -12,7 +12,7 @@ use devices::{Sink, Source};
 use genedit_io::{RunFault, pull_all, push_output};
 use genedit_script::{Script, ScriptFault, read_script};
 use generations_rule::Rule;
-use replica_core::{Event, Reply, Stop, replay_within};
+use replica_core::{Event, Reply, Stop, World, replay_within};
 use std::alloc::Global;
 
 /// How many pulls a script has, at most.
@@ -68,7 +68,8 @@ fn printed(alloc: Global, text: &[u8], nodes: u32) -> Result<Vec<u8>, RunFault>
 /// What a script prints.
 fn script_output(alloc: Global, script: Script, nodes: u32) -> Result<Vec<u8>, Stop>
     requires { 1 ≤ nodes }
-    ensures { IfOk result (λ out. IsScriptOutput script out.items) }
+    ensures out { IfOk result (λ out. IsScriptOutput script out.items) }
+    ensures stopped { IfErr result (IsStopOf (script_opening script) (script_events script)) }
 {
     let (rule, replicas) = (script.rule(), script.replicas());
     let plan = planned(alloc, script.into_commands())?;
@@ -86,10 +87,27 @@ fn replies_of(
     events: &[Event],
 ) -> Result<Vec<Reply>, Stop>
     requires { 1 ≤ nodes }
-    ensures { IfOk result (λ replies. AreReplies (opening rule replicas) events.now replies.items) }
+    ensures replies { IfOk result (λ replies. AreReplies (opening rule replicas) events.now replies.items) }
+    ensures stopped { IfErr result (IsStopOf (opening rule replicas) events.now) }
 {
-    let (_world, replies) = replay_within(alloc, rule, replicas, nodes, events)?;
+    let (_world, replies) = world_of(alloc, rule, replicas, nodes, events)?;
     Ok(replies)
+}
+
+/// The world of new replicas behind events, each with room for so many squares, and what they reply.
+fn world_of(
+    alloc: Global,
+    rule: Rule,
+    replicas: u16,
+    nodes: u32,
+    events: &[Event],
+) -> Result<(World, Vec<Reply>), Stop>
+    requires { 1 ≤ nodes }
+    ensures replies { IfOk result (λ done. AreReplies (opening rule replicas) events.now done.1.items) }
+    ensures room { IfOk result (λ done. HaveRoom nodes done.0.replicas) }
+    ensures stopped { IfErr result (IsStopOf (opening rule replicas) events.now) }
+{
+    replay_within(alloc, rule, replicas, nodes, events)
 }
 
 fn fault_of_script(fault: ScriptFault) -> RunFault

@@ -21,6 +21,7 @@ use Rattle.delta_exchange.specs.StateText.{IsStateText}
 use Rattle.replica_core.proofs.DrawLaws.{stamp_written}
 use Rattle.replica_core.proofs.EventLaws.{keeps_rule}
 use Rattle.replica_core.proofs.HistoryLaws.{at_least_one, grows_along, same_ok, some_of_ok, sound_along, sound_opening}
+use Rattle.replica_core.proofs.RunLaws.{along_both}
 use Rattle.replica_core.proofs.SideBySide.{numbered_at}
 
 rule_along : (w : History) (events : List Event) → (after_all w events).rule ≡ w.rule
@@ -107,10 +108,6 @@ has_one_winner rule n events r h held c e f few at e_here f_here e_wins f_wins s
     let own : (x : PlaneEdit) → writes_of x c ≡ map_of held.plane c → x.stamp ≡ (map_of held.plane c).stamp =
     λ x wins. sym (stamp_written x.stamp (listed x.cells c) (is_covered x.area c) (subst (λ v. 0 < v.stamp) (sym wins) some)) ∙ ap (λ v. v.stamp) wins in
     has_one_edit_a_stamp rule n events e f few (inl (r, h, at.history, e_here)) (inl (r, h, at.history, f_here)) (own e e_wins ∙ sym (own f f_wins))
-
-along_both : (w : History) (events more : List Event) → after_all w (events ++ more) ≡ after_all (after_all w events) more
-along_both w [] more = refl
-along_both w (event ∷ events) more = along_both (after w event) events more
 
 pub never_goes_down : NeverGoesDown
 never_goes_down rule n events more r h k held later at after_more c =

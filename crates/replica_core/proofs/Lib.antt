@@ -9,6 +9,8 @@ pub mod CurrentLaws
 pub mod EventLaws
 pub mod HistoryLaws
 pub mod HeadlineLaws
+pub mod ReplyLaws
+pub mod PeerLaws
 pub mod RunLaws
 pub mod NotedEdits
 pub mod StateLaws

@@ -1,15 +1,16 @@
 -- Running a world through events: what the loop keeps.
-use Rattle.std.proofs.Common.{inl, inr, ◌≡◌, ℕ, suc, ◌+◌, List, [], ◌∷◌, ◌++◌, length, sym, ◌∙◌, ap, subst, append_assoc}
+use Rattle.std.proofs.Common.{inl, inr, ◌≡◌, ℕ, suc, ◌+◌, List, [], ◌∷◌, ◌++◌, length, refl, sym, ◌∙◌, ap, subst}
 use Rattle.std.specs.Prelude.{Some, slice_get, slice_set}
 use Rattle.std.proofs.Math.ListN.{replicate}
 use Rattle.std.proofs.lemmas.Bool.{cases_eq}
 use Rattle.std.proofs.lemmas.Option.{slice_get_within}
-use Rattle.std.proofs.lemmas.List.{append-nil, replicate_more}
+use Rattle.std.proofs.lemmas.List.{replicate_more}
 use Rattle.generations_rule.specs.Rule.{GenerationsRule}
 use Rattle.replica_events.specs.declared.event.Event.{Event}
 use Rattle.replica_core.specs.declared.event.Reply.{Reply}
 use Rattle.replica_core.specs.Replica.{ReplicaState, IsNew}
-use Rattle.replica_core.specs.World.{History, WorldState, AreEdits, AreReplies, HaveRoom, IsReply, StandSideBySide, StandsFor, StandsForWorld, after, after_all, beginner}
+use Rattle.replica_core.specs.declared.event.Stop.{Stop}
+use Rattle.replica_core.specs.World.{History, WorldState, AreEdits, AreReplies, HaveRoom, IsReply, IsStopOf, MayStop, StandSideBySide, StandsFor, StandsForWorld, after, after_all, beginner}
 use Rattle.replica_core.proofs.HistoryLaws.{IsSound, sound_after}
 use Rattle.replica_core.proofs.SideBySide.{get_pushed, get_set_elsewhere, get_set_here, side_push, some_is}
 
@@ -46,54 +47,43 @@ room_push nodes rs r is all j x at = elim (get_pushed rs r j x at) [
 
 -- ---- events
 
--- A history that the world stands for; the replies so far are the first of those from the start on, and what is still
--- to come ends where the whole list does.
-pub record IsRunning (start : History) (events rest : List Event) (told : List Reply) (state : WorldState) : Type 0 where
-  pub now : History
-  pub sound : IsSound now
-  pub stands : StandsForWorld now state
-  pub edits : AreEdits now
-  pub replies : (more : List Reply) → AreReplies now rest more → AreReplies start events (told ++ more)
-  pub ahead : after_all now rest ≡ after_all start events
+pub along_both : (w : History) (events more : List Event) → after_all w (events ++ more) ≡ after_all (after_all w events) more
+along_both w [] more = refl
+along_both w (event ∷ events) more = along_both (after w event) events more
 
-pub running_begins : (start : History) (events rest : List Event) (state : WorldState) → rest ≡ events → IsSound start → AreEdits start → StandsForWorld start state
-    → IsRunning start events rest [] state
-running_begins start events rest state all sound edits stands = record {
-  now = start;
-  sound = sound;
-  stands = stands;
-  edits = edits;
-  replies = λ more told. subst (λ l. AreReplies start l more) all told;
-  ahead = ap (after_all start) all;
-}
+-- the replies to some events, and the reply to one more
+replies_more : (w : History) (events : List Event) (told : List Reply) (event : Event) (reply : Reply) → AreReplies w events told → IsReply (after_all w events) event reply → AreReplies w (events ++ event ∷ []) (told ++ reply ∷ [])
+replies_more w [] [] event reply are is = (is, tt)
+replies_more w [] (r ∷ told) event reply are is = absurd are
+replies_more w (e ∷ events) [] event reply are is = absurd are
+replies_more w (e ∷ events) (r ∷ told) event reply are is = (are.0, replies_more (after w e) events told event reply are.1 is)
 
-pub running_goes : (start : History) (events rest more : List Event) (event : Event) (told : List Reply) (reply : Reply) (state new : WorldState)
-    → rest ≡ event ∷ more → IsRunning start events rest told state
+-- some events were run through: the world stands for the history behind them, and these are the replies to them
+pub record IsRunning (start : History) (done : List Event) (told : List Reply) (state : WorldState) : Type 0 where
+  pub sound : IsSound (after_all start done)
+  pub stands : StandsForWorld (after_all start done) state
+  pub edits : AreEdits (after_all start done)
+  pub replies : AreReplies start done told
+
+pub running_begins : (start : History) (state : WorldState) → IsSound start → AreEdits start → StandsForWorld start state → IsRunning start [] [] state
+running_begins start state sound edits stands = record { sound = sound; stands = stands; edits = edits; replies = tt }
+
+pub running_goes : (start : History) (done : List Event) (event : Event) (told : List Reply) (reply : Reply) (state new : WorldState) → IsRunning start done told state
     → ((w : History) → AreEdits w → StandsForWorld w state → IsReply w event reply × StandsForWorld (after w event) new)
     → ((w : History) → AreEdits w → StandsForWorld w state → AreEdits (after w event))
-    → IsRunning start events more (told ++ reply ∷ []) new
-running_goes start events rest more event told reply state new first run step keeps =
-    let stepped = step run.now run.edits run.stands in
+    → IsRunning start (done ++ event ∷ []) (told ++ reply ∷ []) new
+running_goes start done event told reply state new run step keeps =
+    let now : History = after_all start done in
+    let next : after now event ≡ after_all start (done ++ event ∷ []) = sym (along_both start done (event ∷ [])) in
+    let stepped = step now run.edits run.stands in
     record {
-      now = after run.now event;
-      sound = sound_after run.now event run.sound;
-      stands = stepped.1;
-      edits = keeps run.now run.edits run.stands;
-      replies = λ others later. subst (AreReplies start events) (sym (append_assoc told (reply ∷ []) others))
-          (run.replies (reply ∷ others) (subst (λ l. AreReplies run.now l (reply ∷ others)) (sym first) (stepped.0, later)));
-      ahead = sym (ap (after_all run.now) first) ∙ run.ahead;
+      sound = subst IsSound next (sound_after now event run.sound);
+      stands = subst (λ w. StandsForWorld w new) next stepped.1;
+      edits = subst AreEdits next (keeps now run.edits run.stands);
+      replies = replies_more start done told event reply run.replies stepped.0;
     }
 
-pub replies_at_end : (start : History) (events rest : List Event) (told : List Reply) (state : WorldState) → rest ≡ []
-    → IsRunning start events rest told state → AreReplies start events told
-replies_at_end start events rest told state over run =
-    subst (AreReplies start events) (append-nil told) (run.replies [] (subst (λ l. AreReplies run.now l []) (sym over) tt))
-
-pub world_at_end : (start : History) (events rest : List Event) (told : List Reply) (state : WorldState) → rest ≡ []
-    → IsRunning start events rest told state → StandsForWorld (after_all start events) state
-world_at_end start events rest told state over run =
-    subst (λ w. StandsForWorld w state) (sym (ap (after_all run.now) over) ∙ run.ahead) run.stands
-
-pub edits_at_end : (start : History) (events rest : List Event) (told : List Reply) (state : WorldState) → rest ≡ []
-    → IsRunning start events rest told state → AreEdits (after_all start events)
-edits_at_end start events rest told state over run = subst AreEdits (sym (ap (after_all run.now) over) ∙ run.ahead) run.edits
+-- the event that comes next stops the list
+pub running_stops : (start : History) (events done more : List Event) (event : Event) (told : List Reply) (state : WorldState) (stop : Stop) → events ≡ done ++ event ∷ more
+    → IsRunning start done told state → MayStop stop event → IsStopOf start events stop
+running_stops start events done more event told state stop all run may = inl (record { before = done; event = event; more = more; all = all; replies = told; replied = run.replies; may = may })

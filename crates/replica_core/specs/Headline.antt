@@ -11,11 +11,12 @@ use Rattle.generation_engine.specs.Universe.{states_in_writes}
 use Rattle.export.specs.declared.fault.ExportFault.{ExportFault}
 use Rattle.export.specs.Export.{IsExport, most_cells}
 use Rattle.replica_events.specs.declared.event.Event.{Event}
+use Rattle.replica_core.specs.declared.event.Reply.{Reply}
 use Rattle.replica_core.specs.declared.event.Reply.TheVariants.{Refused}
 use Rattle.replica_core.specs.declared.fault.Fault.{Fault}
 use Rattle.replica_core.specs.Exporting.{IsExportOf}
 use Rattle.replica_core.specs.Replica.{ReplicaState}
-use Rattle.replica_core.specs.World.{History, ReplicaHistory, Sent, WorldState, IsIn, IsReply, IsTextOfSent, StandsForWorld, after, after_all, message, numbered, opening, replica}
+use Rattle.replica_core.specs.World.{History, ReplicaHistory, Sent, WorldState, AreReplies, IsIn, IsReply, IsTextOfSent, StandsForWorld, after, after_all, message, numbered, opening, replica}
 
 -- a replica of a world that was run through events, and what it took
 pub record IsAt (rule : GenerationsRule) (n : ℕ) (events : List Event) (r : ℕ) (h : ReplicaHistory) (held : ReplicaState) : Type 0 where
@@ -87,3 +88,7 @@ NeverGoesDown = (rule : GenerationsRule) (n : ℕ) (events more : List Event) (r
 -- a refused event changes nothing
 abbrev pub RefusalsChangeNothing : Type 0
 RefusalsChangeNothing = (w : History) (event : Event) (fault : Fault) → IsReply w event (Refused fault) → after w event ≡ w
+
+-- a list of events has one list of replies
+abbrev pub HasOneListOfReplies : Type 0
+HasOneListOfReplies = (w : History) (events : List Event) (a b : List Reply) → AreReplies w events a → AreReplies w events b → a ≡ b

@@ -5,4 +5,5 @@ pub mod Exchange
 pub mod Exporting
 pub mod World
 pub mod Headline
+pub mod Peers
 pub mod Rows

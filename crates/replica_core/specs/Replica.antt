@@ -20,7 +20,7 @@ use Rattle.delta_exchange.specs.declared.message.Content.{Content}
 use Rattle.replica_core.specs.Fault.{IsWant, fault_of_edit}
 use Rattle.edit_journal.specs.Journal.{noted}
 use Rattle.delta_exchange.specs.Message.{Shared, writes_in, edits_in}
-use Rattle.delta_exchange.specs.MessageReading.{HasMap}
+use Rattle.delta_exchange.specs.MessageReading.{HasMap, HasRoom}
 use Rattle.stamped_tree.specs.Plane.{StampedPlane, map_of}
 
 -- what contracts see of a replica
@@ -107,10 +107,16 @@ abbrev pub IsTaking : {A : Type 0} → ReplicaState → ReplicaState → Shared 
 IsTaking old new m (Ok done) = (m.rule ≡ old.rule) × Takes old new m.content
 IsTaking old new m (Err fault) = ((m.rule ≡ old.rule) × MeetsWant old new fault) ⊎ ((fault ≡ faults.OtherRule) × (m.rule ≢ old.rule) × (new ≡ old))
 
--- a message of the replica's rule with its map, whose states the rule has and whose writes have stamps
+-- the edit that is meant; or its refusal; or want of memory, where nothing is refused
+abbrev pub IsMadeAs : Result PlaneEdit Fault → Result PlaneEdit Fault → Type 0
+IsMadeAs meant (Ok e) = meant ≡ Ok e
+IsMadeAs meant (Err fault) = (meant ≡ Err fault) ⊎ ((fault ≡ faults.Memory) × IsOk meant)
+
+-- a message of the replica's rule with its map, in a plane of the replica's room, whose states the rule has and whose writes have stamps
 pub record IsSnapshot (r : ReplicaState) (m : Shared) : Type 0 where
   pub rule : m.rule ≡ r.rule
   pub map : HasMap m.content (map_of r.plane)
+  pub room : HasRoom r.plane.store.room m.content
   pub states : HasStatesBelow m.rule.states (map_of r.plane)
   pub stamped : HasStampedWrites (map_of r.plane)
 

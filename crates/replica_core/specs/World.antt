@@ -13,6 +13,8 @@ use Rattle.replica_events.specs.declared.event.Event.{Event}
 use Rattle.replica_events.specs.declared.event.Event.TheVariants.{Draw, SendDelta, SendState, Deliver, Show, Same, Dump, Export}
 use Rattle.replica_core.specs.declared.event.Reply.{Reply}
 use Rattle.replica_core.specs.declared.event.Reply.TheVariants as replies
+use Rattle.replica_core.specs.declared.event.Stop.{Stop}
+use Rattle.replica_core.specs.declared.event.Stop.TheVariants as stops
 use Rattle.replica_core.specs.declared.fault.Fault.{Fault}
 use Rattle.replica_core.specs.declared.fault.Fault.TheVariants as faults
 use Rattle.replica_events.specs.declared.edit_spec.EditSpec.{EditSpec}
@@ -172,6 +174,38 @@ AreReplies w [] [] = ⊤
 AreReplies w (event ∷ events) (reply ∷ more) = IsReply w event reply × AreReplies (after w event) events more
 AreReplies w [] (reply ∷ more) = ⊥
 AreReplies w (event ∷ events) [] = ⊥
+
+-- ---- why a list of events stops
+
+-- what may want room: a draw, a delivery and an export
+abbrev pub WantsRoom : Event → Type 0
+WantsRoom (Draw r spec) = ⊤
+WantsRoom (Deliver m r) = ⊤
+WantsRoom (Export r g) = ⊤
+WantsRoom (SendDelta r from count) = ⊥
+WantsRoom (SendState r) = ⊥
+WantsRoom (Show r x y) = ⊥
+WantsRoom (Same a b) = ⊥
+WantsRoom (Dump m) = ⊥
+
+-- an event may stop the list: any for want of memory, and for want of room what may want it
+abbrev pub MayStop : Stop → Event → Type 0
+MayStop stops.Memory event = ⊤
+MayStop stops.StoreFull event = WantsRoom event
+
+-- all events before one of the list were replied to, and that one may have stopped it
+pub record IsStoppedAt (w : History) (events : List Event) (stop : Stop) : Type 0 where
+  pub before : List Event
+  pub event : Event
+  pub more : List Event
+  pub all : events ≡ before ++ event ∷ more
+  pub replies : List Reply
+  pub replied : AreReplies w before replies
+  pub may : MayStop stop event
+
+-- a list stops at one of its events, or for want of memory
+abbrev pub IsStopOf : History → List Event → Stop → Type 0
+IsStopOf w events stop = IsStoppedAt w events stop ⊎ (stop ≡ stops.Memory)
 
 -- ---- the edits of a history
 

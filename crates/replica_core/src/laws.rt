@@ -1,6 +1,8 @@
-//! What holds of worlds of replicas, for all events: the contract of a function that does nothing.
+//! What holds of replicas, for all edits, and of worlds of them, for all events: the contracts of functions
+//! that do nothing.
 
-ghost use Rattle.replica_core.specs.Headline.{Agrees, ExportsGreatest, ExportsSameBytes, HasOneEditAStamp, HasOneWinner, HoldsGreatest, NeverGoesDown, RefusalsChangeNothing, SendsTexts, WritesSameBytes};
+ghost use Rattle.replica_core.specs.Headline.{Agrees, ExportsGreatest, ExportsSameBytes, HasOneEditAStamp, HasOneListOfReplies, HasOneWinner, HoldsGreatest, NeverGoesDown, RefusalsChangeNothing, SendsTexts, WritesSameBytes};
+ghost use Rattle.replica_core.specs.Peers.{HoldsWhatItTook, PeersAgree};
 
 /// What holds of every world after every list of events.
 pub fn world_laws()
@@ -14,4 +16,12 @@ pub fn world_laws()
     ensures winner { HasOneWinner }
     ensures rises { NeverGoesDown }
     ensures refusals { RefusalsChangeNothing }
+    ensures one_list { HasOneListOfReplies }
+{}
+
+/// What holds of replicas that exchange messages by any route, without a world: what each holds are the
+/// edits that it took, and two that took the same edits agree, in their maps and in their bytes.
+pub fn peer_laws()
+    ensures holds { HoldsWhatItTook }
+    ensures agree { PeersAgree }
 {}

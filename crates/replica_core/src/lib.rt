@@ -12,7 +12,7 @@ pub use delta_exchange::Message;
 pub use devices::{Failed, ReadSource, Sink, Source, WriteSink};
 pub use event::{ByteList, Reply, Stop};
 pub use fault::Fault;
-pub use laws::world_laws;
+pub use laws::{peer_laws, world_laws};
 pub use replica::Replica;
 pub use replica_events::{CellList, EditSpec, Event};
 pub use world::{World, replay, replay_within};

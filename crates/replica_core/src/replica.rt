@@ -5,7 +5,7 @@ ghost use Rattle.std.specs.Result.{IsOk};
 ghost use Rattle.generations_rule.specs.Refusal.{Answers};
 ghost use Rattle.generations_rule.specs.Place.{at_place};
 ghost use Rattle.edit_stamps.specs.Stamp.{counter_in};
-ghost use Rattle.edit_stamps.specs.PlaneMap.{HasStampedWrites, IsGreatestStamp};
+ghost use Rattle.edit_stamps.specs.PlaneMap.{HasStampedWrites, HasStatesBelow, IsGreatestStamp};
 ghost use Rattle.stamped_writes.specs.Write.{unwritten, AreSame, Writes, joined};
 ghost use Rattle.edit_stamps.specs.Edit.{PlaneEdit, IsEdit, has_states_below, writes_of, HaveStatesBelow, greatest};
 ghost use Rattle.edit_journal.specs.Journal.{noted};
@@ -76,7 +76,7 @@ impl Replica {
     ghost use Rattle.delta_exchange.specs.Versions.{IsReadableStateText};
     ghost use Rattle.replica_core.specs.Exchange.{delta_given, IsTakingMap, IsTakingOf, IsTakingText};
     ghost use Rattle.replica_core.specs.Exporting.{IsExportFault, IsExportOf};
-    ghost use Rattle.replica_core.specs.Replica.{edit_drawn, IsDraw, IsJournalOf, IsNew, IsReplica, IsSnapshot, IsTaking};
+    ghost use Rattle.replica_core.specs.Replica.{edit_drawn, IsDraw, IsJournalOf, IsMadeAs, IsNew, IsReplica, IsSnapshot, IsTaking};
 
     /// A replica that holds nothing, with room for 2^26 squares. The only error is want of memory.
     pub fn new(alloc: Global, rule: Rule, number: u16) -> Result<Replica, Fault>
@@ -128,6 +128,15 @@ impl Replica {
         self.journal.as_slice()
     }
 
+    /// The plane that it holds.
+    pub fn plane(&self) -> &Plane
+        ensures value { result.now ≡ self.now.plane }
+        ensures states { HasStatesBelow self.now.rule.states (map_of self.now.plane) }
+    {
+        let _ = &self.rule;
+        self.plane.plane()
+    }
+
     /// The write at a coordinate; the least write where nothing was written, and outside the plane.
     pub fn get(&self, x: i32, y: i32) -> Write
         ensures value { result ≡ map_of self.now.plane (at_place x y) }
@@ -144,7 +153,7 @@ impl Replica {
         same_remembered(self.alloc, self.plane.plane(), other.plane.plane())
     }
 
-    /// A message of this replica's map. The only error is want of memory.
+    /// A message of this replica's map, in a plane of the replica's room. The only error is want of memory.
     pub fn snapshot(&self) -> Result<Message, Fault>
         ensures snapshot { IfOk result (λ message. IsSnapshot self.now message) }
         ensures err { IfErr result (λ fault. fault ≡ Fault.Memory) }
@@ -177,6 +186,17 @@ impl Replica {
         Ok(edit)
     }
 
+    /// The edit that `draw_as` would draw, made and not taken: for one that is to be taken where others
+    /// have seen it. Refused as there; want of memory is answered only where nothing is refused.
+    pub fn edit_of(&self, spec: &EditSpec) -> Result<Edit, Fault>
+        ensures made { (n : ℕ) × IsGreatestStamp n (map_of self.now.plane)
+            × IsMadeAs (edit_drawn self.now.rule (counter_in n) self.now.number spec.now) result }
+        ensures states { IfOk result (λ edit. IsTrue (has_states_below self.now.rule.states edit)) }
+    {
+        let stamp = next_stamp(&self.plane, self.number)?;
+        make(self.alloc, &self.rule, stamp, spec)
+    }
+
     /// Takes a message: joins its map, or what its edits write, and notes those of its edits that
     /// the journal does not have by then. Refused is a message of another rule. A message is taken
     /// whole or not at all: after any refusal, want of memory or of room too, the replica is as it was.
@@ -187,6 +207,16 @@ impl Replica {
             Ok(_) => Ok(()),
             Err(fault) => Err(fault),
         }
+    }
+
+    /// Takes edits of the replica's rule, as it takes a message of them: whole or not at all. The only errors
+    /// are want of memory and of room.
+    pub fn take_edits(&mut self, edits: &[Edit]) -> Result<(), Fault>
+        requires { HaveStatesBelow self.old.rule.states edits.now }
+        ensures { IsTakingOf self.old self.new (λ content. content ≡ Edits edits.now) result }
+    {
+        take_edits(&mut self.plane, &mut self.journal, edits)?;
+        Ok(())
     }
 
     /// Takes the bytes of a message: reads them, and takes what they tell, whole or not at all. Refused

@@ -8,7 +8,7 @@ ghost use Rattle.replica_events.specs.declared.event.Event.TheVariants as events
 ghost use Rattle.replica_core.specs.declared.event.Reply.TheVariants as replies;
 ghost use Rattle.replica_core.specs.Fault.{IsWant, stop_of};
 ghost use Rattle.replica_core.specs.Replica.{edit_drawn, IsNew};
-ghost use Rattle.replica_core.specs.World.{History, IsEditUnder, IsThere, ReplicaHistory, Sent, opening, after, after_all, after_drawing, after_message, numbered, AreCurrent, AreEdits, AreReplies, HaveRoom, IsRemembered, IsReply, IsStateMessage, IsStateOf, StandSideBySide, StandsFor, StandsForSent, StandsForWorld};
+ghost use Rattle.replica_core.specs.World.{History, IsEditUnder, IsThere, ReplicaHistory, Sent, opening, after, after_all, after_drawing, after_message, numbered, AreCurrent, AreEdits, AreReplies, HaveRoom, IsRemembered, IsReply, IsStateMessage, IsStateOf, IsStopOf, MayStop, StandSideBySide, StandsFor, StandsForSent, StandsForWorld};
 
 use crate::event::{ByteList, Reply, Stop};
 use crate::fault::Fault;
@@ -106,7 +106,8 @@ impl World {
 
 /// Runs a world of replicas 1 to `n` through events, in order: the world behind the last event, and
 /// the reply to each. A refused event changes nothing, and the next one follows. The only errors are
-/// want of memory, and of room: each replica has room for 2^26 squares.
+/// want of memory, and of room: each replica has room for 2^26 squares, and so has the plane that a state
+/// is read into, and the universe that an export runs.
 pub fn replay(
     alloc: Global,
     rule: Rule,
@@ -117,6 +118,7 @@ pub fn replay(
     ensures world { IfOk result (λ done. StandsForWorld (after_all (opening rule n) events.now) done.0) }
     ensures edits { IfOk result (λ done. AreEdits (after_all (opening rule n) events.now)) }
     ensures room { IfOk result (λ done. HaveRoom (2 ^ 26) done.0.replicas) }
+    ensures stopped { IfErr result (IsStopOf (opening rule n) events.now) }
 {
     replay_within(alloc, rule, n, ROOM, events)
 }
@@ -134,6 +136,7 @@ pub fn replay_within(
     ensures world { IfOk result (λ done. StandsForWorld (after_all (opening rule n) events.now) done.0) }
     ensures edits { IfOk result (λ done. AreEdits (after_all (opening rule n) events.now)) }
     ensures room { IfOk result (λ done. HaveRoom nodes done.0.replicas) }
+    ensures stopped { IfErr result (IsStopOf (opening rule n) events.now) }
 {
     let mut world = World::with_room(alloc, rule, n, nodes)?;
     let mut replies = Vec::with_capacity(alloc, events.len())?;
@@ -185,6 +188,7 @@ fn happen(world: &mut World, event: &Event) -> Result<Reply, Stop>
         IsReply w event.now reply × StandsForWorld (after w event.now) world.new) }
     ensures edits { IfOk result (λ _. (w : History) → AreEdits w → StandsForWorld w world.old → AreEdits (after w event.now)) }
     ensures room { (nodes : ℕ) → HaveRoom nodes world.old.replicas → HaveRoom nodes world.new.replicas }
+    ensures err { IfErr result (λ stop. MayStop stop event.now) }
 {
     match event {
         Event::Draw(number, spec) => {

@@ -62,10 +62,19 @@ fn joined_new(alloc: Global) -> Result<(Result<(), StoreFault>, Write, u32), Edi
     joined(alloc, &mut plane)
 }
 
+/// How many squares a copy of that plane stores.
+fn copied(alloc: Global) -> Result<u32, EditFault> {
+    let mut plane = Plane::new(alloc)?;
+    let _ = joined(alloc, &mut plane)?;
+    let copy = plane.copy()?;
+    Ok(copy.nodes())
+}
+
 /// 28 squares of four, a leaf and the blank of stamp 0.
 #[test]
 fn the_later_replica_wins(rt: HostRuntime) -> Result<(), Fail> {
     assert!(rt; joined_new(rt.alloc())? == (Ok(()), LATER, 30));
+    assert!(rt; copied(rt.alloc())? == 30);
     Ok(())
 }
 

@@ -242,7 +242,10 @@ fn equal_squares_are_one_entry(rt: HostRuntime) -> Result<(), Fail> {
     assert!(rt; is_retold(rt.alloc(), &rule, &text)?);
     if text.len() == 1511 {
         let longer = with_the_leaf_twice(rt.alloc(), &text)?;
-        assert_eq!(rt; fault_of(rt.alloc(), &longer)?, Some(ReadFault::NotCanonical));
+        assert_eq!(rt;
+            fault_of(rt.alloc(), &longer)?,
+            Some(ReadFault::NotCanonical)
+        );
     }
     Ok(())
 }

@@ -1,4 +1,5 @@
 use Rattle.replica_core.proofs.HeadlineLaws.{agrees, exports_greatest, exports_same_bytes, writes_same_bytes, sends_texts, has_one_edit_a_stamp, has_one_winner, holds_greatest, never_goes_down}
+use Rattle.replica_core.proofs.ReplyLaws.{has_one_list_of_replies}
 use Rattle.replica_core.proofs.laws.world_laws.Goals as goal
 
 pub returns-clause-holds : goal.returns-clause-holds
@@ -27,3 +28,6 @@ returns-clause-exports c = exports_greatest
 
 pub returns-clause-same_exports : goal.returns-clause-same_exports
 returns-clause-same_exports c = exports_same_bytes
+
+pub returns-clause-one_list : goal.returns-clause-one_list
+returns-clause-one_list c = has_one_list_of_replies
