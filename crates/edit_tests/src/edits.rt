@@ -47,7 +47,7 @@ fn are_in_order(writes: &[Write]) -> bool {
     for (i, v) in writes.iter().enumerate() {
         for (j, w) in writes.iter().enumerate() {
             let greater = if i <= j { *w } else { *v };
-            if v.at_most(*w) != (i <= j) || v.cmp(w) != i.cmp(&j) || v.max(w) != &greater {
+            if (v <= w) != (i <= j) || v.cmp(w) != i.cmp(&j) || v.max(w) != &greater {
                 return false;
             }
         }

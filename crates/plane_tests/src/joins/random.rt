@@ -36,7 +36,7 @@ fn greatest(edits: &[Edit], x: i32, y: i32) -> Write {
     let mut greatest = Write::UNWRITTEN;
     for edit in edits {
         let write = write_by(edit, x, y);
-        if greatest.at_most(write) {
+        if greatest <= write {
             greatest = write;
         }
     }
@@ -74,9 +74,9 @@ fn compare(joined: &Plane, lists: Lists<'_>) -> Tally {
             let y = lists.centre.y.saturating_add(row).saturating_sub(REACH);
             let write = greatest(lists.edits, x, y);
             let other = greatest(lists.others, x, y);
-            let greater = if write.at_most(other) { other } else { write };
+            let greater = if write <= other { other } else { write };
             tally.is_joined = tally.is_joined && joined.get(x, y) == greater;
-            tally.is_below = tally.is_below && write.at_most(other);
+            tally.is_below = tally.is_below && write <= other;
             tally.is_same = tally.is_same && write == other;
         }
     }
