@@ -1,5 +1,3 @@
-pub mod RootLaws
-pub mod JoiningLaws
 pub mod DrawLaws
 pub mod SideBySide
 pub mod SameMaps

@@ -1,5 +1,4 @@
 pub mod Fault
-pub mod HeldPlane
 pub mod Replica
 pub mod Exchange
 pub mod Exporting

@@ -3,7 +3,6 @@
 
 mod event;
 mod fault;
-mod held_plane;
 mod laws;
 mod replica;
 mod world;

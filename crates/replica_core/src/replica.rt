@@ -9,19 +9,19 @@ ghost use Rattle.edit_stamps.specs.PlaneMap.{HasStampedWrites, HasStatesBelow, I
 ghost use Rattle.stamped_writes.specs.Write.{unwritten, AreSame, Writes, joined};
 ghost use Rattle.edit_stamps.specs.Edit.{PlaneEdit, IsEdit, has_states_below, writes_of, HaveStatesBelow, greatest};
 ghost use Rattle.edit_journal.specs.Journal.{noted};
+ghost use Rattle.held_plane.specs.Held.{IsAsBefore};
 ghost use Rattle.replica_core.specs.Fault.{IsWant};
-ghost use Rattle.replica_core.specs.HeldPlane.{IsAsBefore};
 ghost use Rattle.delta_exchange.specs.Message.{edits_in, writes_in, IsBelowStates};
 ghost use Rattle.replica_core.specs.Replica.{made, or_edit_fault, stamp_after};
 ghost use Rattle.stamped_tree.specs.Plane.{map_of};
 
 use crate::fault::Fault;
-use crate::held_plane::{Added, HeldPlane};
 use delta_exchange::{Content, Message, read, write_delta, write_state};
 use edit_journal::Journal;
 use edit_stamps::{Edit, Stamp, Write, counter_of};
 use export::export;
 use generations_rule::Rule;
+use held_plane::{Added, HeldPlane};
 use replica_events::EditSpec;
 use stamped_tree::Plane;
 use std::alloc::{AllocError, Global};

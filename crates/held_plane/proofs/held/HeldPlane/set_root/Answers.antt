@@ -2,8 +2,8 @@ use Rattle.std.proofs.Common.{◌≡◌, ◌↔◌, ◌∙◌, ap, subst, sym, f
 use Rattle.std.specs.Prelude.{◌==◌, not}
 use Rattle.stamped_writes.specs.Write.{AreSame}
 use Rattle.stamped_tree.specs.Plane.{IsPart, StampedPlane, map_of}
-use Rattle.replica_core.proofs.RootLaws.{kept_root}
-use Rattle.replica_core.proofs.held_plane.HeldPlane.set_root.Goals as goal
+use Rattle.held_plane.proofs.RootLaws.{kept_root}
+use Rattle.held_plane.proofs.held.HeldPlane.set_root.Goals as goal
 
 pub returns-then-nodes-max-clause-kept : goal.returns-then-nodes-max-clause-kept
 returns-then-nodes-max-clause-kept c =

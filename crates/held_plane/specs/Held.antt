@@ -1,10 +1,10 @@
--- The plane of a replica, and what is joined into it.
+-- A plane, and what is joined into it.
 use Rattle.std.specs.Prelude.{◌≡◌, ℕ}
 use Rattle.edit_stamps.specs.Edit.{greatest}
 use Rattle.stamped_writes.specs.Write.{Writes, AreSame, joined}
 use Rattle.stamped_tree.specs.Plane.{StampedPlane, IsPart, map_of, rooted}
-use Rattle.replica_core.specs.declared.held_plane.Added.{Added}
-use Rattle.replica_core.specs.declared.held_plane.Added.TheVariants.{Edits, Map}
+use Rattle.held_plane.specs.declared.added.Added.{Added}
+use Rattle.held_plane.specs.declared.added.Added.TheVariants.{Edits, Map}
 
 -- what is to be joined writes at each place
 abbrev pub added_writes : Added → Writes
