@@ -14,9 +14,18 @@ use Rattle.multistate_rle.specs.RleFault.{text_fault_number, text_fault_place, t
 use Rattle.edit_stamps.specs.declared.fault.EditFault.{EditFault}
 use Rattle.edit_stamps.specs.declared.fault.EditFault.TheVariants as edits
 use Rattle.edit_stamps.specs.EditFault.{edit_fault_number, edit_fault_text}
+use Rattle.square_store.specs.declared.fault.StoreFault.{StoreFault}
+use Rattle.square_store.specs.declared.fault.StoreFault.TheVariants as stores
+use Rattle.square_store.specs.StoreFault.{store_fault_number, store_fault_text}
+use Rattle.generation_engine.specs.declared.fault.EngineFault.{EngineFault}
+use Rattle.generation_engine.specs.declared.fault.EngineFault.TheVariants as engines
+use Rattle.generation_engine.specs.EngineFault.{engine_fault_number, engine_fault_text}
 use Rattle.delta_exchange.specs.declared.fault.ReadFault.{ReadFault}
 use Rattle.delta_exchange.specs.declared.fault.ReadFault.TheVariants as reads
 use Rattle.delta_exchange.specs.Fault.{read_fault_number, read_fault_text}
+use Rattle.delta_exchange.specs.declared.frame_fault.FrameFault.{FrameFault}
+use Rattle.delta_exchange.specs.declared.frame_fault.FrameFault.TheVariants as frames
+use Rattle.delta_exchange.specs.FrameFault.{frame_fault_number, frame_fault_text}
 use Rattle.export.specs.declared.fault.ExportFault.{ExportFault}
 use Rattle.export.specs.declared.fault.ExportFault.TheVariants as exports
 use Rattle.export.specs.ExportFault.{export_fault_number, export_fault_text}
@@ -48,6 +57,15 @@ edit_names edits.OutOfPlane refused = refl
 edit_names edits.StateRange refused = refl
 edit_names edits.Memory refused = absurd (refused refl)
 
+store_names : (fault : StoreFault) → IsNamed (store_fault_number fault) None (store_fault_text fault)
+store_names stores.StoreFull refused = refl
+store_names stores.Memory refused = absurd (refused refl)
+
+engine_names : (fault : EngineFault) → IsNamed (engine_fault_number fault) None (engine_fault_text fault)
+engine_names engines.GenRange refused = refl
+engine_names engines.StoreFull refused = refl
+engine_names engines.Memory refused = absurd (refused refl)
+
 read_names : (fault : ReadFault) → IsNamed (read_fault_number fault) None (read_fault_text fault)
 read_names reads.TooMany refused = refl
 read_names reads.Nothing refused = refl
@@ -62,6 +80,10 @@ read_names reads.StampRange refused = refl
 read_names reads.NotCanonical refused = refl
 read_names reads.Trailing refused = refl
 read_names reads.Memory refused = absurd (refused refl)
+
+frame_names : (fault : FrameFault) → IsNamed (frame_fault_number fault) None (frame_fault_text fault)
+frame_names frames.FrameTooLong refused = refl
+frame_names frames.Memory refused = absurd (refused refl)
 
 export_names : (fault : ExportFault) → IsNamed (export_fault_number fault) None (export_fault_text fault)
 export_names exports.GenRange refused = refl
@@ -86,7 +108,7 @@ stop_names stops.StoreFull refused = refl
 stop_names stops.Memory refused = absurd (refused refl)
 
 pub names_agree : NamesAgree
-names_agree = record { rules = rule_names; texts = text_names; edits = edit_names; reads = read_names; exports = export_names; replicas = replica_names; stops = stop_names }
+names_agree = record { rules = rule_names; texts = text_names; edits = edit_names; stores = store_names; engines = engine_names; reads = read_names; frames = frame_names; exports = export_names; replicas = replica_names; stops = stop_names }
 
 -- as many numbers, and as many names, differ as stand in the table
 pub names_are_distinct : NamesAreDistinct

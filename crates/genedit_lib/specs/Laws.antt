@@ -8,8 +8,14 @@ use Rattle.multistate_rle.specs.declared.fault.RleFault.{RleFault}
 use Rattle.multistate_rle.specs.RleFault.{text_fault_number, text_fault_place, text_fault_text}
 use Rattle.edit_stamps.specs.declared.fault.EditFault.{EditFault}
 use Rattle.edit_stamps.specs.EditFault.{edit_fault_number, edit_fault_text}
+use Rattle.square_store.specs.declared.fault.StoreFault.{StoreFault}
+use Rattle.square_store.specs.StoreFault.{store_fault_number, store_fault_text}
+use Rattle.generation_engine.specs.declared.fault.EngineFault.{EngineFault}
+use Rattle.generation_engine.specs.EngineFault.{engine_fault_number, engine_fault_text}
 use Rattle.delta_exchange.specs.declared.fault.ReadFault.{ReadFault}
 use Rattle.delta_exchange.specs.Fault.{read_fault_number, read_fault_text}
+use Rattle.delta_exchange.specs.declared.frame_fault.FrameFault.{FrameFault}
+use Rattle.delta_exchange.specs.FrameFault.{frame_fault_number, frame_fault_text}
 use Rattle.export.specs.declared.fault.ExportFault.{ExportFault}
 use Rattle.export.specs.ExportFault.{export_fault_number, export_fault_text}
 use Rattle.replica_core.specs.declared.fault.Fault.{Fault}
@@ -27,7 +33,10 @@ pub record NamesAgree : Type 0 where
   pub rules : (fault : RuleFault) → IsNamed (rule_fault_number fault) (rule_fault_place fault) (rule_fault_text fault)
   pub texts : (fault : RleFault) → IsNamed (text_fault_number fault) (text_fault_place fault) (text_fault_text fault)
   pub edits : (fault : EditFault) → IsNamed (edit_fault_number fault) None (edit_fault_text fault)
+  pub stores : (fault : StoreFault) → IsNamed (store_fault_number fault) None (store_fault_text fault)
+  pub engines : (fault : EngineFault) → IsNamed (engine_fault_number fault) None (engine_fault_text fault)
   pub reads : (fault : ReadFault) → IsNamed (read_fault_number fault) None (read_fault_text fault)
+  pub frames : (fault : FrameFault) → IsNamed (frame_fault_number fault) None (frame_fault_text fault)
   pub exports : (fault : ExportFault) → IsNamed (export_fault_number fault) None (export_fault_text fault)
   pub replicas : (fault : Fault) → IsNamed (replica_fault_number fault) None (replica_fault_text fault)
   pub stops : (stop : Stop) → IsNamed (stop_number stop) None (stop_text stop)
