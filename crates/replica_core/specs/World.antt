@@ -1,6 +1,6 @@
 -- Worlds of replicas as histories: which edits each replica took, which messages were sent, and what is answered to
 -- each event. The plane of a replica is no part of a history; it is the greatest writes of the edits that it took.
-use Rattle.std.specs.Prelude.{◌≡◌, ◌≤◌, ◌↔◌, Bool, IsTrue, ℕ, zero, suc, ◌+◌, ◌-◌, List, [], ◌∷◌, ◌++◌, length, Option, Some, None, Result, Ok, Err, slice_get, slice_set, Contains, ◌⊎◌, ⊤}
+use Rattle.std.specs.Prelude.{◌≡◌, ◌≤◌, ◌↔◌, Bool, IsTrue, ℕ, zero, suc, ◌+◌, ◌-◌, ◌^◌, List, [], ◌∷◌, ◌++◌, length, Option, Some, None, Result, Ok, Err, slice_get, slice_set, Contains, ◌⊎◌, ⊤}
 use Rattle.std.specs.Option.{ok_or}
 use Rattle.std.proofs.Math.ListN.{replicate}
 use Rattle.generations_rule.specs.Place.{at_place}
@@ -25,7 +25,7 @@ use Rattle.delta_exchange.specs.StateText.{IsStateText}
 use Rattle.edit_journal.specs.Journal.{noted}
 use Rattle.generation_engine.specs.Universe.{states_in_writes}
 use Rattle.export.specs.declared.fault.ExportFault.{ExportFault}
-use Rattle.export.specs.Export.{IsExport, most_cells}
+use Rattle.export.specs.Export.{IsExport, IsRoomWanted, most_cells}
 use Rattle.replica_core.specs.Fault.{fault_of_export}
 use Rattle.replica_core.specs.Exchange.{entries}
 use Rattle.replica_core.specs.Replica.{ReplicaState, edit_drawn}
@@ -192,6 +192,12 @@ WantsRoom (Dump m) = ⊥
 abbrev pub MayStop : Stop → Event → Type 0
 MayStop stops.Memory event = ⊤
 MayStop stops.StoreFull event = WantsRoom event
+
+-- the universe of an export of a replica's plane wants more room than 2^26 squares
+pub record IsExportFull (replicas : List ReplicaState) (number g : ℕ) : Type 0 where
+  pub held : ReplicaState
+  pub there : numbered replicas number ≡ Some held
+  pub wanted : IsRoomWanted held.rule held.plane g (2 ^ 26)
 
 -- all events before one of the list were replied to, and that one may have stopped it
 pub record IsStoppedAt (w : History) (events : List Event) (stop : Stop) : Type 0 where

@@ -75,6 +75,7 @@ impl Replica {
     ghost use Rattle.delta_exchange.specs.StateText.{IsStateText};
     ghost use Rattle.delta_exchange.specs.Versions.{IsReadableStateText};
     ghost use Rattle.replica_core.specs.Exchange.{delta_given, IsTakingMap, IsTakingOf, IsTakingText};
+    ghost use Rattle.export.specs.Export.{IsRoomWanted};
     ghost use Rattle.replica_core.specs.Exporting.{IsExportFault, IsExportOf};
     ghost use Rattle.replica_core.specs.Replica.{edit_drawn, IsDraw, IsJournalOf, IsMadeAs, IsNew, IsReplica, IsSnapshot, IsTaking};
 
@@ -292,10 +293,12 @@ impl Replica {
 
     /// The cells of this replica's map so many generations later, in Golly's multi-state RLE. Refused are
     /// `GenRange` where the generation is greater than 2^29, then `TooManyCells` where more than 2^24
-    /// cells are not dead then; memory and room are wanted only for a generation that is one.
+    /// cells are not dead then; memory, and room for 2^26 squares, are wanted only for a generation that is
+    /// one.
     pub fn export(&self, generation: u32) -> Result<Vec<u8>, Fault>
         ensures text { IfOk result (λ text. IsExportOf self.now generation (Ok text.items)) }
         ensures err { IfErr result (IsExportFault self.now generation) }
+        ensures full { result ≡ Err Fault.StoreFull → IsRoomWanted self.now.rule self.now.plane generation (2 ^ 26) }
     {
         Ok(export(self.alloc, &self.rule, self.plane.plane(), generation)?)
     }

@@ -1,6 +1,6 @@
 //! Worlds of replicas: lists of events, and their replies.
 
-ghost use Rattle.std.specs.Prelude.{◌≡◌, ◌≤◌, ◌^◌, ◌-◌, ◌++◌, ◌∷◌, [], ℕ, List, Option, IfOk, IfErr, OnErr, Some, SomeIff, Contains, length, MatchResult, option_copied};
+ghost use Rattle.std.specs.Prelude.{◌≡◌, ◌≤◌, ◌^◌, ◌-◌, ◌++◌, ◌∷◌, [], ℕ, List, Option, IfOk, IfErr, OnErr, Err, Some, SomeIff, Contains, length, MatchResult, option_copied};
 ghost use Rattle.edit_stamps.specs.Edit.{IsEdit, PlaneEdit, greatest_counter};
 ghost use Rattle.generations_rule.specs.Rule.{GenerationsRule};
 ghost use Rattle.export.specs.Export.{last_generation};
@@ -8,7 +8,7 @@ ghost use Rattle.replica_events.specs.declared.event.Event.TheVariants as events
 ghost use Rattle.replica_core.specs.declared.event.Reply.TheVariants as replies;
 ghost use Rattle.replica_core.specs.Fault.{IsWant, stop_of};
 ghost use Rattle.replica_core.specs.Replica.{edit_drawn, IsNew};
-ghost use Rattle.replica_core.specs.World.{History, IsEditUnder, IsThere, ReplicaHistory, Sent, opening, after, after_all, after_drawing, after_message, numbered, AreCurrent, AreEdits, AreReplies, HaveRoom, IsRemembered, IsReply, IsStateMessage, IsStateOf, IsStopOf, MayStop, StandSideBySide, StandsFor, StandsForSent, StandsForWorld};
+ghost use Rattle.replica_core.specs.World.{History, IsEditUnder, IsExportFull, IsThere, ReplicaHistory, Sent, opening, after, after_all, after_drawing, after_message, numbered, AreCurrent, AreEdits, AreReplies, HaveRoom, IsRemembered, IsReply, IsStateMessage, IsStateOf, IsStopOf, MayStop, StandSideBySide, StandsFor, StandsForSent, StandsForWorld};
 
 use crate::event::{ByteList, Reply, Stop};
 use crate::fault::Fault;
@@ -440,6 +440,7 @@ fn same(replicas: &[Replica], a: u32, b: u32) -> Result<Reply, Stop>
 fn export(replicas: &[Replica], number: u32, generation: u32) -> Result<Reply, Stop>
     ensures step { IfOk result (λ reply. (w : History) → StandSideBySide (StandsFor w.rule) w.replicas replicas.now → IsReply w (events.Export number generation) reply) }
     ensures err { IfErr result (λ _. IsThere number (length replicas.now) × (generation ≤ last_generation)) }
+    ensures full { result ≡ Err Stop.StoreFull → IsExportFull replicas.now number generation }
 {
     let Some(index) = index_of(u64::from(number), replicas.len()) else {
         return Ok(Reply::Refused(Fault::NoReplica));
