@@ -7,7 +7,7 @@ use generations_rule::Rule;
 use multistate_rle::{Cell, Pattern, RleFault, are_writable, parse, write};
 use std::alloc::{AllocError, Global};
 
-/// How many nonzero cells a text has: the caller of `CALLING.md`.
+/// How many nonzero cells a text has: the caller of README.md.
 fn population(alloc: Global, text: &[u8]) -> Result<u32, RleFault>
     ensures { IfOk result (λ n. n ≤ 2 ^ 20) }
 {
