@@ -57,7 +57,7 @@ state_found r text plane is are stamped lies exact =
     let a = answered StandsForTree IsWantOrFull plane (state_tree_of r text) exact in
     found_in_state r text plane a.0 is are stamped lies a.1.0 a.1.1
 
-read_state_again : (r : GenerationsRule) (p : Writes) (text : List ℕ) → IsRule r → IsTellableMap r.states p → (s : IsFirstStateText r p text) → state_tree_of r text ≡ Ok s.tree
+pub read_state_again : (r : GenerationsRule) (p : Writes) (text : List ℕ) → IsRule r → IsTellableMap r.states p → (s : IsFirstStateText r p text) → state_tree_of r text ≡ Ok s.tree
 read_state_again r p text is are s =
     ap (state_tree_of r) s.spelt
     ∙ (has_one_text (tree_state_text r) (tree_suits r.states 28) Trailing (state_text_at r) (state_codec r is)).again s.tree (tree_of_map_suits r.states p are 28 plane_corner s.tree s.of_map)
