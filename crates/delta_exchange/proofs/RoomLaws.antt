@@ -23,7 +23,7 @@ use Rattle.stamped_tree.proofs.TreeLaws.{reached}
 use Rattle.delta_exchange.specs.declared.fault.ReadFault.{ReadFault}
 use Rattle.delta_exchange.specs.declared.fault.ReadFault.TheVariants.{StoreFull, Trailing}
 use Rattle.delta_exchange.specs.declared.square_reading.ReadSquare.{ReadSquare}
-use Rattle.delta_exchange.specs.Room.{tree_grid, IsReadInto, IsTooLargeFor, IsMapTooLargeFor, square_of}
+use Rattle.delta_exchange.specs.Room.{tree_grid, IsFilledFor, IsReadInto, IsTooLargeFor, IsMapTooLargeFor, square_of}
 use Rattle.delta_exchange.specs.StateReading.{state_tree_of, tree_at}
 use Rattle.delta_exchange.proofs.MessageLaws.{FailsHead, HasHead, at_end, head_then, no_head}
 use Rattle.delta_exchange.specs.Fault.{IsWant}
@@ -34,7 +34,7 @@ told_end : (b : Bool) (x tree : Tree) → at_end b x ≡ Ok tree → x ≡ tree
 told_end true x tree e = cc
 told_end false x tree e = absurd (cc)
 
-square_behind : (read : Result (Tree × List ℕ) ReadFault) (tree : Tree) → onwards read (λ tree rest. ended Trailing tree rest) ≡ Ok tree → (rest : List ℕ) × (read ≡ Ok (tree, rest))
+pub square_behind : (read : Result (Tree × List ℕ) ReadFault) (tree : Tree) → onwards read (λ tree rest. ended Trailing tree rest) ≡ Ok tree → (rest : List ℕ) × (read ≡ Ok (tree, rest))
 square_behind (Err f) tree e = absurd (cc)
 square_behind (Ok x) tree e = (x.1, ap (λ t. Ok (t, x.1)) (told_end (length x.1 == 0) x.0 tree e))
 
@@ -54,11 +54,15 @@ head_has_room r text tree fault is (inr fails) e = never (state_tree_of r text) 
 
 -- ---- a new plane, and what was read into it
 
+-- a square was refused for want of room
+pub refused_full : (r : Result ReadSquare ReadFault) (old new : Held PlaneLeaf) (k : ℕ) (f : Grid) → IsReadInto r old new k f → r ≡ Err StoreFull → IsFilledFor old new k f
+refused_full r old new k f into refused = record { grown = into.grown; pieces = into.pieces; full = into.full refused }
+
 -- no store of the room of a full one has the square that it lacks
-pub too_large : (plane : StampedPlane) (new : Held PlaneLeaf) (nodes : ℕ) (r : Result ReadSquare ReadFault) (f : Grid) → length plane.store.squares ≡ 1 → plane.store.room ≡ nodes → AreSame (map_of plane) (λ c. unwritten) → IsAt plane.store 28 plane.root
-    → IsReadInto r plane.store new 28 f → r ≡ Err StoreFull → IsStore plane_grid 8 IsPlaneLeaf new → IsOnePartEach plane_grid 8 new → IsTooLargeFor nodes f
-too_large plane new nodes r f single room none at into refused is one t a b its room' blank drawn =
-    let full = into.full refused is in
+pub too_large : (plane : StampedPlane) (new : Held PlaneLeaf) (nodes : ℕ) (f : Grid) → length plane.store.squares ≡ 1 → plane.store.room ≡ nodes → AreSame (map_of plane) (λ c. unwritten) → IsAt plane.store 28 plane.root
+    → IsFilledFor plane.store new 28 f → IsStore plane_grid 8 IsPlaneLeaf new → IsOnePartEach plane_grid 8 new → IsTooLargeFor nodes f
+too_large plane new nodes f single room none at into is one t a b its room' blank drawn =
+    let full = into.full is in
     no_room plane_grid 8 IsPlaneLeaf new t is.canonical (omega arith) one shared 28 b f full its.few_squares (room' ∙ sym room ∙ sym into.grown.room) drawn
   where
     root_blank : Draws plane_grid 8 plane.store 28 (blank_grid 0) plane.root

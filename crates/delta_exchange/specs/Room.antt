@@ -31,6 +31,12 @@ pub record IsReadInto (result : Result ReadSquare ReadFault) (old new : Held Pla
   pub pieces : AddsPiecesOfGrid plane_grid 8 old new k f
   pub full : result ≡ Err StoreFull → IsStore plane_grid 8 IsPlaneLeaf new → IsFullFor plane_grid 8 new k f
 
+-- Room was wanted for what the square of level k with the writes of f is cut into: the store has grown by such squares, and by no other, and is full, and lacks the square.
+pub record IsFilledFor (old new : Held PlaneLeaf) (k : ℕ) (f : Grid) : Type 0 where
+  pub grown : IsGrown plane_grid 8 old new
+  pub pieces : AddsPiecesOfGrid plane_grid 8 old new k f
+  pub full : IsStore plane_grid 8 IsPlaneLeaf new → IsFullFor plane_grid 8 new k f
+
 -- the square of a map from a corner, by column and row
 abbrev pub square_of : Writes → Place → Grid
 square_of p corner u v = p (moved corner (pos u) (pos v))
