@@ -14,6 +14,7 @@ use Rattle.delta_exchange.specs.declared.message.Content.{Content}
 use Rattle.delta_exchange.specs.Delta.{AreTellable}
 use Rattle.delta_exchange.specs.Fault.{IsWantOrFull}
 use Rattle.delta_exchange.specs.Message.{Shared}
+use Rattle.delta_exchange.specs.Room.{IsMapTooLargeFor}
 use Rattle.delta_exchange.specs.Spelling.{delta_text}
 use Rattle.delta_exchange.specs.MessageReading.{HasContentTold, HasMap, StandsForMap, StandsForTold, Told, ToldEdits, begins_as_delta}
 use Rattle.delta_exchange.proofs.MessageLaws.{both_kinds, delta_begins}
@@ -107,9 +108,10 @@ refuses_edits r rule edits refusal P room (inr full) = absurd (both_kinds (begin
 
 -- the text of a map whose reading meets a want
 pub refuses_map : (r : ReplicaState) (rule : GenerationsRule) (p : Writes) (refusal : ReadFault)
+    → (refusal ≡ read_faults.StoreFull → IsMapTooLargeFor (2 ^ 26) p)
     → AnswersAs (StandsForMap rule) IsWantOrFull (Err refusal) (Ok p) → IsTakingMap {A = Bool} r r p (Err (fault_of_read refusal))
-refuses_map r rule p refusal (inl memory) = inl (memory_read r refusal memory)
-refuses_map r rule p refusal (inr full) = inr (ap fault_of_read full, refl)
+refuses_map r rule p refusal large (inl memory) = inl (memory_read r refusal memory)
+refuses_map r rule p refusal large (inr full) = inr (ap fault_of_read full, refl, large full)
 
 -- a message of the replica's rule
 pub takes_some : {A : Type 0} (old new : ReplicaState) (m : Shared) (P : Content → Type 0) (result : Result A Fault)

@@ -1,5 +1,5 @@
 -- What a replica does to the bytes of messages, and they to it.
-use Rattle.std.specs.Prelude.{◌≡◌, ◌⊎◌, ℕ, ◌+◌, nat_lt, false, List, length, take, drop, Result, Ok, Err}
+use Rattle.std.specs.Prelude.{◌≡◌, ◌⊎◌, ◌^◌, ℕ, ◌+◌, nat_lt, false, List, length, take, drop, Result, Ok, Err}
 use Rattle.std.specs.Result.{IsOk}
 use Rattle.generations_rule.specs.Refusal.{when, unless, ◌>>=◌}
 use Rattle.edit_stamps.specs.Edit.{PlaneEdit}
@@ -7,6 +7,7 @@ use Rattle.stamped_writes.specs.Write.{Writes}
 use Rattle.delta_exchange.specs.declared.fault.ReadFault.{ReadFault}
 use Rattle.delta_exchange.specs.declared.message.Content.{Content}
 use Rattle.delta_exchange.specs.MessageReading.{Told, HasContentTold, HasMap, begins_as_delta}
+use Rattle.delta_exchange.specs.Room.{IsMapTooLargeFor}
 use Rattle.delta_exchange.specs.Spelling.{delta_text}
 use Rattle.replica_core.specs.declared.fault.Fault.{Fault}
 use Rattle.replica_core.specs.declared.fault.Fault.TheVariants as faults
@@ -39,10 +40,11 @@ abbrev pub IsTakingOf : {A : Type 0} → ReplicaState → ReplicaState → (Cont
 IsTakingOf old new P (Ok done) = TakesSome old new P
 IsTakingOf old new P (Err fault) = MeetsWant old new fault
 
--- A map is taken, or a want is met: the plane that it is read into may be full too, which leaves all as it was.
+-- A map is taken, or a want is met: the plane that it is read into may be full too, where none of so much room holds the map,
+-- which leaves all as it was.
 abbrev pub IsTakingMap : {A : Type 0} → ReplicaState → ReplicaState → Writes → Result A Fault → Type 0
 IsTakingMap old new map (Ok done) = TakesSome old new (λ content. HasMap content map)
-IsTakingMap old new map (Err fault) = MeetsWant old new fault ⊎ ((fault ≡ faults.StoreFull) × (new ≡ old))
+IsTakingMap old new map (Err fault) = MeetsWant old new fault ⊎ ((fault ≡ faults.StoreFull) × (new ≡ old) × IsMapTooLargeFor (2 ^ 26) map)
 
 -- ---- what is given
 

@@ -28,7 +28,7 @@ returns-in_err-message-clause-map c =
     subst (λ r. (meant : Writes) → IsTellableMap r.rule.states meant → IsReadableStateText r.rule meant c.args.text.now
     → IsTakingMap r r meant c.from_residual.result) c.self.view_is
     (λ meant tellable spelt. subst (IsTakingMap old old meant) (sym (is.1 ∙ ap Err is.2))
-    (refuses_map old old.rule meant c.in_err-message.field-0.0 (c.in_err-message.ensures.only_map meant tellable spelt)))
+    (refuses_map old old.rule meant c.in_err-message.field-0.0 (λ full. c.in_err-message.ensures.too_large meant tellable spelt (ap Err full)) (c.in_err-message.ensures.only_map meant tellable spelt)))
 
 pub returns-clause-told : goal.returns-clause-told
 returns-clause-told c =
