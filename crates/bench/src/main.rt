@@ -1,9 +1,10 @@
 //! Measures what no script through the program reaches: merges of leaves, generations of blocks, texts of
-//! states and deltas, frames, and squares that are added to a store. Prints what came of each, which is
-//! the same on every machine, and asserts nothing. With the word `--time` more is done of some, and it is
-//! also told how fast.
+//! states and deltas, frames, squares that are added to a store, and clears of almost the whole plane.
+//! Prints what came of each, which is the same on every machine, and asserts nothing. With the word
+//! `--time` more is done of some, and it is also told how fast.
 #![tactic(auto)]
 
+mod clears;
 mod drawing;
 mod frames;
 mod kernel;
@@ -36,6 +37,7 @@ fn run_all(rt: &(impl Clock + Print), alloc: Global, is_timed: bool) -> Result<(
     kernel::run(rt, alloc, is_timed)?;
     leaves::run(rt, alloc, is_timed)?;
     store::run(rt, alloc, is_timed)?;
+    clears::run(rt, alloc, is_timed)?;
     texts::run(rt, alloc, is_timed)?;
     frames::run(rt, alloc, is_timed)
 }

@@ -1,7 +1,9 @@
-//! Texts of a state and of a delta: how fast they are written and read, beside a copy of their bytes.
+//! Texts of a state and of a delta: how fast they are written and read, beside a copy of their bytes; and
+//! how long those of many pastes are.
 
 mod beside;
 mod deltas;
+mod soups;
 mod states;
 
 use anyhow::Result;
@@ -10,5 +12,6 @@ use std::rt::Clock;
 
 pub fn run(rt: &(impl Clock + Print), alloc: Global, is_timed: bool) -> Result<()> {
     states::run(rt, alloc, is_timed)?;
+    soups::run(rt, alloc, is_timed)?;
     deltas::run(rt, alloc, is_timed)
 }

@@ -1,7 +1,10 @@
 //! Deltas, states and frames, both ways.
 
+mod alike;
 mod deltas;
 mod frames;
+mod joined;
 mod random;
 mod refusals;
 mod states;
+mod wide;

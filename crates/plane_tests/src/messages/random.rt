@@ -11,12 +11,12 @@ use std::test::Fail;
 
 /// Numbers by chance, the same in each run (Knuth's MMIX).
 #[derive(Clone, Copy)]
-struct Chance {
-    state: u64,
+pub struct Chance {
+    pub state: u64,
 }
 
 impl Chance {
-    fn next(&mut self) -> u32 {
+    pub fn next(&mut self) -> u32 {
         self.state = self
             .state
             .wrapping_mul(6_364_136_223_846_793_005)
@@ -43,7 +43,7 @@ impl Chance {
 }
 
 /// An edit of five cells, or a clear, by chance.
-fn edit(alloc: Global, rule: &Rule, chance: &mut Chance) -> Result<Option<Edit>, EditFault> {
+pub fn edit(alloc: Global, rule: &Rule, chance: &mut Chance) -> Result<Option<Edit>, EditFault> {
     let Some(stamp) = chance.stamp() else {
         return Ok(None);
     };

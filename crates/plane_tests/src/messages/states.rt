@@ -72,7 +72,7 @@ static ONE: [Cell; 1] = [Cell {
 }];
 
 /// The same, and once more eight columns further.
-static TWO_ALIKE: [Cell; 2] = [
+pub static TWO_ALIKE: [Cell; 2] = [
     Cell {
         x: 0,
         y: 0,
@@ -86,7 +86,7 @@ static TWO_ALIKE: [Cell; 2] = [
 ];
 
 /// Some cells, of counter 1 and replica 1.
-fn plane_of(alloc: Global, rule: &Rule, cells: &[Cell]) -> Result<Plane, EditFault> {
+pub fn plane_of(alloc: Global, rule: &Rule, cells: &[Cell]) -> Result<Plane, EditFault> {
     let Some(stamp) = Stamp::new(1, 1) else {
         return Err(EditFault::Nothing);
     };
@@ -95,7 +95,7 @@ fn plane_of(alloc: Global, rule: &Rule, cells: &[Cell]) -> Result<Plane, EditFau
 }
 
 /// The text of such a plane.
-fn text_of_cells(alloc: Global, cells: &[Cell]) -> Result<Vec<u8>, Fail> {
+pub fn text_of_cells(alloc: Global, cells: &[Cell]) -> Result<Vec<u8>, Fail> {
     let rule = brians_brain()?;
     let plane = plane_of(alloc, &rule, cells)?;
     Ok(write_state(alloc, &rule, &plane)?)
@@ -133,7 +133,7 @@ fn is_retold_as(
 }
 
 /// Whether what is read of a text is written again as it was.
-fn is_retold(alloc: Global, rule: &Rule, text: &[u8]) -> Result<bool, AllocError> {
+pub fn is_retold(alloc: Global, rule: &Rule, text: &[u8]) -> Result<bool, AllocError> {
     is_retold_as(alloc, rule, text, text)
 }
 
@@ -251,7 +251,12 @@ fn equal_squares_are_one_entry(rt: HostRuntime) -> Result<(), Fail> {
 }
 
 /// Whether what is read of a text into so much room is written again as it was.
-fn is_retold_within(alloc: Global, rule: &Rule, text: &[u8], room: u32) -> Result<bool, ReadFault>
+pub fn is_retold_within(
+    alloc: Global,
+    rule: &Rule,
+    text: &[u8],
+    room: u32,
+) -> Result<bool, ReadFault>
     requires { 1 ≤ room }
 {
     let message = read_within(alloc, rule, text, room)?;
@@ -276,7 +281,12 @@ fn room_is_wanted_for_each_square(rt: HostRuntime) -> Result<(), Fail> {
 
 /// Of how many values of a byte the text is read, each of which is written as it was, or, of version 1, as
 /// what is written again so.
-fn values_read(alloc: Global, rule: &Rule, text: &[u8], place: usize) -> Result<u32, AllocError> {
+pub fn values_read(
+    alloc: Global,
+    rule: &Rule,
+    text: &[u8],
+    place: usize,
+) -> Result<u32, AllocError> {
     let mut changed = Vec::from_slice(alloc, text)?;
     let mut read = 0_u32;
     for value in 0..256_u16 {
