@@ -2,6 +2,7 @@
 
 mod alike;
 mod deltas;
+mod first;
 mod frames;
 mod joined;
 mod random;

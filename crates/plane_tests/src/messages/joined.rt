@@ -11,7 +11,7 @@ use std::test::Fail;
 use tree_join::join;
 
 /// A plane of four edits by chance, joined.
-fn plane(alloc: Global, rule: &Rule, chance: &mut Chance) -> Result<Plane, EditFault> {
+pub fn plane(alloc: Global, rule: &Rule, chance: &mut Chance) -> Result<Plane, EditFault> {
     let mut plane = Plane::new(alloc)?;
     for _ in 0..4 {
         let Some(edit) = edit(alloc, rule, chance)? else {

@@ -14,7 +14,7 @@ use std::test::Fail;
 static HEAD: [u8; 10] = [0x47, 0x4c, 0x57, 0x53, 2, 4, 0x2f, 0x32, 0x2f, 0x33];
 
 /// A head of a state of version 1.
-static FIRST_HEAD: [u8; 10] = [0x47, 0x4c, 0x57, 0x53, 1, 4, 0x2f, 0x32, 0x2f, 0x33];
+pub static FIRST_HEAD: [u8; 10] = [0x47, 0x4c, 0x57, 0x53, 1, 4, 0x2f, 0x32, 0x2f, 0x33];
 
 /// The plane where nothing was written, under Brian's Brain.
 static EMPTY: [u8; 22] = [
@@ -120,7 +120,7 @@ fn first_one_cell_text(alloc: Global) -> Result<Vec<u8>, AllocError> {
 }
 
 /// Whether what is read of a text is written as another, or the same, text.
-fn is_retold_as(
+pub fn is_retold_as(
     alloc: Global,
     rule: &Rule,
     text: &[u8],
