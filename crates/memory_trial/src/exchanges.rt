@@ -69,7 +69,7 @@ pub fn fault_is_told(alloc: Global) -> bool {
         return false;
     };
     matches!(
-        take(&mut taker, b"GLWS\x02"),
+        take(&mut taker, b"GLWS\x03"),
         Err(Fault::Read(ReadFault::Version))
     )
 }

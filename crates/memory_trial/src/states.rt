@@ -5,21 +5,35 @@ use delta_exchange::{Message, ReadFault, read, write_state};
 use stamped_tree::Plane;
 use std::alloc::{AllocError, Global};
 
-/// The head of a state, and the plane's square, of which three quarters are blank.
-const HEAD: [u8; 14] = *b"GLWS\x01\x07345/2/4\x02";
+/// The head of a state, and the number of its entries.
+const HEAD: [u8; 17] = *b"GLWS\x02\x07345/2/4\0\0\0\x1d";
 
-/// The tag of a leaf, and its first three writes: states 2, 3 and 0.
+/// The level of a leaf, and its first three writes: states 2, 3 and 0.
 const LEAF: [u8; 28] = [
-    1, 0, 0, 0, 0, 0, 1, 0, 1, 2, 0, 0, 0, 0, 0, 1, 0, 1, 3, 0, 0, 0, 0, 0, 1, 0, 1, 0,
+    3, 0, 0, 0, 0, 0, 1, 0, 1, 2, 0, 0, 0, 0, 0, 1, 0, 1, 3, 0, 0, 0, 0, 0, 1, 0, 1, 0,
 ];
 
-/// The state of the plane of the cells 0 to 2 of row 0: the upper left quarter of each square but the
-/// first leads to the leaf, and all else was not written.
-fn text() -> [u8; 1374] {
-    let mut text = [0; 1374];
-    text[..14].copy_from_slice(&HEAD);
-    text[41..68].copy_from_slice(&[2; 27]);
-    text[68..96].copy_from_slice(&LEAF);
+/// How many bytes the head, the number of entries and the leaf take.
+const LEAF_END: usize = 594;
+
+/// How many bytes an entry of three blanks and a square takes.
+const FOUR: usize = 33;
+
+/// The state of the plane of the cells 0 to 2 of row 0: a leaf, and squares whose first quarter is the
+/// entry before; of the plane it is the last one. All else was not written.
+fn text() -> [u8; 1518] {
+    let mut text = [0; 1518];
+    text[..17].copy_from_slice(&HEAD);
+    text[17..45].copy_from_slice(&LEAF);
+    for entry in 0..27 {
+        let start = LEAF_END + FOUR * entry;
+        text[start] = entry as u8 + 4;
+        text[start + 1] = 1;
+        text[start + 5] = entry as u8;
+    }
+    text[1485] = 31;
+    text[1513] = 1;
+    text[1517] = 27;
     text
 }
 
@@ -65,7 +79,7 @@ pub fn state_is_read(alloc: Global) -> bool {
 /// The third write's state is one that the rule does not have.
 pub fn fault_is_told(alloc: Global) -> bool {
     let mut text = text();
-    text[95] = 4;
+    text[44] = 4;
     matches!(read_text(alloc, &text), Err(ReadFault::StateRange))
 }
 
