@@ -1,0 +1,12 @@
+use Rattle.std.proofs.Common.{rules}
+use Rattle.board.proofs.Keeping.{admits, forks, merges}
+use Rattle.board.proofs.publisher.Publisher.window.Goals as goal
+
+pub reader-requires : goal.reader-requires
+reader-requires c = admits
+
+pub tell-requires : goal.tell-requires
+tell-requires c = forks _ _
+
+pub learn-requires-clause-rule : goal.learn-requires-clause-rule
+learn-requires-clause-rule c = merges _ _ _ _

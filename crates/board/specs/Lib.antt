@@ -1,0 +1,11 @@
+pub mod Rules
+pub mod Entries
+pub mod Origins
+pub mod Showing
+pub mod Boards
+pub mod Content
+pub mod Handing
+pub mod Sights
+pub mod Publishing
+pub mod Resting
+pub mod Faults

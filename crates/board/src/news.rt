@@ -1,0 +1,14 @@
+//! What a poll hands out.
+
+use edit_stamps::EditList;
+use stamped_tree::Plane;
+
+/// What a poll hands out.
+#[derive(Drop)]
+pub enum News {
+    /// The edits that follow what was handed out, in order.
+    Edits(EditList),
+    /// The plane of the whole list, and how many edits the list has: those that were not handed out are
+    /// more than the board keeps.
+    Whole(Plane, u64),
+}
