@@ -1,0 +1,4 @@
+pub mod Hands
+pub mod Books
+pub mod Counts
+pub mod Settled

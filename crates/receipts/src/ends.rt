@@ -1,0 +1,76 @@
+//! The two ends of a channel of answers.
+
+ghost use Rattle.std.specs.Prelude.{◌≡◌, true, IfOk};
+ghost use Rattle.crossbeam_channel.specs.Claims.{view, IsSeatAt};
+ghost use Rattle.crossbeam_channel.specs.Ends.{sends_on, receives_on};
+ghost use Rattle.receipts.specs.About.{told_by, known_by};
+
+use crate::rule::{About, Answer, Moves, ReceiptRule};
+use crossbeam_channel::{Pass, RuledReceiver, RuledSender};
+use std::alloc::Global;
+use std::sync::{Arc, Wait};
+use std::thread::Parker;
+use std::time::Duration;
+
+/// For how many milliseconds a rest lasts at most: who waits looks now and then whether the relay is gone,
+/// which wakes nobody.
+const LOOK: u64 = 1;
+
+/// The relay's end: through it one submission is answered, once.
+#[derive(Drop)]
+pub struct Answering {
+    pub(crate) sender: RuledSender<Answer, About, ReceiptRule>,
+    pub pass: Pass<Answer, About>,
+    pub(crate) bell: Arc<Parker, Global>,
+    pub ghost at: { IsSeatAt (sends_on sender) pass },
+    pub ghost bound: { (view pass).bound ≡ true },
+}
+
+/// The seat's end: through it the answer of one submission comes.
+#[derive(Drop)]
+pub struct Pending {
+    pub(crate) receiver: RuledReceiver<Answer, About, ReceiptRule>,
+    pub pass: Pass<Answer, About>,
+    pub(crate) bell: Arc<Parker, Global>,
+    pub ghost at: { IsSeatAt (receives_on receiver) pass },
+    pub ghost bound: { (view pass).bound ≡ true },
+}
+
+/// There is no answer yet, or there will be none.
+#[derive(Clone, Copy, Debug, PartialEq, Eq)]
+pub struct NoAnswer;
+
+impl Answering {
+    /// Sends the answer, and wakes who rests on the other end. Where that end is gone, the answer is
+    /// dropped.
+    pub fn answer<R: Wait>(self, rt: &R, answer: Answer)
+        requires { told_by answer ≡ known_by (view self.pass) }
+    {
+        let Answering {
+            sender,
+            mut pass,
+            bell,
+        } = self;
+        let _ = sender.try_send_as::<Moves, R>(rt, &mut pass, answer);
+        bell.unpark();
+    }
+}
+
+impl Pending {
+    /// Looks once for the answer. It takes no memory: the place in which the answer lies was made with the
+    /// channel.
+    pub fn try_receive<R: Wait>(&mut self, rt: &R) -> Result<Answer, NoAnswer>
+        ensures answer { IfOk result (λ a. told_by a ≡ known_by (view self.old.pass)) }
+        ensures same { view self.new.pass ≡ view self.old.pass }
+    {
+        match self.receiver.try_recv_as::<Moves, R>(rt, &mut self.pass) {
+            Ok(answer) => Ok(answer),
+            Err(_) => Err(NoAnswer),
+        }
+    }
+
+    /// Sleeps until the answer was sent, and for a millisecond at most. It takes no memory.
+    pub fn rest<R: Wait>(&self, rt: &R) {
+        self.bell.park_timeout(rt, Duration::from_millis(LOOK));
+    }
+}
