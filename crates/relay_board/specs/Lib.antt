@@ -1,0 +1,9 @@
+pub mod Seating
+pub mod Refusing
+pub mod Chairs
+pub mod Receiving
+pub mod Starting
+pub mod Closing
+pub mod Handed
+pub mod Faults
+pub mod FinishRefusals

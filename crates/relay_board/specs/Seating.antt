@@ -1,0 +1,51 @@
+-- What a contract sees of a seat, and of all seats in the order of their places.
+use Rattle.std.specs.Prelude.{◌≡◌, ℕ, ◌+◌, List, [], ◌∷◌, map, Some, slice_get}
+use mathlib.Core.List.{IsPrefix}
+use Rattle.generations_rule.specs.Rule.{GenerationsRule}
+use Rattle.board.specs.declared.entry.Entry.{Entry}
+
+-- its place, from 0, and the relay's rule; what it put, what it has seen and how much of that it was handed; how often
+-- it found the inbox full, and the inbox's room
+pub record Seating : Type 0 where
+  pub place : ℕ
+  pub rule : GenerationsRule
+  pub mine : List Entry
+  pub seen : List Entry
+  pub handed : ℕ
+  pub full : ℕ
+  pub room : ℕ
+
+-- what each seat put
+abbrev pub mines_of : List Seating → List (List Entry)
+mines_of ss = map (λ (s : Seating). s.mine) ss
+
+-- they stand at their places, from n on
+abbrev pub Numbered : ℕ → List Seating → Type 0
+Numbered n [] = Unit {0}
+Numbered n (s ∷ ss) = (s.place ≡ n) × Numbered (n + 1) ss
+
+-- the list begins with what each seat has seen
+abbrev pub BeginsWithAll : List Entry → List Seating → Type 0
+BeginsWithAll list ss = (k : ℕ) (s : Seating) → slice_get ss k ≡ Some s → IsPrefix s.seen list
+
+-- a seat at a place that has put, seen and been handed nothing
+abbrev pub fresh : ℕ → GenerationsRule → ℕ → Seating
+fresh place rule room = record { place = place; rule = rule; mine = []; seen = []; handed = 0; full = 0; room = room }
+
+-- they stand at their places, and have put, seen and been handed nothing
+abbrev pub AllFresh : GenerationsRule → ℕ → ℕ → List Seating → Type 0
+AllFresh rule room n [] = Unit {0}
+AllFresh rule room n (s ∷ ss) = (s ≡ fresh n rule room) × AllFresh rule room (n + 1) ss
+
+-- what a call that reads, submits or learns leaves alone
+pub record IsSame (a b : Seating) : Type 0 where
+  pub place : b.place ≡ a.place
+  pub rule : b.rule ≡ a.rule
+  pub room : b.room ≡ a.room
+
+-- what a read leaves alone too
+pub record HasRead (a b : Seating) : Type 0 where
+  pub same : IsSame a b
+  pub mine : b.mine ≡ a.mine
+  pub full : b.full ≡ a.full
+  pub seen : IsPrefix a.seen b.seen

@@ -1,0 +1,14 @@
+-- Which relays start.
+use Rattle.std.specs.Prelude.{◌≡◌, ℕ, Bool, true, false, ◌&&◌, nat_le}
+use Rattle.relay_core.specs.declared.fault.StartFault.{StartFault}
+use Rattle.relay_core.specs.declared.fault.StartFault.TheVariants.{Size, NoPlace, Memory}
+
+-- 1 to 64 sessions, and room for 1 to 1,024 submissions
+abbrev pub fits : ℕ → ℕ → Bool
+fits sessions inbox = nat_le 1 sessions && nat_le sessions 64 && nat_le 1 inbox && nat_le inbox 1024
+
+-- the size is refused exactly where it does not fit
+abbrev pub Starts : StartFault → Bool → Type 0
+Starts Size fit = fit ≡ false
+Starts NoPlace fit = fit ≡ true
+Starts Memory fit = fit ≡ true

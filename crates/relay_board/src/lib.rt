@@ -1,0 +1,28 @@
+//! The running board: seats that submit edits and read one published list, each on a thread of its own,
+//! and the relay that publishes what they submit.
+//!
+//! `start` makes a board and an inbox, `Opened::named` the relay and the seats. A seat's `submit` puts an
+//! edit into the inbox, the relay's `turn` takes one and publishes it, and `receive` waits for the receipt
+//! of a submission. `poll`, `view`, `plane` and `learn` never wait. `finish` ends it all, with an account.
+#![tactic(auto)]
+
+mod fault;
+mod finish;
+mod naming;
+mod opened;
+mod receipt;
+mod relay;
+mod seat;
+
+pub use board::{KEPT, News, SeatFault};
+pub use fault::FinishFault;
+pub use finish::{Account, in_order, is_whole};
+pub use naming::Naming;
+pub use opened::{MOST_INBOX, MOST_SESSIONS, Opened, start, start_within};
+pub use receipt::{Pending, Receipt};
+pub use relay::Relay;
+pub use relay_core::{Bell, Gone, StartFault, SubmitFault, Turn, TurnFault};
+pub use seat::{IsSeat, Seat};
+
+#[cfg(test)]
+mod tests;

@@ -1,0 +1,193 @@
+//! The start, in two steps: a board and an inbox without a name, and then the relay and the seats under a
+//! name. A name of what is only made now cannot be a parameter of the call that makes it.
+
+ghost use Rattle.std.specs.Prelude.{◌≡◌, ◌≢◌, ◌<◌, ◌≤◌, ◌^◌, [], true, false, length, IfOk, IfErr};
+ghost use Rattle.std.specs.Arc.{arc_value};
+ghost use Rattle.crossbeam_queue.specs.Passes.{view, ruled_capacity};
+ghost use Rattle.board.specs.Sights.{label_of};
+ghost use Rattle.relay_board.specs.Seating.{Numbered, AllFresh};
+ghost use Rattle.relay_board.specs.Starting.{fits, Starts};
+
+use crate::naming::Naming;
+use crate::relay::Relay;
+use crate::seat::Seat;
+use board::Publisher;
+use generations_rule::Rule;
+use held_plane::HeldPlane;
+use inbox::Drain;
+use relay_core::{Door, RelayCore, StartFault, seated};
+use std::alloc::Global;
+use std::sync::{Arc, Wait};
+
+/// The most sessions of a board.
+pub const MOST_SESSIONS: u16 = 64;
+
+/// The most submissions that an inbox has room for.
+pub const MOST_INBOX: u16 = 1024;
+
+/// Room for so many squares in the relay's own plane, if none is asked for.
+const ROOM: u32 = 1 << 26;
+
+/// A board and an inbox, with no seat yet, and no name. Its drop ends the board.
+pub struct Opened<R: Wait + Drop> {
+    pub publisher: Publisher,
+    pub drain: Drain,
+    pub tried: HeldPlane,
+    door: Arc<Door, Global>,
+    alloc: Global,
+    pub rule: Rule,
+    pub count: u16,
+    rt: R,
+    pub ghost board: { (publisher.list ≡ []) × (publisher.announced ≡ []) },
+    pub ghost inbox: { ((view drain.pass).made ≡ 0) × ((view drain.pass).out ≡ []) × ((view drain.pass).known ≡ []) × (drain.empties ≡ 0) },
+    pub ghost same: { (view drain.pass).label ≡ label_of publisher.origin },
+    pub ghost ruled: { rule.states ≡ publisher.origin.states },
+    pub ghost few: { count ≤ 64 },
+}
+
+impl<R: Wait + Drop> Drop for Opened<R> {
+    fn drop(self) {
+        let Self {
+            publisher,
+            drain: _,
+            tried: _,
+            door: _,
+            alloc: _,
+            rule: _,
+            count: _,
+            rt,
+        } = self;
+        publisher.end(&rt);
+    }
+}
+
+/// Whether so many sessions and so much room may be.
+fn fits(sessions: u16, inbox: u16) -> bool
+    ensures { result ≡ fits sessions inbox }
+{
+    1 <= sessions && sessions <= MOST_SESSIONS && 1 <= inbox && inbox <= MOST_INBOX
+}
+
+/// So many seats, in the order of their numbers.
+fn seats<J: Naming>(
+    alloc: Global,
+    rule: Rule,
+    publisher: &mut Publisher,
+    drain: &mut Drain,
+    door: &Arc<Door, Global>,
+    count: u16,
+) -> Result<Vec<Seat<J>>, StartFault>
+    requires number { ((view drain.old.pass).made ≡ 0) × (count ≤ 64) }
+    requires empty { (publisher.old.list ≡ []) × (publisher.old.announced ≡ []) }
+    requires rule { rule.states ≡ publisher.old.origin.states }
+    requires named { (publisher.old.origin ≡ J.origin) × ((arc_value drain.old.queue).table.shared.table_id ≡ J.inbox) × ((view drain.old.pass).label ≡ label_of J.origin) }
+    ensures publisher { publisher.new ≡ publisher.old }
+    ensures drain { (drain.new.queue ≡ drain.old.queue) × (drain.new.empties ≡ drain.old.empties) × ((view drain.new.pass).label ≡ (view drain.old.pass).label) × ((view drain.new.pass).out ≡ (view drain.old.pass).out) × ((view drain.new.pass).known ≡ (view drain.old.pass).known) }
+    ensures seats { IfOk result (λ v. AllFresh rule (ruled_capacity (arc_value drain.old.queue)) 0 v.items × (length v.items ≡ count) × ((view drain.new.pass).made ≡ count)) }
+    ensures err { IfErr result (λ f. f ≢ StartFault.Size) }
+{
+    let mut seats = Vec::new(alloc);
+    for place in 0..count {
+        let next = seated(alloc, rule, publisher, drain, door, place)?;
+        seats.push(Seat::new(next))?;
+    }
+    Ok(seats)
+}
+
+/// A board for so many sessions, 1 to 64, under a rule, with an inbox for so many submissions, 1 to 1,024,
+/// and room for 2^26 squares in the relay's own plane.
+pub fn start<R: Wait + Drop>(
+    rt: R,
+    alloc: Global,
+    rule: Rule,
+    sessions: u16,
+    inbox: u16,
+) -> Result<Opened<R>, StartFault>
+    ensures ok { IfOk result (λ o. (fits sessions inbox ≡ true) × (o.count ≡ sessions) × (o.rule ≡ rule) × (o.tried.store.room ≡ 2 ^ 26) × (ruled_capacity (arc_value o.drain.queue) ≡ inbox)) }
+    ensures err { IfErr result (λ f. Starts f (fits sessions inbox)) }
+{
+    start_within(rt, alloc, rule, sessions, inbox, ROOM)
+}
+
+/// The same, with room for so many squares in the relay's own plane.
+pub fn start_within<R: Wait + Drop>(
+    rt: R,
+    alloc: Global,
+    rule: Rule,
+    sessions: u16,
+    inbox: u16,
+    nodes: u32,
+) -> Result<Opened<R>, StartFault>
+    requires { 1 ≤ nodes }
+    ensures ok { IfOk result (λ o. (fits sessions inbox ≡ true) × (o.count ≡ sessions) × (o.rule ≡ rule) × (o.tried.store.room ≡ nodes) × (ruled_capacity (arc_value o.drain.queue) ≡ inbox)) }
+    ensures err { IfErr result (λ f. Starts f (fits sessions inbox)) }
+{
+    if !fits(sessions, inbox) {
+        return Err(StartFault::Size);
+    }
+    let door = Arc::new(alloc, Door::new())?;
+    let tried = HeldPlane::with_room(alloc, nodes)?;
+    let publisher = Publisher::new(&rt, alloc, rule.states(), usize::from(sessions))?;
+    let Ok(drain) = Drain::new(alloc, usize::from(inbox), &publisher.front()) else {
+        publisher.end(&rt);
+        return Err(StartFault::Memory);
+    };
+    Ok(Opened {
+        publisher,
+        drain,
+        tried,
+        door,
+        alloc,
+        rule,
+        count: sessions,
+        rt,
+    })
+}
+
+impl<R: Wait + Drop> Opened<R> {
+    /// The relay, and the seats in the order of their numbers, 1 to as many as were asked for. `NoPlace` where
+    /// `left_right` gave no reader's place, which may be want of memory too.
+    pub fn named<J: Naming>(self) -> Result<(Relay<J, R>, Vec<Seat<J>>), StartFault>
+        requires origin { self.publisher.origin ≡ J.origin }
+        requires inbox { (arc_value self.drain.queue).table.shared.table_id ≡ J.inbox }
+        ensures relay { IfOk result (λ r. (r.0.list ≡ []) × (r.0.out ≡ []) × (r.0.kept ≡ []) × (r.0.made ≡ self.count) × (r.0.closed ≡ false) × (r.0.empties ≡ 0) × (r.0.room ≡ self.tried.store.room)) }
+        ensures seats { IfOk result (λ r. AllFresh self.rule (ruled_capacity (arc_value self.drain.queue)) 0 r.1.items × (length r.1.items ≡ self.count)) }
+        ensures err { IfErr result (λ f. f ≢ StartFault.Size) }
+    {
+        let Self {
+            mut publisher,
+            mut drain,
+            tried,
+            door,
+            alloc,
+            rule,
+            count,
+            rt,
+        } = self;
+        let counts = match vec![in alloc; 0u64; usize::from(count)] {
+            Ok(counts) => counts,
+            Err(_) => {
+                publisher.end(&rt);
+                return Err(StartFault::Memory);
+            }
+        };
+        let all = match seats::<J>(alloc, rule, &mut publisher, &mut drain, &door, count) {
+            Ok(all) => all,
+            Err(fault) => {
+                publisher.end(&rt);
+                return Err(fault);
+            }
+        };
+        let core = RelayCore {
+            publisher,
+            drain,
+            kept: None,
+            told: false,
+            tried,
+            counts,
+            door,
+            closed: false,
+        };
+        Ok((Relay::new(core, rt), all))
+    }
+}

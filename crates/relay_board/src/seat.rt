@@ -1,0 +1,228 @@
+//! A seat of the board and the inbox that its type names.
+
+ghost use Rattle.std.specs.Prelude.{◌≡◌, ◌+◌, ◌++◌, ◌∷◌, ◌≤◌, ◌<◌, ◌==◌, [], length, take, List, IsTrue, IfOk, IfErr, IfSome, OnErr};
+ghost use mathlib.Core.List.{IsPrefix};
+ghost use Rattle.std.specs.Arc.{arc_value};
+ghost use Rattle.crossbeam_queue.specs.Passes.{view};
+ghost use Rattle.edit_stamps.specs.Edit.{greatest, has_states_below, HaveStatesBelow};
+ghost use Rattle.edit_stamps.specs.PlaneMap.{HasStatesBelow};
+ghost use Rattle.edit_stamps.specs.Stamp.{replica_in};
+ghost use Rattle.generations_rule.specs.Place.{at_place};
+ghost use Rattle.generations_rule.specs.Rule.{IsRule};
+ghost use Rattle.stamped_writes.specs.Write.{AreSame};
+ghost use Rattle.stamped_tree.specs.Plane.{map_of};
+ghost use Rattle.board.specs.Entries.{edits_of};
+ghost use Rattle.board.specs.Handing.{IsNews};
+ghost use Rattle.board.specs.Origins.{origin, list_of};
+ghost use Rattle.board.specs.Sights.{label_of};
+ghost use Rattle.inbox.specs.Counts.{counted};
+ghost use Rattle.relay_board.specs.Refusing.{Lasts};
+ghost use Rattle.relay_board.specs.Handed.{IsNewsBelow};
+ghost use Rattle.inbox.specs.Hands.{entry};
+ghost use Rattle.relay_core.specs.Refusals.{Passes, Refuses};
+ghost use Rattle.relay_board.specs.Seating.{Seating, IsSame, HasRead};
+
+use crate::naming::Naming;
+use crate::receipt::{Pending, Receipt};
+use board::{Front, News, SeatFault};
+use edit_stamps::{Edit, Write};
+use generations_rule::Rule;
+use inbox::Post;
+use relay_core::{Chair, Gone, SubmitFault};
+use stamped_tree::Plane;
+use std::marker::{Model, PhantomData};
+use std::sync::Wait;
+use std::thread::Promise;
+
+/// Who submits edits and reads the published list. Contracts see its place and rule, what it put, what it
+/// has seen, and how much of that it was handed.
+#[derive(Drop)]
+pub struct Seat<J: Naming> {
+    chair: Chair,
+    of: PhantomData<J>,
+}
+
+impl<J: Naming> Model for Seat<J> {
+    ghost use Rattle.relay_board.specs.Seating.{Seating};
+
+    ghost Value = { Seating };
+
+    ghost use Rattle.relay_board.specs.Chairs.{seating_of, IsChairOf};
+
+    ghost view = { λ s. seating_of s.chair };
+
+    ghost invariant = { λ s. IsChairOf J.origin J.inbox s.chair };
+}
+
+impl<J: Naming> Seat<J> {
+    ghost use Rattle.relay_board.specs.Chairs.{seating_of, IsChairOf};
+
+    /// A seat under the name of its board and its inbox.
+    pub(crate) fn new(chair: Chair) -> Seat<J>
+        requires { IsChairOf J.origin J.inbox chair }
+        ensures { result ≡ seating_of chair }
+    {
+        Seat {
+            chair,
+            of: PhantomData,
+        }
+    }
+
+    /// Its number, from 1.
+    pub fn number(&self) -> u16
+        ensures { result ≡ self.now.place + 1 }
+    {
+        self.chair.number
+    }
+
+    /// The rule that the board was started with: each state of what is published is one of its states.
+    pub fn rule(&self) -> Rule
+        ensures value { result ≡ self.now.rule }
+        ensures below { HaveStatesBelow self.now.rule.states (edits_of self.now.seen) }
+        ensures rule { IsRule self.now.rule }
+    {
+        // For the proof alone: the call tells that what is held is a rule.
+        let _states = self.chair.rule.states();
+        self.chair.rule
+    }
+
+    /// How many of its submissions were accepted; it stays at 2^64 - 1.
+    pub fn accepted(&self) -> u64
+        ensures { result ≡ counted (length self.now.mine) }
+    {
+        self.chair.post.accepted()
+    }
+
+    /// Submits an edit. It is handed back where it is refused: in this order an edit whose stamp's replica is
+    /// not this seat's number, a state that the rule does not have, a relay that takes no submission any more,
+    /// want of memory, and an inbox that was full at one moment of the call.
+    pub fn submit<R: Wait>(&mut self, rt: &R, edit: Edit) -> Result<Pending<J>, (Edit, SubmitFault)>
+        ensures same { IsSame self.old self.new × (self.new.seen ≡ self.old.seen) × (self.new.handed ≡ self.old.handed) }
+        ensures put { IfOk result (λ p. (p ≡ entry self.old.place (counted (length self.old.mine + 1)) edit) × (self.new.mine ≡ self.old.mine ++ p ∷ []) × (self.new.full ≡ self.old.full)) }
+        ensures passes { IfOk result (λ _. Passes (replica_in edit.stamp == self.old.place + 1) (has_states_below self.old.rule.states edit)) }
+        ensures denied { IfErr result (λ r. (r.0 ≡ edit) × (self.new.mine ≡ self.old.mine)) }
+        ensures refused { IfErr result (λ r. Refuses r.1 (replica_in edit.stamp == self.old.place + 1) (has_states_below self.old.rule.states edit) self.old.full self.new.full (Lasts self.old.room self.old.place self.old.mine)) }
+    {
+        match self.chair.submit(rt, edit) {
+            Ok(pending) => Ok(Pending::new(pending)),
+            Err(denied) => Err(denied),
+        }
+    }
+
+    /// Waits for the receipt of that very submission; `Gone` once the relay was dropped and a further try
+    /// found nothing. It takes no memory.
+    pub fn receive<R: Wait>(&mut self, rt: &R, pending: Pending<J>) -> Result<Receipt<J>, Gone>
+        ensures receipt { IfOk result (λ r. r.entry ≡ pending) }
+        ensures same { self.new ≡ self.old }
+    {
+        match self.chair.receive(rt, pending.into_inner()) {
+            Ok(answer) => Ok(Receipt::new(answer)),
+            Err(gone) => Err(gone),
+        }
+    }
+
+    /// Looks once for the receipt of that very submission. The pending comes back where nothing is there; it
+    /// does not where the relay was gone before the look.
+    pub fn try_receive<R: Wait>(
+        &mut self,
+        rt: &R,
+        pending: Pending<J>,
+    ) -> Result<Receipt<J>, Option<Pending<J>>>
+        ensures receipt { IfOk result (λ r. r.entry ≡ pending) }
+        ensures back { IfErr result (λ o. IfSome o (λ p. p ≡ pending)) }
+        ensures same { self.new ≡ self.old }
+    {
+        match self.chair.try_receive(rt, pending.into_inner()) {
+            Ok(answer) => Ok(Receipt::new(answer)),
+            Err(Some(pending)) => Err(Some(Pending::new(pending))),
+            Err(None) => Err(None),
+        }
+    }
+
+    /// Wakes the relay.
+    pub fn ring(&self) {
+        self.chair.ring();
+    }
+
+    /// From now on it sees no less than the receipt's list. It never waits.
+    pub fn learn(&mut self, receipt: &Receipt<J>)
+        ensures same { HasRead self.old self.new × (self.new.handed ≡ self.old.handed) }
+        ensures longer { length self.old.seen ≤ length receipt.now.list → self.new.seen ≡ receipt.now.list }
+        ensures kept { length receipt.now.list < length self.old.seen → self.new.seen ≡ self.old.seen }
+        ensures begins { IsPrefix receipt.now.list self.new.seen }
+    {
+        self.chair.learn(receipt.answer());
+    }
+
+    /// Hands out the edits that follow those handed out before, in order, or the whole plane where some of
+    /// them are no longer among the last 1,024. It never waits.
+    pub fn poll(&mut self) -> Result<News, SeatFault>
+        ensures same { HasRead self.old self.new }
+        ensures news { IfOk result (λ n. IsNews (edits_of self.new.seen) self.old.handed n × (self.new.handed ≡ length self.new.seen)) }
+        ensures fault { IfErr result (λ f. (self.new.handed ≡ self.old.handed) × (f ≡ SeatFault.Closed → self.new.seen ≡ self.old.seen)) }
+        ensures states { HaveStatesBelow self.new.rule.states (edits_of self.new.seen) }
+        ensures below { IfOk result (IsNewsBelow self.new.rule.states) }
+    {
+        // For the proof alone: the call tells that what is held is a rule.
+        let _rule = self.chair.rule.states();
+        self.chair.reader.poll()
+    }
+
+    /// The greatest write at a coordinate, of a list that begins with what was seen. It takes no memory, and
+    /// never waits.
+    pub fn view(&mut self, x: i32, y: i32) -> Result<Write, SeatFault>
+        ensures same { HasRead self.old self.new × (self.new.handed ≡ self.old.handed) }
+        ensures write { IfOk result (λ w. w ≡ greatest (edits_of self.new.seen) (at_place x y)) }
+        ensures closed { IfErr result (λ f. (f ≡ SeatFault.Closed) × (self.new.seen ≡ self.old.seen)) }
+    {
+        self.chair.reader.view(x, y)
+    }
+
+    /// The plane of a list that begins with what was seen. It never waits.
+    pub fn plane(&mut self) -> Result<Plane, SeatFault>
+        ensures same { HasRead self.old self.new × (self.new.handed ≡ self.old.handed) }
+        ensures plane { IfOk result (λ p. AreSame (map_of p) (greatest (edits_of self.new.seen))) }
+        ensures fault { IfErr result (λ f. f ≡ SeatFault.Closed → self.new.seen ≡ self.old.seen) }
+        ensures states { IfOk result (λ p. HasStatesBelow self.new.rule.states (map_of p)) }
+    {
+        // For the proof alone: the call tells that what is held is a rule.
+        let _rule = self.chair.rule.states();
+        self.chair.reader.plane()
+    }
+
+    /// Whether the front begins with what this seat has seen.
+    pub(crate) fn begins(&self, front: &Front) -> bool
+        requires { origin front.now ≡ J.origin }
+        ensures { IsTrue result → IsPrefix self.now.seen (list_of front.now) }
+    {
+        self.chair.reader.window.front.begins(front)
+    }
+
+    /// The end of the inbox alone.
+    pub(crate) fn into_post(self) -> Post
+        ensures place { result.seat ≡ self.place }
+        ensures inbox { (arc_value result.queue).table.shared.table_id ≡ J.inbox }
+        ensures put { (view result.pass).put ≡ self.mine }
+    {
+        let Seat { chair, of: _ } = self;
+        let Chair {
+            alloc: _,
+            rule: _,
+            number: _,
+            reader: _,
+            post,
+            door: _,
+        } = chair;
+        post
+    }
+}
+
+/// The promise of a thread that it gives back the seat of this number.
+#[derive(Drop)]
+pub struct IsSeat(pub u16);
+
+impl<J: Naming> Promise<Seat<J>> for IsSeat {
+    ghost use Rattle.std.specs.Prelude.{◌≡◌, ◌+◌};
+
+    ghost kept_by = { λ p s. s.place + 1 ≡ p.0 };
+}

@@ -1,0 +1,57 @@
+-- The entry that a relay keeps, and which relays there are.
+use Rattle.std.specs.Prelude.{◌≡◌, Bool, true, false, List, [], ◌∷◌, ◌++◌, length, Option, Some, None}
+use Rattle.std.specs.Arc.{arc_value}
+use Rattle.crossbeam_queue.specs.Passes.{view}
+use Rattle.board.specs.declared.entry.Entry.{Entry}
+use Rattle.board.specs.declared.rule.Label.{Label}
+use Rattle.board.specs.Sights.{label_of}
+use Rattle.inbox.specs.declared.submission.Submission.{Submission}
+use Rattle.inbox.specs.Books.{label_in}
+use Rattle.relay_core.specs.declared.relay.RelayCore.TheInside.{Inside}
+use Rattle.relay_core.specs.Relaying.{Relaying}
+use Rattle.relay_core.specs.Tallies.{Tallies}
+
+-- the last entry of a list
+abbrev pub EndsWith : List Entry → Entry → Type 0
+EndsWith list e = (before : List Entry) × (list ≡ before ++ e ∷ [])
+
+-- the entry that is kept, if there is one
+abbrev pub kept_of : Option Submission → List Entry
+kept_of None = []
+kept_of (Some s) = s.entry ∷ []
+
+-- whether the kept entry was announced
+abbrev pub IsTold : Bool → Option Submission → List Entry → List Entry → Type 0
+IsTold false kept announced list = announced ≡ list
+IsTold true kept announced list = announced ≡ list ++ kept_of kept
+
+-- what is kept is for this board
+abbrev pub IsFor : Option Submission → Label → Type 0
+IsFor None b = Unit {0}
+IsFor (Some s) b = label_in s ≡ b
+
+-- what is seen of a relay
+abbrev pub relaying_of : Inside → Relaying
+relaying_of r = record {
+  list = r.publisher.list;
+  announced = r.publisher.announced;
+  kept = kept_of r.kept;
+  out = (view r.drain.pass).out;
+  known = (view r.drain.pass).known;
+  made = (view r.drain.pass).made;
+  origin = r.publisher.origin;
+  inbox = (arc_value r.drain.queue).table.shared.table_id;
+  closed = r.closed;
+  empties = r.drain.empties;
+  stored = length r.tried.store.squares;
+  room = r.tried.store.room;
+}
+
+-- what was taken is the published list and then what is kept; only that may be announced; board, inbox and kept entry are of one origin; of each seat the published entries are counted
+pub record IsRelay (r : Inside) : Type 0 where
+  pub out : (view r.drain.pass).out ≡ r.publisher.list ++ kept_of r.kept
+  pub told : IsTold r.told r.kept r.publisher.announced r.publisher.list
+  pub label : (view r.drain.pass).label ≡ label_of r.publisher.origin
+  pub kept : IsFor r.kept (label_of r.publisher.origin)
+  pub tallies : Tallies r.counts.items r.publisher.list
+  pub made : length r.counts.items ≡ (view r.drain.pass).made

@@ -1,0 +1,17 @@
+-- Which refusals of a submission there are, in their order.
+use Rattle.std.specs.Prelude.{◌≡◌, ℕ, Bool, true, false}
+use Rattle.inbox.specs.Counts.{Risen}
+use Rattle.relay_core.specs.declared.fault.SubmitFault.{SubmitFault}
+use Rattle.relay_core.specs.declared.fault.SubmitFault.TheVariants.{NotYours, StateRange, Closed, Memory, Full}
+
+-- neither of the two first refusals holds: the edit is the seat's, and its states are the rule's
+abbrev pub Passes : Bool → Bool → Type 0
+Passes mine below = (mine ≡ true) × (below ≡ true)
+
+-- the first refusal that holds; where the inbox was full, its count has risen from a to b, and a fact is held of it
+abbrev pub Refuses : SubmitFault → Bool → Bool → ℕ → ℕ → Type 0 → Type 0
+Refuses NotYours mine below a b held = (mine ≡ false) × (b ≡ a)
+Refuses StateRange mine below a b held = (mine ≡ true) × (below ≡ false) × (b ≡ a)
+Refuses Closed mine below a b held = Passes mine below × (b ≡ a)
+Refuses Memory mine below a b held = Passes mine below × (b ≡ a)
+Refuses Full mine below a b held = Passes mine below × Risen a b × held

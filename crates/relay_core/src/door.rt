@@ -1,0 +1,65 @@
+//! What the relay and its seats share beside the inbox: how far the relay is, and what wakes it.
+
+use std::sync::Wait;
+use std::sync::atomic::{AtomicU64, Ordering};
+use std::thread::Parker;
+use std::time::Duration;
+
+/// How far the relay is. No clause speaks of it: another thread may change it at any moment.
+enum Mark {
+    /// It takes submissions.
+    Open,
+    /// `close` was called.
+    Closed,
+    /// It was dropped, or has finished.
+    Gone,
+}
+
+/// The mark of how far the relay is, and what the relay rests on. One thread at a time may rest, the relay's.
+#[derive(Drop)]
+pub struct Door {
+    /// A `Mark`.
+    mark: AtomicU64,
+    parker: Parker,
+}
+
+impl Door {
+    /// The door of a relay that takes submissions.
+    pub fn new() -> Door {
+        Door {
+            mark: AtomicU64::new(Mark::Open as u64),
+            parker: Parker::new(),
+        }
+    }
+
+    /// Whether the relay takes submissions.
+    pub fn is_open(&self) -> bool {
+        self.mark.load(Ordering::SeqCst) == Mark::Open as u64
+    }
+
+    /// Whether the relay is gone.
+    pub fn is_gone(&self) -> bool {
+        self.mark.load(Ordering::SeqCst) == Mark::Gone as u64
+    }
+
+    /// From now on the relay takes no submissions. A relay that rests wakes.
+    pub fn close(&self) {
+        self.mark.store(Mark::Closed as u64, Ordering::SeqCst);
+        self.parker.unpark();
+    }
+
+    /// The relay is gone.
+    pub fn leave(&self) {
+        self.mark.store(Mark::Gone as u64, Ordering::SeqCst);
+    }
+
+    /// Wakes the relay, or lets its next rest end at once.
+    pub fn ring(&self) {
+        self.parker.unpark();
+    }
+
+    /// Sleeps until a ring or a close that no rest has had yet, and for so long at most.
+    pub fn rest<R: Wait>(&self, rt: &R, most: Duration) {
+        self.parker.park_timeout(rt, most);
+    }
+}
