@@ -3,11 +3,11 @@ use Rattle.std.proofs.Common.{◌≡◌, ◌≢◌, ℕ, zero, suc, true, false,
 use mathlib.Core.Option.{some, some-injective, some-ne-none}
 use lib.ListN.{get_elem?}
 use Rattle.crossbeam_channel.specs.Fifo.{Pushes, Pops, Forks}
-use Rattle.atomic_table.proofs.Lists.{at_set, at_snoc, set_again}
+use Rattle.atomic_table.proofs.Lists.{at_set, at_snoc}
 use Rattle.receipts.specs.Topics.{Topic, no_topic}
 use Rattle.receipts.specs.declared.rule.Answer.{Answer}
 use Rattle.receipts.specs.declared.rule.About.{About}
-use Rattle.receipts.specs.About.{told_by, known_by, about, unbound, Fits, IsOfOne}
+use Rattle.receipts.specs.About.{told_by, known_by, about, unbound, after_receipt, Fits, IsOfOne}
 
 -- an empty list has nothing anywhere
 at_none : {A : Type 0} (k : ℕ) (x : A) → get_elem? [] k ≢ some x
@@ -64,14 +64,17 @@ no_unbound views items e port j v u is_bound at there f is_free =
     let same : u ≡ v = some-injective u v (sym there ∙ (ap (λ k. get_elem? views k) here ∙ at)) in
     true≢false (sym is_bound ∙ (ap (λ (a : About). a.bound) (sym same) ∙ is_free))
 
--- where a bound pass moves an answer, each pass fits as before
-stays : (views : List About) (items more : List Answer) (e : Topic) (port : ℕ) (v : About)
-    → v.bound ≡ true → get_elem? views port ≡ some v
+-- where a bound pass moves an answer, and knows the same topic then, each pass fits as before
+stays : (views : List About) (items more : List Answer) (e : Topic) (port : ℕ) (v w : About)
+    → v.bound ≡ true → w.bound ≡ true → known_by w ≡ known_by v → get_elem? views port ≡ some v
     → ((j : ℕ) (u : About) → get_elem? views j ≡ some u → Fits items views e u)
-    → (j : ℕ) (u : About) → get_elem? (set views port v) j ≡ some u → Fits more (set views port v) e u
-stays views items more e port v is_bound at each j u there =
-    let f : get_elem? views j ≡ some u = subst (λ (l : List About). get_elem? l j ≡ some u) (set_again views port v at) there in
-    ((each j u f).0, (λ is_free. absurd (no_unbound views items e port j v u is_bound at f (each j u f) is_free)))
+    → (j : ℕ) (u : About) → get_elem? (set views port w) j ≡ some u → Fits more (set views port w) e u
+stays views items more e port v w is_bound stays_bound same at each j u there = ⊎_elim
+    (λ (t : (j ≡ port) × (w ≡ u)). subst (λ (a : About). Fits more (set views port w) e a) t.1
+    ((λ _. same ∙ (each port v at).0 is_bound), (λ is_free. absurd (true≢false (sym stays_bound ∙ is_free)))))
+    (λ (t : (j ≢ port) × (get_elem? views j ≡ some u)).
+    ((each j u t.1).0, (λ is_free. absurd (no_unbound views items e port j v u is_bound at t.1 (each j u t.1) is_free))))
+    (at_set views port j w u there)
 
 -- a bound pass sends an answer of what it knows
 pub sends : (n port : ℕ) (v : About) (x : Answer)
@@ -82,20 +85,21 @@ sends n port v x is_bound is items views room h at =
       record {
         of = h.of;
         all = λ k y there. ⊎_elim (h.all k y) (λ (same : x ≡ y). subst (λ (z : Answer). told_by z ≡ h.of) same (is ∙ mine)) (at_snoc items x y k there);
-        each = stays views items (items ++ x ∷ []) h.of port v is_bound at h.each;
+        each = stays views items (items ++ x ∷ []) h.of port v v is_bound is_bound refl at h.each;
       },
       (refl, is),
     )
 
 -- what a bound pass receives is an answer of what it knows
-pub gets : (port : ℕ) (v : About) → v.bound ≡ true → Pops IsOfOne port v (λ x w. (w ≡ v) × (told_by x ≡ known_by v))
-gets port v is_bound x items views h at =
+pub receives : (port : ℕ) (v : About)
+    → v.bound ≡ true → Pops IsOfOne port v (λ x w. (w ≡ after_receipt v) × (told_by x ≡ known_by v))
+receives port v is_bound x items views h at =
     let mine = (h.each port v at).0 is_bound in (
-      v,
+      after_receipt v,
       record {
         of = h.of;
         all = λ k y there. h.all (suc k) y there;
-        each = stays views (x ∷ items) items h.of port v is_bound at h.each;
+        each = stays views (x ∷ items) items h.of port v (after_receipt v) is_bound is_bound refl at h.each;
       },
       (refl, h.all 0 x refl ∙ sym mine),
     )

@@ -1,5 +1,5 @@
 -- The rule of a channel of answers.
-use Rattle.std.specs.Prelude.{◌≡◌, ℕ, true, false, List, [], length, slice_index_or}
+use Rattle.std.specs.Prelude.{◌≡◌, ℕ, ◌+◌, true, false, List, [], length, slice_index_or}
 use mathlib.Core.Option.{some}
 use lib.ListN.{get_elem?}
 use Rattle.board.specs.declared.entry.Entry.{Entry}
@@ -23,11 +23,15 @@ known_by v = topic v.entry (origin_in v.label)
 
 -- the view of a pass that is bound to a topic
 abbrev pub about : Topic → About
-about t = record { bound = true; entry = t.entry; label = label_of t.origin }
+about t = record { bound = true; entry = t.entry; label = label_of t.origin; received = 0 }
 
 -- the view of the one pass of a channel that is not bound yet
 abbrev pub unbound : About
-unbound = record { bound = false; entry = no_topic.entry; label = label_of no_topic.origin }
+unbound = record { bound = false; entry = no_topic.entry; label = label_of no_topic.origin; received = 0 }
+
+-- one answer more was received
+abbrev pub after_receipt : About → About
+after_receipt v = record v { received = v.received + 1 }
 
 -- a bound pass knows the topic; until a pass is bound the channel is empty, and has no other pass
 abbrev pub Fits : List Answer → List About → Topic → About → Type 0

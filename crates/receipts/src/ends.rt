@@ -1,11 +1,11 @@
 //! The two ends of a channel of answers.
 
-ghost use Rattle.std.specs.Prelude.{◌≡◌, true, IfOk};
+ghost use Rattle.std.specs.Prelude.{◌≡◌, true, IfOk, MatchResult};
 ghost use Rattle.crossbeam_channel.specs.Claims.{view, IsSeatAt};
 ghost use Rattle.crossbeam_channel.specs.Ends.{sends_on, receives_on};
-ghost use Rattle.receipts.specs.About.{told_by, known_by};
+ghost use Rattle.receipts.specs.About.{told_by, known_by, after_receipt};
 
-use crate::rule::{About, Answer, Moves, ReceiptRule};
+use crate::rule::{About, Answer, ReceiptRule, Receives, Sends};
 use crossbeam_channel::{Pass, RuledReceiver, RuledSender};
 use std::alloc::Global;
 use std::sync::{Arc, Wait};
@@ -51,7 +51,7 @@ impl Answering {
             mut pass,
             bell,
         } = self;
-        let _ = sender.try_send_as::<Moves, R>(rt, &mut pass, answer);
+        let _ = sender.try_send_as::<Sends, R>(rt, &mut pass, answer);
         bell.unpark();
     }
 }
@@ -61,9 +61,10 @@ impl Pending {
     /// channel.
     pub fn try_receive<R: Wait>(&mut self, rt: &R) -> Result<Answer, NoAnswer>
         ensures answer { IfOk result (λ a. told_by a ≡ known_by (view self.old.pass)) }
-        ensures same { view self.new.pass ≡ view self.old.pass }
+        ensures received { MatchResult result (λ _. view self.new.pass ≡ after_receipt (view self.old.pass))
+            (λ _. view self.new.pass ≡ view self.old.pass) }
     {
-        match self.receiver.try_recv_as::<Moves, R>(rt, &mut self.pass) {
+        match self.receiver.try_recv_as::<Receives, R>(rt, &mut self.pass) {
             Ok(answer) => Ok(answer),
             Err(_) => Err(NoAnswer),
         }

@@ -11,4 +11,4 @@ mod rule;
 
 pub use ends::{Answering, NoAnswer, Pending};
 pub use opening::open;
-pub use rule::{About, Answer, Binds, Moves, ReceiptRule, Submitted};
+pub use rule::{About, Answer, Binds, ReceiptRule, Receives, Sends, Submitted};

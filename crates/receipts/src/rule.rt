@@ -19,12 +19,13 @@ pub struct Answer {
     pub ghost within: { at < length (list_of front) },
 }
 
-/// What a pass of a channel knows: the entry that the channel is for, and which board that entry is for.
-/// Before the pass is bound it knows nothing. No value of it is made.
+/// What a pass of a channel knows: the entry that the channel is for, and which board that entry is for; and
+/// how many answers were received by it. Before the pass is bound it knows nothing. No value of it is made.
 pub struct About {
     pub bound: bool,
     pub entry: Entry,
     pub label: Label,
+    pub received: u64,
 }
 
 /// What holds of a channel at each moment: its answers are of the entry and the board that each bound pass
@@ -65,16 +66,30 @@ impl<J: Submitted> Split<About> for Binds<J> {
     ghost right = { λ v. about J.topic };
 }
 
-/// A send or a receive: the answer is of what the pass knows, and the pass knows the same then.
-pub struct Moves;
+/// A send: the answer is of what the pass knows.
+pub struct Sends;
 
-impl Outcome<Answer, About> for Moves {
+impl Outcome<Answer, About> for Sends {
     ghost use Rattle.std.specs.Prelude.{◌≡◌};
     ghost use Rattle.receipts.specs.About.{told_by, known_by};
 
     ghost then = { λ v x w. (w ≡ v) × (told_by x ≡ known_by v) };
 }
 
-impl Lesson<Answer, About> for Moves {
+impl Lesson<Answer, About> for Sends {
+    ghost fact = { λ v items. Unit {0} };
+}
+
+/// A receive: the answer is of what the pass knows, and one more was received.
+pub struct Receives;
+
+impl Outcome<Answer, About> for Receives {
+    ghost use Rattle.std.specs.Prelude.{◌≡◌};
+    ghost use Rattle.receipts.specs.About.{told_by, known_by, after_receipt};
+
+    ghost then = { λ v x w. (w ≡ after_receipt v) × (told_by x ≡ known_by v) };
+}
+
+impl Lesson<Answer, About> for Receives {
     ghost fact = { λ v items. Unit {0} };
 }

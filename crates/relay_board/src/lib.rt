@@ -23,6 +23,3 @@ pub use receipt::{Pending, Receipt};
 pub use relay::Relay;
 pub use relay_core::{Bell, Gone, StartFault, SubmitFault, Turn, TurnFault};
 pub use seat::{IsSeat, Seat};
-
-#[cfg(test)]
-mod tests;

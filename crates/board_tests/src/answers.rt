@@ -1,0 +1,110 @@
+//! Receipts: one answer for each submission.
+
+ghost use Rattle.std.specs.Prelude.{◌≡◌, ◌∷◌, [], IfSome, true};
+ghost use Rattle.crossbeam_channel.specs.Claims.{view};
+ghost use Rattle.edit_stamps.specs.Edit.{has_states_below};
+ghost use Rattle.board.specs.Origins.{origin, list_of};
+ghost use Rattle.receipts.specs.About.{told_by, known_by};
+
+use crate::drawn::{brians_brain, drawn};
+use board::{Entry, Front, Publisher};
+use receipts::{Answer, Answering, Pending, open};
+use std::alloc::Global;
+use std::sync::Wait;
+
+/// The front of a new board once an entry is published. The board ends.
+fn published<R: Wait>(rt: &R, mut publisher: Publisher, entry: Entry) -> Option<Front>
+    requires empty { (publisher.list ≡ []) × (publisher.announced ≡ []) }
+    requires below { has_states_below publisher.origin.states entry.edit ≡ true }
+    ensures list { IfSome result (λ front. list_of front ≡ entry ∷ []) }
+    ensures origin { IfSome result (λ front. origin front ≡ publisher.origin) }
+{
+    if !publisher.announce(entry) {
+        publisher.end(rt);
+        return None;
+    }
+    let (publisher, done) = publisher.show(rt);
+    match done {
+        Ok(()) => {
+            let front = publisher.front();
+            publisher.end(rt);
+            Some(front)
+        }
+        Err(_) => {
+            publisher.end(rt);
+            None
+        }
+    }
+}
+
+/// A channel for an entry, and the answer once a board has published that entry.
+#[derive(Drop)]
+struct Channel {
+    answering: Answering,
+    pending: Pending,
+    answer: Answer,
+    ghost of: { told_by answer ≡ known_by (view answering.pass) },
+}
+
+/// The channel for the first entry of a new board.
+fn opened<R: Wait>(rt: &R, alloc: Global, counter: u64) -> Option<Channel> {
+    let rule = brians_brain()?;
+    let edit = drawn(alloc, &rule, counter, 1, 0)?;
+    let entry = Entry {
+        seat: 0,
+        number: 1,
+        edit,
+    };
+    let Ok(publisher) = Publisher::new(rt, alloc, rule.states(), 1) else {
+        return None;
+    };
+    let ends = open(alloc, &entry, &publisher.front());
+    let front = published(rt, publisher, entry)?;
+    let Ok((answering, pending)) = ends else {
+        return None;
+    };
+    Some(Channel {
+        answering,
+        pending,
+        answer: Answer { at: 0, front },
+    })
+}
+
+/// At which place of a list an answer stands, and how long the list is; None where there is no answer.
+type Found = Option<(u64, u64)>;
+
+fn looked<R: Wait>(rt: &R, pending: &mut Pending) -> Found {
+    let answer = pending.try_receive(rt).ok()?;
+    Some((answer.at, answer.front.len()))
+}
+
+/// What is found at two ends before the second is answered, behind that, and once more, when the other
+/// end of the first was dropped.
+fn looks<R: Wait>(rt: &R, alloc: Global) -> Option<[[Found; 2]; 3]> {
+    let Channel {
+        answering: unanswered,
+        pending: mut waiting,
+        answer: _,
+    } = opened(rt, alloc, 1)?;
+    let Channel {
+        answering,
+        mut pending,
+        answer,
+    } = opened(rt, alloc, 2)?;
+    pending.rest(rt);
+    let early = [looked(rt, &mut waiting), looked(rt, &mut pending)];
+    answering.answer(rt, answer);
+    pending.rest(rt);
+    let there = [looked(rt, &mut waiting), looked(rt, &mut pending)];
+    drop(unanswered);
+    waiting.rest(rt);
+    let late = [looked(rt, &mut waiting), looked(rt, &mut pending)];
+    Some([early, there, late])
+}
+
+#[test]
+fn an_answer_comes_once_and_at_its_end(rt: HostRuntime) {
+    let none = [None, None];
+    let looked = looks(&rt, rt.alloc());
+    assert_eq!(rt; looked, Some([none, [None, Some((0, 1))], none]));
+}
