@@ -1,0 +1,29 @@
+//! Tests of `relay_board`.
+#![tactic(auto)]
+
+#[cfg(test)]
+mod crowd;
+#[cfg(test)]
+mod drawers;
+#[cfg(test)]
+mod drawn;
+#[cfg(test)]
+mod ending;
+#[cfg(test)]
+mod handing;
+#[cfg(test)]
+mod pairs;
+#[cfg(test)]
+mod refusals;
+#[cfg(test)]
+mod resting;
+#[cfg(test)]
+mod rounds;
+#[cfg(test)]
+mod sizes;
+#[cfg(test)]
+mod squares;
+#[cfg(test)]
+mod steps;
+#[cfg(test)]
+mod told;

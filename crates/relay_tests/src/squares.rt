@@ -1,0 +1,91 @@
+//! A relay whose own plane has room for 29 squares.
+
+ghost use Rattle.std.specs.Prelude.{◌≡◌};
+ghost use Rattle.std.specs.Arc.{arc_value};
+
+use crate::drawn::{BRIANS_BRAIN, drawn, rule};
+use crate::refusals::{Submitted, submit};
+use crate::told::{View, viewed};
+use relay_board::{
+    FinishFault, Naming, Opened, Relay, Seat, SubmitFault, Turn, TurnFault, is_whole, start_within,
+};
+use std::alloc::Global;
+use std::marker::Brand;
+use std::sync::Wait;
+use std::test::Fail;
+
+/// What came of a good submission.
+#[derive(Clone, Copy, Debug, PartialEq, Eq)]
+struct Kept {
+    submitted: [Submitted; 2],
+    turns: [Turn; 2],
+    view: View,
+    faults: [FinishFault; 2],
+}
+
+/// Why a closed relay does not finish, once and once more.
+fn faults<J: Naming, R: Wait + Drop>(
+    alloc: Global,
+    relay: Relay<J, R>,
+    seats: Vec<Seat<J>>,
+) -> Result<[FinishFault; 2], &'static str> {
+    let (relay, seats, first) = fault(alloc, relay, seats)?;
+    let (_, _, second) = fault(alloc, relay, seats)?;
+    Ok([first, second])
+}
+
+/// Why a closed relay does not finish, and what came back.
+fn fault<J: Naming, R: Wait + Drop>(
+    alloc: Global,
+    relay: Relay<J, R>,
+    seats: Vec<Seat<J>>,
+) -> Result<(Relay<J, R>, Vec<Seat<J>>, FinishFault), &'static str> {
+    if !is_whole(&relay, seats.as_slice()) {
+        return Err("whole");
+    }
+    match relay.finish(alloc, seats) {
+        Ok(_) => Err("finished"),
+        Err(back) => Ok(back),
+    }
+}
+
+fn keeps<J: Naming, R: Wait + Drop + Copy>(
+    rt: R,
+    alloc: Global,
+    opened: Opened<R>,
+) -> Result<Kept, &'static str>
+    requires origin { opened.publisher.origin ≡ J.origin }
+    requires inbox { (arc_value opened.drain.queue).table.shared.table_id ≡ J.inbox }
+{
+    let (mut relay, mut seats) = opened.named::<J>().ok().ok_or("named")?;
+    let mut one = seats.pop().ok_or("one")?;
+    let rule = one.rule();
+    let good = submit(&rt, &mut one, drawn(alloc, &rule, (1, 1), 0, 1))?;
+    let turns = [relay.turn(), relay.turn()];
+    let view = viewed(one.view(0, 0));
+    relay.close();
+    let late = submit(&rt, &mut one, drawn(alloc, &rule, (2, 1), 0, 1))?;
+    let seats = Vec::from_array(alloc, [one]).ok().ok_or("seats")?;
+    Ok(Kept {
+        submitted: [good, late],
+        turns,
+        view,
+        faults: faults(alloc, relay, seats)?,
+    })
+}
+
+#[test]
+fn a_full_store_keeps_what_was_submitted(rt: HostRuntime) -> Result<(), Fail> {
+    let opened = start_within(rt, rt.alloc(), rule(BRIANS_BRAIN)?, 1, 2, 29)
+        .ok()
+        .ok_or("start")?;
+    let full = Turn::Failed(TurnFault::StoreFull);
+    let kept = Kept {
+        submitted: [Submitted::Accepted, Submitted::Refused(SubmitFault::Closed)],
+        turns: [full, full],
+        view: Ok((0, 0)),
+        faults: [FinishFault::StoreFull, FinishFault::StoreFull],
+    };
+    assert_eq!(rt; keeps::<Brand, _>(rt, rt.alloc(), opened)?, kept);
+    Ok(())
+}
