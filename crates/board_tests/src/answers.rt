@@ -139,7 +139,9 @@ fn taken<R: Wait>(rt: &R, alloc: Global, front: &Front, one: Edit, two: Edit) ->
     requires two { has_states_below front.now.states two ≡ true }
     ensures { IfSome result (λ taken. label_in taken.second ≡ label_of (origin front.now)) }
 {
-    let mut drain = Drain::new(alloc, 2, front).ok()?;
+    let Ok(mut drain) = Drain::new(alloc, 2, front) else {
+        return None;
+    };
     let mut first = drain.post(0).ok()?;
     let mut second = drain.post(1).ok()?;
     Some(Passed {

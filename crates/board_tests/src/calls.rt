@@ -1,6 +1,6 @@
 //! Each call of the board and of the inbox once.
 
-ghost use Rattle.std.specs.Prelude.{◌≡◌, IfSome, IsTrue, true};
+ghost use Rattle.std.specs.Prelude.{◌≡◌, IfSome, true};
 ghost use Rattle.crossbeam_queue.specs.Passes.{view};
 ghost use Rattle.edit_stamps.specs.Edit.{has_states_below};
 

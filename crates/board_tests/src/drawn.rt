@@ -1,6 +1,6 @@
 //! The edits that are published and put.
 
-ghost use Rattle.std.specs.Prelude.{◌≡◌, ◌<◌, IfSome, IfOk, IsTrue};
+ghost use Rattle.std.specs.Prelude.{IfSome, IsTrue};
 ghost use Rattle.edit_stamps.specs.Edit.{has_states_below};
 
 use edit_stamps::{Cell, Edit, Stamp};

@@ -6,7 +6,6 @@ use crate::sender::{Inbox, Put, Sender, open_inbox};
 use inbox::{Drain, Refused};
 use std::alloc::Global;
 use std::sync::Wait;
-use std::test::Fail;
 
 /// Puts entries until one is refused, but no more than 2,000, and tells what came of the last.
 fn fills<R: Wait>(rt: &R, sender: &mut Sender) -> Put {

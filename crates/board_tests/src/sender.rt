@@ -1,6 +1,6 @@
 //! An inbox and the ends that tests put into.
 
-ghost use Rattle.std.specs.Prelude.{◌≡◌, ◌<◌, [], IfOk, IfSome, IsTrue};
+ghost use Rattle.std.specs.Prelude.{◌≡◌, ◌<◌};
 ghost use Rattle.crossbeam_queue.specs.Passes.{view};
 ghost use Rattle.board.specs.Origins.{origin};
 ghost use Rattle.board.specs.Sights.{label_of};
