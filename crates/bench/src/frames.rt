@@ -2,7 +2,7 @@
 
 use crate::timing::{millions_a_second, quickest};
 use anyhow::Result;
-use delta_exchange::{FrameFault, Frames, frame};
+use message_frames::{FrameFault, Frames, frame};
 use std::alloc::Global;
 use std::io;
 use std::rt::Clock;

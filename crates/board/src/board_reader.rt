@@ -14,10 +14,10 @@ ghost use Rattle.board.specs.Handing.{IsNews};
 
 use crate::fault::SeatFault;
 use crate::front::Front;
-use crate::news::News;
 use crate::window::Window;
 use core::mem::replace_with;
 use edit_stamps::Write;
+use poll_news::News;
 use stamped_tree::Plane;
 use std::alloc::Global;
 

@@ -14,8 +14,8 @@ use Rattle.generation_engine.specs.declared.fault.EngineFault.{EngineFault}
 use Rattle.generation_engine.specs.EngineFault.{engine_fault_number, engine_fault_text}
 use Rattle.delta_exchange.specs.declared.fault.ReadFault.{ReadFault}
 use Rattle.delta_exchange.specs.Fault.{read_fault_number, read_fault_text}
-use Rattle.delta_exchange.specs.declared.frame_fault.FrameFault.{FrameFault}
-use Rattle.delta_exchange.specs.FrameFault.{frame_fault_number, frame_fault_text}
+use Rattle.message_frames.specs.declared.frame_fault.FrameFault.{FrameFault}
+use Rattle.message_frames.specs.FrameFault.{frame_fault_number, frame_fault_text}
 use Rattle.export.specs.declared.fault.ExportFault.{ExportFault}
 use Rattle.export.specs.ExportFault.{export_fault_number, export_fault_text}
 use Rattle.replica_core.specs.declared.fault.Fault.{Fault}

@@ -1,6 +1,6 @@
 //! Frames.
 
-use delta_exchange::{FrameFault, Frames, frame};
+use message_frames::{FrameFault, Frames, frame};
 use std::alloc::{AllocError, Global};
 
 /// A body of two bytes behind its length, and half of the length that follows.

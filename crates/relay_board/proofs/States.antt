@@ -8,10 +8,10 @@ use Rattle.edit_stamps.proofs.StateLaws.{greatest_below, states_kept}
 use Rattle.board.specs.declared.entry.Entry.{Entry}
 use Rattle.board.specs.Entries.{edits_of, all_below}
 use Rattle.board.specs.Handing.{IsNews}
-use Rattle.board.specs.declared.news.News.{News}
-use Rattle.board.specs.declared.news.News.TheVariants.{Edits, Whole}
+use Rattle.poll_news.specs.declared.news.News.{News}
+use Rattle.poll_news.specs.declared.news.News.TheVariants.{Edits, Whole}
 use Rattle.stamped_tree.specs.Plane.{map_of}
-use Rattle.relay_board.specs.Handed.{IsNewsBelow}
+use Rattle.poll_news.specs.Below.{IsNewsBelow}
 
 -- states of the edits of some entries
 pub have_below : (n : ℕ) (es : List Entry) → all_below n es ≡ true → HaveStatesBelow n (edits_of es)

@@ -4,6 +4,5 @@ pub mod Chairs
 pub mod Receiving
 pub mod Starting
 pub mod Closing
-pub mod Handed
 pub mod Faults
 pub mod FinishRefusals

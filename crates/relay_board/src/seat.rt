@@ -17,7 +17,7 @@ ghost use Rattle.board.specs.Origins.{origin, list_of};
 ghost use Rattle.board.specs.Sights.{label_of};
 ghost use Rattle.inbox.specs.Counts.{counted};
 ghost use Rattle.relay_board.specs.Refusing.{Lasts};
-ghost use Rattle.relay_board.specs.Handed.{IsNewsBelow};
+ghost use Rattle.poll_news.specs.Below.{IsNewsBelow};
 ghost use Rattle.inbox.specs.Hands.{entry};
 ghost use Rattle.relay_core.specs.Refusals.{Passes, Refuses};
 ghost use Rattle.relay_board.specs.Seating.{Seating, IsSame, HasRead};

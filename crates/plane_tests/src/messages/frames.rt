@@ -2,7 +2,7 @@
 
 ghost use Rattle.std.specs.Prelude.{◌≤◌};
 
-use delta_exchange::{FrameFault, Frames, frame};
+use message_frames::{FrameFault, Frames, frame};
 use std::alloc::Global;
 use std::test::Fail;
 
