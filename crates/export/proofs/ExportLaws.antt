@@ -3,7 +3,7 @@ use Rattle.std.proofs.Common.{◌≡◌, ◌≢◌, ℕ, ◌<◌, List, [], ◌�
 use Rattle.std.proofs.lemmas.Bool.{and_parts, cases_Bool, lt-ltb}
 use Rattle.std.proofs.lemmas.Bool.Decides.{nat_tests}
 use Rattle.edit_stamps.proofs.PlaceOrder.{same_itself}
-use Rattle.std.specs.Prelude.{Some, None, Option, Ok, Err, Result, not, ◌==◌, unwrap_or, true}
+use Rattle.std.specs.Prelude.{Some, None, Option, Ok, Err, IfErr, IfOk, Result, not, ◌==◌, unwrap_or, true}
 use Rattle.generations_rule.specs.Place.{Place, is_place}
 use Rattle.generations_rule.specs.Rule.{GenerationsRule, IsRule}
 use Rattle.generations_rule.specs.Evolution.{at}
@@ -19,6 +19,18 @@ use Rattle.export.specs.declared.fault.ExportFault.{ExportFault}
 use Rattle.export.specs.declared.fault.ExportFault.TheVariants.{GenRange, TooManyCells, StoreFull, Memory}
 use Rattle.export.specs.Export.{IsExport}
 use Rattle.export.specs.Laws.{HasOneExport}
+
+-- ---- answers
+
+-- what holds of what was found, and where it was
+pub when_ok : {A F : Type 0} (P Q : A → Type 0) (r : Result A F) → ((x : A) → r ≡ Ok x → P x → Q x) → IfOk r P → IfOk r Q
+when_ok P Q (Ok x) f h = f x refl h
+when_ok P Q (Err e) f h = tt
+
+-- what holds of a refusal, and which it was
+pub when_err : {A F : Type 0} (P Q : F → Type 0) (r : Result A F) → ((e : F) → r ≡ Err e → P e → Q e) → IfErr r P → IfErr r Q
+when_err P Q (Ok x) f h = tt
+when_err P Q (Err e) f h = f e refl h
 
 -- ---- maps of states
 

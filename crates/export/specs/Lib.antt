@@ -1,4 +1,5 @@
 pub mod ExportFault
 pub mod Export
+pub mod Kept
 pub mod Laws
 pub mod Rows

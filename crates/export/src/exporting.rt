@@ -18,10 +18,10 @@ use std::alloc::Global;
 const ROOM: u32 = 0x400_0000;
 
 /// The last generation.
-const LAST: u32 = 0x2000_0000;
+pub const LAST: u32 = 0x2000_0000;
 
 /// How many cells are exported at most if nothing else is said.
-const MOST_CELLS: u64 = 0x100_0000;
+pub const MOST_CELLS: u64 = 0x100_0000;
 
 /// The cells of a plane `generation` generations later, in Golly's multi-state RLE under the rule. First
 /// of all `GenRange` is answered, exactly where the generation is greater than 2^29, then `TooManyCells`,

@@ -6,8 +6,10 @@
 
 mod exporting;
 mod fault;
+mod kept;
 mod laws;
 
 pub use exporting::{cells_within, export, export_in_room, export_within};
 pub use fault::ExportFault;
+pub use kept::export_on;
 pub use laws::export_laws;

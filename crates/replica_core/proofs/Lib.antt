@@ -12,3 +12,4 @@ pub mod PeerLaws
 pub mod RunLaws
 pub mod NotedEdits
 pub mod StateLaws
+pub mod UniverseLaws

@@ -23,9 +23,10 @@ use Rattle.delta_exchange.specs.Spelling.{delta_text}
 use Rattle.delta_exchange.specs.State.{IsTellableMap}
 use Rattle.delta_exchange.specs.StateText.{IsStateText}
 use Rattle.edit_journal.specs.Journal.{noted}
-use Rattle.generation_engine.specs.Universe.{states_in_writes}
+use Rattle.generation_engine.specs.Universe.{EngineValue, states_in_writes}
 use Rattle.export.specs.declared.fault.ExportFault.{ExportFault}
 use Rattle.export.specs.Export.{IsExport, IsRoomWanted, most_cells}
+use Rattle.export.specs.Kept.{IsRunOf}
 use Rattle.replica_core.specs.Fault.{fault_of_export}
 use Rattle.replica_core.specs.Exchange.{entries}
 use Rattle.replica_core.specs.Replica.{ReplicaState, edit_drawn}
@@ -300,3 +301,11 @@ pub record AreCurrent (replicas : List ReplicaState) (messages : List (List ℕ)
 -- a place that is remembered of a replica was remembered before, and what was a state text of its map is one
 abbrev pub IsRemembered : ReplicaState → ReplicaState → Option ℕ → Option ℕ → Type 0
 IsRemembered was is before now = (place : ℕ) → now ≡ Some place → (before ≡ Some place) × ((text : List ℕ) → IsStateOf was text → IsStateOf is text)
+
+-- ---- the universe of the last export
+
+-- a universe, kept with a place counted from 0, runs the map of the replica there
+pub record IsUniverseOf (replicas : List ReplicaState) (place : ℕ) (e : EngineValue) : Type 0 where
+  pub held : ReplicaState
+  pub there : slice_get replicas place ≡ Some held
+  pub run : IsRunOf held.rule (states_in_writes (map_of held.plane)) e

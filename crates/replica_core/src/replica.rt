@@ -1,6 +1,6 @@
 //! One replica of a shared plane.
 
-ghost use Rattle.std.specs.Prelude.{List, Ok, take, drop, ◌⊎◌, ◌≡◌, ◌≢◌, ◌≤◌, ◌^◌, ◌↔◌, ◌++◌, ◌∷◌, [], ℕ, false, Contains, IfOk, IfErr, IsTrue, OnOk, OnErr, length};
+ghost use Rattle.std.specs.Prelude.{List, Ok, take, drop, ◌⊎◌, ◌≡◌, ◌≢◌, ◌≤◌, ◌^◌, ◌↔◌, ◌++◌, ◌∷◌, [], ℕ, false, Contains, IfOk, IfErr, IfSome, IsTrue, OnOk, OnErr, length};
 ghost use Rattle.std.specs.Result.{IsOk};
 ghost use Rattle.generations_rule.specs.Refusal.{Answers};
 ghost use Rattle.generations_rule.specs.Place.{at_place};
@@ -14,12 +14,15 @@ ghost use Rattle.replica_core.specs.Fault.{IsWant};
 ghost use Rattle.delta_exchange.specs.Message.{edits_in, writes_in, IsBelowStates};
 ghost use Rattle.replica_core.specs.Replica.{made, or_edit_fault, stamp_after};
 ghost use Rattle.stamped_tree.specs.Plane.{map_of};
+ghost use Rattle.generation_engine.specs.Universe.{states_in_writes};
+ghost use Rattle.export.specs.Kept.{IsRunOf};
 
 use crate::fault::Fault;
 use delta_exchange::{Content, Message, read, write_delta, write_state};
 use edit_journal::Journal;
 use edit_stamps::{Edit, Stamp, Write, counter_of};
-use export::export;
+use export::{export, export_on};
+use generation_engine::Engine;
 use generations_rule::Rule;
 use held_plane::{Added, HeldPlane};
 use replica_events::EditSpec;
@@ -301,6 +304,24 @@ impl Replica {
         ensures full { result ≡ Err Fault.StoreFull → IsRoomWanted self.now.rule self.now.plane generation (2 ^ 26) }
     {
         Ok(export(self.alloc, &self.rule, self.plane.plane(), generation)?)
+    }
+
+    /// `export`, by the universe that an earlier export of the same map left, if there is one.
+    pub(crate) fn export_on(
+        &self,
+        generation: u32,
+        kept: &mut Option<Engine>,
+    ) -> Result<Vec<u8>, Fault>
+        requires { IfSome kept.old (IsRunOf self.now.rule (states_in_writes (map_of self.now.plane))) }
+        ensures text { IfOk result (λ text. IsExportOf self.now generation (Ok text.items)) }
+        ensures err { IfErr result (IsExportFault self.now generation) }
+        ensures full { result ≡ Err Fault.StoreFull → IsRoomWanted self.now.rule self.now.plane generation (2 ^ 26) }
+        ensures kept { IfSome kept.new (IsRunOf self.now.rule (states_in_writes (map_of self.now.plane))) }
+    {
+        match export_on(self.alloc, &self.rule, self.plane.plane(), generation, kept) {
+            Ok(text) => Ok(text),
+            Err(fault) => Err(Fault::from(fault)),
+        }
     }
 }
 

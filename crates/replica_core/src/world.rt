@@ -1,18 +1,23 @@
 //! Worlds of replicas: lists of events, and their replies.
 
-ghost use Rattle.std.specs.Prelude.{◌≡◌, ◌≤◌, ◌^◌, ◌-◌, ◌++◌, ◌∷◌, [], ℕ, List, Option, IfOk, IfErr, OnErr, Err, Some, SomeIff, Contains, length, MatchResult, option_copied};
+ghost use Rattle.std.specs.Prelude.{◌≡◌, ◌≤◌, ◌^◌, ◌-◌, ◌++◌, ◌∷◌, [], ℕ, List, Option, IfOk, IfErr, IfSome, OnErr, Ok, Err, Some, SomeIff, Contains, length, MatchResult, option_copied, slice_set};
 ghost use Rattle.edit_stamps.specs.Edit.{IsEdit, PlaneEdit, greatest_counter};
 ghost use Rattle.generations_rule.specs.Rule.{GenerationsRule};
-ghost use Rattle.export.specs.Export.{last_generation};
+ghost use Rattle.export.specs.Export.{IsRoomWanted, last_generation};
+ghost use Rattle.export.specs.Kept.{IsRunOf};
+ghost use Rattle.generation_engine.specs.Universe.{states_in_writes};
+ghost use Rattle.stamped_tree.specs.Plane.{map_of};
 ghost use Rattle.replica_events.specs.declared.event.Event.TheVariants as events;
 ghost use Rattle.replica_core.specs.declared.event.Reply.TheVariants as replies;
+ghost use Rattle.replica_core.specs.Exporting.{IsExportFault, IsExportOf};
 ghost use Rattle.replica_core.specs.Fault.{IsWant, stop_of};
-ghost use Rattle.replica_core.specs.Replica.{edit_drawn, IsNew};
-ghost use Rattle.replica_core.specs.World.{History, IsEditUnder, IsExportFull, IsThere, ReplicaHistory, Sent, opening, after, after_all, after_drawing, after_message, numbered, AreCurrent, AreEdits, AreReplies, HaveRoom, IsRemembered, IsReply, IsStateMessage, IsStateOf, IsStopOf, MayStop, StandSideBySide, StandsFor, StandsForSent, StandsForWorld};
+ghost use Rattle.replica_core.specs.Replica.{edit_drawn, IsNew, ReplicaState};
+ghost use Rattle.replica_core.specs.World.{History, IsEditUnder, IsExportFull, IsThere, ReplicaHistory, Sent, opening, after, after_all, after_drawing, after_message, numbered, AreCurrent, AreEdits, AreReplies, HaveRoom, IsRemembered, IsReply, IsStateMessage, IsStateOf, IsStopOf, IsUniverseOf, MayStop, StandSideBySide, StandsFor, StandsForSent, StandsForWorld};
 
 use crate::event::{ByteList, Reply, Stop};
 use crate::fault::Fault;
 use crate::replica::Replica;
+use generation_engine::Engine;
 use generations_rule::Rule;
 use replica_events::{EditSpec, Event};
 use std::alloc::{AllocError, Global};
@@ -30,6 +35,15 @@ pub struct World {
     /// For each replica the place of a message with the state text of its map as it is now, where one
     /// was sent: it need not be written again.
     current: Vec<Option<usize>>,
+    /// The universe of the last export, for the next one of the same map.
+    universe: Option<KeptUniverse>,
+}
+
+/// A universe that was run for an export, and the place of the replica whose map it runs.
+#[derive(Drop)]
+struct KeptUniverse {
+    place: usize,
+    engine: Engine,
 }
 
 /// By hand, so that a caller's proof sees one step where a world is dropped.
@@ -41,18 +55,20 @@ impl Drop for World {
             replicas: _,
             messages: _,
             current: _,
+            universe: _,
         } = self;
     }
 }
 
 impl Model for World {
-    ghost use Rattle.replica_core.specs.World.{AreCurrent, WorldState};
+    ghost use Rattle.std.specs.Prelude.{IfSome};
+    ghost use Rattle.replica_core.specs.World.{AreCurrent, IsUniverseOf, WorldState};
 
     ghost Value = { WorldState };
 
     ghost view = { λ w. record { rule = w.rule; replicas = w.replicas.items; messages = w.messages.items } };
 
-    ghost invariant = { λ w. AreCurrent w.replicas.items w.messages.items w.current.items };
+    ghost invariant = { λ w. AreCurrent w.replicas.items w.messages.items w.current.items × IfSome w.universe (λ kept. IsUniverseOf w.replicas.items kept.place kept.engine) };
 }
 
 impl World {
@@ -82,6 +98,7 @@ impl World {
             replicas,
             messages: Vec::new(alloc),
             current,
+            universe: None,
         })
     }
 
@@ -192,7 +209,13 @@ fn happen(world: &mut World, event: &Event) -> Result<Reply, Stop>
 {
     match event {
         Event::Draw(number, spec) => {
-            draw(&mut world.replicas, &mut world.current, *number, spec)
+            draw(
+                &mut world.replicas,
+                &mut world.current,
+                &mut world.universe,
+                *number,
+                spec,
+            )
         }
         Event::SendDelta(number, from, count) => send_delta(
             &world.replicas,
@@ -212,19 +235,26 @@ fn happen(world: &mut World, event: &Event) -> Result<Reply, Stop>
             &world.messages,
             &mut world.replicas,
             &mut world.current,
+            &mut world.universe,
             *message,
             *number,
         ),
         Event::Show(number, x, y) => Ok(show(&world.replicas, *number, *x, *y)),
         Event::Same(a, b) => same(&world.replicas, *a, *b),
         Event::Dump(number) => dump(world.alloc, &world.messages, *number),
-        Event::Export(number, generation) => export(&world.replicas, *number, *generation),
+        Event::Export(number, generation) => export(
+            &world.replicas,
+            &mut world.universe,
+            *number,
+            *generation,
+        ),
     }
 }
 
 fn draw(
     replicas: &mut [Replica],
     current: &mut [Option<usize>],
+    universe: &mut Option<KeptUniverse>,
     number: u32,
     spec: &EditSpec,
 ) -> Result<Reply, Stop>
@@ -237,11 +267,30 @@ fn draw(
     ensures room { (nodes : ℕ) → HaveRoom nodes replicas.old → HaveRoom nodes replicas.new }
     ensures remembered { (messages : List (List ℕ)) → AreCurrent replicas.old messages current.old → AreCurrent replicas.new messages current.new }
     ensures length { length current.new ≡ length current.old }
+    ensures universe { IfSome universe.old (λ kept. IsUniverseOf replicas.old kept.place kept.engine) → IfSome universe.new (λ kept. IsUniverseOf replicas.new kept.place kept.engine) }
     ensures err { IfErr result (λ _. IsThere number (length replicas.old)) }
 {
     match index_of(u64::from(number), replicas.len()) {
         None => Ok(Reply::Refused(Fault::NoReplica)),
-        Some(index) => draw_at(&mut replicas[index], &mut current[index], spec),
+        Some(index) => {
+            forget(universe, index);
+            draw_at(&mut replicas[index], &mut current[index], spec)
+        }
+    }
+}
+
+/// Drops the universe of the replica at a place, whose map may become another one. That its root's part
+/// stays would not tell: a plane that was copied numbers its squares anew.
+fn forget(universe: &mut Option<KeptUniverse>, place: usize)
+    ensures { (replicas : List ReplicaState) (is : ReplicaState) → IfSome universe.old (λ kept. IsUniverseOf replicas kept.place kept.engine)
+        → IfSome universe.new (λ kept. IsUniverseOf (slice_set replicas place is) kept.place kept.engine) }
+{
+    let is_of_place = match universe {
+        Some(kept) => kept.place == place,
+        None => false,
+    };
+    if is_of_place {
+        *universe = None;
     }
 }
 
@@ -371,6 +420,7 @@ fn deliver(
     messages: &[ByteList],
     replicas: &mut [Replica],
     current: &mut [Option<usize>],
+    universe: &mut Option<KeptUniverse>,
     message: u64,
     number: u32,
 ) -> Result<Reply, Stop>
@@ -383,6 +433,7 @@ fn deliver(
     ensures room { (nodes : ℕ) → HaveRoom nodes replicas.old → HaveRoom nodes replicas.new }
     ensures remembered { AreCurrent replicas.old messages.now current.old → AreCurrent replicas.new messages.now current.new }
     ensures length { length current.new ≡ length current.old }
+    ensures universe { IfSome universe.old (λ kept. IsUniverseOf replicas.old kept.place kept.engine) → IfSome universe.new (λ kept. IsUniverseOf replicas.new kept.place kept.engine) }
     ensures err { IfErr result (λ _. IsThere message (length messages.now) × IsThere number (length replicas.old)) }
 {
     let Some(from) = index_of(message, messages.len()) else {
@@ -392,6 +443,7 @@ fn deliver(
         return Ok(Reply::Refused(Fault::NoReplica));
     };
     let text = messages[from].as_slice();
+    forget(universe, to);
     take_at(&mut replicas[to], &mut current[to], text)
 }
 
@@ -437,18 +489,50 @@ fn same(replicas: &[Replica], a: u32, b: u32) -> Result<Reply, Stop>
     Ok(Reply::Same(same))
 }
 
-fn export(replicas: &[Replica], number: u32, generation: u32) -> Result<Reply, Stop>
+/// What a replica exports, by the universe of the last export where that was of the same map.
+fn export(
+    replicas: &[Replica],
+    universe: &mut Option<KeptUniverse>,
+    number: u32,
+    generation: u32,
+) -> Result<Reply, Stop>
+    requires { IfSome universe.old (λ kept. IsUniverseOf replicas.now kept.place kept.engine) }
     ensures step { IfOk result (λ reply. (w : History) → StandSideBySide (StandsFor w.rule) w.replicas replicas.now → IsReply w (events.Export number generation) reply) }
+    ensures universe { IfSome universe.new (λ kept. IsUniverseOf replicas.now kept.place kept.engine) }
     ensures err { IfErr result (λ _. IsThere number (length replicas.now) × (generation ≤ last_generation)) }
     ensures full { result ≡ Err Stop.StoreFull → IsExportFull replicas.now number generation }
 {
     let Some(index) = index_of(u64::from(number), replicas.len()) else {
         return Ok(Reply::Refused(Fault::NoReplica));
     };
-    match replicas[index].export(generation) {
+    match export_at(&replicas[index], universe, index, generation) {
         Ok(text) => Ok(Reply::Text(ByteList::of_vec(text))),
         Err(fault) => refused(fault),
     }
+}
+
+/// What the replica at a place exports. Its universe is kept then, and that of another is dropped.
+fn export_at(
+    replica: &Replica,
+    universe: &mut Option<KeptUniverse>,
+    place: usize,
+    generation: u32,
+) -> Result<Vec<u8>, Fault>
+    requires { IfSome universe.old (λ kept. kept.place ≡ place → IsRunOf replica.now.rule (states_in_writes (map_of replica.now.plane)) kept.engine) }
+    ensures text { IfOk result (λ text. IsExportOf replica.now generation (Ok text.items)) }
+    ensures err { IfErr result (IsExportFault replica.now generation) }
+    ensures full { result ≡ Err Fault.StoreFull → IsRoomWanted replica.now.rule replica.now.plane generation (2 ^ 26) }
+    ensures universe { IfSome universe.new (λ kept. (kept.place ≡ place) × IsRunOf replica.now.rule (states_in_writes (map_of replica.now.plane)) kept.engine) }
+{
+    let mut engine = match universe.take() {
+        Some(kept) if kept.place == place => Some(kept.engine),
+        _ => None,
+    };
+    let answer = replica.export_on(generation, &mut engine);
+    if let Some(engine) = engine {
+        *universe = Some(KeptUniverse { place, engine });
+    }
+    answer
 }
 
 fn dump(alloc: Global, messages: &[ByteList], number: u64) -> Result<Reply, Stop>

@@ -1,5 +1,5 @@
 use Rattle.std.proofs.Common.{◌≡◌, ℕ, ◌<◌, ◌∙◌, ap, sym, subst, arith, refl, inl, inr}
-use Rattle.std.specs.Prelude.{pos, ◌^◌, Ok, Err, Result, IfOk, IfErr}
+use Rattle.std.specs.Prelude.{pos, ◌^◌, Err}
 use Rattle.std.proofs.lemmas.Bool.{cases_lt}
 use Rattle.square_store.proofs.Made.{told}
 use Rattle.generations_rule.specs.Place.{Place, moved}
@@ -13,16 +13,8 @@ use Rattle.stamped_tree.specs.Plane.{map_of}
 use Rattle.export.specs.declared.fault.ExportFault.TheVariants.{StoreFull}
 use Rattle.export.specs.Export.{IsExportRefused, population_at}
 use Rattle.export.specs.ExportFault.{export_fault_of_engine}
-use Rattle.export.proofs.ExportLaws.{cells_below, shown}
+use Rattle.export.proofs.ExportLaws.{cells_below, shown, when_err, when_ok}
 use Rattle.export.proofs.exporting.cells_at.Goals as goal
-
-if_ok : {A F : Type 0} (P Q : A → Type 0) (r : Result A F) → ((x : A) → r ≡ Ok x → P x → Q x) → IfOk r P → IfOk r Q
-if_ok P Q (Ok x) f h = f x refl h
-if_ok P Q (Err e) f h = tt
-
-if_err : {A F : Type 0} (P Q : F → Type 0) (r : Result A F) → ((e : F) → r ≡ Err e → P e → Q e) → IfErr r P → IfErr r Q
-if_err P Q (Ok x) f h = tt
-if_err P Q (Err e) f h = f e refl h
 
 -- a full store is told of an engine alone
 full_engine : (fault : EngineFault) → export_fault_of_engine fault ≡ StoreFull → fault ≡ engine.StoreFull
@@ -40,7 +32,7 @@ counted : (c : goal.After-drop-engine-2) → population_of c.run-run.new.self �
 counted c = ap (λ h. population (2 ^ 33) (λ u v. h (moved universe_corner (pos u) (pos v)))) (shown_cells c)
 
 pub returns-clause-cells : goal.returns-clause-cells
-returns-clause-cells c = if_ok _ _ c.cells_within.result (λ listed is are.
+returns-clause-cells c = when_ok _ _ c.cells_within.result (λ listed is are.
     (let f : Place → ℕ = states_in_writes (map_of c.args.plane.now) in
     let cells : AreCellsOf (at c.args.rule.now f c.args.generation) listed.items = subst (λ h. AreCellsOf h listed.items) (shown_cells c) are in
     record {
@@ -53,7 +45,7 @@ returns-clause-cells c = if_ok _ _ c.cells_within.result (λ listed is are.
     })) c.cells_within.ensures.cells
 
 pub returns-clause-err : goal.returns-clause-err
-returns-clause-err c = if_err _ _ c.cells_within.result (λ fault is told_as. elim told_as [
+returns-clause-err c = when_err _ _ c.cells_within.result (λ fault is told_as. elim told_as [
   | inl over ↦ subst (λ e. IsExportRefused c.args.rule.now (states_in_writes (map_of c.args.plane.now)) c.args.generation c.args.limit e) (sym over)
       (inr (c.requires.generation, subst (λ n. c.args.limit < n) (counted c) (c.cells_within.ensures.too_many.0 (is ∙ ap (λ e. Err e) over))))
   | inr want ↦ subst (λ e. IsExportRefused c.args.rule.now (states_in_writes (map_of c.args.plane.now)) c.args.generation c.args.limit e) (sym want) (inl (tt, c.requires.generation))

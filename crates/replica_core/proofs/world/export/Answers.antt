@@ -2,7 +2,9 @@ use Rattle.std.proofs.Common.{◌≡◌, ◌≤◌, ◌-◌, ◌∙◌, ap, Err,
 use Rattle.std.proofs.lemmas.Option.{slice_get_read}
 use Rattle.std.proofs.lemmas.Result.{IfOk-weaker}
 use Rattle.replica_core.specs.declared.event.Reply.TheVariants as replies
+use Rattle.replica_core.specs.declared.world.KeptUniverse.{KeptUniverse}
 use Rattle.replica_core.proofs.EventLaws.{exports_in_world}
+use Rattle.replica_core.proofs.UniverseLaws.{universe_kept}
 use Rattle.replica_core.proofs.world.export.Goals as goal
 
 pub returns-in-Ok-clause-step : goal.returns-in-Ok-clause-step
@@ -27,3 +29,19 @@ returns-in-Err-clause-step c = IfOk-weaker c.refused.result _ _ (λ reply told w
           (slice_get_read c.args.replicas.now (length c.args.replicas.now) c.in-Some.index held refl (omega (arith, r.0.0, r.0.1, r.1)) c.index-replicas-index.is)
           refused.2 (told.1 ∙ ap replies.Refused refused.1)
     ]) c.refused.ensures.reply
+
+pub returns-in-Ok-clause-universe : goal.returns-in-Ok-clause-universe
+returns-in-Ok-clause-universe c =
+    let held = c.index-replicas-index.result in
+    let r = c.in-Some.ensures in
+    universe_kept (λ (k : KeptUniverse). k.place) (λ (k : KeptUniverse). k.engine) c.args.replicas.now c.in-Some.index held c.export_at.new.universe
+    (slice_get_read c.args.replicas.now (length c.args.replicas.now) c.in-Some.index held refl (omega (arith, r.0.0, r.0.1, r.1)) c.index-replicas-index.is)
+    c.export_at.ensures.universe
+
+pub returns-in-Err-clause-universe : goal.returns-in-Err-clause-universe
+returns-in-Err-clause-universe c =
+    let held = c.index-replicas-index.result in
+    let r = c.in-Some.ensures in
+    universe_kept (λ (k : KeptUniverse). k.place) (λ (k : KeptUniverse). k.engine) c.args.replicas.now c.in-Some.index held c.export_at.new.universe
+    (slice_get_read c.args.replicas.now (length c.args.replicas.now) c.in-Some.index held refl (omega (arith, r.0.0, r.0.1, r.1)) c.index-replicas-index.is)
+    c.export_at.ensures.universe

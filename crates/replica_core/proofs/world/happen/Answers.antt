@@ -1,7 +1,9 @@
-use Rattle.std.proofs.Common.{refl, sym, subst, length, ap, ◌∙◌}
+use Rattle.std.proofs.Common.{List, refl, sym, subst, length, ap, ◌∙◌}
+use Rattle.std.specs.Prelude.{IfSome}
 use Rattle.std.proofs.lemmas.List.{with_items_is}
 use Rattle.std.proofs.lemmas.Result.{IfOk-weaker}
-use Rattle.replica_core.specs.World.{AreEdits, HaveRoom, after, StandSideBySide, StandsForSent, StandsFor, StandsForWorld}
+use Rattle.replica_core.specs.Replica.{ReplicaState}
+use Rattle.replica_core.specs.World.{AreEdits, HaveRoom, IsUniverseOf, after, StandSideBySide, StandsForSent, StandsFor, StandsForWorld}
 use Rattle.replica_core.proofs.HistoryLaws.{edits_delivered, edits_sent_of, edits_sent_on}
 use Rattle.replica_core.proofs.CurrentLaws.{current_same}
 use Rattle.replica_core.proofs.EventLaws.{goes_by_drawing, goes_by_delivery, goes_by_naming, goes_by_sending}
@@ -95,7 +97,15 @@ invariant_of-world c =
     let replicas = c.world.inside.replicas in
     let current = c.world.inside.current in
     let messages = c.world.inside.messages.items in
-    current_same c.draw.new.replicas _ messages messages c.draw.new.current _
-    (with_items_is replicas c.draw.new.replicas (c.draw.ensures.as_many ∙ ap length c.deref_mut.ensures.value ∙ sym replicas.ok.0)) refl
-    (with_items_is current c.draw.new.current (c.draw.ensures.length ∙ ap length c.deref_mut-in-Draw.ensures.value ∙ sym current.ok.0))
-    (c.draw.ensures.remembered messages (current_same replicas.items _ messages messages current.items _ c.deref_mut.ensures.value refl c.deref_mut-in-Draw.ensures.value c.world.invariant))
+    let changed = with_items_is replicas c.draw.new.replicas (c.draw.ensures.as_many ∙ ap length c.deref_mut.ensures.value ∙ sym replicas.ok.0) in (
+      current_same c.draw.new.replicas _ messages messages c.draw.new.current _
+          changed refl
+          (with_items_is current c.draw.new.current (c.draw.ensures.length ∙ ap length c.deref_mut-in-Draw.ensures.value ∙ sym current.ok.0))
+          (c.draw.ensures.remembered messages (current_same replicas.items _ messages messages current.items _ c.deref_mut.ensures.value refl c.deref_mut-in-Draw.ensures.value c.world.invariant.0)),
+      subst (λ (l : List ReplicaState). IfSome c.draw.new.universe (λ kept. IsUniverseOf l kept.place kept.engine)) (sym changed)
+          (c.draw.ensures.universe (subst (λ (l : List ReplicaState). IfSome c.world.inside.universe (λ kept. IsUniverseOf l kept.place kept.engine)) (sym c.deref_mut.ensures.value) c.world.invariant.1)),
+    )
+
+pub returns-in-Export-clause-room : goal.returns-in-Export-clause-room
+returns-in-Export-clause-room c = λ nodes all.
+    subst (λ s. HaveRoom nodes s.replicas) (sym c.world.view_is) all

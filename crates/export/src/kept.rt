@@ -1,0 +1,143 @@
+//! Exports of one plane by a universe that is kept between them.
+
+ghost use Rattle.std.specs.Prelude.{◌≡◌, ◌^◌, ◌≤◌, IfErr, IfOk, IfSome, Ok, Err};
+ghost use Rattle.edit_stamps.specs.PlaneMap.{HasStatesBelow};
+ghost use Rattle.stamped_tree.specs.Plane.{map_of};
+ghost use Rattle.generation_engine.specs.Universe.{states_in_writes};
+ghost use Rattle.export.specs.Export.{AreExported, IsExport, IsExportRefused, IsRoomWanted, IsWant, most_cells};
+ghost use Rattle.export.specs.Kept.{IsRunOf};
+
+use crate::exporting::{LAST, MOST_CELLS, cells_within, export};
+use crate::fault::ExportFault;
+use generation_engine::{Engine, EngineFault};
+use generations_rule::Rule;
+use multistate_rle::{Cell, write};
+use stamped_tree::Plane;
+use std::alloc::Global;
+
+/// `export`, by the universe that an earlier export of the plane left: it is run on from where it is, unless
+/// the generation is earlier, so that generations in rising order cost the last of them. Where this finds no
+/// room or no memory the universe is given back, and what is answered is what `export` answers.
+pub fn export_on(
+    alloc: Global,
+    rule: &Rule,
+    plane: &Plane,
+    generation: u32,
+    kept: &mut Option<Engine>,
+) -> Result<Vec<u8>, ExportFault>
+    requires states { HasStatesBelow rule.now.states (map_of plane.now) }
+    requires kept { IfSome kept.old (IsRunOf rule.now (states_in_writes (map_of plane.now))) }
+    ensures text { IfOk result (λ text. IsExport rule.now (states_in_writes (map_of plane.now)) generation most_cells (Ok text.items)) }
+    ensures err { IfErr result (IsExportRefused rule.now (states_in_writes (map_of plane.now)) generation most_cells) }
+    ensures full { result ≡ Err ExportFault.StoreFull → IsRoomWanted rule.now plane.now generation (2 ^ 26) }
+    ensures kept { IfSome kept.new (IsRunOf rule.now (states_in_writes (map_of plane.now))) }
+{
+    if generation > LAST {
+        return Err(ExportFault::GenRange);
+    }
+    match text_on(alloc, rule, plane, generation, kept) {
+        Err(ExportFault::StoreFull | ExportFault::Memory) => {
+            *kept = None;
+            export(alloc, rule, plane, generation)
+        }
+        answer => answer,
+    }
+}
+
+/// The same without a second try. The universe is kept, unless it finds no room or no memory.
+fn text_on(
+    alloc: Global,
+    rule: &Rule,
+    plane: &Plane,
+    generation: u32,
+    kept: &mut Option<Engine>,
+) -> Result<Vec<u8>, ExportFault>
+    requires states { HasStatesBelow rule.now.states (map_of plane.now) }
+    requires kept { IfSome kept.old (IsRunOf rule.now (states_in_writes (map_of plane.now))) }
+    requires generation { generation ≤ 2 ^ 29 }
+    ensures text { IfOk result (λ text. IsExport rule.now (states_in_writes (map_of plane.now)) generation most_cells (Ok text.items)) }
+    ensures err { IfErr result (IsExportRefused rule.now (states_in_writes (map_of plane.now)) generation most_cells) }
+    ensures kept { IfSome kept.new (IsRunOf rule.now (states_in_writes (map_of plane.now))) }
+{
+    let engine = universe_at(alloc, rule, plane, generation, kept.take())?;
+    let cells = cells_of(rule, plane, generation, &engine);
+    *kept = Some(engine);
+    let text = write(alloc, rule, u64::from(generation), &cells?)?;
+    Ok(text)
+}
+
+/// A universe of a plane at a generation: the one that is given, where it is not past it, or else a new one,
+/// run so far.
+fn universe_at(
+    alloc: Global,
+    rule: &Rule,
+    plane: &Plane,
+    generation: u32,
+    given: Option<Engine>,
+) -> Result<Engine, ExportFault>
+    requires states { HasStatesBelow rule.now.states (map_of plane.now) }
+    requires given { IfSome given (IsRunOf rule.now (states_in_writes (map_of plane.now))) }
+    requires generation { generation ≤ 2 ^ 29 }
+    ensures run { IfOk result (IsRunOf rule.now (states_in_writes (map_of plane.now))) }
+    ensures at { IfOk result (λ engine. engine.generation ≡ generation) }
+    ensures err { IfErr result IsWant }
+{
+    let mut engine = begun(alloc, rule, plane, generation, given)?;
+    match engine.run(generation - engine.generation()) {
+        Ok(()) => Ok(engine),
+        Err(EngineFault::StoreFull) => Err(ExportFault::StoreFull),
+        Err(EngineFault::Memory) => Err(ExportFault::Memory),
+        Err(EngineFault::GenRange) => unreachable!(),
+    }
+}
+
+/// The universe that is given, where it is not past a generation, or else a new one.
+fn begun(
+    alloc: Global,
+    rule: &Rule,
+    plane: &Plane,
+    generation: u32,
+    given: Option<Engine>,
+) -> Result<Engine, ExportFault>
+    requires states { HasStatesBelow rule.now.states (map_of plane.now) }
+    requires given { IfSome given (IsRunOf rule.now (states_in_writes (map_of plane.now))) }
+    ensures run { IfOk result (IsRunOf rule.now (states_in_writes (map_of plane.now))) }
+    ensures before { IfOk result (λ engine. engine.generation ≤ generation) }
+    ensures err { IfErr result IsWant }
+{
+    match given {
+        Some(engine) if engine.generation() <= generation => Ok(engine),
+        _other => loaded(alloc, rule, plane),
+    }
+}
+
+/// A new universe with a plane's cells, at generation 0.
+fn loaded(alloc: Global, rule: &Rule, plane: &Plane) -> Result<Engine, ExportFault>
+    requires { HasStatesBelow rule.now.states (map_of plane.now) }
+    ensures run { IfOk result (IsRunOf rule.now (states_in_writes (map_of plane.now))) }
+    ensures at { IfOk result (λ engine. engine.generation ≡ 0) }
+    ensures err { IfErr result IsWant }
+{
+    let mut engine = Engine::new(alloc, *rule)?;
+    engine.load(plane)?;
+    Ok(engine)
+}
+
+/// The cells that a universe of a plane shows at a generation, if they are at most 2^24.
+fn cells_of(
+    rule: &Rule,
+    plane: &Plane,
+    generation: u32,
+    engine: &Engine,
+) -> Result<Vec<Cell>, ExportFault>
+    requires states { HasStatesBelow rule.now.states (map_of plane.now) }
+    requires run { IsRunOf rule.now (states_in_writes (map_of plane.now)) engine.now }
+    requires at { engine.now.generation ≡ generation }
+    requires generation { generation ≤ 2 ^ 29 }
+    ensures cells { IfOk result (λ cells. AreExported rule.now (states_in_writes (map_of plane.now)) generation most_cells cells.items) }
+    ensures err { IfErr result (IsExportRefused rule.now (states_in_writes (map_of plane.now)) generation most_cells) }
+{
+    // For the proof alone: the call tells that what is held is a rule.
+    let _states = rule.states();
+    cells_within(engine, MOST_CELLS)
+}
