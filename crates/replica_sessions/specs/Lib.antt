@@ -1,0 +1,4 @@
+pub mod SessionFault
+pub mod Kinds
+pub mod KeptNews
+pub mod Answer

@@ -1,0 +1,5 @@
+pub mod HubFault
+pub mod HubCall
+pub mod Request
+pub mod Replies
+pub mod Rows
