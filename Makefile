@@ -44,6 +44,7 @@ bench:
 	@examples/measure
 	@cd crates/bench && rt run -- --time
 	@cd crates/board_bench && rt run -- --time
+	@cd crates/serve_bench && rt run -- --time
 
 # Runs each call that takes memory with each allocation refused in turn. Needs a C compiler.
 memory:

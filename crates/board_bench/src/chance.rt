@@ -31,6 +31,11 @@ impl Chance {
         self.live_cell(column, row)
     }
 
+    /// One of two sides.
+    fn is_head(&mut self) -> bool {
+        self.random.next_word() % 2 == 0
+    }
+
     /// A cell in state 1 or 2.
     fn live_cell(&mut self, column: u32, row: u32) -> Cell {
         Cell {
@@ -48,6 +53,21 @@ pub fn square(alloc: Global, side: u32) -> Result<Vec<Cell>, AllocError> {
     for row in 0..side {
         for column in 0..side {
             cells.push(chance.live_cell(column, row))?;
+        }
+    }
+    Ok(cells)
+}
+
+/// A cell at about every other place of a square.
+pub fn soup(alloc: Global, side: u32) -> Result<Vec<Cell>, AllocError> {
+    let mut chance = Chance::new(1, 23);
+    let mut cells = Vec::new(alloc);
+    for row in 0..side {
+        for column in 0..side {
+            let cell = chance.live_cell(column, row);
+            if chance.is_head() {
+                cells.push(cell)?;
+            }
         }
     }
     Ok(cells)

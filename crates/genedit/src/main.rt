@@ -1,42 +1,76 @@
 //! `genedit`: patterns of Generations automata that many edit.
 #![tactic(auto)]
 
-mod ending;
-mod words;
+mod pictures;
+mod tasks;
 
-use crate::ending::Ending;
-use crate::words::Task;
-use devices::{ReadSource, WriteSink};
+ghost use Rattle.genedit_words.specs.Given.{IsServable};
+
+use crate::pictures::view;
+use crate::tasks::{check, rle, run, serve};
 use genedit_io::RunFault;
-use genedit_lib::run_script;
-use genedit_rle::rle_text;
+use genedit_words::{Ending, Task, asked, given};
 use std::alloc::{AllocGlobal, Global};
-use std::io;
+use std::io::IsTerminal;
+use std::net::{Net, TcpListener, TcpStream};
 use std::process::ExitCode;
-use std::rt::Env;
+use std::rt::{Env, Files};
+use std::sync::Wait;
+use std::thread::Threads;
 
 fn main(rt: HostRuntime) -> ExitCode {
-    match work(&rt) {
-        Ok(()) => ExitCode::SUCCESS,
+    match work(&rt, rt.stdout().is_terminal()) {
+        Ok(status) => ExitCode::from(status),
         Err(ending) => ExitCode::from(ending.tell(&rt)),
     }
 }
 
-/// Does what the words ask for. Nothing is read before the words and the rule in them are found to be
-/// in order.
-fn work<R: Env + Input + Print + AllocGlobal>(rt: &R) -> Result<(), Ending> {
+/// Does what the words ask for; the status of the process. Nothing is read before the words and the rule
+/// in them are found to be in order.
+fn work<
+    R: Env
+        + Files
+        + Input
+        + Print
+        + Eprint
+        + AllocGlobal
+        + Net<Listener = TcpListener, Stream = TcpStream>
+        + Threads
+        + Wait
+        + Copy
+        + Drop
+        + Send
+        + Sync
+        + 'static,
+>(rt: &R, to_terminal: bool) -> Result<u8, Ending> {
     let alloc = rt.alloc();
-    let words = words::given(rt)?;
-    let task = words::asked(alloc, &words)?;
-    Ok(run_task(rt, alloc, task)?)
+    let words = given(rt)?;
+    let task = asked(alloc, &words)?;
+    Ok(perform(rt, alloc, &task, to_terminal)?)
 }
 
-/// Reads standard input and prints what comes of it.
-fn run_task(rt: &(impl Input + Print), alloc: Global, task: Task) -> Result<(), RunFault> {
-    let mut source = ReadSource::new(rt.reader());
-    let mut sink = WriteSink::new(io::writer(rt));
+/// Does a task; the status of the process.
+fn perform<
+    R: Files
+        + Input
+        + Print
+        + Eprint
+        + Net<Listener = TcpListener, Stream = TcpStream>
+        + Threads
+        + Wait
+        + Copy
+        + Drop
+        + Send
+        + Sync
+        + 'static,
+>(rt: &R, alloc: Global, task: &Task<'_>, to_terminal: bool) -> Result<u8, RunFault>
+    requires { IsServable task.now }
+{
     match task {
-        Task::Run => run_script(alloc, &mut source, &mut sink),
-        Task::Rle(rule) => rle_text(alloc, &rule, &mut source, &mut sink),
+        Task::Run => run(rt, alloc),
+        Task::Check(file) => check(rt, alloc, *file),
+        Task::Rle(rule) => rle(rt, alloc, rule),
+        Task::View(viewing) => view(rt, alloc, viewing, to_terminal),
+        Task::Serve(server) => serve(rt, alloc, *server),
     }
 }

@@ -10,4 +10,6 @@ mod step;
 
 pub use genedit_io::RunFault;
 pub use laws::{name_laws, output_laws};
+pub use plan::{Plan, PlannedLine, planned};
 pub use run::{run_script, run_script_within};
+pub use step::Text;

@@ -12,4 +12,6 @@ mod spelling;
 pub use command::{Command, Paste, PatternName, PatternText};
 pub use fault::ScriptFault;
 pub use laws::script_laws;
+pub use line::{Line, Lines};
 pub use script::{Script, read_script};
+pub use spelling::{command_in, opened_in, replicas_in, rule_in};

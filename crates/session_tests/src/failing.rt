@@ -94,21 +94,23 @@ fn greet(piece: &mut [u8], given: usize) {
     }
 }
 
-/// Keeps what is pushed, and fails at one of its pushes.
+/// Keeps what is pushed, and fails at one of its pushes, of which it keeps so many bytes.
 #[derive(Drop)]
 pub struct Keeper {
     pub bytes: Vec<u8>,
     pub pushes: u64,
     fails_at: u64,
+    part: usize,
     failures: u64,
 }
 
 impl Keeper {
-    pub fn new(alloc: Global, fails_at: u64) -> Keeper {
+    pub fn new(alloc: Global, fails_at: u64, part: usize) -> Keeper {
         Keeper {
             bytes: Vec::new(alloc),
             pushes: 0,
             fails_at,
+            part,
             failures: 0,
         }
     }
@@ -119,7 +121,10 @@ impl Sink for Keeper {
 
     fn push_all(&mut self, bytes: &[u8]) -> Result<(), Failed> {
         self.pushes = self.pushes.saturating_add(1);
-        if self.pushes == self.fails_at || self.bytes.extend_from_slice(bytes).is_err() {
+        let fails = self.pushes == self.fails_at;
+        let most = if fails { self.part } else { usize::MAX };
+        let part = most.min(bytes.len());
+        if self.bytes.extend_from_slice(&bytes[..part]).is_err() || fails {
             self.failures = self.failures.saturating_add(1);
             return Err(Failed);
         }

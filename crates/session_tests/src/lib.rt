@@ -1,7 +1,11 @@
-//! Tests of sessions (the protocol over a hub in memory, and services over bytes) and of many exports of one
-//! plane.
+//! Tests of sessions (the protocol over a hub in memory and over seats of a board, and services over bytes) and
+//! of many exports of one plane.
 #![tactic(auto)]
 
+#[cfg(test)]
+mod asking;
+#[cfg(test)]
+mod boards;
 #[cfg(test)]
 mod dialogues;
 #[cfg(test)]
@@ -11,11 +15,17 @@ mod hubs;
 #[cfg(test)]
 mod kept;
 #[cfg(test)]
+mod late;
+#[cfg(test)]
 mod many;
 #[cfg(test)]
 mod protocol;
 #[cfg(test)]
 mod refusals;
+#[cfg(test)]
+mod seats;
+#[cfg(test)]
+mod served;
 #[cfg(test)]
 mod streams;
 #[cfg(test)]

@@ -162,7 +162,7 @@ fn greeted<R: Threads + Sync + Drop>(
     turns: u64,
 ) -> Result<(Result<Served, ServeFault>, u64), Fail> {
     let mut session = Session::new(rt, alloc, hub_of(alloc, NOTHING)?);
-    let mut sink = Keeper::new(alloc, 0);
+    let mut sink = Keeper::new(alloc, 0, 0);
     let end = serve_within(
         alloc,
         &mut Greetings::of(size),

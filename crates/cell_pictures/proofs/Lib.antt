@@ -1,0 +1,10 @@
+pub mod ReaderLaws
+pub mod WindowLaws
+pub mod DrawnLaws
+pub mod RowLaws
+pub mod BlockLaws
+pub mod PathLaws
+pub mod RunLaws
+pub mod TextLaws
+pub mod SvgLaws
+pub mod BoxLaws

@@ -1,0 +1,13 @@
+pub mod Drawn
+pub mod Colour
+pub mod Window
+pub mod Shown
+pub mod Reader
+pub mod Plain
+pub mod Blocks
+pub mod Runs
+pub mod Svg
+pub mod Paths
+pub mod Picture
+pub mod Laws
+pub mod Rows

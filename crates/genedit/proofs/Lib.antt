@@ -1,4 +1,0 @@
-pub mod Stops
-pub mod RowValues
-pub mod CommandLaws
-pub mod ParseLaws

@@ -1,0 +1,93 @@
+//! Each task, with the input and the output that the process has; its answer is the status.
+
+ghost use Rattle.std.specs.Prelude.{◌≤◌};
+
+use devices::{ReadSource, Source, WriteSink};
+use generations_rule::Rule;
+use genedit_io::RunFault;
+use genedit_lib::run_script;
+use genedit_rle::rle_text;
+use genedit_serve::{listen, serve_on};
+use genedit_words::Server;
+use script_check::{Outcome, check_script};
+use std::alloc::Global;
+use std::fs;
+use std::io;
+use std::net::{Net, TcpListener, TcpStream};
+use std::rt::Files;
+use std::sync::Wait;
+use std::thread::Threads;
+
+/// All is well.
+const WELL: u8 = 0;
+
+/// There is something to mend.
+const TOLD: u8 = 1;
+
+/// What a script on standard input is called.
+const SCRIPT: &str = "script";
+
+/// Runs the script on standard input and prints what happened.
+pub fn run(rt: &(impl Input + Print), alloc: Global) -> Result<u8, RunFault> {
+    let mut source = ReadSource::new(rt.reader());
+    let mut sink = WriteSink::new(io::writer(rt));
+    run_script(alloc, &mut source, &mut sink)?;
+    Ok(WELL)
+}
+
+/// Prints the canonical form of the text on standard input.
+pub fn rle(rt: &(impl Input + Print), alloc: Global, rule: &Rule) -> Result<u8, RunFault> {
+    let mut source = ReadSource::new(rt.reader());
+    let mut sink = WriteSink::new(io::writer(rt));
+    rle_text(alloc, rule, &mut source, &mut sink)?;
+    Ok(WELL)
+}
+
+/// Tells what is wrong with the script of a file, or of standard input.
+pub fn check<R: Files + Input + Print>(
+    rt: &R,
+    alloc: Global,
+    file: Option<&str>,
+) -> Result<u8, RunFault> {
+    match file {
+        None => checked(rt, alloc, SCRIPT, &mut ReadSource::new(rt.reader())),
+        Some(path) => match fs::open(rt, path) {
+            Err(_) => Err(RunFault::Read),
+            Ok(opened) => checked(rt, alloc, path, &mut ReadSource::new(opened)),
+        },
+    }
+}
+
+/// Tells what is wrong with a script of this name.
+fn checked<S: Source>(
+    rt: &impl Print,
+    alloc: Global,
+    name: &str,
+    source: &mut S,
+) -> Result<u8, RunFault> {
+    let mut sink = WriteSink::new(io::writer(rt));
+    match check_script(alloc, name.as_bytes(), source, &mut sink)? {
+        Outcome::Clean => Ok(WELL),
+        Outcome::Told => Ok(TOLD),
+    }
+}
+
+/// Serves a board.
+pub fn serve<
+    R: Print
+        + Net<Listener = TcpListener, Stream = TcpStream>
+        + Threads
+        + Wait
+        + Copy
+        + Drop
+        + Send
+        + Sync
+        + 'static,
+>(rt: &R, alloc: Global, server: Server) -> Result<u8, RunFault>
+    requires { (1 ≤ server.sessions) × (server.sessions ≤ 64) }
+{
+    let listener = listen(rt, server.port)?;
+    let mut sink = WriteSink::new(io::writer(rt));
+    serve_on(*rt, alloc, listener, server.rule, server.sessions, &mut sink)?;
+    Ok(WELL)
+}

@@ -1,0 +1,26 @@
+-- Faults of a board and its server, as the program tells them.
+use Rattle.std.specs.Prelude.{None}
+use Rattle.genedit_io.specs.declared.fault.RunFault.{RunFault}
+use Rattle.genedit_io.specs.declared.fault.RunFault.TheVariants as run
+use Rattle.relay_core.specs.declared.fault.StartFault.{StartFault}
+use Rattle.relay_core.specs.declared.fault.StartFault.TheVariants as start
+use Rattle.relay_core.specs.declared.fault.TurnFault.TheVariants as turn
+use Rattle.relay_board.specs.declared.fault.FinishFault.TheVariants as finish
+use Rattle.seat_server.specs.declared.fault.ServerFault.{ServerFault}
+use Rattle.seat_server.specs.declared.fault.ServerFault.TheVariants as server
+
+-- why there is no board
+abbrev pub run_fault_of_start : StartFault → RunFault
+run_fault_of_start start.Size = run.Refused 32 None
+run_fault_of_start start.NoPlace = run.Refused 31 None
+run_fault_of_start start.Memory = run.Memory
+
+-- why there is no account
+abbrev pub run_fault_of_server : ServerFault → RunFault
+run_fault_of_server server.Read = run.Read
+run_fault_of_server (server.Turn turn.StoreFull) = run.StoreFull
+run_fault_of_server (server.Turn turn.Memory) = run.Memory
+run_fault_of_server (server.Finish finish.Closed) = run.Refused 30 None
+run_fault_of_server (server.Finish finish.StoreFull) = run.StoreFull
+run_fault_of_server (server.Finish finish.Memory) = run.Memory
+run_fault_of_server server.Memory = run.Memory

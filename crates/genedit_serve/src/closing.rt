@@ -1,0 +1,99 @@
+//! What the server prints.
+
+ghost use Rattle.std.specs.Prelude.{◌≡◌, ◌++◌, ◌+◌, length, OnOk, IfOk, decimal};
+ghost use Rattle.genedit_serve.specs.Closing.{listening_line, end_word, session_line, session_lines, closed_line, closing_text};
+
+use frame_service::{ServeFault, Served};
+use itoa::Buffer;
+use seat_server::Finished;
+use std::alloc::{AllocError, Global};
+
+/// That the server listens at a port.
+pub fn listening(alloc: Global, port: u16) -> Result<Vec<u8>, AllocError>
+    ensures { IfOk result (λ line. line.items ≡ listening_line port) }
+{
+    let mut line = Vec::new(alloc);
+    line.extend_from_slice(b"listening ")?;
+    push_number(&mut line, u64::from(port))?;
+    line.push(b'\n')?;
+    Ok(line)
+}
+
+/// A line for each session, and a last one for the published list.
+pub fn closing(alloc: Global, finished: &Finished) -> Result<Vec<u8>, AllocError>
+    ensures { IfOk result (λ text. text.items ≡ closing_text finished.now) }
+{
+    let mut text = Vec::new(alloc);
+    push_sessions(
+        &mut text,
+        finished.account.accepted.as_slice(),
+        finished.ends.as_slice(),
+    )?;
+    let before = u128::from(finished.account.before);
+    let published = finished.account.published.as_slice().len() as u64;
+    push_closed(&mut text, before + u128::from(published))?;
+    Ok(text)
+}
+
+fn push_number(out: &mut Vec<u8>, number: u64) -> Result<(), AllocError>
+    ensures { OnOk result (out.new.items ≡ out.old.items ++ decimal number) }
+{
+    out.extend_from_slice(Buffer::new().format(number).as_bytes())
+}
+
+/// The fault of a session that ended by one.
+fn push_end(out: &mut Vec<u8>, end: &Result<Served, ServeFault>) -> Result<(), AllocError>
+    ensures { OnOk result (out.new.items ≡ out.old.items ++ end_word end.now) }
+{
+    match end {
+        Ok(_) => Ok(()),
+        Err(fault) => {
+            out.extend_from_slice(b" fault ")?;
+            push_number(out, u64::from(fault.number()))
+        }
+    }
+}
+
+/// The line of a session.
+fn push_session(
+    out: &mut Vec<u8>,
+    number: u64,
+    edits: u64,
+    end: &Result<Served, ServeFault>,
+) -> Result<(), AllocError>
+    ensures { OnOk result (out.new.items ≡ out.old.items ++ session_line number edits end.now) }
+{
+    out.extend_from_slice(b"session ")?;
+    push_number(out, number)?;
+    out.extend_from_slice(b" edits ")?;
+    push_number(out, edits)?;
+    push_end(out, end)?;
+    out.push(b'\n')?;
+    Ok(())
+}
+
+/// The lines of all sessions, in the order of their seats.
+fn push_sessions(
+    out: &mut Vec<u8>,
+    accepted: &[u64],
+    ends: &[Result<Served, ServeFault>],
+) -> Result<(), AllocError>
+    ensures { OnOk result (out.new.items ≡ out.old.items ++ session_lines 1 accepted.now ends.now) }
+{
+    let mut number: u64 = 1;
+    for (edits, end) in accepted.iter().zip(ends.iter()) {
+        push_session(out, number, *edits, end)?;
+        number += 1;
+    }
+    Ok(())
+}
+
+/// The line of the published list.
+fn push_closed(out: &mut Vec<u8>, count: u128) -> Result<(), AllocError>
+    ensures { OnOk result (out.new.items ≡ out.old.items ++ closed_line count) }
+{
+    out.extend_from_slice(b"closed ")?;
+    out.extend_from_slice(Buffer::new().format(count).as_bytes())?;
+    out.push(b'\n')?;
+    Ok(())
+}

@@ -1,0 +1,36 @@
+//! Faults of a board and its server, as the program tells them.
+
+ghost use Rattle.std.specs.Prelude.{◌≡◌, ◌≢◌};
+ghost use Rattle.relay_core.specs.declared.fault.StartFault.TheVariants as start_faults;
+ghost use Rattle.genedit_serve.specs.Faults.{run_fault_of_server, run_fault_of_start};
+
+use genedit_io::RunFault;
+use relay_board::{FinishFault, StartFault, TurnFault};
+use seat_server::ServerFault;
+
+/// Why there is no board. The number of sessions and the inbox's room are in order.
+pub fn start_fault(fault: StartFault) -> RunFault
+    requires { fault ≢ start_faults.Size }
+    ensures { result ≡ run_fault_of_start fault }
+{
+    match fault {
+        StartFault::Size => unreachable!(),
+        StartFault::NoPlace => RunFault::Refused(31, None),
+        StartFault::Memory => RunFault::Memory,
+    }
+}
+
+/// Why there is no account.
+pub fn server_fault(fault: ServerFault) -> RunFault
+    ensures { result ≡ run_fault_of_server fault }
+{
+    match fault {
+        ServerFault::Read => RunFault::Read,
+        ServerFault::Turn(TurnFault::StoreFull) => RunFault::StoreFull,
+        ServerFault::Turn(TurnFault::Memory) => RunFault::Memory,
+        ServerFault::Finish(FinishFault::StoreFull) => RunFault::StoreFull,
+        ServerFault::Finish(FinishFault::Memory) => RunFault::Memory,
+        ServerFault::Finish(FinishFault::Closed) => RunFault::Refused(30, None),
+        ServerFault::Memory => RunFault::Memory,
+    }
+}

@@ -1,0 +1,9 @@
+//! The server: a board whose seats are served to connections over the loopback of this machine.
+#![tactic(auto)]
+
+mod closing;
+mod connections;
+mod fault;
+mod server;
+
+pub use server::{INBOX, listen, serve_on};

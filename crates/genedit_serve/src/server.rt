@@ -1,0 +1,109 @@
+//! The server.
+
+ghost use Rattle.std.specs.Prelude.{◌≡◌, ◌≤◌};
+ghost use Rattle.std.specs.Arc.{arc_value};
+ghost use Rattle.genedit_serve.specs.Serving.{Serves};
+
+use crate::closing::{closing, listening};
+use crate::connections::{Connections, Knock};
+use crate::fault::{server_fault, start_fault};
+use devices::Sink;
+use genedit_io::{RunFault, push_output};
+use generations_rule::Rule;
+use relay_board::{Naming, Opened, start};
+use seat_server::serve_seats;
+use std::alloc::Global;
+use std::marker::Brand;
+use std::net::{Net, TcpListener, TcpStream};
+use std::sync::Wait;
+use std::thread::Threads;
+
+/// How many submissions the inbox of a served board has room for. A session has one at a time.
+pub const INBOX: u16 = 64;
+
+/// Listens at a port of this machine's loopback; at any free one for 0. `Read` where that cannot be had.
+pub fn listen<R: Net<Listener = TcpListener, Stream = TcpStream>>(
+    rt: &R,
+    port: u16,
+) -> Result<TcpListener, RunFault> {
+    TcpListener::bind(rt, ("127.0.0.1", port)).map_err(|_| RunFault::Read)
+}
+
+/// Serves a board of so many seats, 1 to 64, under a rule, to the first so many connections, each on a
+/// thread of its own: seat 1 to the first that is accepted, and so on. After the last one whoever comes is
+/// refused. The line `listening PORT` is pushed once there is a board; once all sessions have ended, a line
+/// for each, `session I edits K`, with the number of its fault behind it where it ended by one, and the
+/// line `closed L`, L being the length of the published list.
+///
+/// `Read` where a connection was not accepted or a thread was not started; `StoreFull` or `Memory` where
+/// 1,000 turns of the relay in a row failed so; both once the sessions that had begun have ended. What
+/// `start` and `finish` refuse is told as they do.
+pub fn serve_on<
+    R: Net<Listener = TcpListener, Stream = TcpStream>
+        + Threads
+        + Wait
+        + Copy
+        + Drop
+        + Send
+        + Sync
+        + 'static,
+    K: Sink,
+>(
+    rt: R,
+    alloc: Global,
+    listener: TcpListener,
+    rule: Rule,
+    sessions: u16,
+    sink: &mut K,
+) -> Result<(), RunFault>
+    requires { (1 ≤ sessions) × (sessions ≤ 64) }
+    ensures { Serves rule sessions (K.known sink.old) (K.known sink.new) result }
+{
+    let Ok(address) = listener.local_addr() else {
+        return Err(RunFault::Read);
+    };
+    match start(rt, alloc, rule, sessions, INBOX) {
+        Ok(opened) => serve::<Brand, R, K>(rt, alloc, opened, listener, address.port(), sink),
+        Err(fault) => Err(start_fault(fault)),
+    }
+}
+
+/// Serves the seats of a board that was opened.
+fn serve<
+    J: Naming + Send + 'static,
+    R: Net<Listener = TcpListener, Stream = TcpStream>
+        + Threads
+        + Wait
+        + Copy
+        + Drop
+        + Send
+        + Sync
+        + 'static,
+    K: Sink,
+>(
+    rt: R,
+    alloc: Global,
+    opened: Opened<R>,
+    listener: TcpListener,
+    port: u16,
+    sink: &mut K,
+) -> Result<(), RunFault>
+    requires origin { opened.publisher.origin ≡ J.origin }
+    requires inbox { (arc_value opened.drain.queue).table.shared.table_id ≡ J.inbox }
+    ensures { Serves opened.rule opened.count (K.known sink.old) (K.known sink.new) result }
+{
+    let (relay, seats) = match opened.named::<J>() {
+        Ok(named) => named,
+        Err(fault) => return Err(start_fault(fault)),
+    };
+    let line = listening(alloc, port)?;
+    push_output(sink, &line)?;
+    let knock = Knock { rt: &rt, port };
+    match serve_seats(rt, alloc, relay, seats, Connections::of(listener), &knock) {
+        Err(fault) => Err(server_fault(fault)),
+        Ok(finished) => {
+            let text = closing(alloc, &finished)?;
+            push_output(sink, &text)
+        }
+    }
+}

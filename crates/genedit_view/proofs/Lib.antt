@@ -1,0 +1,3 @@
+pub mod PatternLaws
+pub mod DrawnLaws
+pub mod SeenLaws

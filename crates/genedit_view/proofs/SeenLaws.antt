@@ -1,0 +1,120 @@
+-- What is seen of a text, and why nothing is.
+use Rattle.std.proofs.Common.{◌≡◌, inl, inr, Bool, ℕ, ◌≤◌, true, false, List, refl, sym, ap, subst, ◌∙◌}
+use Rattle.std.specs.Prelude.{◌⊎◌, Option, Some, None, Result, Ok, Err, IfErr, IsErrAnd, IsTrue, is_some}
+use Rattle.generations_rule.specs.Place.{Place}
+use Rattle.generations_rule.specs.Refusal.{AnswersAs}
+use Rattle.generations_rule.specs.Rule.{GenerationsRule}
+use Rattle.multistate_rle.specs.declared.cell.Cell.{Cell}
+use Rattle.multistate_rle.specs.Cells.{are_nonzero, is_sorted}
+use Rattle.stamped_tree.specs.Plane.{StampedPlane, map_of}
+use Rattle.delta_exchange.specs.declared.fault.ReadFault.{ReadFault}
+use Rattle.delta_exchange.specs.declared.message.Content.{Content}
+use Rattle.delta_exchange.specs.declared.message.Content.TheVariants as content
+use Rattle.delta_exchange.specs.Fault.{IsWantOrFull}
+use Rattle.delta_exchange.specs.Message.{Shared, plane_of}
+use Rattle.delta_exchange.specs.MessageReading.{IsTextOf, StandsForTold, Told, message_of}
+use Rattle.generation_engine.specs.Universe.{states_in_writes}
+use Rattle.export.specs.declared.fault.ExportFault.{ExportFault}
+use Rattle.export.specs.declared.fault.ExportFault.TheVariants as exports
+use Rattle.export.specs.Export.{IsExport, IsExportRefused, IsWant, most_cells}
+use Rattle.cell_pictures.specs.Shown.{state_at}
+use Rattle.genedit_view.specs.declared.fault.ViewFault.{ViewFault}
+use Rattle.genedit_view.specs.declared.options.Options.{Options}
+use Rattle.genedit_view.specs.Fault.{IsViewWant, fault_of_generation, fault_of_state}
+use Rattle.genedit_view.specs.Reading.{IsReadAs, begins_as_state, pattern_seen, state_rule}
+use Rattle.genedit_view.specs.Reading.IsReadAs.{Pattern, State}
+use Rattle.genedit_view.specs.Seeing.{AreCellsAt, AreSeen, IsLateRefused, IsNotSeen, IsRefusedAt, IsWantAt}
+use Rattle.genedit_view.specs.Seeing.IsNotSeen.{NoGeneration, NoState}
+
+-- the end of a call by another's fault
+pub at_end : {A : Type 0} (r : Result A ViewFault) (Q P : ViewFault → Type 0) → IsErrAnd r Q → ((e : ViewFault) → Q e → P e) → IfErr r P
+at_end (Ok x) Q P h f = tt
+at_end (Err e) Q P h f = f e h
+
+-- ---- generations
+
+want_told : (refusal : ExportFault) (e : ViewFault) → IsWant refusal → e ≡ fault_of_generation refusal → IsViewWant e
+want_told exports.Memory e want told = inl told
+want_told exports.StoreFull e want told = inr told
+want_told exports.GenRange e want told = absurd want
+want_told exports.TooManyCells e want told = absurd want
+
+pub late_told : (r : GenerationsRule) (f h : Place → ℕ) (g : ℕ) (refusal : ExportFault) (e : ViewFault) → f ≡ h → IsExportRefused r f g most_cells refusal → e ≡ fault_of_generation refusal →
+    IsLateRefused r h g e ⊎ IsViewWant e
+late_told r f h g refusal e same (inl want) told = inr (want_told refusal e want.0 told)
+late_told r f h g refusal e same (inr refused) told = inl (record { refusal = refusal; refused = subst (λ k. IsExport r k g most_cells (Err refusal)) same refused; told = told })
+
+-- ---- patterns
+
+pub pattern_shown : (o : Options) (text : List ℕ) (r : GenerationsRule) (cells : List Cell) → begins_as_state text ≡ false → o.generation ≡ None →
+    pattern_seen (is_some o.generation) o.rule text ≡ Ok (r, cells) → is_sorted cells ≡ true → are_nonzero cells ≡ true → AreSeen o text r cells
+pattern_shown o text r cells begins none seen sorted nonzero = record {
+  states = state_at cells;
+  read = Pattern cells begins seen refl;
+  are = subst (λ g. AreCellsAt r (state_at cells) g cells) (sym none) (record { sorted = sorted; nonzero = nonzero; states = λ c. refl });
+}
+
+pub pattern_later : (o : Options) (text : List ℕ) (r : GenerationsRule) (cells later : List Cell) (g : ℕ) → begins_as_state text ≡ false → o.generation ≡ Some g →
+    pattern_seen (is_some o.generation) o.rule text ≡ Ok (r, cells) → AreCellsAt r (state_at cells) (Some g) later → AreSeen o text r later
+pattern_later o text r cells later g begins some seen are = record {
+  states = state_at cells;
+  read = Pattern cells begins seen refl;
+  are = subst (λ n. AreCellsAt r (state_at cells) n later) (sym some) are;
+}
+
+-- a want where generations are run, or where a state is read
+want_where : (o : Options) (text : List ℕ) (e : ViewFault) → (begins_as_state text ≡ true) ⊎ (is_some o.generation ≡ true) → IsViewWant e → IsWantAt o text e
+want_where o text e why (inl memory) = inl memory
+want_where o text e why (inr full) = inr (full, why)
+
+pub pattern_late : (o : Options) (text : List ℕ) (r : GenerationsRule) (cells : List Cell) (g : ℕ) (e : ViewFault) → begins_as_state text ≡ false → o.generation ≡ Some g →
+    pattern_seen (is_some o.generation) o.rule text ≡ Ok (r, cells) → IsLateRefused r (state_at cells) g e ⊎ IsViewWant e → IsNotSeen o text e ⊎ IsWantAt o text e
+pattern_late o text r cells g e begins some seen (inl late) =
+    inl (NoGeneration r (state_at cells) (Pattern cells begins seen refl) (subst (λ n. IsRefusedAt r (state_at cells) n e) (sym some) late))
+pattern_late o text r cells g e begins some seen (inr want) = inr (want_where o text e (inr (ap is_some some)) want)
+
+-- ---- states
+
+answered : {A B F : Type 0} (S : A → B → Type 0) (W : F → Type 0) (e : F) (meant : Result B F) → AnswersAs S W (Err e) meant → W e ⊎ (meant ≡ Err e)
+answered S W e (Ok y) h = inl h
+answered S W e (Err f) (inl want) = inl want
+answered S W e (Err f) (inr same) = inr (ap (λ x. Err x) (sym same))
+
+want_of_state : (refusal : ReadFault) (e : ViewFault) → IsWantOrFull refusal → e ≡ fault_of_state refusal → IsViewWant e
+want_of_state refusal e (inl memory) told = inl (told ∙ ap fault_of_state memory)
+want_of_state refusal e (inr full) told = inr (told ∙ ap fault_of_state full)
+
+state_told : (o : Options) (text : List ℕ) (r : GenerationsRule) (refusal : ReadFault) (e : ViewFault) → begins_as_state text ≡ true → state_rule o.rule text ≡ Some r →
+    IsWantOrFull refusal ⊎ (message_of r text ≡ Err refusal) → e ≡ fault_of_state refusal → IsNotSeen o text e ⊎ IsWantAt o text e
+state_told o text r refusal e begins rule (inl want) told = inr (want_where o text e (inl begins) (want_of_state refusal e want told))
+state_told o text r refusal e begins rule (inr refused) told = inl (NoState r refusal begins rule refused told)
+
+pub state_refused : (o : Options) (text : List ℕ) (r : GenerationsRule) (refusal : ReadFault) (e : ViewFault) → begins_as_state text ≡ true → state_rule o.rule text ≡ Some r →
+    AnswersAs (StandsForTold r) IsWantOrFull (Err refusal) (message_of r text) → e ≡ fault_of_state refusal → IsNotSeen o text e ⊎ IsWantAt o text e
+state_refused o text r refusal e begins rule exact told =
+    state_told o text r refusal e begins rule (answered (StandsForTold r) IsWantOrFull refusal (message_of r text) exact) told
+
+pub state_read : (is_run : Bool) (given : Option GenerationsRule) (text : List ℕ) (r : GenerationsRule) (shared : Content) (p : StampedPlane) → begins_as_state text ≡ true →
+    state_rule given text ≡ Some r → Some p ≡ plane_of shared → IsTextOf r shared text → IsReadAs is_run given text r (states_in_writes (map_of p))
+state_read is_run given text r (content.Edits edits) p begins rule is found = absurd (cc)
+state_read is_run given text r (content.State q) p begins rule is found =
+    let same : p ≡ q = cc in
+    State (map_of q) begins rule found.0 found.1 (ap (λ x. states_in_writes (map_of x)) same)
+
+pub state_shown : (o : Options) (text : List ℕ) (r : GenerationsRule) (f : Place → ℕ) (cells : List Cell) → IsReadAs (is_some o.generation) o.rule text r f →
+    AreCellsAt r f o.generation cells → AreSeen o text r cells
+state_shown o text r f cells read are = record { states = f; read = read; are = are }
+
+pub state_late : (o : Options) (text : List ℕ) (r : GenerationsRule) (f : Place → ℕ) (e : ViewFault) → begins_as_state text ≡ true → IsReadAs (is_some o.generation) o.rule text r f →
+    IsRefusedAt r f o.generation e ⊎ IsViewWant e → IsNotSeen o text e ⊎ IsWantAt o text e
+state_late o text r f e begins read (inl late) = inl (NoGeneration r f read late)
+state_late o text r f e begins read (inr want) = inr (want_where o text e (inl begins) want)
+
+-- ---- what is seen can be drawn
+
+sorted_at : (r : GenerationsRule) (f : Place → ℕ) (generation : Option ℕ) (cells : List Cell) → AreCellsAt r f generation cells → IsTrue (is_sorted cells)
+sorted_at r f None cells are = are.sorted
+sorted_at r f (Some g) cells are = are.1.are_cells.sorted
+
+pub seen_sorted : (o : Options) (text : List ℕ) (r : GenerationsRule) (cells : List Cell) → AreSeen o text r cells → IsTrue (is_sorted cells)
+seen_sorted o text r cells seen = sorted_at r seen.states o.generation cells seen.are

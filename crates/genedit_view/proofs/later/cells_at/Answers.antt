@@ -1,0 +1,41 @@
+use Rattle.std.proofs.Common.{◌≡◌, ℕ, ◌<◌, ◌∙◌, ap, sym, subst, arith, inl, inr}
+use Rattle.std.specs.Prelude.{pos, ◌^◌, Err}
+use Rattle.std.proofs.lemmas.Bool.{cases_lt}
+use Rattle.generations_rule.specs.Place.{Place, moved}
+use Rattle.generations_rule.specs.Evolution.{at}
+use Rattle.bitplane_kernel.specs.Population.{population}
+use Rattle.generation_engine.specs.Universe.{population_of, states_in_writes, states_of, universe_corner}
+use Rattle.generation_engine.specs.Walk.{AreCellsOf}
+use Rattle.stamped_tree.specs.Plane.{map_of}
+use Rattle.export.specs.Export.{IsExportRefused, most_cells, population_at}
+use Rattle.export.proofs.ExportLaws.{cells_below, shown, when_err, when_ok}
+use Rattle.genedit_view.proofs.later.cells_at.Goals as goal
+
+shown_cells : (c : goal.After-drop-engine-2) → states_of c.run.new.self ≡ at c.args.rule.now (states_in_writes (map_of c.args.plane.now)) c.args.generation
+shown_cells c =
+    let f : Place → ℕ = states_in_writes (map_of c.args.plane.now) in
+    shown c.args.rule.now c.load.new.self.rule f (states_of c.load.new.self) (states_of c.run.new.self) c.args.generation
+    (c.load.ensures.rule ∙ c.in_ok-engine.ensures.rule) c.in_ok-load.ensures.states c.in_ok-run.ensures.states
+
+counted : (c : goal.After-drop-engine-2) → population_of c.run.new.self ≡ population_at c.args.rule.now (states_in_writes (map_of c.args.plane.now)) c.args.generation
+counted c = ap (λ h. population (2 ^ 33) (λ u v. h (moved universe_corner (pos u) (pos v)))) (shown_cells c)
+
+pub returns-clause-cells : goal.returns-clause-cells
+returns-clause-cells c = when_ok _ _ c.cells_within.result (λ listed is are.
+    (let f : Place → ℕ = states_in_writes (map_of c.args.plane.now) in
+    let cells : AreCellsOf (at c.args.rule.now f c.args.generation) listed.items = subst (λ h. AreCellsOf h listed.items) (shown_cells c) are in
+    record {
+      few = elim (cases_lt most_cells (population_at c.args.rule.now f c.args.generation)) [
+        | inl over ↦ (let refused = c.cells_within.ensures.too_many.1 (let count = counted c in omega (arith, over, count)) in absurd (cc))
+        | inr few ↦ few
+      ];
+      are_cells = cells;
+      below = cells_below c.args.rule.now f c.args.generation listed.items c.states-states.ensures.rule c.requires.states cells;
+    })) c.cells_within.ensures.cells
+
+pub returns-clause-err : goal.returns-clause-err
+returns-clause-err c = when_err _ _ c.cells_within.result (λ fault is told_as. elim told_as [
+  | inl over ↦ subst (λ e. IsExportRefused c.args.rule.now (states_in_writes (map_of c.args.plane.now)) c.args.generation most_cells e) (sym over)
+      (inr (c.requires.generation, subst (λ n. most_cells < n) (counted c) (c.cells_within.ensures.too_many.0 (is ∙ ap (λ e. Err e) over))))
+  | inr want ↦ subst (λ e. IsExportRefused c.args.rule.now (states_in_writes (map_of c.args.plane.now)) c.args.generation most_cells e) (sym want) (inl (tt, c.requires.generation))
+]) c.cells_within.ensures.err

@@ -1,0 +1,35 @@
+use Rattle.std.proofs.Common.{◌≡◌, ◌∙◌, sym, subst}
+use Rattle.std.specs.Prelude.{◌⊎◌, Some, is_some}
+use Rattle.stamped_tree.specs.Plane.{map_of}
+use Rattle.generation_engine.specs.Universe.{states_in_writes}
+use Rattle.genedit_view.specs.declared.fault.ViewFault.{ViewFault}
+use Rattle.genedit_view.specs.Reading.{IsReadAs, state_rule}
+use Rattle.genedit_view.specs.Seeing.{IsNotSeen, IsWantAt}
+use Rattle.genedit_view.proofs.SeenLaws.{at_end, state_late, state_read, state_refused, state_shown}
+use Rattle.genedit_view.proofs.shown.see_state.Goals as goal
+
+pub returns-in_err-message-clause-fault : goal.returns-in_err-message-clause-fault
+returns-in_err-message-clause-fault c =
+    let rule : state_rule c.args.options.now.rule c.args.text.now ≡ Some c.in-Some.rule = sym c.state_rule.ensures ∙ c.in-Some.is in
+    at_end c.from_residual.result _ _ c.from_residual.ensures.1
+    (λ e told. state_refused c.args.options.now c.args.text.now c.in-Some.rule c.in_err-message.field-0.0 e c.requires rule c.in_err-message.ensures.exact told)
+
+pub returns-in_err-cells-clause-fault : goal.returns-in_err-cells-clause-fault
+returns-in_err-cells-clause-fault c =
+    let o = c.args.options.now in
+    let text = c.args.text.now in
+    let r = c.in-Some.rule in
+    let rule : state_rule o.rule text ≡ Some r = sym c.state_rule.ensures ∙ c.in-Some.is in
+    let read = state_read (is_some o.generation) o.rule text r c.in_ok-message.message.content c.in-Some-plane.plane.now c.requires rule c.in-Some-plane.ensures.value c.in_ok-message.ensures.found.1 in
+    at_end c.from_residual-in_err-cells.result _ _ c.from_residual-in_err-cells.ensures.1
+    (λ e told. subst (λ (x : ViewFault). IsNotSeen o text x ⊎ IsWantAt o text x) (sym told)
+    (state_late o text r (states_in_writes (map_of c.in-Some-plane.plane.now)) c.in_err-cells.field-0.0 c.requires read c.in_err-cells.ensures.fault))
+
+pub returns-clause-seen : goal.returns-clause-seen
+returns-clause-seen c =
+    let o = c.args.options.now in
+    let text = c.args.text.now in
+    let r = c.in-Some.rule in
+    let rule : state_rule o.rule text ≡ Some r = sym c.state_rule.ensures ∙ c.in-Some.is in
+    let read = state_read (is_some o.generation) o.rule text r c.in_ok-message.message.content c.in-Some-plane.plane.now c.requires rule c.in-Some-plane.ensures.value c.in_ok-message.ensures.found.1 in
+    state_shown o text r (states_in_writes (map_of c.in-Some-plane.plane.now)) c.in_ok-cells.cells.items read c.in_ok-cells.ensures.cells

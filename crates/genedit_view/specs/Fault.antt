@@ -1,0 +1,78 @@
+-- Why no picture is drawn, as users meet it.
+use Rattle.std.specs.Prelude.{◌≡◌, ◌⊎◌, ℕ, List, ◌++◌, None, codes, decimal}
+use Rattle.multistate_rle.specs.declared.fault.RleFault.{RleFault}
+use Rattle.multistate_rle.specs.declared.fault.RleFault.TheVariants as texts
+use Rattle.multistate_rle.specs.RleFault.{text_fault_number, text_fault_place}
+use Rattle.edit_stamps.specs.declared.fault.EditFault.TheVariants as edits
+use Rattle.edit_stamps.specs.EditFault.{edit_fault_number}
+use Rattle.delta_exchange.specs.declared.fault.ReadFault.{ReadFault}
+use Rattle.delta_exchange.specs.declared.fault.ReadFault.TheVariants as states
+use Rattle.delta_exchange.specs.Fault.{read_fault_number}
+use Rattle.export.specs.declared.fault.ExportFault.{ExportFault}
+use Rattle.export.specs.declared.fault.ExportFault.TheVariants as exports
+use Rattle.export.specs.ExportFault.{export_fault_number}
+use Rattle.genedit_io.specs.declared.fault.RunFault.TheVariants.{Memory, Refused, StoreFull}
+use Rattle.genedit_io.specs.RunFault.{exit_status, run_fault_text}
+use Rattle.genedit_view.specs.declared.fault.ViewFault.{ViewFault}
+use Rattle.genedit_view.specs.declared.fault.ViewFault.TheVariants.{HeaderRule, NoRule, Run}
+
+-- the status of the process
+abbrev pub view_status : ViewFault → ℕ
+view_status (Run fault) = exit_status fault
+view_status NoRule = 2
+view_status (HeaderRule place) = 2
+
+-- what the program says
+abbrev pub view_fault_text : ViewFault → List ℕ
+view_fault_text (Run fault) = run_fault_text fault
+view_fault_text NoRule = codes "no rule is told: give one by --rule"
+view_fault_text (HeaderRule place) = codes "no rule at byte " ++ (decimal place ++ codes ": give one by --rule")
+
+abbrev pub memory_wanted : ViewFault
+memory_wanted = Run Memory
+
+-- a refusal of this number, without a place
+abbrev pub refused : ℕ → ViewFault
+refused number = Run (Refused number None)
+
+abbrev pub out_of_plane : ViewFault
+out_of_plane = refused (edit_fault_number edits.OutOfPlane)
+
+abbrev pub state_range : ViewFault
+state_range = refused (edit_fault_number edits.StateRange)
+
+-- a text that is no pattern
+abbrev pub fault_of_pattern : RleFault → ViewFault
+fault_of_pattern texts.Memory = Run Memory
+fault_of_pattern texts.Header = Run (Refused (text_fault_number texts.Header) None)
+fault_of_pattern texts.TooMany = Run (Refused (text_fault_number texts.TooMany) None)
+fault_of_pattern (texts.Tag place) = Run (Refused (text_fault_number (texts.Tag place)) (text_fault_place (texts.Tag place)))
+fault_of_pattern (texts.Count place) = Run (Refused (text_fault_number (texts.Count place)) (text_fault_place (texts.Count place)))
+fault_of_pattern (texts.State place) = Run (Refused (text_fault_number (texts.State place)) (text_fault_place (texts.State place)))
+
+-- a text that is no state
+abbrev pub fault_of_state : ReadFault → ViewFault
+fault_of_state states.Memory = Run Memory
+fault_of_state states.StoreFull = Run StoreFull
+fault_of_state states.TooMany = refused (read_fault_number states.TooMany)
+fault_of_state states.Nothing = refused (read_fault_number states.Nothing)
+fault_of_state states.OutOfPlane = refused (read_fault_number states.OutOfPlane)
+fault_of_state states.StateRange = refused (read_fault_number states.StateRange)
+fault_of_state states.Magic = refused (read_fault_number states.Magic)
+fault_of_state states.Version = refused (read_fault_number states.Version)
+fault_of_state states.OtherRule = refused (read_fault_number states.OtherRule)
+fault_of_state states.Short = refused (read_fault_number states.Short)
+fault_of_state states.StampRange = refused (read_fault_number states.StampRange)
+fault_of_state states.NotCanonical = refused (read_fault_number states.NotCanonical)
+fault_of_state states.Trailing = refused (read_fault_number states.Trailing)
+
+-- a generation that is not shown
+abbrev pub fault_of_generation : ExportFault → ViewFault
+fault_of_generation exports.Memory = Run Memory
+fault_of_generation exports.StoreFull = Run StoreFull
+fault_of_generation exports.GenRange = refused (export_fault_number exports.GenRange)
+fault_of_generation exports.TooManyCells = refused (export_fault_number exports.TooManyCells)
+
+-- a want of memory, or of room for squares
+abbrev pub IsViewWant : ViewFault → Type 0
+IsViewWant fault = (fault ≡ Run Memory) ⊎ (fault ≡ Run StoreFull)

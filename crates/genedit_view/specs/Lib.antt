@@ -1,0 +1,6 @@
+pub mod Fault
+pub mod Cells
+pub mod Reading
+pub mod Seeing
+pub mod Words
+pub mod Runs

@@ -1,0 +1,19 @@
+//! Patterns and states as pictures, from a source's bytes to a sink's.
+#![tactic(auto)]
+
+mod drawn;
+mod fault;
+mod later;
+mod options;
+mod pattern;
+mod rule;
+mod seen;
+mod shown;
+mod viewing;
+mod words;
+
+pub use cell_pictures::{BufferedSink, Form, Window};
+pub use fault::ViewFault;
+pub use options::Options;
+pub use viewing::{view, view_within};
+pub use words::window_of;

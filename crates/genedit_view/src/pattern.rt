@@ -1,0 +1,104 @@
+//! The rule and the cells of a pattern's text.
+
+ghost use Rattle.std.specs.Prelude.{◌≡◌, ◌+ℤ◌, pos, IfErr, IfOk, Ok, Err, ◌⊎◌};
+ghost use Rattle.edit_stamps.specs.Plane.{is_coordinate_in_plane};
+ghost use Rattle.genedit_view.specs.Fault.{memory_wanted};
+ghost use Rattle.genedit_view.specs.Reading.{cells_or_fault, is_outside, pattern_fault, pattern_seen};
+ghost use Rattle.genedit_view.specs.Cells.{ArePatternCells, are_in_plane_at};
+
+use crate::fault::ViewFault;
+use crate::rule::pattern_rule;
+use crate::seen::SeenCells;
+use edit_stamps::{Corner, are_placeable, have_states_below, placed_cells};
+use generations_rule::Rule;
+use multistate_rle::{Pattern, PatternCell, parse};
+use std::alloc::Global;
+
+/// The least coordinate of the plane of edits, and one past the greatest.
+const LEAST: i64 = -0x4000_0000;
+
+const PAST: i64 = 0x4000_0000;
+
+/// The rule and the cells of a text, each moved by the text's position, or the first refusal: what is
+/// wrong with the text, a rule that is not told, a coordinate outside the plane, a state that the rule
+/// does not have. Where the pattern is to be run, the plane is that of edits.
+pub fn pattern_cells(
+    alloc: Global,
+    given: Option<Rule>,
+    is_run: bool,
+    text: &[u8],
+) -> Result<SeenCells, ViewFault>
+    ensures seen { IfOk result (λ seen. pattern_seen is_run given text.now ≡ Ok (seen.rule, seen.cells.items)) }
+    ensures cells { IfOk result (λ seen. ArePatternCells is_run seen.rule seen.cells.items) }
+    ensures fault { IfErr result (λ fault. (pattern_seen is_run given text.now ≡ Err fault) ⊎ (fault ≡ memory_wanted)) }
+{
+    let pattern = parse(alloc, text)?;
+    let rule = pattern_rule(given, text)?;
+    placed(alloc, is_run, rule, &pattern)
+}
+
+/// The cells of a pattern that was read; it is looked at for refusals before memory is taken.
+fn placed(
+    alloc: Global,
+    is_run: bool,
+    rule: Rule,
+    pattern: &Pattern,
+) -> Result<SeenCells, ViewFault>
+    ensures seen { IfOk result (λ seen. cells_or_fault is_run rule pattern.now ≡ Ok (seen.rule, seen.cells.items)) }
+    ensures cells { IfOk result (λ seen. ArePatternCells is_run seen.rule seen.cells.items) }
+    ensures fault { IfErr result (λ fault. (cells_or_fault is_run rule pattern.now ≡ Err fault) ⊎ (fault ≡ memory_wanted)) }
+{
+    if let Some(fault) = fault_of(is_run, &rule, pattern) {
+        return Err(fault);
+    }
+    // For the proof alone: the call tells that it is a rule.
+    let _states = rule.states();
+    let cells = placed_cells(alloc, pattern.cells(), position_of(pattern))?;
+    Ok(SeenCells { rule, cells })
+}
+
+/// The first refusal of a pattern that was read.
+fn fault_of(is_run: bool, rule: &Rule, pattern: &Pattern) -> Option<ViewFault>
+    ensures { result ≡ pattern_fault is_run rule.now.states pattern.now }
+{
+    if is_outside(is_run, pattern) {
+        Some(ViewFault::out_of_plane())
+    } else if !have_states_below(rule.states(), pattern.cells()) {
+        Some(ViewFault::state_range())
+    } else {
+        None
+    }
+}
+
+/// Whether a coordinate of a cell has not 32 bits with its sign, or, where the pattern is to be run, lies
+/// outside the plane of edits.
+fn is_outside(is_run: bool, pattern: &Pattern) -> bool
+    ensures { result ≡ is_outside is_run pattern.now }
+{
+    let cells = pattern.cells();
+    let position = position_of(pattern);
+    !are_placeable(cells, position) || (is_run && !are_in_plane(cells, position))
+}
+
+/// Where the text says that its box's upper left corner was.
+fn position_of(pattern: &Pattern) -> Corner
+    ensures { result ≡ record { x = pattern.now.pos.0; y = pattern.now.pos.1 } }
+{
+    let (x, y) = pattern.pos();
+    Corner::at(x, y)
+}
+
+/// Whether each cell, moved there, lies in the plane of edits.
+fn are_in_plane(cells: &[PatternCell], at: Corner) -> bool
+    ensures { result ≡ are_in_plane_at at.x at.y cells.now }
+{
+    cells.iter().all(|cell| is_in_plane(at.x, cell.column) && is_in_plane(at.y, cell.row))
+}
+
+/// Whether a moved coordinate lies in the plane of edits.
+fn is_in_plane(n: i32, by: u32) -> bool
+    ensures { result ≡ is_coordinate_in_plane (n +ℤ pos by) }
+{
+    let moved = i64::from(n) + i64::from(by);
+    LEAST <= moved && moved < PAST
+}

@@ -1,0 +1,82 @@
+//! The rule under which a text is shown.
+
+ghost use Rattle.std.specs.Prelude.{◌≡◌, None, drop, slice_index_or, take};
+ghost use Rattle.genedit_view.specs.Reading.{begins_as_state, own_rule, pattern_rule, state_rule};
+
+use crate::fault::ViewFault;
+use generations_rule::Rule;
+use header_rules::header_rule;
+
+/// What the text of a state begins with.
+const STATE_MAGIC: &[u8] = b"GLWS";
+
+/// Whether a text is taken for a state.
+pub fn begins_as_state(text: &[u8]) -> bool
+    ensures { result ≡ begins_as_state text.now }
+{
+    text.starts_with(STATE_MAGIC)
+}
+
+/// The rule of a pattern's text: the one that is given, else that of its header.
+pub fn pattern_rule(given: Option<Rule>, text: &[u8]) -> Result<Rule, ViewFault>
+    ensures { result ≡ pattern_rule given text.now }
+{
+    match given {
+        Some(rule) => Ok(rule),
+        None => told_rule(text),
+    }
+}
+
+/// The rule that a pattern's header tells.
+fn told_rule(text: &[u8]) -> Result<Rule, ViewFault>
+    ensures { result ≡ pattern_rule None text.now }
+{
+    let Some(told) = header_rule(text) else {
+        return Err(ViewFault::NoRule);
+    };
+    match told.rule {
+        Some(rule) => Ok(rule),
+        None => Err(ViewFault::HeaderRule(told.place as u64)),
+    }
+}
+
+/// The rule of a state's text: the one that is given, else its own.
+pub fn state_rule(given: Option<Rule>, text: &[u8]) -> Option<Rule>
+    ensures { result ≡ state_rule given text.now }
+{
+    match given {
+        Some(rule) => Some(rule),
+        None => own_rule(text),
+    }
+}
+
+/// The rule that a state's text tells.
+fn own_rule(text: &[u8]) -> Option<Rule>
+    ensures { result ≡ own_rule text.now }
+{
+    Rule::parse(front(behind(text, 6), length_told(text))).ok()
+}
+
+/// How long a state's text says that its rule is; 0 where it ends before.
+fn length_told(text: &[u8]) -> usize
+    ensures { result ≡ slice_index_or text.now 5 0 }
+{
+    match text.get(5) {
+        Some(length) => usize::from(*length),
+        None => 0,
+    }
+}
+
+/// What stands behind so many bytes.
+fn behind(text: &[u8], count: usize) -> &[u8]
+    ensures { result.now ≡ drop count text.now }
+{
+    &text[count.min(text.len())..]
+}
+
+/// So many bytes in front, or all.
+fn front(text: &[u8], count: usize) -> &[u8]
+    ensures { result.now ≡ take count text.now }
+{
+    &text[..count.min(text.len())]
+}

@@ -1,0 +1,11 @@
+//! What is seen of a text.
+
+use generations_rule::Rule;
+use multistate_rle::Cell;
+
+/// A rule, and sorted cells that are not dead.
+#[derive(Drop)]
+pub struct SeenCells {
+    pub rule: Rule,
+    pub cells: Vec<Cell>,
+}

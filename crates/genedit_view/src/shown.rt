@@ -1,0 +1,105 @@
+//! The cells that are shown of a text.
+
+ghost use Rattle.std.specs.Prelude.{◌≡◌, ◌⊎◌, IfErr, IfOk, Some, true, false};
+ghost use Rattle.edit_stamps.specs.PlaneMap.{HasStatesBelow};
+ghost use Rattle.stamped_tree.specs.Plane.{map_of};
+ghost use Rattle.generation_engine.specs.Universe.{states_in_writes};
+ghost use Rattle.cell_pictures.specs.Shown.{state_at};
+ghost use Rattle.genedit_view.specs.Cells.{ArePatternCells};
+ghost use Rattle.genedit_view.specs.Fault.{IsViewWant};
+ghost use Rattle.genedit_view.specs.Reading.{begins_as_state};
+ghost use Rattle.genedit_view.specs.Seeing.{AreCellsAt, AreSeen, IsLateRefused, IsNotSeen, IsRefusedAt, IsWantAt};
+
+use crate::drawn::plane_of;
+use crate::fault::ViewFault;
+use crate::later::{cells_at, in_range};
+use crate::options::Options;
+use crate::pattern::pattern_cells;
+use crate::rule::{begins_as_state, state_rule};
+use crate::seen::SeenCells;
+use delta_exchange::read;
+use generations_rule::Rule;
+use multistate_rle::Cell;
+use stamped_tree::Plane;
+use std::alloc::Global;
+
+/// The cells that are shown of a text, and the rule; or why nothing is.
+pub fn see(alloc: Global, options: &Options, text: &[u8]) -> Result<SeenCells, ViewFault>
+    ensures seen { IfOk result (λ seen. AreSeen options.now text.now seen.rule seen.cells.items) }
+    ensures fault { IfErr result (λ fault. IsNotSeen options.now text.now fault ⊎ IsWantAt options.now text.now fault) }
+{
+    if begins_as_state(text) {
+        see_state(alloc, options, text)
+    } else {
+        see_pattern(alloc, options, text)
+    }
+}
+
+fn see_pattern(alloc: Global, options: &Options, text: &[u8]) -> Result<SeenCells, ViewFault>
+    requires { begins_as_state text.now ≡ false }
+    ensures seen { IfOk result (λ seen. AreSeen options.now text.now seen.rule seen.cells.items) }
+    ensures fault { IfErr result (λ fault. IsNotSeen options.now text.now fault ⊎ IsWantAt options.now text.now fault) }
+{
+    let is_run = options.generation.is_some();
+    let seen = pattern_cells(alloc, options.rule, is_run, text)?;
+    let Some(generation) = options.generation else {
+        return Ok(seen);
+    };
+    let cells = run_cells(alloc, &seen.rule, &seen.cells, generation)?;
+    Ok(SeenCells {
+        rule: seen.rule,
+        cells,
+    })
+}
+
+fn see_state(alloc: Global, options: &Options, text: &[u8]) -> Result<SeenCells, ViewFault>
+    requires { begins_as_state text.now ≡ true }
+    ensures seen { IfOk result (λ seen. AreSeen options.now text.now seen.rule seen.cells.items) }
+    ensures fault { IfErr result (λ fault. IsNotSeen options.now text.now fault ⊎ IsWantAt options.now text.now fault) }
+{
+    let Some(rule) = state_rule(options.rule, text) else {
+        return Err(ViewFault::NoRule);
+    };
+    let message = read(alloc, &rule, text)?;
+    let Some(plane) = message.plane() else {
+        unreachable!()
+    };
+    let cells = plane_cells(alloc, &rule, plane, options.generation)?;
+    Ok(SeenCells { rule, cells })
+}
+
+/// A pattern's cells some generations later.
+fn run_cells(
+    alloc: Global,
+    rule: &Rule,
+    cells: &[Cell],
+    generation: u32,
+) -> Result<Vec<Cell>, ViewFault>
+    requires { ArePatternCells true rule.now cells.now }
+    ensures cells { IfOk result (λ later. AreCellsAt rule.now (state_at cells.now) (Some generation) later.items) }
+    ensures fault { IfErr result (λ fault. IsLateRefused rule.now (state_at cells.now) generation fault ⊎ IsViewWant fault) }
+{
+    in_range(generation)?;
+    let plane = plane_of(alloc, rule, cells)?;
+    let later = cells_at(alloc, rule, &plane, generation)?;
+    Ok(later)
+}
+
+/// A plane's cells, or those some generations later.
+fn plane_cells(
+    alloc: Global,
+    rule: &Rule,
+    plane: &Plane,
+    generation: Option<u32>,
+) -> Result<Vec<Cell>, ViewFault>
+    requires { HasStatesBelow rule.now.states (map_of plane.now) }
+    ensures cells { IfOk result (λ cells. AreCellsAt rule.now (states_in_writes (map_of plane.now)) generation cells.items) }
+    ensures fault { IfErr result (λ fault. IsRefusedAt rule.now (states_in_writes (map_of plane.now)) generation fault ⊎ IsViewWant fault) }
+{
+    let Some(generation) = generation else {
+        return Ok(plane.walk()?);
+    };
+    in_range(generation)?;
+    let later = cells_at(alloc, rule, plane, generation)?;
+    Ok(later)
+}

@@ -1,0 +1,98 @@
+-- What a parse of the words gives, and what the words ask for by it.
+use Rattle.std.proofs.Common.{◌≡◌, ◌∙◌, Bool, codes, true, false, refl, sym, ap, subst, List, [], Option, Some, None}
+use Rattle.std.specs.Prelude.{if◌then◌else◌, option_and_then, option_map, Result, Ok, Err, Box, IfErr, IsErrAnd}
+use Rattle.std.specs.Box.{box_value}
+use Rattle.std.specs.Str.{bytes_eq}
+use Rattle.std.proofs.lemmas.Slice.Eq.{bytes_eq-Decides}
+use Rattle.clap.specs.Walk.{Row, Text}
+use Rattle.clap.specs.Kinds.{HasKind}
+use Rattle.clap.specs.declared.error.Error.{Error}
+use Rattle.clap.specs.Simple.{App, subcommand_of, HasMatchesOf, is_simple, subcommand_rows, subcommand_rows_of}
+use Rattle.clap.specs.Faults.{fault_of, is_simple_and_free}
+use Rattle.clap.specs.Matches.{subcommand_name_of}
+use Rattle.clap.specs.declared.parser.matches.ArgMatches.{ArgMatches}
+use Rattle.clap.specs.declared.parser.matches.ArgMatches.TheViews.{out-ArgMatches, out-SubCommand}
+use Rattle.clap.specs.declared.parser.matches.SubCommand.{SubCommand}
+use Rattle.genedit_io.specs.declared.fault.RunFault.{RunFault}
+use Rattle.genedit_words.specs.Given.{Has, HasBy, IsNamed}
+use Rattle.genedit_words.specs.declared.ending.Ending.{Ending}
+use Rattle.genedit_words.specs.declared.ending.Ending.TheVariants as ending
+use Rattle.genedit_words.specs.Words.{Asks, EndsWords, check_asked, genedit_app, view_asked, rle_asked, serve_asked, task_of}
+use Rattle.genedit_words.specs.Told.{Told, Run}
+use Rattle.genedit_words.proofs.CommandLaws.{words_named}
+
+-- the name of the subcommand that was entered, by its rows
+entered_name : (m : ArgMatches) → subcommand_name_of m ≡ option_map (λ p. p.0) (subcommand_rows_of m)
+entered_name m = go (out-ArgMatches m).subcommand
+  where
+    go : {Z : Type 0} (o : Option (Box SubCommand Z)) → option_map (λ b. (out-SubCommand (box_value b)).name.now) o ≡ option_map (λ p. p.0) (subcommand_rows o)
+    go None = refl
+    go (Some b) = refl
+
+-- ---- a parse of words that are no fault
+
+pub record IsParse (words : List Text) (m : ArgMatches) : Type 0 where
+  pub passes : fault_of genedit_app words ≡ []
+  pub entered : subcommand_rows_of m ≡ subcommand_of genedit_app words
+
+pub is_parse : (app : App) (words : List Text) (m : ArgMatches) → app ≡ genedit_app → HasMatchesOf app words m
+    → (is_simple_and_free app ≡ true → fault_of app words ≡ []) → IsParse words m
+is_parse app words m same has passes = record {
+  passes = ap (λ (a : App). fault_of a words) (sym same) ∙ passes (ap is_simple_and_free same);
+  entered = (has (ap is_simple same)).1 ∙ ap (λ (a : App). subcommand_of a words) same;
+}
+
+pub is_named : (words : List Text) (m : ArgMatches) → IsParse words m → IsNamed (subcommand_rows_of m)
+is_named words m parse = subst IsNamed (sym parse.entered) (words_named words parse.passes)
+
+pub asks : (words : List Text) (m : ArgMatches) (task : Result Told RunFault) → IsParse words m → option_and_then task_of (subcommand_rows_of m) ≡ Some task → Asks words task
+asks words m task parse asked = (parse.passes, ap (option_and_then task_of) (sym parse.entered) ∙ asked)
+
+-- words that are a fault end with an error of its kind
+pub ends_words : {T : Type 0} (app : App) (words : List Text) (error : Error) (r : Result T Ending) → app ≡ genedit_app
+    → (is_simple_and_free app ≡ true → HasKind (fault_of app words) error) → IsErrAnd r (λ given. given ≡ ending.Words error) → IfErr r (EndsWords words)
+ends_words app words error (Ok x) same kinds gives = tt
+ends_words app words error (Err e) same kinds gives =
+    subst (EndsWords words) (sym gives) (subst (λ (a : App). HasKind (fault_of a words) error) same (kinds (ap is_simple_and_free same)))
+
+-- ---- which subcommand it is
+
+-- the name that was asked for, and the rows of what was found under it
+module _ (m : ArgMatches) (rows : List Row) (named : IsNamed (subcommand_rows_of m)) where
+  same_name : (name : Text) → subcommand_name_of m ≡ Some name → named.name ≡ name
+  same_name name found = let both : Some named.name ≡ Some name = sym (entered_name m ∙ ap (option_map (λ (p : Text × List Row). p.0)) named.met) ∙ found in cc
+
+  same_rows : option_map (λ p. p.1) (subcommand_rows_of m) ≡ Some rows → named.rows ≡ rows
+  same_rows found = let both : Some named.rows ≡ Some rows = sym (ap (option_map (λ (p : Text × List Row). p.1)) named.met) ∙ found in cc
+
+  pub is_met : (name : Text) → subcommand_name_of m ≡ Some name → option_map (λ p. p.1) (subcommand_rows_of m) ≡ Some rows
+      → (subcommand_rows_of m ≡ Some (name, rows)) × Has name rows
+  is_met name found rows_found =
+      let n = same_name name found in
+      let r = same_rows rows_found in
+      let has = subst (λ (t : Text). Has t named.rows) n named.has in (
+        named.met ∙ (ap (λ (t : Text). Some (t, named.rows)) n ∙ ap (λ (rs : List Row). Some (name, rs)) r),
+        subst (λ (rs : List Row). Has name rs) r has,
+      )
+
+-- where no other subcommand was entered, `run` is asked for
+pub run_is_asked : (m : ArgMatches) → IsNamed (subcommand_rows_of m) → (subcommand_name_of m ≡ Some (codes "rle") → ⊥) → (subcommand_name_of m ≡ Some (codes "serve") → ⊥)
+    → (subcommand_name_of m ≡ Some (codes "check") → ⊥) → (subcommand_name_of m ≡ Some (codes "view") → ⊥) → option_and_then task_of (subcommand_rows_of m) ≡ Some (Ok Run)
+run_is_asked m named not_rle not_serve not_check not_view =
+    ap (option_and_then task_of) named.met
+    ∙ go (bytes_eq named.name (codes "run")) (bytes_eq named.name (codes "rle")) (bytes_eq named.name (codes "serve")) (bytes_eq named.name (codes "check"))
+    (bytes_eq named.name (codes "view")) refl refl refl refl named.has
+  where
+    is : (name : Text) → bytes_eq named.name name ≡ true → subcommand_name_of m ≡ Some name
+    is name same = entered_name m ∙ (ap (option_map (λ (p : Text × List Row). p.0)) named.met ∙ ap (λ (t : Text). Some t) ((bytes_eq-Decides named.name name).0 same))
+
+    go : (a b c d e : Bool) → bytes_eq named.name (codes "rle") ≡ b → bytes_eq named.name (codes "serve") ≡ c → bytes_eq named.name (codes "check") ≡ d
+        → bytes_eq named.name (codes "view") ≡ e → HasBy a b c d e named.rows
+        → (if a then Some (Ok Run) else if b then rle_asked named.rows else if c then serve_asked named.rows else if d then check_asked named.rows
+        else if e then view_asked named.rows else None) ≡ Some (Ok Run)
+    go true b c d e same_b same_c same_d same_e has = refl
+    go false true c d e same_b same_c same_d same_e has = absurd (not_rle (is (codes "rle") same_b))
+    go false false true d e same_b same_c same_d same_e has = absurd (not_serve (is (codes "serve") same_c))
+    go false false false true e same_b same_c same_d same_e has = absurd (not_check (is (codes "check") same_d))
+    go false false false false true same_b same_c same_d same_e has = absurd (not_view (is (codes "view") same_e))
+    go false false false false false same_b same_c same_d same_e has = absurd has

@@ -1,0 +1,63 @@
+-- What words that are no fault have.
+use Rattle.std.specs.Prelude.{◌≡◌, ◌⊎◌, ◌≤◌, ⊤, None, ℕ, Bool, true, false, List, Option, Some, codes, pos}
+use Rattle.std.specs.Str.{bytes_eq}
+use Rattle.clap.specs.Values.{IsSignedIn}
+use Rattle.clap.specs.Words.{Row, Text, first_of, one_of, without_minus}
+use Rattle.genedit_words.specs.declared.task.Task.{Task}
+use Rattle.genedit_words.specs.declared.task.Task.TheVariants.{Serve}
+
+-- a text for a rule
+abbrev pub HasRule : List Row → Type 0
+HasRule rows = (text : Text) × (first_of (codes "rule") rows ≡ Some text)
+
+-- a number from low to high
+pub record HasNumber (low high : ℕ) (id : Text) (rows : List Row) : Type 0 where
+  pub text : Text
+  pub read : one_of id rows ≡ Some (without_minus text)
+  pub within : IsSignedIn (pos low) (pos high) text
+
+-- what a server needs
+pub record HasServer (rows : List Row) : Type 0 where
+  pub rule : HasRule rows
+  pub port : HasNumber 0 65535 (codes "port") rows
+  pub sessions : HasNumber 1 64 (codes "sessions") rows
+
+-- a number from low to high, or none
+abbrev pub MayHaveNumber : ℕ → ℕ → Text → List Row → Type 0
+MayHaveNumber low high id rows = (one_of id rows ≡ None) ⊎ HasNumber low high id rows
+
+-- a flag that was given, one that was not, or none
+abbrev pub HasFlag : Text → List Row → Type 0
+HasFlag id rows = (one_of id rows ≡ Some (codes "true")) ⊎ ((one_of id rows ≡ Some (codes "false")) ⊎ (one_of id rows ≡ None))
+
+-- what a picture may be asked with
+pub record HasView (rows : List Row) : Type 0 where
+  pub generation : MayHaveNumber 0 4294967295 (codes "gen") rows
+  pub plain : HasFlag (codes "plain") rows
+  pub svg : HasFlag (codes "svg") rows
+
+-- by the subcommand: whether it is `run`, `rle`, `serve`, `check`, `view`
+abbrev pub HasBy : Bool → Bool → Bool → Bool → Bool → List Row → Type 0
+HasBy true is_rle is_serve is_check is_view rows = ⊤
+HasBy false true is_serve is_check is_view rows = HasRule rows
+HasBy false false true is_check is_view rows = HasServer rows
+HasBy false false false true is_view rows = ⊤
+HasBy false false false false true rows = HasView rows
+HasBy false false false false false rows = ⊥
+
+-- by its name
+abbrev pub Has : Text → List Row → Type 0
+Has name = HasBy (bytes_eq name (codes "run")) (bytes_eq name (codes "rle")) (bytes_eq name (codes "serve")) (bytes_eq name (codes "check"))
+    (bytes_eq name (codes "view"))
+
+-- a subcommand is named, and has what it needs
+pub record IsNamed (entered : Option (Text × List Row)) : Type 0 where
+  pub name : Text
+  pub rows : List Row
+  pub met : entered ≡ Some (name, rows)
+  pub has : Has name rows
+
+-- a server has one to 64 sessions
+abbrev pub IsServable : Task → Type 0
+IsServable (Serve server) = (1 ≤ server.sessions) × (server.sessions ≤ 64)
+IsServable _ = ⊤

@@ -1,0 +1,5 @@
+pub mod Ending
+pub mod Told
+pub mod Words
+pub mod Given
+pub mod Rows

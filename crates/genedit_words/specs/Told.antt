@@ -1,0 +1,45 @@
+-- What words can ask for, as plain data.
+use Rattle.std.specs.Prelude.{ℕ, Bool, List, Option, option_map, Result, Ok, Err}
+use Rattle.generations_rule.specs.Rule.{GenerationsRule}
+use Rattle.genedit_io.specs.declared.fault.RunFault.{RunFault}
+use Rattle.genedit_words.specs.declared.task.Server.{Server}
+use Rattle.genedit_words.specs.declared.task.Task.{Task}
+use Rattle.genedit_words.specs.declared.task.Task.TheVariants as task
+
+-- what is asked of a picture
+pub record Viewed : Type 0 where
+  pub file : Option (List ℕ)
+  pub rule : Option GenerationsRule
+  pub at : Option (List ℕ)
+  pub size : Option (List ℕ)
+  pub generation : Option ℕ
+  pub is_plain : Bool
+  pub is_svg : Bool
+
+pub data Told : Type 0 where
+  Run : Told
+  Rle : (rule : GenerationsRule) → Told
+  Serve : (server : Server) → Told
+  Check : (file : Option (List ℕ)) → Told
+  View : (viewed : Viewed) → Told
+
+-- what a task is, by its texts
+abbrev pub told_of : Task → Told
+told_of task.Run = Run
+told_of (task.Rle rule) = Rle rule
+told_of (task.Serve server) = Serve server
+told_of (task.Check file) = Check (option_map (λ s. s.now) file)
+told_of (task.View viewing) = View (record {
+  file = option_map (λ s. s.now) viewing.file;
+  rule = viewing.rule;
+  at = option_map (λ s. s.now) viewing.at;
+  size = option_map (λ s. s.now) viewing.size;
+  generation = viewing.generation;
+  is_plain = viewing.is_plain;
+  is_svg = viewing.is_svg;
+})
+
+-- a task, or why there is none
+abbrev pub told : Result Task RunFault → Result Told RunFault
+told (Ok task) = Ok (told_of task)
+told (Err fault) = Err fault

@@ -1,0 +1,179 @@
+-- What the words of the command line ask for.
+use Rattle.std.specs.Option.{option_map_or}
+use Rattle.std.specs.Prelude.{◌≡◌, ◌⊎◌, ◌∷◌, [], ℕ, Bool, List, Option, Some, None, Result, Ok, Err, codes, pos}
+use Rattle.std.specs.Prelude.{true, false, if◌then◌else◌, option_map, option_and_then}
+use Rattle.std.specs.Str.{bytes_eq}
+use Rattle.std.specs.Str.Parse.{digits_value, without_leading_plus}
+use Rattle.clap.specs.Words.{App, HasKind, Row, Rule, Shape, Text, fault_of, first_of, new_rule, one_of}
+use Rattle.clap.specs.Words.{subcommand_of}
+use Rattle.clap.specs.Simple.{new_shape}
+use Rattle.clap.specs.declared.builder.action.ArgAction.TheVariants.{Set, SetTrue}
+use Rattle.clap.specs.declared.builder.value_parser.ValueParser.TheVariants as vp
+use Rattle.generations_rule.specs.declared.fault.RuleFault.{RuleFault}
+use Rattle.generations_rule.specs.Rule.{GenerationsRule}
+use Rattle.generations_rule.specs.RuleFault.{rule_fault_number, rule_fault_place}
+use Rattle.generations_rule.specs.RuleText.{parsed}
+use Rattle.genedit_io.specs.declared.fault.RunFault.{RunFault}
+use Rattle.genedit_io.specs.declared.fault.RunFault.TheVariants.{Memory, Refused}
+use Rattle.genedit_words.specs.declared.ending.Ending.{Ending}
+use Rattle.genedit_words.specs.declared.ending.Ending.TheVariants as ending
+use Rattle.genedit_words.specs.Told.{Told, Viewed, Check, Rle, Run, Serve, View}
+
+-- the rule, or the refusal with which the program ends
+abbrev pub rule_or_refusal : Result GenerationsRule RuleFault → Result GenerationsRule RunFault
+rule_or_refusal (Ok rule) = Ok rule
+rule_or_refusal (Err fault) = Err (Refused (rule_fault_number fault) (rule_fault_place fault))
+
+abbrev pub rule_asked : List ℕ → Result GenerationsRule RunFault
+rule_asked text = rule_or_refusal (parsed text)
+
+-- ---- the command line
+
+-- an option `--NAME VALUE`, which may be given
+abbrev pub optional : Text → Rule
+optional name = record (new_rule name) {
+  long = Some name;
+  action = Some Set;
+  value_names = 1;
+}
+
+-- one that has to be given
+abbrev pub option : Text → Rule
+option name = record (optional name) { required = true }
+
+-- a flag `--NAME`, which may be given
+abbrev pub flag : Text → Rule
+flag name = record (new_rule name) {
+  long = Some name;
+  action = Some SetTrue;
+}
+
+-- a generation: any number of 32 bits
+abbrev pub gen_option : Rule
+gen_option = record (optional (codes "gen")) { parser = Some (vp.Signed (pos 0) (pos 4294967295)) }
+
+abbrev pub rule_option : Rule
+rule_option = option (codes "rule")
+
+-- a port: any number of 16 bits
+abbrev pub port_option : Rule
+port_option = record (option (codes "port")) { parser = Some (vp.Signed (pos 0) (pos 65535)) }
+
+-- a number of sessions: 1 to 64
+abbrev pub sessions_option : Rule
+sessions_option = record (option (codes "sessions")) { parser = Some (vp.Signed (pos 1) (pos 64)) }
+
+-- a file whose text is read in the place of standard input, which may be given
+abbrev pub file_argument : Rule
+file_argument = record (new_rule (codes "file")) { value_names = 1 }
+
+abbrev pub run_shape : Shape
+run_shape = new_shape (codes "run")
+
+abbrev pub rle_shape : Shape
+rle_shape = record (new_shape (codes "rle")) { rules = rule_option ∷ [] }
+
+abbrev pub serve_shape : Shape
+serve_shape = record (new_shape (codes "serve")) { rules = rule_option ∷ port_option ∷ sessions_option ∷ [] }
+
+abbrev pub check_shape : Shape
+check_shape = record (new_shape (codes "check")) { rules = file_argument ∷ [] }
+
+abbrev pub view_shape : Shape
+view_shape = record (new_shape (codes "view")) {
+  rules = file_argument ∷ optional (codes "rule") ∷ optional (codes "at") ∷ optional (codes "size") ∷ gen_option ∷ flag (codes "plain") ∷ flag (codes "svg") ∷ [];
+}
+
+-- `genedit` has a version and no arguments, and one of its subcommands has to be given
+abbrev pub genedit_app : App
+genedit_app = record {
+  top = record (new_shape (codes "genedit")) {
+    is_leaf = false;
+    has_version = true;
+    subcommand_required = true;
+  };
+  subs = run_shape ∷ check_shape ∷ rle_shape ∷ view_shape ∷ serve_shape ∷ [];
+}
+
+-- ---- what words ask for
+
+-- the number that the value of an option spells
+abbrev pub number_of : Text → List Row → Option ℕ
+number_of id rows = option_map (λ text. digits_value 10 (without_leading_plus text)) (one_of id rows)
+
+abbrev pub rle_task : Result GenerationsRule RunFault → Result Told RunFault
+rle_task (Ok rule) = Ok (Rle rule)
+rle_task (Err fault) = Err fault
+
+-- the canonical form under the rule that the option spells
+abbrev pub rle_asked : List Row → Option (Result Told RunFault)
+rle_asked rows = option_map (λ text. rle_task (rule_asked text)) (first_of (codes "rule") rows)
+
+abbrev pub serve_task : Result GenerationsRule RunFault → ℕ → ℕ → Result Told RunFault
+serve_task (Ok rule) port sessions = Ok (Serve (record { rule = rule; port = port; sessions = sessions }))
+serve_task (Err fault) port sessions = Err fault
+
+-- a server under the rule, at the port and of as many sessions as the options spell
+abbrev pub serve_asked : List Row → Option (Result Told RunFault)
+serve_asked rows = option_and_then (λ text. option_and_then (λ port.
+    option_map (λ sessions. serve_task (rule_asked text) port sessions) (number_of (codes "sessions") rows))
+    (number_of (codes "port") rows)) (first_of (codes "rule") rows)
+
+-- what is wrong with a script, of a file or of standard input
+abbrev pub check_asked : List Row → Option (Result Told RunFault)
+check_asked rows = Some (Ok (Check (first_of (codes "file") rows)))
+
+-- whether a flag was given
+abbrev pub is_set : Text → List Row → Bool
+is_set id rows = option_map_or (λ text. bytes_eq text (codes "true")) (one_of id rows) false
+
+-- a picture under this rule, if there is one
+abbrev pub viewing : List Row → Option GenerationsRule → Viewed
+viewing rows rule = record {
+  file = first_of (codes "file") rows;
+  rule = rule;
+  at = first_of (codes "at") rows;
+  size = first_of (codes "size") rows;
+  generation = number_of (codes "gen") rows;
+  is_plain = is_set (codes "plain") rows;
+  is_svg = is_set (codes "svg") rows;
+}
+
+abbrev pub some_rule : Result GenerationsRule RunFault → Result (Option GenerationsRule) RunFault
+some_rule (Ok rule) = Ok (Some rule)
+some_rule (Err fault) = Err fault
+
+-- the rule that an option spells, if it is given
+abbrev pub rule_if_given : Option Text → Result (Option GenerationsRule) RunFault
+rule_if_given None = Ok None
+rule_if_given (Some text) = some_rule (rule_asked text)
+
+abbrev pub view_task : List Row → Result (Option GenerationsRule) RunFault → Result Told RunFault
+view_task rows (Ok rule) = Ok (View (viewing rows rule))
+view_task rows (Err fault) = Err fault
+
+-- a picture of a pattern or of a state, under the rule that the option spells if it is given
+abbrev pub view_asked : List Row → Option (Result Told RunFault)
+view_asked rows = Some (view_task rows (rule_if_given (first_of (codes "rule") rows)))
+
+-- what a subcommand asks for, by its name and its rows
+abbrev pub task_of : Text × List Row → Option (Result Told RunFault)
+task_of subcommand = if bytes_eq subcommand.0 (codes "run") then Some (Ok Run)
+    else if bytes_eq subcommand.0 (codes "rle") then rle_asked subcommand.1
+    else if bytes_eq subcommand.0 (codes "serve") then serve_asked subcommand.1
+    else if bytes_eq subcommand.0 (codes "check") then check_asked subcommand.1
+    else if bytes_eq subcommand.0 (codes "view") then view_asked subcommand.1
+    else None
+
+abbrev pub task_asked : List Text → Option (Result Told RunFault)
+task_asked words = option_and_then task_of (subcommand_of genedit_app words)
+
+-- the words are a command line of `genedit`, and ask for this
+abbrev pub Asks : List Text → Result Told RunFault → Type 0
+Asks words task = (fault_of genedit_app words ≡ []) × (task_asked words ≡ Some task)
+
+-- why no task comes of words: they are no command line, they spell no rule, or memory is refused
+abbrev pub EndsWords : List Text → Ending → Type 0
+EndsWords words (ending.Words error) = HasKind (fault_of genedit_app words) error
+EndsWords words ending.NoText = ⊥
+EndsWords words (ending.Run fault) = (fault ≡ Memory) ⊎ Asks words (Err fault)

@@ -1,0 +1,279 @@
+//! The commands of `genedit`, as `clap` reads them, with their help.
+
+ghost use Rattle.std.specs.Prelude.{◌≡◌, IfOk, false};
+ghost use Rattle.clap.specs.Words.{app_of, rule_of, shape_of};
+ghost use Rattle.clap.specs.declared.builder.command.Command.TheViews.{out-Command as fields_of};
+ghost use Rattle.genedit_words.specs.Words.{check_shape, file_argument, flag, gen_option, genedit_app, option, optional, port_option, rle_shape, run_shape, serve_shape, sessions_option, view_shape};
+
+use clap::{Arg, ArgAction, Command, value_parser};
+use std::alloc::{AllocError, Global};
+
+const SCRIPT_HELP: &str = "\
+The script has a line for each step. A line whose first word begins with # is a comment; within a
+pattern's block it is part of the pattern's text.
+Replicas and messages are numbered from 1. A pattern is drawn where the line says: the position, the
+generation and the rule that its text tells are passed over. y grows downwards.
+
+  rule S/B/C             first: the rule, survival/birth/states, as 23/3/2 for Life (Golly's B3/S23)
+  replicas N             second: how many replicas there are, 0 to 64
+  cells R x y s ..       replica R draws cells, each a coordinate and a state
+  state R                replica R sends its whole map as the next message
+  delta R FROM COUNT     replica R sends edits of its journal, the first is 0, as the next message
+  deliver M R            message M reaches replica R
+  show R x y             prints a cell of replica R: state, counter and replica of its stamp
+  pattern NAME           the lines up to a line `end` are an RLE text; keeps its pattern by name
+  copy R NAME x y        replica R draws the pattern's whole box there, dead cells too
+  or R NAME x y          replica R draws the pattern's live and dying cells there
+  clear R x y w h        replica R draws an area of dead cells, w wide and h high
+  same A B               prints whether replicas A and B hold the same at every cell: same or differ
+  dump M                 prints the bytes of message M in hexadecimal
+  export R G             prints replica R's cells G generations later, 0 to 2^29, as an RLE text
+
+Each prints a line: what draws `drawn COUNTER REPLICA`, state and delta `sent M`, deliver `taken`, show
+`cell STATE COUNTER REPLICA`, a pattern its box and its number of cells, and an export its text.
+What is refused prints `refused NUMBER NAME`, and the script goes on. `genedit check` tells beforehand
+what is wrong with a script, each mistake with its place and its cure.
+
+The status is 0, refused commands included; 2 where a line is at fault, and then nothing is run.
+Statuses of any command: 3 where a read failed, 4 where a write failed, 5 without memory.";
+
+const CHECK_HELP: &str = "\
+For each line at fault it prints `FILE:LINE:COLUMN: ` and the reason, the line, and a mark under the
+word; for a script on standard input FILE is `script`. Where no line is at fault it prints, in the same
+form, which commands would be refused when the script is run. The last line counts them. A pattern whose
+header tells another rule than the script's gets a warning, which is not counted.
+
+The status is 0 where there is nothing to mend, and 1 where there is.
+
+Examples:
+  genedit check my.script
+  genedit check < my.script && genedit run < my.script";
+
+const FORM_HELP: &str = "\
+The text has an optional line `#CXRLE Pos=x,y Gen=n`, a header `x = w, y = h`, and runs of cells up to
+an end mark `!`; other lines that begin with # are comments. Each cell is moved by the position. What
+is printed has maximal runs, no count of 1, and lines of at most 70 bytes. Life is the rule 23/3/2, which
+Golly spells B3/S23 too.
+
+The status is 0, or 2 where the rule or the text is refused; then `refused NUMBER NAME` is told.";
+
+const VIEW_HELP: &str = "\
+The text is an RLE text, or a state as it is saved, which begins with GLWS. Without --rule its own rule
+is taken; an RLE text may tell it as Golly does, as B3/S23. Coordinates are those of the text's position
+and its columns and rows; y grows downwards.
+
+On a terminal it draws two cells a character, in Golly's colours; else, and with --plain, a character
+for each cell: `.` is dead, and of two states `O` is live; of more, `A` to `Z`, `a` to `z` and `0` to
+`9` are the states from 1 on, and `#` any above. Without a window it draws the first 128 columns and
+64 rows of the pattern's box, and then says `cut: W by H` where the box is larger. An SVG is never cut;
+it goes before --plain.
+
+Examples:
+  genedit view gun.rle
+  genedit view --gen 30 --svg < gun.rle > gun.svg
+  genedit view gun.rle --at=-3,4 --size=40,20";
+
+const SERVE_HELP: &str = "\
+Serves one board to programs on this machine, each of which speaks the protocol of docs/FORMATS.md over
+a connection to 127.0.0.1. Every user of this machine may connect. A seat is a connection: the first one
+that comes is seat 1, and each that comes counts for ever, also one that was lost. So begin with more
+sessions than people: for a class take --sessions 64. Nobody is let in after the last.
+
+It prints `listening PORT`. Once each seat was used and all have ended it prints a line for each of them,
+`session SEAT EDITS ..`, and `closed EDITS`, and ends. Seats that nobody needs any more are used up by
+connections that end at once, as by `nc -z 127.0.0.1 PORT`. Ctrl-C ends it at once: without these lines,
+and with its board, so let somebody save it first.
+
+Examples:
+  genedit serve --rule 23/3/2 --port 7020 --sessions 64      a class draws Life
+  genedit serve --rule /2/3 --port 0 --sessions 2            two programs; the port that is free is printed
+
+From another machine: ssh -L 7020:127.0.0.1:7020 HOST, and connect to port 7020 there.";
+
+/// The command line: a version, and the subcommands, one of which has to be given.
+pub fn command<'a>(alloc: Global) -> Result<Command<'a>, AllocError>
+    ensures { IfOk result (λ command. app_of command ≡ genedit_app) }
+{
+    let command = Command::new(alloc, "genedit")
+        .version("0.1.0")
+        .about("Edits patterns of Generations automata on replicas that agree")
+        .subcommand_required(true)
+        .subcommand(run_command(alloc))?
+        .subcommand(check_command(alloc)?)?
+        .subcommand(rle_command(alloc)?)?
+        .subcommand(view_command(alloc)?)?
+        .subcommand(serve_command(alloc)?)?;
+    Ok(command)
+}
+
+fn run_command<'a>(alloc: Global) -> Command<'a>
+    ensures shape { shape_of result ≡ run_shape }
+    ensures local { (fields_of result).has_globals ≡ false }
+{
+    Command::new(alloc, "run")
+        .about("Runs a script from standard input and prints what happened")
+        .override_usage("genedit run < SCRIPT")
+        .after_help(SCRIPT_HELP)
+}
+
+fn check_command<'a>(alloc: Global) -> Result<Command<'a>, AllocError>
+    ensures shape { IfOk result (λ command. shape_of command ≡ check_shape) }
+    ensures local { IfOk result (λ command. (fields_of command).has_globals ≡ false) }
+{
+    let command = Command::new(alloc, "check")
+        .about("Tells what is wrong with a script, each mistake with its place and its cure")
+        .after_help(CHECK_HELP)
+        .arg(file_argument(alloc))?;
+    Ok(command)
+}
+
+/// A file in the place of standard input.
+fn file_argument<'a>(alloc: Global) -> Arg<'a>
+    ensures rule { rule_of result ≡ file_argument }
+    ensures local { result.global ≡ false }
+{
+    Arg::new(alloc, "file")
+        .value_name("FILE")
+        .help("The file to read; standard input if none is given")
+}
+
+fn rle_command<'a>(alloc: Global) -> Result<Command<'a>, AllocError>
+    ensures shape { IfOk result (λ command. shape_of command ≡ rle_shape) }
+    ensures local { IfOk result (λ command. (fields_of command).has_globals ≡ false) }
+{
+    let rule = required(
+        alloc,
+        "rule",
+        "TEXT",
+        "The rule S/B/C of the cells, as /2/3 or 345/2/4",
+    );
+    Command::new(alloc, "rle")
+        .about("Prints an RLE text from standard input in canonical form")
+        .override_usage("genedit rle --rule <TEXT> < RLE")
+        .after_help(FORM_HELP)
+        .arg(rule)
+}
+
+fn view_command<'a>(alloc: Global) -> Result<Command<'a>, AllocError>
+    ensures shape { IfOk result (λ command. shape_of command ≡ view_shape) }
+    ensures local { IfOk result (λ command. (fields_of command).has_globals ≡ false) }
+{
+    let rule = optional(
+        alloc,
+        "rule",
+        "TEXT",
+        "The rule S/B/C of the cells; else the one that the text tells",
+    );
+    let at = optional(
+        alloc,
+        "at",
+        "X,Y",
+        "The corner of the window, as --at=-3,4; with --size",
+    );
+    let size = optional(alloc, "size", "W,H", "The width and height of the window");
+    let generation = generation_argument(alloc);
+    let plain = flag(alloc, "plain", "Draws a character for each cell");
+    let svg = flag(alloc, "svg", "Draws an SVG");
+    let command = Command::new(alloc, "view")
+        .about("Draws a picture of an RLE text or of a state")
+        .after_help(VIEW_HELP)
+        .arg(file_argument(alloc))?
+        .arg(rule)?
+        .arg(at)?
+        .arg(size)?
+        .arg(generation)?
+        .arg(plain)?
+        .arg(svg)?;
+    Ok(command)
+}
+
+fn generation_argument<'a>(alloc: Global) -> Arg<'a>
+    ensures rule { rule_of result ≡ gen_option }
+    ensures local { result.global ≡ false }
+{
+    let generation = optional(
+        alloc,
+        "gen",
+        "G",
+        "So many generations after the text's own, 0 to 2^29",
+    );
+    generation.value_parser(value_parser!(u32))
+}
+
+fn serve_command<'a>(alloc: Global) -> Result<Command<'a>, AllocError>
+    ensures shape { IfOk result (λ command. shape_of command ≡ serve_shape) }
+    ensures local { IfOk result (λ command. (fields_of command).has_globals ≡ false) }
+{
+    let rule = required(
+        alloc,
+        "rule",
+        "TEXT",
+        "The rule S/B/C of the board, as /2/3 or 345/2/4",
+    );
+    let port = port_argument(alloc);
+    let sessions = sessions_argument(alloc);
+    let command = Command::new(alloc, "serve")
+        .about("Serves a board on which several programs draw together")
+        .after_help(SERVE_HELP)
+        .arg(rule)?
+        .arg(port)?
+        .arg(sessions)?;
+    Ok(command)
+}
+
+fn port_argument<'a>(alloc: Global) -> Arg<'a>
+    ensures rule { rule_of result ≡ port_option }
+    ensures local { result.global ≡ false }
+{
+    let port = required(
+        alloc,
+        "port",
+        "P",
+        "The port to listen at, 0 for any that is free",
+    );
+    port.value_parser(value_parser!(u16))
+}
+
+fn sessions_argument<'a>(alloc: Global) -> Arg<'a>
+    ensures rule { rule_of result ≡ sessions_option }
+    ensures local { result.global ≡ false }
+{
+    let sessions = required(
+        alloc,
+        "sessions",
+        "N",
+        "How many seats the board has, 1 to 64",
+    );
+    sessions.value_parser(value_parser!(u16).range(1..=64))
+}
+
+/// An option that has to be given, with a value.
+fn required<'a>(alloc: Global, name: &'a str, value: &'a str, help: &'a str) -> Arg<'a>
+    ensures rule { rule_of result ≡ option name.entry.now }
+    ensures local { result.global ≡ false }
+{
+    optional(alloc, name, value, help).required(true)
+}
+
+/// An option that may be given, with a value.
+fn optional<'a>(alloc: Global, name: &'a str, value: &'a str, help: &'a str) -> Arg<'a>
+    ensures rule { rule_of result ≡ optional name.entry.now }
+    ensures local { result.global ≡ false }
+{
+    Arg::new(alloc, name)
+        .long(name)
+        .value_name(value)
+        .help(help)
+        .action(ArgAction::Set)
+}
+
+/// A flag that may be given.
+fn flag<'a>(alloc: Global, name: &'a str, help: &'a str) -> Arg<'a>
+    ensures rule { rule_of result ≡ flag name.entry.now }
+    ensures local { result.global ≡ false }
+{
+    Arg::new(alloc, name)
+        .long(name)
+        .help(help)
+        .action(ArgAction::SetTrue)
+}

@@ -1,0 +1,114 @@
+//! Why the program ends, and what it says of it.
+
+ghost use Rattle.std.specs.Prelude.{◌≡◌};
+ghost use Rattle.clap.specs.Words.{kind_of};
+ghost use Rattle.genedit_words.specs.Ending.{IsStatusOf, IsWordsStatus};
+ghost use Rattle.genedit_io.specs.RunFault.{exit_status};
+
+use clap::Error;
+use clap::error::ErrorKind;
+use genedit_io::RunFault;
+use std::alloc::{AllocError, AllocGlobal, Global};
+
+/// The status of a fault of the words.
+const WORDS_STATUS: u8 = 2;
+
+/// Why the program ends before its work is done.
+#[derive(Debug, Drop)]
+pub enum Ending {
+    /// The words are at fault, or ask for help.
+    Words(Error),
+    /// A word is no text.
+    NoText,
+    /// The work was left.
+    Run(RunFault),
+}
+
+impl Ending {
+    /// Says it on standard error, or gives help on standard output; the status of the process.
+    pub fn tell<R: Print + Eprint + AllocGlobal>(self, rt: &R) -> u8
+        ensures { IsStatusOf self result }
+    {
+        match self {
+            Ending::Words(error) => tell_words(rt, &error),
+            Ending::NoText => {
+                let _ = rt.eprintln("genedit: a word is not UTF-8");
+                WORDS_STATUS
+            }
+            Ending::Run(fault) => tell_fault(rt, fault),
+        }
+    }
+}
+
+impl From<Error> for Ending {
+    ghost use Rattle.genedit_words.specs.declared.ending.Ending.TheVariants as ending;
+
+    ghost from_gives = { λ error given. given ≡ ending.Words error };
+
+    fn from(error: Error) -> Ending {
+        Ending::Words(error)
+    }
+}
+
+impl From<AllocError> for Ending {
+    ghost use Rattle.genedit_words.specs.declared.ending.Ending.TheVariants as ending;
+    ghost use Rattle.genedit_io.specs.declared.fault.RunFault.TheVariants.{Memory};
+
+    ghost from_gives = { λ _ given. given ≡ ending.Run Memory };
+
+    fn from(_error: AllocError) -> Ending {
+        Ending::Run(RunFault::Memory)
+    }
+}
+
+impl From<RunFault> for Ending {
+    ghost use Rattle.genedit_words.specs.declared.ending.Ending.TheVariants as ending;
+
+    ghost from_gives = { λ fault given. given ≡ ending.Run fault };
+
+    fn from(fault: RunFault) -> Ending {
+        Ending::Run(fault)
+    }
+}
+
+fn tell_fault<R: Eprint>(rt: &R, fault: RunFault) -> u8
+    ensures { result ≡ exit_status fault }
+{
+    let _ = eprintln!(rt; "genedit: {fault}");
+    fault.exit_status()
+}
+
+fn tell_words<R: Print + Eprint + AllocGlobal>(rt: &R, error: &Error) -> u8
+    ensures { IsWordsStatus (kind_of error.now) result }
+{
+    if error.kind() == ErrorKind::OutOfMemory {
+        return tell_fault(rt, RunFault::Memory);
+    }
+    if !error.use_stderr() {
+        return match error.print(rt) {
+            Ok(()) => 0,
+            Err(_) => tell_fault(rt, RunFault::Write),
+        };
+    }
+    match told(rt.alloc(), error) {
+        Ok(line) => {
+            let _ = eprintln!(rt; "genedit: {line}");
+            WORDS_STATUS
+        }
+        Err(_) => tell_fault(rt, RunFault::Memory),
+    }
+}
+
+/// The first paragraph of an error's text as one line, which tells the fault; what follows it is
+/// advice.
+fn told(alloc: Global, error: &Error) -> Result<String, AllocError> {
+    let text = error.to_string(alloc)?;
+    let mut lines = text.lines();
+    let first = lines.next().unwrap_or("");
+    let mut fault = String::from_str(alloc, first.strip_prefix("error: ").unwrap_or(first))?;
+    for line in lines.take_while(|line| !line.is_empty()) {
+        fault.push(' ')?;
+        fault.push_str(line.trim())?;
+    }
+    Ok(fault)
+}

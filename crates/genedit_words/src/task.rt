@@ -1,0 +1,42 @@
+//! What the words ask for.
+
+use generations_rule::Rule;
+
+/// A server of a board.
+#[derive(Clone, Copy)]
+pub struct Server {
+    pub rule: Rule,
+    /// 0 for any that is free.
+    pub port: u16,
+    /// 1 to 64.
+    pub sessions: u16,
+}
+
+/// A picture of a pattern or of a state.
+#[derive(Clone, Copy)]
+pub struct Viewing<'a> {
+    /// The file to read; standard input if none is given.
+    pub file: Option<&'a str>,
+    pub rule: Option<Rule>,
+    /// The corner of the window, as `X,Y`, and its sides, as `W,H`; not read yet.
+    pub at: Option<&'a str>,
+    pub size: Option<&'a str>,
+    pub generation: Option<u32>,
+    pub is_plain: bool,
+    pub is_svg: bool,
+}
+
+/// What the words ask for.
+#[derive(Clone, Copy)]
+pub enum Task<'a> {
+    /// A script on standard input is run.
+    Run,
+    /// What is wrong with the script of this file, or on standard input, is told.
+    Check(Option<&'a str>),
+    /// An RLE text on standard input is brought into canonical form under this rule.
+    Rle(Rule),
+    /// A picture is drawn.
+    View(Viewing<'a>),
+    /// A board is served.
+    Serve(Server),
+}

@@ -1,0 +1,170 @@
+//! What the words ask for.
+
+ghost use Rattle.std.specs.Prelude.{◌≡◌, ◌≤◌, ℕ, List, IfErr, IfOk, Ok, Some, codes, map, option_and_then, string_bytes};
+ghost use Rattle.clap.specs.Words.{first_of, found_of, rows_of, subcommand_rows_of};
+ghost use Rattle.genedit_words.specs.Given.{HasFlag, HasNumber, HasRule, HasServer, HasView, IsNamed, IsServable, MayHaveNumber};
+ghost use Rattle.genedit_words.specs.Told.{told, told_of};
+ghost use Rattle.genedit_words.specs.Words.{Asks, EndsWords, check_asked, is_set, number_of, rle_asked, rule_asked, rule_if_given, serve_asked, task_of, view_asked};
+
+use crate::commands::command;
+use crate::ending::Ending;
+use crate::task::{Server, Task, Viewing};
+use clap::ArgMatches;
+use genedit_io::RunFault;
+use generations_rule::Rule;
+use std::alloc::{AllocGlobal, Global};
+use std::io::ErrorKind;
+use std::rt::Env;
+
+/// The words with which the program was started, its own name first.
+pub fn given<R: Env + AllocGlobal>(rt: &R) -> Result<Vec<String>, Ending> {
+    match std::env::args(rt) {
+        Ok(words) => Ok(words.collect(rt.alloc())?),
+        Err(error) if error.kind() == ErrorKind::OutOfMemory => Err(Ending::Run(RunFault::Memory)),
+        Err(_) => Err(Ending::NoText),
+    }
+}
+
+/// What the words ask for. Help and the version come as an error, too.
+pub fn asked(alloc: Global, words: &[String]) -> Result<Task<'_>, Ending>
+    ensures asks { IfOk result (λ task. Asks (map string_bytes words.now) (Ok (told_of task))) }
+    ensures servable { IfOk result IsServable }
+    ensures ends { IfErr result (EndsWords (map string_bytes words.now)) }
+{
+    let matches = command(alloc)?.try_get_matches_from(words)?;
+    match task(&matches) {
+        Ok(task) => Ok(task),
+        Err(fault) => Err(Ending::Run(fault)),
+    }
+}
+
+/// What the subcommand asks for.
+fn task<'a>(matches: &ArgMatches<'a>) -> Result<Task<'a>, RunFault>
+    requires { IsNamed (subcommand_rows_of matches.now) }
+    ensures asked { option_and_then task_of (subcommand_rows_of matches.now) ≡ Some (told result) }
+    ensures servable { IfOk result IsServable }
+{
+    if let Some(words) = matches.subcommand_matches("rle") {
+        return rle(words);
+    }
+    if let Some(words) = matches.subcommand_matches("serve") {
+        return serve(words);
+    }
+    if let Some(words) = matches.subcommand_matches("check") {
+        return Ok(check(words));
+    }
+    if let Some(words) = matches.subcommand_matches("view") {
+        return view(words);
+    }
+    Ok(Task::Run)
+}
+
+/// What `rle` asks for.
+fn rle<'a>(words: &ArgMatches<'a>) -> Result<Task<'a>, RunFault>
+    requires { HasRule (rows_of (found_of words.now)) }
+    ensures asked { rle_asked (rows_of (found_of words.now)) ≡ Some (told result) }
+    ensures servable { IfOk result IsServable }
+{
+    let rule = rule(words)?;
+    Ok(Task::Rle(rule))
+}
+
+/// What `serve` asks for.
+fn serve<'a>(words: &ArgMatches<'a>) -> Result<Task<'a>, RunFault>
+    requires { HasServer (rows_of (found_of words.now)) }
+    ensures asked { serve_asked (rows_of (found_of words.now)) ≡ Some (told result) }
+    ensures servable { IfOk result IsServable }
+{
+    let rule = rule(words)?;
+    let port = number(words, "port");
+    let sessions = number(words, "sessions");
+    Ok(Task::Serve(Server {
+        rule,
+        port,
+        sessions,
+    }))
+}
+
+/// What `check` asks for.
+fn check<'a>(words: &ArgMatches<'a>) -> Task<'a>
+    ensures asked { check_asked (rows_of (found_of words.now)) ≡ Some (Ok (told_of result)) }
+    ensures servable { IsServable result }
+{
+    Task::Check(words.get_str("file"))
+}
+
+/// What `view` asks for.
+fn view<'a>(words: &ArgMatches<'a>) -> Result<Task<'a>, RunFault>
+    requires { HasView (rows_of (found_of words.now)) }
+    ensures asked { view_asked (rows_of (found_of words.now)) ≡ Some (told result) }
+    ensures servable { IfOk result IsServable }
+{
+    let rule = rule_if_given(words)?;
+    Ok(Task::View(Viewing {
+        file: words.get_str("file"),
+        rule,
+        at: words.get_str("at"),
+        size: words.get_str("size"),
+        generation: generation(words),
+        is_plain: is_set(words, "plain"),
+        is_svg: is_set(words, "svg"),
+    }))
+}
+
+/// The rule of the option `--rule`, if it is given.
+fn rule_if_given(words: &ArgMatches<'_>) -> Result<Option<Rule>, RunFault>
+    ensures { result ≡ rule_if_given (first_of (codes "rule") (rows_of (found_of words.now))) }
+{
+    match words.get_str("rule") {
+        None => Ok(None),
+        Some(text) => match rule_of(text) {
+            Ok(rule) => Ok(Some(rule)),
+            Err(fault) => Err(fault),
+        },
+    }
+}
+
+/// The generation, if one is given.
+fn generation(words: &ArgMatches<'_>) -> Option<u32>
+    requires { MayHaveNumber 0 4294967295 (codes "gen") (rows_of (found_of words.now)) }
+    ensures { number_of (codes "gen") (rows_of (found_of words.now)) ≡ result }
+{
+    words.get_one::<u32>("gen")
+}
+
+/// Whether a flag is given.
+fn is_set(words: &ArgMatches<'_>, id: &str) -> bool
+    requires { HasFlag id.now (rows_of (found_of words.now)) }
+    ensures { is_set id.now (rows_of (found_of words.now)) ≡ result }
+{
+    words.get_flag(id)
+}
+
+/// The rule of the option `--rule`.
+fn rule(words: &ArgMatches<'_>) -> Result<Rule, RunFault>
+    requires { HasRule (rows_of (found_of words.now)) }
+    ensures { (text : List ℕ) → first_of (codes "rule") (rows_of (found_of words.now)) ≡ Some text → result ≡ rule_asked text }
+{
+    // the option is required, so the words have it
+    let text = words.get_str("rule").unwrap();
+    rule_of(text)
+}
+
+/// The rule of a text.
+fn rule_of(text: &str) -> Result<Rule, RunFault>
+    ensures { result ≡ rule_asked text.now }
+{
+    match Rule::parse(text.as_bytes()) {
+        Ok(rule) => Ok(rule),
+        Err(fault) => Err(RunFault::Refused(fault.number(), fault.place())),
+    }
+}
+
+/// The number of an option that is required and takes numbers of 16 bits.
+fn number(words: &ArgMatches<'_>, id: &str) -> u16
+    requires { HasNumber 0 65535 id.now (rows_of (found_of words.now)) }
+    ensures value { number_of id.now (rows_of (found_of words.now)) ≡ Some result }
+    ensures within { (low high : ℕ) → high ≤ 65535 → HasNumber low high id.now (rows_of (found_of words.now)) → (low ≤ result) × (result ≤ high) }
+{
+    words.get_one::<u16>(id).unwrap()
+}

@@ -1,0 +1,49 @@
+-- Which rule the header of a pattern text tells, and where.
+use Rattle.std.specs.Prelude.{ℕ, ◌+◌, ◌-◌, List, [], ◌∷◌, length, take, reverse, codes, if◌then◌else◌, Option, Some, None}
+use Rattle.std.specs.List.{prefix_len, before_first}
+use Rattle.multistate_rle.specs.Bytes.{is_space_or_tab, past_prefix, ◌>=>◌, behind_all}
+use Rattle.multistate_rle.specs.Header.{behind_symbol, side_spelled}
+use Rattle.multistate_rle.specs.HeaderLine.{text_lines, may_precede}
+use Rattle.multistate_rle.specs.Position.{is_comma}
+use Rattle.header_rules.specs.declared.header.HeaderRule.{HeaderRule}
+use Rattle.header_rules.specs.GollyRule.{rule_spelled}
+
+-- a line, and the place in its text where it begins
+pub record PlacedLine : Type 0 where
+  pub start : ℕ
+  pub text : List ℕ
+
+-- the first of some lines that is neither a comment nor blank; they begin at a place, and one byte ends each
+abbrev pub header_line : ℕ → List (List ℕ) → Option PlacedLine
+header_line start [] = None
+header_line start (line ∷ lines) =
+    if may_precede line then header_line (start + (length line + 1)) lines else Some (record { start = start; text = line })
+
+-- what stands behind `x = w, y = h` and a comma
+abbrev pub behind_sides : List ℕ → Option (List ℕ)
+behind_sides line = side_spelled 120 line >=> λ x. behind_symbol 44 x.1 >=> λ rest. side_spelled 121 rest >=> λ y. behind_symbol 44 y.1
+
+-- what stands behind `rule =` and its blanks
+abbrev pub behind_rule : List ℕ → Option (List ℕ)
+behind_rule text = behind_all (codes "rule") (past_prefix is_space_or_tab text) >=> λ rest. behind_symbol 61 rest >=> λ rest. Some (past_prefix is_space_or_tab rest)
+
+abbrev pub without_blanks_behind : List ℕ → List ℕ
+without_blanks_behind text = take (length text - prefix_len is_space_or_tab (reverse text)) text
+
+-- a rule's text, in front of a comma or of the line's end
+abbrev pub rule_text : List ℕ → List ℕ
+rule_text rest = without_blanks_behind (before_first is_comma rest)
+
+-- a text that is told as a rule, unless it is empty
+abbrev pub told_at : ℕ → List ℕ → Option HeaderRule
+told_at place [] = None
+told_at place (byte ∷ text) = Some (record { place = place; length = length (byte ∷ text); rule = rule_spelled (byte ∷ text) })
+
+-- the rule that a header's line tells; its text begins where that is left of the line which stands behind `rule =`
+abbrev pub told_in_line : PlacedLine → Option HeaderRule
+told_in_line line =
+    behind_sides line.text >=> λ rest. behind_rule rest >=> λ rest. told_at (line.start + (length line.text - length rest)) (rule_text rest)
+
+-- the rule that the header of a text tells, if it has one and that tells one
+abbrev pub header_rule_told : List ℕ → Option HeaderRule
+header_rule_told text = header_line 0 (text_lines text) >=> told_in_line

@@ -1,0 +1,3 @@
+pub mod GollyRule
+pub mod HeaderRule
+pub mod Rows

@@ -1,0 +1,165 @@
+//! The header's line, and the rule that it tells.
+
+ghost use Rattle.std.specs.Prelude.{◌≡◌, ◌+◌, ◌∷◌, [], ◌≤◌, ◌<◌, length, option_map, MatchOption, IfSome, None};
+ghost use Rattle.std.specs.List.{before_first, position_or_len};
+ghost use Rattle.multistate_rle.specs.Bytes.{ends_line};
+ghost use Rattle.multistate_rle.specs.Header.{side_spelled, number_in_front};
+ghost use Rattle.multistate_rle.specs.HeaderLine.{HasNoHeader, text_lines, may_precede};
+ghost use Rattle.multistate_rle.specs.Position.{is_comma};
+ghost use Rattle.header_rules.specs.HeaderRule.{header_line, behind_sides, behind_rule, rule_text, header_rule_told};
+
+use crate::golly::spelled_rule;
+use crate::scan;
+use generations_rule::Rule;
+use multistate_rle::number;
+
+/// The rule that the header of a pattern text tells.
+#[derive(Clone, Copy, Debug, PartialEq, Eq)]
+pub struct HeaderRule {
+    /// The index, in the whole text and from 0, of the first byte of the rule's text.
+    pub place: usize,
+    /// How many bytes the rule's text has: 1 at least.
+    pub length: usize,
+    /// The rule, unless neither `S/B/C` nor a spelling of Golly's Life-like rules reads its text.
+    pub rule: Option<Rule>,
+}
+
+/// The rule that the header `x = w, y = h, rule = TEXT` of a pattern text tells: TEXT stands in front
+/// of a comma or of the line's end, without the blanks round it. `None` where the text has no header,
+/// or that tells no rule. The header's line is the one that `multistate_rle::parse` takes.
+///
+/// A bounded grid, as in Golly's `B3/S23:T100`, is told as a rule that cannot be read.
+pub fn header_rule(text: &[u8]) -> Option<HeaderRule>
+    ensures told { result ≡ header_rule_told text.now }
+    ensures within { IfSome result (λ told. (0 < told.length) × (told.place + told.length ≤ length text.now)) }
+    ensures no_header { HasNoHeader text.now → result ≡ None }
+{
+    let line = header_line(text)?;
+    let rest = behind_rule(behind_sides(line.text)?)?;
+    let rule = rule_text(rest);
+    if rule.is_empty() {
+        return None;
+    }
+    Some(HeaderRule {
+        place: line.start + (line.text.len() - rest.len()),
+        length: rule.len(),
+        rule: spelled_rule(rule),
+    })
+}
+
+/// A line, and the place in its text where it begins.
+#[derive(Clone, Copy)]
+struct PlacedLine<'a> {
+    start: usize,
+    text: &'a [u8],
+}
+
+/// The first line that is neither a comment nor blank.
+fn header_line(text: &[u8]) -> Option<PlacedLine<'_>>
+    ensures line { option_map (λ line. record { start = line.start; text = line.text.now }) result ≡ header_line 0 (text_lines text.now) }
+    ensures within { IfSome result (λ line. line.start + length line.text.now ≤ length text.now) }
+{
+    let mut start = 0;
+    let mut rest = Some(text);
+    while let Some(lines) = rest {
+        let (line, behind) = split_line(lines);
+        if !may_stand_in_front(line) {
+            return Some(PlacedLine { start, text: line });
+        }
+        start += line.len() + 1;
+        rest = behind;
+    }
+    None
+}
+
+/// The first line of a text, and what stands behind its end, if it has one.
+fn split_line(text: &[u8]) -> (&[u8], Option<&[u8]>)
+    ensures line { MatchOption result.1 (text_lines text.now ≡ result.0.now ∷ []) (λ rest. text_lines text.now ≡ result.0.now ∷ text_lines rest.now) }
+    ensures whole { MatchOption result.1 (length result.0.now ≡ length text.now) (λ rest. length result.0.now + length rest.now + 1 ≡ length text.now) }
+{
+    let end = line_len(text);
+    if end < text.len() {
+        (&text[..end], Some(&text[end + 1..]))
+    } else {
+        (text, None)
+    }
+}
+
+/// How long the first line of a text is, without its end.
+fn line_len(text: &[u8]) -> usize
+    ensures count { result ≡ position_or_len ends_line text.now }
+    ensures within { result ≤ length text.now }
+{
+    text.iter()
+        .take_while(|byte| !scan::is_line_end(**byte))
+        .count()
+}
+
+/// Whether a line in front of the header may say this: it is a comment or blank.
+fn may_stand_in_front(line: &[u8]) -> bool
+    ensures { result ≡ may_precede line.now }
+{
+    line.first() == Some(&b'#') || scan::is_all_blank(line)
+}
+
+/// What stands behind `x = w, y = h` and a comma.
+fn behind_sides(line: &[u8]) -> Option<&[u8]>
+    ensures rest { option_map (λ rest. rest.now) result ≡ behind_sides line.now }
+    ensures within { IfSome result (λ rest. length rest.now ≤ length line.now) }
+{
+    let (_, rest) = side(b'x', line)?;
+    let rest = scan::behind_symbol(b',', rest)?;
+    let (_, rest) = side(b'y', rest)?;
+    scan::behind_symbol(b',', rest)
+}
+
+/// A letter, `=` and a number: the number, and what stands behind it.
+fn side(letter: u8, line: &[u8]) -> Option<(u64, &[u8])>
+    ensures side { option_map (λ found. (found.0, found.1.now)) result ≡ side_spelled letter line.now }
+    ensures within { IfSome result (λ found. length found.1.now ≤ length line.now) }
+{
+    let rest = scan::behind_symbol(letter, line)?;
+    let rest = scan::behind_symbol(b'=', rest)?;
+    number_in_front(scan::past_blanks(rest))
+}
+
+fn number_in_front(text: &[u8]) -> Option<(u64, &[u8])>
+    ensures number { option_map (λ found. (found.0, found.1.now)) result ≡ number_in_front text.now }
+    ensures within { IfSome result (λ found. length found.1.now ≤ length text.now) }
+{
+    let (digits, rest) = scan::past_digits(text);
+    let side = number(u64::from(u32::MAX), digits)?;
+    Some((side, rest))
+}
+
+/// What stands behind `rule =` and its blanks.
+fn behind_rule(text: &[u8]) -> Option<&[u8]>
+    ensures rest { option_map (λ rest. rest.now) result ≡ behind_rule text.now }
+    ensures within { IfSome result (λ rest. length rest.now ≤ length text.now) }
+{
+    let rest = scan::past_blanks(text).strip_prefix(b"rule")?;
+    let rest = scan::behind_symbol(b'=', rest)?;
+    Some(scan::past_blanks(rest))
+}
+
+/// The rule's text, in front of a comma or of the line's end.
+fn rule_text(rest: &[u8]) -> &[u8]
+    ensures text { result.now ≡ rule_text rest.now }
+    ensures within { length result.now ≤ length rest.now }
+{
+    scan::before_blanks(before_comma(rest))
+}
+
+fn before_comma(text: &[u8]) -> &[u8]
+    ensures front { result.now ≡ before_first is_comma text.now }
+    ensures within { length result.now ≤ length text.now }
+{
+    &text[..comma_at(text)]
+}
+
+fn comma_at(text: &[u8]) -> usize
+    ensures count { result ≡ position_or_len is_comma text.now }
+    ensures within { result ≤ length text.now }
+{
+    text.iter().take_while(|byte| **byte != b',').count()
+}

@@ -1,0 +1,69 @@
+//! Where the fault of a pattern's text stands in its script.
+
+use genedit_script::{Line, Lines};
+use script_faults::Place;
+
+/// The number of `Header` in the table of faults.
+const HEADER: u8 = 4;
+
+/// Where the refusal of a command stands: at a byte of its block, at the line that should be the
+/// block's header, or at the command itself.
+pub fn fault_place(script: Lines<'_>, command: Place, number: u8, at: Option<u64>) -> Place {
+    let block = behind(script, command.line);
+    let found = match at {
+        Some(at) => place_in_block(block, at),
+        None if number == HEADER => header_place(block),
+        None => None,
+    };
+    found.unwrap_or(command)
+}
+
+/// The lines behind one of this number.
+fn behind(mut script: Lines<'_>, number: u64) -> Lines<'_> {
+    while script.number <= number {
+        if script.next_line().is_none() {
+            return script;
+        }
+    }
+    script
+}
+
+/// The byte of a block's text, in which each line has one line feed behind it.
+fn place_in_block(mut lines: Lines<'_>, at: u64) -> Option<Place> {
+    let mut left = at;
+    while let Some(line) = lines.next_line() {
+        let length = line.text.len() as u64;
+        if left <= length {
+            return Some(Place {
+                line: line.number,
+                column: (left as usize).saturating_add(1),
+                width: 1,
+            });
+        }
+        left -= length + 1;
+    }
+    None
+}
+
+/// The first line that is neither a comment nor blank, unless that is the block's end.
+fn header_place(mut lines: Lines<'_>) -> Option<Place> {
+    while let Some(line) = lines.next_line() {
+        if !may_stand_in_front(line) {
+            let place = Place {
+                line: line.number,
+                column: 1,
+                width: line.text.len().max(1),
+            };
+            return if line.text == b"end".as_slice() {
+                None
+            } else {
+                Some(place)
+            };
+        }
+    }
+    None
+}
+
+fn may_stand_in_front(line: Line<'_>) -> bool {
+    line.text.first() == Some(&b'#') || line.text.iter().all(|byte| *byte == b' ' || *byte == b'\t')
+}

@@ -1,0 +1,192 @@
+//! What is wrong with a faulty line.
+
+ghost use Rattle.std.specs.Prelude.{IfSome, ◌<◌, length};
+
+use crate::keyword::Keyword;
+use crate::nearest::nearest;
+use crate::reason::Reason;
+use crate::word::{Word, Words};
+use generations_rule::RuleFault;
+use std::alloc::{AllocError, Global};
+
+/// What is wrong with some bytes of a line.
+#[derive(Clone, Copy)]
+pub struct Finding {
+    pub column: usize,
+    pub width: usize,
+    pub reason: Reason,
+}
+
+/// The lines that told the rule and the number of replicas, or were due to.
+#[derive(Clone, Copy)]
+pub struct Head {
+    pub rule: Option<u64>,
+    pub replicas: Option<u64>,
+}
+
+const BYTE_ORDER_MARK: &[u8] = b"\xef\xbb\xbf";
+
+/// What is wrong with a line that should tell the rule.
+pub fn rule_finding(alloc: Global, line: &[u8], first: bool) -> Result<Finding, AllocError> {
+    if let Some(finding) = strange_finding(line, first) {
+        return Ok(finding);
+    }
+    due_finding(alloc, Keyword::Rule, Reason::RuleDue, line)
+}
+
+/// What is wrong with a line that should tell the number of replicas.
+pub fn replicas_finding(alloc: Global, line: &[u8]) -> Result<Finding, AllocError> {
+    if let Some(finding) = strange_finding(line, false) {
+        return Ok(finding);
+    }
+    due_finding(alloc, Keyword::Replicas, Reason::ReplicasDue, line)
+}
+
+/// What is wrong with a line that should be a command.
+pub fn command_finding(alloc: Global, head: Head, line: &[u8]) -> Result<Finding, AllocError> {
+    if let Some(finding) = strange_finding(line, false) {
+        return Ok(finding);
+    }
+    let mut words = Words::of(line);
+    let Some(word) = words.next_word() else {
+        return Ok(whole(line, Reason::NoCommand(None)));
+    };
+    match Keyword::of(word.text) {
+        None => Ok(word.finding(Reason::NoCommand(nearest(alloc, word.text)?))),
+        Some(Keyword::Rule) => Ok(word.finding(Reason::RuleAgain(head.rule))),
+        Some(Keyword::Replicas) => Ok(word.finding(Reason::ReplicasAgain(head.replicas))),
+        Some(Keyword::End) => Ok(word.finding(Reason::NoBlock)),
+        Some(keyword) => Ok(arguments_finding(keyword, words)),
+    }
+}
+
+/// What is wrong with a line that opens a block.
+pub fn opening_finding(line: &[u8], almost_end: Option<u64>, closed: bool) -> Finding {
+    if let Some(finding) = strange_finding(line, false) {
+        return finding;
+    }
+    let mut words = Words::of(line);
+    match words.next_word() {
+        Some(word) if !closed && is_opening(words) => word.finding(Reason::OpenBlock(almost_end)),
+        _ => arguments_finding(Keyword::Pattern, words),
+    }
+}
+
+/// Whether just a name follows.
+fn is_opening(mut words: Words<'_>) -> bool {
+    match words.next_word() {
+        Some(word) => crate::argument::Argument::Name.fits(word.text)
+            && words.next_word().is_none(),
+        None => false,
+    }
+}
+
+/// What is wrong with a line that should begin with a word, where its first may be a misspelt one.
+fn due_finding(
+    alloc: Global,
+    keyword: Keyword,
+    due: Reason,
+    line: &[u8],
+) -> Result<Finding, AllocError> {
+    let mut words = Words::of(line);
+    let Some(word) = words.next_word() else {
+        return Ok(whole(line, due));
+    };
+    match Keyword::of(word.text) {
+        Some(found) if found == keyword => Ok(arguments_finding(keyword, words)),
+        Some(_) => Ok(word.finding(due)),
+        None => match nearest(alloc, word.text)? {
+            Some(near) if near == keyword => Ok(word.finding(Reason::NoCommand(Some(near)))),
+            _ => Ok(word.finding(due)),
+        },
+    }
+}
+
+/// The first word that does not fit behind a keyword, or the one that is missing.
+fn arguments_finding(keyword: Keyword, mut words: Words<'_>) -> Finding {
+    let mut due = keyword.arguments();
+    while let Some(word) = words.next_word() {
+        let Some((argument, rest)) = due.split_first() else {
+            return word.finding(surplus(word, keyword));
+        };
+        if !argument.fits(word.text) {
+            return misfit_finding(argument.misfit(word.text), word);
+        }
+        due = if rest.is_empty() {
+            keyword.repeated()
+        } else {
+            rest
+        };
+    }
+    let reason = match due.first() {
+        Some(argument) => Reason::Missing(*argument, keyword),
+        None => Reason::NoForm(keyword),
+    };
+    Finding {
+        column: words.end(),
+        width: 1,
+        reason,
+    }
+}
+
+fn surplus(word: Word<'_>, keyword: Keyword) -> Reason {
+    if word.text.first() == Some(&b'#') {
+        Reason::Remark
+    } else {
+        Reason::Surplus(keyword)
+    }
+}
+
+/// Where a rule's text has a byte that may not stand there, the finding is at that byte.
+fn misfit_finding(reason: Reason, word: Word<'_>) -> Finding {
+    match reason {
+        Reason::NoRule(RuleFault::Digit(place)) if place < word.text.len() as u64 => Finding {
+            column: word.column.saturating_add(place as usize),
+            width: 1,
+            reason,
+        },
+        _ => word.finding(reason),
+    }
+}
+
+/// A byte order mark in front of the script, or a byte that is no text.
+fn strange_finding(line: &[u8], first: bool) -> Option<Finding> {
+    if first && line.starts_with(BYTE_ORDER_MARK) {
+        return Some(Finding {
+            column: 1,
+            width: BYTE_ORDER_MARK.len(),
+            reason: Reason::ByteOrderMark,
+        });
+    }
+    let (at, byte) = strange_byte(line)?;
+    Some(Finding {
+        column: at + 1,
+        width: 1,
+        reason: Reason::NoText(byte),
+    })
+}
+
+/// The first control byte, or the first byte that is not ASCII where the line is not UTF-8.
+fn strange_byte(line: &[u8]) -> Option<(usize, u8)>
+    ensures { IfSome result (λ found. found.0 < length line.now) }
+{
+    let is_text = std::str::from_utf8(line).is_ok();
+    for (at, byte) in line.iter().enumerate() {
+        if is_control(*byte) || (!is_text && !byte.is_ascii()) {
+            return Some((at, *byte));
+        }
+    }
+    None
+}
+
+fn is_control(byte: u8) -> bool {
+    byte != b'\t' && (byte < b' ' || byte == 127)
+}
+
+fn whole(line: &[u8], reason: Reason) -> Finding {
+    Finding {
+        column: 1,
+        width: line.len().max(1),
+        reason,
+    }
+}

@@ -1,0 +1,183 @@
+//! What notes say.
+
+use crate::argument::Argument;
+use crate::keyword::Keyword;
+use crate::reason::{Reason, Warning};
+use generations_rule::{Rule, RuleFault};
+use header_rules::spelled_rule;
+use std::alloc::{AllocError, Global};
+
+/// How many bytes of a word are shown.
+const MOST_SHOWN: usize = 40;
+
+/// What is wrong with a word of a script, and what would be right.
+pub fn reason_text(alloc: Global, reason: Reason, word: &[u8]) -> Result<String, AllocError> {
+    match reason {
+        Reason::ByteOrderMark => String::from_str(
+            alloc,
+            "the file begins with a byte order mark (U+FEFF), which is not seen: save it without one",
+        ),
+        Reason::NoText(b'\r') => String::from_str(
+            alloc,
+            "a carriage return stands here without a line feed: lines end with LF, or with CR and LF",
+        ),
+        Reason::NoText(byte) => format!(in alloc; "this byte is no text: {byte} in decimal"),
+        Reason::NoCommand(near) => no_command_text(alloc, near, word),
+        Reason::Missing(argument, keyword) => missing_text(alloc, argument, keyword),
+        Reason::Surplus(keyword) => format!(in alloc; "a word too many: `{}`", keyword.form()),
+        Reason::Remark => String::from_str(
+            alloc,
+            "a remark stands on a line of its own, whose first word begins with #",
+        ),
+        Reason::NoNumber(argument) => no_number_text(alloc, argument, word),
+        Reason::OutOfRange(argument) => {
+            format!(in alloc; "{} is {}", argument.name(), argument.range())
+        }
+        Reason::NoName => {
+            format!(in alloc;
+                "`{}` is no name: 1 to 16 letters and digits",
+                shown(alloc, word)?
+            )
+        }
+        Reason::GollyRule => golly_text(alloc, word),
+        Reason::NoRule(fault) => no_rule_text(alloc, fault, word),
+        _ => order_text(alloc, reason),
+    }
+}
+
+/// What may be wrong with a pattern's header, which tells this rule; the script has another.
+pub fn warning_text(
+    alloc: Global,
+    warning: Warning,
+    word: &[u8],
+    rule: &Rule,
+) -> Result<String, AllocError> {
+    let rule = rule_text(alloc, rule)?;
+    match (warning, spelled_rule(word)) {
+        (Warning::OtherRule, Some(told)) => {
+            let told = rule_text(alloc, &told)?;
+            format!(in alloc;
+                "warning: this pattern is of the rule {told}, and the script's rule is {rule}"
+            )
+        }
+        _ => format!(in alloc;
+            "warning: this pattern's rule is not read; the script's rule is {rule}"
+        ),
+    }
+}
+
+/// What is wrong with the order of lines.
+fn order_text(alloc: Global, reason: Reason) -> Result<String, AllocError> {
+    match reason {
+        Reason::OpenBlock(Some(line)) => {
+            format!(in alloc;
+                "this pattern has no line `end`; line {line} has blanks beside its `end`"
+            )
+        }
+        Reason::OpenBlock(None) => String::from_str(
+            alloc,
+            "this pattern has no line `end`: the line behind its last says just that",
+        ),
+        Reason::NoBlock => String::from_str(
+            alloc,
+            "no pattern is open here that `end` could close",
+        ),
+        Reason::RuleDue => String::from_str(
+            alloc,
+            "a script begins with its rule: `rule S/B/C`, as `rule 23/3/2` for Life",
+        ),
+        Reason::ReplicasDue => String::from_str(
+            alloc,
+            "the second line is the number of replicas: `replicas N`, 0 to 64",
+        ),
+        Reason::RuleAgain(line) => again_text(alloc, "the rule", "first", line),
+        Reason::ReplicasAgain(line) => again_text(alloc, "the number of replicas", "second", line),
+        Reason::NoForm(keyword) => format!(in alloc; "the line is written `{}`", keyword.form()),
+        _ => Ok(String::new(alloc)),
+    }
+}
+
+fn again_text(
+    alloc: Global,
+    what: &str,
+    place: &str,
+    line: Option<u64>,
+) -> Result<String, AllocError> {
+    match line {
+        Some(line) => format!(in alloc;
+            "{what} stands once, as the {place} line; here that is line {line}"
+        ),
+        None => format!(in alloc; "{what} stands once, as the {place} line"),
+    }
+}
+
+fn no_command_text(
+    alloc: Global,
+    near: Option<Keyword>,
+    word: &[u8],
+) -> Result<String, AllocError> {
+    let word = shown(alloc, word)?;
+    match near {
+        Some(near) => format!(in alloc; "`{word}` is no command; did you mean `{}`?", near.name()),
+        None => format!(in alloc; "`{word}` is no command: `genedit run --help` lists them"),
+    }
+}
+
+fn missing_text(alloc: Global, argument: Argument, keyword: Keyword) -> Result<String, AllocError> {
+    format!(in alloc; "{} is missing: `{}`", argument.name(), keyword.form())
+}
+
+fn no_number_text(alloc: Global, argument: Argument, word: &[u8]) -> Result<String, AllocError> {
+    let word = shown(alloc, word)?;
+    format!(in alloc;
+        "`{word}` is no whole number: {} is {}",
+        argument.name(),
+        argument.range()
+    )
+}
+
+fn golly_text(alloc: Global, word: &[u8]) -> Result<String, AllocError> {
+    match spelled_rule(word) {
+        Some(rule) => {
+            let rule = rule_text(alloc, &rule)?;
+            format!(in alloc; "a rule is survival/birth/states: write `rule {rule}`")
+        }
+        None => String::from_str(alloc, "a rule is survival/birth/states"),
+    }
+}
+
+fn no_rule_text(alloc: Global, fault: RuleFault, word: &[u8]) -> Result<String, AllocError> {
+    match fault {
+        RuleFault::Slashes => {
+            let word = shown(alloc, word)?;
+            format!(in alloc; "`{word}` is no rule: survival/birth/states, as 23/3/2 for Life")
+        }
+        RuleFault::Digit(_) => String::from_str(
+            alloc,
+            "this may not stand here: survival counts are 0 to 8, birth counts 1 to 8, states a number",
+        ),
+        RuleFault::States => String::from_str(alloc, "a rule has 2 to 256 states, its third part"),
+    }
+}
+
+/// A rule as it is printed.
+pub fn rule_text(alloc: Global, rule: &Rule) -> Result<String, AllocError> {
+    shown(alloc, &rule.write_text(alloc)?)
+}
+
+/// Some bytes of a script, cut at 40, with `?` for what is not printing ASCII.
+fn shown(alloc: Global, bytes: &[u8]) -> Result<String, AllocError> {
+    let mut text = String::new(alloc);
+    for byte in bytes.iter().take(MOST_SHOWN) {
+        let letter = if b' ' <= *byte && *byte <= b'~' {
+            char::from(*byte)
+        } else {
+            '?'
+        };
+        text.push(letter)?;
+    }
+    if bytes.len() > MOST_SHOWN {
+        text.push_str("..")?;
+    }
+    Ok(text)
+}

@@ -1,0 +1,95 @@
+-- A session over a hub that has a seat is a session over the seat, and leaves it at its place.
+use Rattle.std.proofs.Common.{◌≡◌, ℕ, ◌+◌, ◌^◌, List, [], ◌∷◌, Option, Some, None, ap, subst, ◌∙◌, arith}
+use Rattle.std.specs.Prelude.{Result}
+use Rattle.devices.specs.Source.{KnownSource}
+use Rattle.devices.specs.Sink.{KnownSink}
+use Rattle.generations_rule.specs.Rule.{GenerationsRule}
+use Rattle.frame_service.specs.Exchanges.{AreAnswered, Exchange}
+use Rattle.frame_service.specs.declared.fault.ServeFault.{ServeFault}
+use Rattle.frame_service.specs.declared.reply.Reply.{Reply}
+use Rattle.frame_service.specs.declared.served.Served.{Served}
+use Rattle.frame_service.specs.Service.{IsService}
+use Rattle.relay_board.specs.Seating.{Seating}
+use Rattle.replica_sessions.specs.Answer.{AnswersAs, IsAnswered, SessionState}
+use Rattle.seat_hub.specs.SeatCalls.{IsSeatCall}
+use Rattle.session_hub.specs.HubCall.{AllowsAtMost, HubCall}
+use Rattle.session_hub.specs.Replies.{Kept, nothing_kept}
+use Rattle.session_hub.specs.Request.{Request, request_of}
+use Rattle.seat_server.specs.Sessions.{IsAttended, number_of, rule_of, session_at}
+
+module _ {H : Type 0} (seat_of : H → Seating) where
+  abbrev allows_over : H → HubCall → H → Type 0
+  allows_over a call b = IsSeatCall (seat_of a) call (seat_of b)
+
+  abbrev OverHub : SessionState H → List ℕ → Option Reply → SessionState H → Type 0
+  OverHub = AnswersAs allows_over (λ h. rule_of (seat_of h)) (λ h. number_of (seat_of h))
+
+  abbrev OverSeat : SessionState Seating → List ℕ → Option Reply → SessionState Seating → Type 0
+  OverSeat = AnswersAs IsSeatCall rule_of number_of
+
+  abbrev seen : SessionState H → SessionState Seating
+  seen s = record { hub = seat_of s.hub; kept = s.kept }
+
+  at_most : (a b : H) (call : Option HubCall) → AllowsAtMost allows_over a call b → AllowsAtMost IsSeatCall (seat_of a) call (seat_of b)
+  at_most a b None same = ap seat_of same
+  at_most a b (Some call) allowed = allowed
+
+  answered : (r : GenerationsRule) (seat : ℕ) (request : Request) (reply : Option Reply) (a : H) (kept : Kept) (b : H) (left : Kept)
+      → IsAnswered allows_over r seat request reply a kept b left → IsAnswered IsSeatCall r seat request reply (seat_of a) kept (seat_of b) left
+  answered r seat request None a kept b left same = (ap seat_of same.0, same.1)
+  answered r seat request (Some reply) a kept b left answer = (
+    record {
+      call = answer.0.call;
+      allowed = at_most a b answer.0.call answer.0.allowed;
+      replied = answer.0.replied;
+    },
+    answer.1,
+  )
+
+  answers : (s : SessionState H) (request : List ℕ) (reply : Option Reply) (t : SessionState H) → OverHub s request reply t → OverSeat (seen s) request reply (seen t)
+  answers s request reply t one = record {
+    answered = answered (rule_of (seat_of s.hub)) (number_of (seat_of s.hub)) (request_of request) reply s.hub s.kept t.hub t.kept one.answered;
+    rule = one.rule;
+    number = one.number;
+  }
+
+  all_answered : (xs : List Exchange) (s t : SessionState H) → AreAnswered OverHub s xs t → AreAnswered OverSeat (seen s) xs (seen t)
+  all_answered [] s t same = ap seen same
+  all_answered (x ∷ xs) s t (next, first, rest) = (seen next, answers s x.request x.reply next first, all_answered xs next t rest)
+
+  pub seat_served : (turns : ℕ) (end : Result Served ServeFault) (s t : SessionState H) (source source' : KnownSource) (from to : KnownSink)
+      → IsService OverHub turns end s t source source' from to → IsService OverSeat turns end (seen s) (seen t) source source' from to
+  seat_served turns end s t source source' from to service = record {
+    pulled = service.pulled;
+    exchanges = service.exchanges;
+    left = service.left;
+    bytes = service.bytes;
+    exchanged = record { cut = service.exchanged.cut; answered = all_answered service.exchanges s t service.exchanged.answered };
+    ends = service.ends;
+  }
+
+  -- a service over a hub that had the one seat first, and has the other now
+  pub attended : (before after : Seating) (end : Result Served ServeFault) (s t : SessionState H) (source source' : KnownSource) (from to : KnownSink)
+      → seen s ≡ session_at before nothing_kept → seat_of t.hub ≡ after → IsService OverHub (2 ^ 32) end s t source source' from to → IsAttended before after end
+  attended before after end s t source source' from to begins leaves service = record {
+    kept = t.kept;
+    source = source;
+    source' = source';
+    from = from;
+    to = to;
+    service = subst (λ (a : SessionState Seating). IsService OverSeat (2 ^ 32) end a (session_at after t.kept) source source' from to) begins
+        (subst (λ (b : Seating). IsService OverSeat (2 ^ 32) end (seen s) (session_at b t.kept) source source' from to) leaves
+        (seat_served (2 ^ 32) end s t source source' from to service));
+  }
+
+-- ---- a seat stays at its place
+
+same_place : (a b : ℕ) → a + 1 ≡ b + 1 → a ≡ b
+same_place a b same = omega arith
+
+numbers_stay : (xs : List Exchange) (s t : SessionState Seating) → AreAnswered (AnswersAs IsSeatCall rule_of number_of) s xs t → t.hub.place ≡ s.hub.place
+numbers_stay [] s t same = ap (λ (u : SessionState Seating). u.hub.place) same
+numbers_stay (x ∷ xs) s t (next, first, rest) = numbers_stay xs next t rest ∙ same_place next.hub.place s.hub.place first.number
+
+pub place_stays : (a b : Seating) (end : Result Served ServeFault) → IsAttended a b end → b.place ≡ a.place
+place_stays a b end one = numbers_stay one.service.exchanges _ _ one.service.exchanged.answered

@@ -1,0 +1,12 @@
+use Rattle.std.proofs.Common.{◌∙◌, ap}
+use Rattle.seat_server.proofs.ListLaws.{all_begun, begins}
+use Rattle.seat_server.proofs.sessions.begin_all.Goals as goal
+
+pub loop-seat-preserved : goal.loop-seat-preserved
+loop-seat-preserved g c =
+    begins (λ h. h.promise.seat.value) c.loop-seat.threads.items c.push.new.self.items c.in-Ok.thread c.in-Some.seat c.loop-seat.left.items c.pop_front.new.self.items c.args.seats.items
+    c.in-Ok-push.ensures.items (ap (λ p. p.seat.value) c.in-Ok.ensures.ok ∙ c.of.ensures) c.in-Some.ensures.items c.loop-seat.invariant
+
+pub returns : goal.returns
+returns g c = λ whole. all_begun (λ h. h.promise.seat.value) c.loop-seat.threads.items c.loop-seat.left.items c.pop_front.new.self.items c.args.seats.items
+    c.in_default.ensures.items c.in_default.ensures.rest c.loop-seat.invariant

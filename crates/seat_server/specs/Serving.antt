@@ -1,0 +1,14 @@
+-- What a server of seats does.
+use Rattle.std.specs.Prelude.{List, []}
+use Rattle.board.specs.Origins.{list_of}
+use Rattle.relay_board.specs.Closing.{IsWhole}
+use Rattle.relay_board.specs.Seating.{Seating}
+use Rattle.seat_server.specs.declared.server.Finished.{Finished}
+use Rattle.seat_server.specs.Sessions.{AreAttended}
+
+-- Each of these seats was served over a stream of its own, and the account is that of the seats as their sessions left
+-- them: the published list has of each seat exactly what was pushed at it and accepted, in order, each once.
+pub record IsServed (before : List Seating) (f : Finished) : Type 0 where
+  pub after : List Seating
+  pub attended : AreAttended before after f.ends.items
+  pub whole : IsWhole [] (list_of f.account.front) after f.account

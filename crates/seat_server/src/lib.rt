@@ -1,0 +1,16 @@
+//! Serving the seats of a board: each seat over a stream of its own, on a thread of its own, while the
+//! relay takes turns, up to the closing account.
+//!
+//! Where the streams come from, and what wakes who waits for one, is the caller's: `Accept` and `Wake`.
+#![tactic(auto)]
+
+mod accept;
+mod fault;
+mod progress;
+mod server;
+mod sessions;
+mod turns;
+
+pub use accept::{Accept, Wake};
+pub use fault::ServerFault;
+pub use server::{Finished, serve_seats};

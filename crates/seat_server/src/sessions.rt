@@ -1,0 +1,175 @@
+//! Sessions on threads of their own.
+
+ghost use Rattle.std.specs.Prelude.{◌≡◌, map, true, IfOk};
+ghost use Rattle.seat_server.specs.Sessions.{IsAttended, AreAttended};
+
+use crate::accept::Accept;
+use crate::fault::ServerFault;
+use crate::progress::Progress;
+use devices::{Sink, Source};
+use frame_service::{ServeFault, Served};
+use relay_board::{Naming, Seat};
+use replica_sessions::Session;
+use seat_hub::SeatHub;
+use session_service::serve;
+use std::alloc::Global;
+use std::collections::VecDeque;
+use std::snapshot::Snapshot;
+use std::sync::Wait;
+use std::thread;
+use std::thread::{Promise, PromisedHandle, Threads};
+
+/// A seat as its session left it, and how the session ended.
+#[derive(Drop)]
+pub struct Attended<J: Naming> {
+    pub seat: Seat<J>,
+    pub end: Result<Served, ServeFault>,
+}
+
+/// That a thread serves a seat.
+#[derive(Drop)]
+pub struct Attending<J: Naming> {
+    seat: Snapshot<Seat<J>>,
+}
+
+impl<J: Naming> Promise<Attended<J>> for Attending<J> {
+    ghost use Rattle.seat_server.specs.Sessions.{IsAttended};
+
+    ghost kept_by = { λ p r. IsAttended p.seat.value r.seat r.end };
+}
+
+/// The thread of a session.
+type Thread<J> = PromisedHandle<Attended<J>, Attending<J>>;
+
+/// Serves one session over a seat.
+fn serve_one<J: Naming, R: Threads + Wait + Sync + Copy + Drop, S: Source + Drop, K: Sink + Drop>(
+    rt: R,
+    alloc: Global,
+    seat: Seat<J>,
+    mut source: S,
+    mut sink: K,
+) -> Attended<J>
+    ensures { IsAttended seat result.seat result.end }
+{
+    let mut session = Session::new(rt, alloc, SeatHub::new(seat, rt));
+    let end = serve(alloc, &mut source, &mut sink, &mut session);
+    Attended {
+        seat: session.into_hub().into_seat(),
+        end,
+    }
+}
+
+/// Starts a thread for each seat once a stream for it has come, in order. False where one did not come, a
+/// thread could not be started, or the relay gave up. Then nothing more is accepted.
+fn begin_all<
+    J: Naming + Send + 'static,
+    R: Threads + Wait + Copy + Drop + Send + Sync + 'static,
+    S: Source + Send + Drop + 'static,
+    K: Sink + Send + Drop + 'static,
+    A: Accept<S, K> + Drop,
+>(
+    rt: R,
+    alloc: Global,
+    progress: &Progress,
+    mut acceptor: A,
+    seats: Vec<Seat<J>>,
+) -> (Vec<Thread<J>>, bool)
+    ensures { result.1 ≡ true → map (λ h. h.promise.seat.value) result.0.items ≡ seats.items }
+{
+    let mut threads = Vec::new(alloc);
+    let mut left = VecDeque::from(seats);
+    while let Some(seat) = left.pop_front() {
+        let Some((source, sink)) = acceptor.accept() else {
+            return (threads, false);
+        };
+        if progress.has_given_up() {
+            return (threads, false);
+        }
+        let promise = Attending {
+            seat: Snapshot::of(&seat),
+        };
+        let begun = thread::spawn_with(
+            &rt,
+            promise,
+            move || serve_one(rt, alloc, seat, source, sink),
+        );
+        let Ok(thread) = begun else {
+            return (threads, false);
+        };
+        match threads.push(thread) {
+            Ok(()) => {}
+            Err(failed) => {
+                progress.fail();
+                failed.value.join(&rt);
+                return (threads, false);
+            }
+        }
+    }
+    (threads, true)
+}
+
+/// Waits for the sessions to end. What came of them, in order, where there is memory for that.
+fn ended<J: Naming, R: Threads>(
+    rt: &R,
+    threads: Vec<Thread<J>>,
+) -> Result<Vec<Attended<J>>, ServerFault>
+    ensures { IfOk result (λ v. AreAttended (map (λ h. h.promise.seat.value) threads.items) (map (λ a. a.seat) v.items) (map (λ a. a.end) v.items)) }
+{
+    match thread::join_promised(rt, threads) {
+        Ok(all) => Ok(all),
+        Err(failed) => {
+            for thread in failed.value {
+                thread.join(rt);
+            }
+            Err(ServerFault::Memory)
+        }
+    }
+}
+
+/// Serves each seat over a stream of its own, and waits for all of them to end.
+fn attend_all<
+    J: Naming + Send + 'static,
+    R: Threads + Wait + Copy + Drop + Send + Sync + 'static,
+    S: Source + Send + Drop + 'static,
+    K: Sink + Send + Drop + 'static,
+    A: Accept<S, K> + Drop,
+>(
+    rt: R,
+    alloc: Global,
+    progress: &Progress,
+    acceptor: A,
+    seats: Vec<Seat<J>>,
+) -> Result<Vec<Attended<J>>, ServerFault>
+    ensures { IfOk result (λ v. AreAttended seats.items (map (λ a. a.seat) v.items) (map (λ a. a.end) v.items)) }
+{
+    let (threads, is_whole) = begin_all(rt, alloc, progress, acceptor, seats);
+    if !is_whole {
+        progress.fail();
+    }
+    let all = ended(&rt, threads)?;
+    if !is_whole {
+        return Err(ServerFault::Read);
+    }
+    Ok(all)
+}
+
+/// The same, and lets the relay know that it is over.
+pub fn all_attended<
+    J: Naming + Send + 'static,
+    R: Threads + Wait + Copy + Drop + Send + Sync + 'static,
+    S: Source + Send + Drop + 'static,
+    K: Sink + Send + Drop + 'static,
+    A: Accept<S, K> + Drop,
+>(
+    rt: R,
+    alloc: Global,
+    progress: &Progress,
+    acceptor: A,
+    seats: Vec<Seat<J>>,
+) -> Result<Vec<Attended<J>>, ServerFault>
+    ensures { IfOk result (λ v. AreAttended seats.items (map (λ a. a.seat) v.items) (map (λ a. a.end) v.items)) }
+{
+    let all = attend_all(rt, alloc, progress, acceptor, seats);
+    progress.end();
+    all
+}

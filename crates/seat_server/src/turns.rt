@@ -1,0 +1,56 @@
+//! The turns of a relay whose seats are served.
+
+ghost use Rattle.std.specs.Prelude.{◌≡◌, IfSome};
+ghost use Rattle.relay_core.specs.declared.fault.TurnFault.TheVariants.{StoreFull};
+
+use crate::progress::Progress;
+use relay_board::{Naming, Relay, Turn, TurnFault};
+use std::sync::Wait;
+use std::time::Duration;
+
+/// How many turns in a row may fail.
+const MOST_FAILED: u16 = 1000;
+
+/// How many milliseconds the relay rests at most where there is nothing to do. Whatever there is to do
+/// wakes it.
+const REST: u64 = 1000;
+
+/// How many it rests after a turn that failed.
+const PAUSE: u64 = 1;
+
+/// Takes turns until the sessions are over, and rests where there is nothing to do. Where 1,000 turns in a
+/// row failed, the fault of the last one. Once a stream or a thread could not be had, the relay is closed.
+pub fn take_turns<J: Naming, R: Wait + Drop, H: Wait>(
+    rt: &H,
+    relay: &mut Relay<J, R>,
+    progress: &Progress,
+) -> Option<TurnFault>
+    ensures made { relay.new.made ≡ relay.old.made }
+    ensures full { IfSome result (λ fault. fault ≡ StoreFull → relay.new.stored ≡ relay.new.room) }
+{
+    let mut failed: u16 = 0;
+    let mut closed = false;
+    for _ in rt.forever() {
+        match relay.turn() {
+            Turn::Published(_) => failed = 0,
+            Turn::Idle => {
+                if progress.is_over() {
+                    return None;
+                }
+                if progress.has_failed() && !closed {
+                    relay.close();
+                    closed = true;
+                }
+                relay.rest(Duration::from_millis(REST));
+            }
+            Turn::Failed(fault) => {
+                failed = failed.saturating_add(1);
+                if failed >= MOST_FAILED {
+                    return Some(fault);
+                }
+                relay.rest(Duration::from_millis(PAUSE));
+            }
+        }
+    }
+    unreachable!()
+}

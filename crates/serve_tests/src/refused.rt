@@ -1,0 +1,55 @@
+//! What is refused before anybody is served.
+
+use devices::{Failed, Sink};
+use genedit_io::RunFault;
+use genedit_serve::{listen, serve_on};
+use generations_rule::Rule;
+use std::test::Fail;
+
+/// Takes nothing.
+#[derive(Drop)]
+struct Full {
+    pushes: u64,
+    failures: u64,
+}
+
+impl Sink for Full {
+    ghost use Rattle.std.specs.Prelude.{None};
+
+    ghost known = { λ s. record { pushes = s.pushes; failures = s.failures; held = None } };
+
+    fn push_all(&mut self, _bytes: &[u8]) -> Result<(), Failed> {
+        self.pushes = self.pushes.saturating_add(1);
+        self.failures = self.failures.saturating_add(1);
+        Err(Failed)
+    }
+}
+
+#[test]
+fn a_port_that_is_taken(rt: HostRuntime) -> Result<(), Fail> {
+    let first = listen(&rt, 0)?;
+    let port = first.local_addr()?.port();
+    assert_eq!(&rt; listen(&rt, port).err(), Some(RunFault::Read));
+    drop(first);
+    assert!(&rt;
+        listen(&rt, port).is_ok(),
+        "once it is free it may be had again"
+    );
+    Ok(())
+}
+
+#[test]
+fn an_output_that_takes_nothing(rt: HostRuntime) -> Result<(), Fail> {
+    let rule = Rule::parse(b"/2/3")?;
+    let mut full = Full {
+        pushes: 0,
+        failures: 0,
+    };
+    let listener = listen(&rt, 0)?;
+    assert_eq!(&rt;
+        serve_on(rt, rt.alloc(), listener, rule, 1, &mut full),
+        Err(RunFault::Write)
+    );
+    assert_eq!(&rt; full.pushes, 1);
+    Ok(())
+}
