@@ -5,9 +5,8 @@ use genedit_io::RunFault;
 use genedit_view::{BufferedSink, Form, Options, ViewFault, Window, window_of};
 use genedit_words::Viewing;
 use std::alloc::Global;
-use std::fs;
-use std::io;
 use std::rt::Files;
+use std::{fs, io};
 
 /// The picture is drawn.
 const WELL: u8 = 0;

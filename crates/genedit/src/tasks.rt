@@ -3,20 +3,19 @@
 ghost use Rattle.std.specs.Prelude.{◌≤◌};
 
 use devices::{ReadSource, Source, WriteSink};
-use generations_rule::Rule;
 use genedit_io::RunFault;
 use genedit_lib::run_script;
 use genedit_rle::rle_text;
 use genedit_serve::{listen, serve_on};
 use genedit_words::Server;
+use generations_rule::Rule;
 use script_check::{Outcome, check_script};
 use std::alloc::Global;
-use std::fs;
-use std::io;
 use std::net::{Net, TcpListener, TcpStream};
 use std::rt::Files;
 use std::sync::Wait;
 use std::thread::Threads;
+use std::{fs, io};
 
 /// All is well.
 const WELL: u8 = 0;
@@ -88,6 +87,13 @@ pub fn serve<
 {
     let listener = listen(rt, server.port)?;
     let mut sink = WriteSink::new(io::writer(rt));
-    serve_on(*rt, alloc, listener, server.rule, server.sessions, &mut sink)?;
+    serve_on(
+        *rt,
+        alloc,
+        listener,
+        server.rule,
+        server.sessions,
+        &mut sink,
+    )?;
     Ok(WELL)
 }

@@ -6,10 +6,12 @@ use std::net::{Net, TcpStream};
 
 /// Asks for what is new, and says goodbye.
 const POLL: [u8; 5] = [0, 0, 0, 1, 3];
+
 const BYE: [u8; 5] = [0, 0, 0, 1, 6];
 
 /// A push of an edit under `/2/3`, whose stamp and cell are to be filled in, in its frame.
-const PUSH: [u8; 41] = *b"\x00\x00\x00\x25\x02GLWD\x01\x04/2/3\x00\x00\x00\x01\x00\x00\x00\x00\x00\x00\x00\x00\x00\x00\x00\x00\x01\x40\x00\x00\x00\x40\x00\x00\x00\x01";
+const PUSH: [u8; 41] =
+    *b"\x00\x00\x00\x25\x02GLWD\x01\x04/2/3\x00\x00\x00\x01\x00\x00\x00\x00\x00\x00\x00\x00\x00\x00\x00\x00\x01\x40\x00\x00\x00\x40\x00\x00\x00\x01";
 
 /// A client that pushes edits of one cell, which is its own.
 #[derive(Drop)]
@@ -21,7 +23,11 @@ pub struct Client {
 
 impl Client {
     /// A client of the seat with this number, at a port of this machine.
-    pub fn connected<R: Net<Stream = TcpStream>>(rt: &R, port: u16, seat: u16) -> io::Result<Client> {
+    pub fn connected<R: Net<Stream = TcpStream>>(
+        rt: &R,
+        port: u16,
+        seat: u16,
+    ) -> io::Result<Client> {
         let stream = TcpStream::connect(rt, ("127.0.0.1", port))?;
         stream.set_nodelay(true)?;
         let mut push = PUSH;

@@ -84,21 +84,36 @@ pub fn run<
     let pushes = if is_timed { 1600 } else { 16 };
     let plain = Plain::start(rt, alloc, usize::from(CLIENTS))?;
     let clients = crowd(&rt, alloc, plain.port, CLIENTS)?;
-    let bytes = Task { pushes, polls_each: 0 };
+    let bytes = Task {
+        pushes,
+        polls_each: 0,
+    };
     let (taken, relayed) = worked(&rt, alloc, clients, bytes)?;
-    println!(rt; "64 clients at a plain relay: {taken} pushes, {} relayed", plain.replied(&rt))?;
+    println!(rt;
+        "64 clients at a plain relay: {taken} pushes, {} relayed",
+        plain.replied(&rt)
+    )?;
     if is_timed {
         println!(rt; "  {} pushes a second", rate(taken, relayed))?;
     }
     let server = Server::start(rt, alloc, CLIENTS)?;
     let clients = crowd(&rt, alloc, server.port, CLIENTS)?;
     let before = kilobytes(&rt)?;
-    let edits = Task { pushes, polls_each: 16 };
+    let edits = Task {
+        pushes,
+        polls_each: 16,
+    };
     let (taken, served) = worked(&rt, alloc, clients, edits)?;
     let after = kilobytes(&rt)?;
-    println!(rt; "64 clients that push and poll: {taken} pushes, {}", server.last_line(&rt, alloc)?)?;
+    println!(rt;
+        "64 clients that push and poll: {taken} pushes, {}",
+        server.last_line(&rt, alloc)?
+    )?;
     if is_timed {
-        println!(rt; "  {} pushes a second; {before} kB before them, {after} kB behind", rate(taken, served))?;
+        println!(rt;
+            "  {} pushes a second; {before} kB before them, {after} kB behind",
+            rate(taken, served)
+        )?;
     }
     Ok(())
 }

@@ -31,11 +31,16 @@ pub struct Plain {
 
 impl Plain {
     /// A relay for so many connections, at most 64.
-    pub fn start<R: Net<Listener = TcpListener, Stream = TcpStream> + Threads + Wait + Copy + Drop + Send + Sync + 'static>(
-        rt: R,
-        alloc: Global,
-        sessions: usize,
-    ) -> Result<Plain> {
+    pub fn start<
+        R: Net<Listener = TcpListener, Stream = TcpStream>
+            + Threads
+            + Wait
+            + Copy
+            + Drop
+            + Send
+            + Sync
+            + 'static,
+    >(rt: R, alloc: Global, sessions: usize) -> Result<Plain> {
         let listener = TcpListener::bind(&rt, ("127.0.0.1", 0))?;
         let port = listener.local_addr()?.port();
         let thread = thread::spawn(&rt, move || {

@@ -1,8 +1,7 @@
 //! What Linux tells of this process.
 
-use std::fs;
-use std::io;
 use std::rt::Files;
+use std::{fs, io};
 
 /// How many hundredths of a second of processor it took.
 pub fn hundredths<R: Files + Alloc>(rt: &R) -> io::Result<u64> {
@@ -20,7 +19,12 @@ pub fn kilobytes<R: Files + Alloc>(rt: &R) -> io::Result<u64> {
     let text = fs::read_to_string(rt, "/proc/self/status")?;
     for line in text.lines() {
         if let Some(rest) = line.strip_prefix("VmRSS:") {
-            return Ok(rest.trim().trim_end_matches(" kB").parse::<u64>().unwrap_or(0));
+            return Ok(
+                rest.trim()
+                    .trim_end_matches(" kB")
+                    .parse::<u64>()
+                    .unwrap_or(0),
+            );
         }
     }
     Ok(0)

@@ -4,8 +4,8 @@ ghost use Rattle.std.specs.Prelude.{◌≤◌};
 
 use anyhow::{Context, Result};
 use devices::WriteSink;
-use generations_rule::Rule;
 use genedit_serve::{listen, serve_on};
+use generations_rule::Rule;
 use std::alloc::Global;
 use std::net::{Net, TcpListener, TcpStream};
 use std::sync::Wait;
@@ -39,9 +39,7 @@ impl Server {
             &rt,
             move || -> Vec<u8>
                 requires { (1 ≤ sessions) × (sessions ≤ 64) }
-            {
-                printed(rt, alloc, listener, rule, sessions)
-            },
+            { printed(rt, alloc, listener, rule, sessions) },
         )?;
         Ok(Server { port, thread })
     }

@@ -39,7 +39,10 @@ pub fn run<
     println!(rt; "200 pushes in turn: {}", server.last_line(&rt, alloc)?)?;
     times.sort()?;
     if is_timed && times.len() == 200 {
-        println!(rt; "  median {} us, 99th of a hundred {} us", times[100], times[197])?;
+        println!(rt;
+            "  median {} us, 99th of a hundred {} us",
+            times[100], times[197]
+        )?;
     }
     Ok(())
 }

@@ -47,9 +47,7 @@ impl Served {
             &rt,
             move || -> Outcome
                 requires { (1 ≤ sessions) × (sessions ≤ 64) }
-            {
-                run(rt, alloc, listener, rule, sessions)
-            },
+            { run(rt, alloc, listener, rule, sessions) },
         )?;
         Ok(Served { port, thread })
     }

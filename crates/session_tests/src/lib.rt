@@ -7,6 +7,8 @@ mod asking;
 #[cfg(test)]
 mod boards;
 #[cfg(test)]
+mod borders;
+#[cfg(test)]
 mod dialogues;
 #[cfg(test)]
 mod failing;
