@@ -1,14 +1,20 @@
 //! Replies at the border of 2^24 bytes of a body: one byte more is refused, and the session goes on.
 
+ghost use Rattle.std.specs.Prelude.{IfOk};
+ghost use Rattle.edit_stamps.specs.PlaneMap.{HasStatesBelow};
+ghost use Rattle.stamped_tree.specs.Plane.{map_of};
+
 use crate::dialogues::dialogue;
 use edit_stamps::Cell;
 use generations_rule::Rule;
 use memory_hub::MemoryHub;
 use replica_sessions::Session;
 use samples::plane_of;
+use stamped_tree::Plane;
 use std::alloc::{AllocError, Global};
 use std::test::Fail;
 use std::thread::Threads;
+use tree_join::{join, join_laws};
 
 /// How many squares of 8 by 8 cells have two cells; one more has one.
 const SQUARES: i32 = 28_722;
@@ -26,20 +32,29 @@ fn squares(alloc: Global) -> Result<Vec<Cell>, AllocError> {
     Ok(cells)
 }
 
-/// How many cells stand at the plane's right edge; one more stands at its left.
-const FAR: i32 = 972_587;
+/// How many rows have a cell.
+const ROWS: i32 = 1_270_995;
 
-/// A cell in each 2,048th row at the right edge, and one at the left in the first of them, so that the RLE
-/// has 17 bytes for each: 2^24 - 12 bytes and the rule's text.
-fn far(alloc: Global) -> Result<Vec<Cell>, AllocError> {
+/// A cell at the plane's right edge in each row up to one, and one at the left in the first of all, so that
+/// the RLE has 13 bytes for each row, and one for five: 2^24 - 13 bytes and the rule's text.
+fn edge(alloc: Global, from: i32, to: i32) -> Result<Vec<Cell>, AllocError> {
     let mut cells = Vec::new(alloc);
-    let mut y = i32::MIN / 2;
-    cells.push(cell(i32::MIN / 2, y, 1))?;
-    for _ in 0..FAR {
-        cells.push(cell(i32::MAX / 2, y, 1))?;
-        y = y.wrapping_add(2048);
+    cells.push(cell(i32::MIN / 2, 0, 1))?;
+    for row in from..to {
+        cells.push(cell(i32::MAX / 2, row, 1))?;
     }
     Ok(cells)
+}
+
+/// The plane of all rows, which are more than an edit may have cells.
+fn far(alloc: Global, rule: &Rule) -> Result<Plane, Fail>
+    ensures { IfOk result (λ plane. HasStatesBelow rule.now.states (map_of plane)) }
+{
+    join_laws();
+    let mut plane = plane_of(alloc, rule, &edge(alloc, 0, ROWS / 2)?)?;
+    let other = plane_of(alloc, rule, &edge(alloc, ROWS / 2, ROWS)?)?;
+    join(alloc, &mut plane, &other)?;
+    Ok(plane)
 }
 
 fn cell(x: i32, y: i32, state: i32) -> Cell {
@@ -50,19 +65,19 @@ fn cell(x: i32, y: i32, state: i32) -> Cell {
     }
 }
 
-/// What a session answers over a hub with these cells, which are said to have 2,000 edits behind them.
+/// What a session answers over a hub with this plane, which is said to have 2,000 edits behind it.
 fn replies<R: Threads + Sync + Drop>(
     rt: R,
     alloc: Global,
-    rule: &str,
-    cells: &[Cell],
+    rule: Rule,
+    plane: Plane,
     requests: &str,
-) -> Result<String, Fail> {
-    let rule = Rule::parse(rule.as_bytes())?;
-    let plane = plane_of(alloc, &rule, cells)?;
+) -> Result<String, AllocError>
+    requires { HasStatesBelow rule.states (map_of plane) }
+{
     let hub = MemoryHub::new(alloc, rule, 1, plane, 2000);
     let mut session = Session::new(rt, alloc, hub);
-    Ok(dialogue(alloc, &mut session, requests)?)
+    dialogue(alloc, &mut session, requests)
 }
 
 /// A state's text of 2^24 - 1 bytes.
@@ -85,19 +100,24 @@ const ABOVE: &str = "\
 01 -> 00000010 0000010c3031323334352f322f323536
 ";
 
+/// What is answered of the squares under a rule.
+fn states<R: Threads + Sync + Drop>(
+    rt: R,
+    alloc: Global,
+    rule: &str,
+    requests: &str,
+) -> Result<String, Fail> {
+    let rule = Rule::parse(rule.as_bytes())?;
+    let plane = plane_of(alloc, &rule, &squares(alloc)?)?;
+    Ok(replies(rt, alloc, rule, plane, requests)?)
+}
+
 #[test]
 fn a_state_is_sent_up_to_16777216_bytes(rt: HostRuntime) -> Result<(), Fail> {
     let alloc = rt.alloc();
-    let cells = squares(alloc)?;
-    assert_eq!(rt;
-        replies(rt, alloc, "0123/2/256", &cells, BELOW)?.as_str(),
-        BELOW
-    );
-    assert_eq!(rt; replies(rt, alloc, "01234/2/256", &cells, AT)?.as_str(), AT);
-    assert_eq!(rt;
-        replies(rt, alloc, "012345/2/256", &cells, ABOVE)?.as_str(),
-        ABOVE
-    );
+    assert_eq!(rt; states(rt, alloc, "0123/2/256", BELOW)?.as_str(), BELOW);
+    assert_eq!(rt; states(rt, alloc, "01234/2/256", AT)?.as_str(), AT);
+    assert_eq!(rt; states(rt, alloc, "012345/2/256", ABOVE)?.as_str(), ABOVE);
     Ok(())
 }
 
@@ -111,19 +131,27 @@ const LAST: &str = "\
 const BEYOND: &str = "\
 05 00000000 -> 00000001 15
 07 0001 00000000 -> 00000003 000001, 00000001 15
-01 -> 00000010 0000010c30313233343536372f322f33
+01 -> 00000011 0000010d3031323334353637382f322f33
 ";
+
+/// What is answered of the rows under a rule.
+fn exports<R: Threads + Sync + Drop>(
+    rt: R,
+    alloc: Global,
+    rule: &str,
+    requests: &str,
+) -> Result<String, Fail> {
+    let rule = Rule::parse(rule.as_bytes())?;
+    let plane = far(alloc, &rule)?;
+    Ok(replies(rt, alloc, rule, plane, requests)?)
+}
 
 #[test]
 fn an_export_is_sent_up_to_16777215_bytes(rt: HostRuntime) -> Result<(), Fail> {
     let alloc = rt.alloc();
-    let cells = far(alloc)?;
+    assert_eq!(rt; exports(rt, alloc, "01234567/2/3", LAST)?.as_str(), LAST);
     assert_eq!(rt;
-        replies(rt, alloc, "0123456/2/3", &cells, LAST)?.as_str(),
-        LAST
-    );
-    assert_eq!(rt;
-        replies(rt, alloc, "01234567/2/3", &cells, BEYOND)?.as_str(),
+        exports(rt, alloc, "012345678/2/3", BEYOND)?.as_str(),
         BEYOND
     );
     Ok(())
