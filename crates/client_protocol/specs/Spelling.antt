@@ -1,5 +1,5 @@
 -- What the first frame of a reply spells.
-use Rattle.std.specs.Prelude.{◌≡◌, ◌≢◌, ◌⊎◌, ℕ, ◌<◌, ◌≤◌, ◌^◌, List, [], ◌∷◌}
+use Rattle.std.specs.Prelude.{◌≡◌, ◌≢◌, ℕ, ◌<◌, ◌≤◌, ◌^◌, List, [], ◌∷◌}
 use Rattle.std.specs.Int.{w32, to_be_bytes}
 use Rattle.generations_rule.specs.Rule.{GenerationsRule, IsRule}
 use Rattle.generations_rule.specs.RuleText.{text_of}
@@ -36,6 +36,12 @@ SpellsPolled body (polled.Edits number) = (number ≤ most_edits) × (body ≡ p
 SpellsPolled body polled.Whole = body ≡ polled_body whole_mark
 SpellsPolled body (polled.Refused number) = IsRefusal body number
 SpellsPolled body polled.Faulty = IsNoRefusal body × ((number : ℕ) → number < 2 ^ 32 → body ≢ polled_body number)
+
+-- the same of the four bytes behind the 0
+abbrev pub SpellsCount : List ℕ → Polled → Type 0
+SpellsCount bytes (polled.Edits number) = (number ≤ most_edits) × (bytes ≡ to_be_bytes w32 number)
+SpellsCount bytes polled.Whole = bytes ≡ to_be_bytes w32 whole_mark
+SpellsCount bytes _ = ⊥
 
 -- ---- greetings
 

@@ -23,9 +23,9 @@ pub enum Asking<'a> {
 
 /// The body of a request. One of more than 2^24 bytes is refused, whatever memory there is.
 pub fn request_body(alloc: Global, asking: Asking<'_>) -> Result<Framed, FrameFault>
-    ensures spelt { IfOk result (λ framed. framed ≡ asking_bytes asking) }
-    ensures meant { IfOk result (λ framed. request_of framed ≡ asked_as asking) }
-    ensures too_long { IsErrOf result FrameFault.FrameTooLong ↔ (most_body < length (asking_bytes asking)) }
+    ensures spelt { IfOk result (λ framed. framed ≡ asking_bytes asking.entry) }
+    ensures meant { IfOk result (λ framed. request_of framed ≡ asked_as asking.entry) }
+    ensures too_long { IsErrOf result FrameFault.FrameTooLong ↔ (most_body < length (asking_bytes asking.entry)) }
 {
     match asking {
         Asking::Hello => Framed::of_body(alloc, &[1]),

@@ -1,6 +1,7 @@
 //! The first frame of the reply to a poll.
 
-ghost use Rattle.client_protocol.specs.Spelling.{SpellsPolled};
+ghost use Rattle.std.specs.Prelude.{◌≡◌, length};
+ghost use Rattle.client_protocol.specs.Spelling.{SpellsCount, SpellsPolled};
 
 /// What the first frame of the reply to a poll says.
 #[derive(Clone, Copy, Debug, PartialEq, Eq)]
@@ -22,12 +23,17 @@ pub fn polled_in(body: &[u8]) -> Polled
 {
     match body {
         [number] if *number != 0 => Polled::Refused(*number),
-        [0, a, b, c, d] => announced(u32::from_be_bytes([*a, *b, *c, *d])),
+        [zero, count @ ..] if *zero == 0 && count.len() == 4 => announced_in(count),
         _ => Polled::Faulty,
     }
 }
 
-fn announced(number: u32) -> Polled {
+/// What a number in four bytes announces.
+fn announced_in(count: &[u8]) -> Polled
+    requires { length count.now ≡ 4 }
+    ensures { SpellsCount count.now result }
+{
+    let number = u32::from_be_bytes([count[0], count[1], count[2], count[3]]);
     if number == u32::MAX {
         Polled::Whole
     } else {

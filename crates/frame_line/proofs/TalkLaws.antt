@@ -1,5 +1,5 @@
 -- What was said and heard, one after another.
-use Rattle.std.proofs.Common.{◌≡◌, ℕ, List, [], ◌∷◌, ◌++◌, Ok, refl, sym, ap, subst, ◌∙◌, append-nil, append_assoc}
+use Rattle.std.proofs.Common.{◌≡◌, ℕ, List, [], ◌∷◌, ◌++◌, Ok, Err, refl, sym, ap, subst, ◌∙◌, append-nil, append_assoc}
 use Rattle.std.specs.Io.KnownBytes.{Consumes}
 use Rattle.std.proofs.KnownBytes.{Consumes-nil, Consumes-trans}
 use Rattle.devices.specs.Source.{KnownSource}
@@ -10,6 +10,7 @@ use Rattle.frame_service.specs.Pushing.{ArePushed}
 use Rattle.frame_service.proofs.PushLaws.{pushed_none, pushed_on}
 use Rattle.frame_service.proofs.ExchangeLaws.{taken_more, taken_on}
 use Rattle.frame_service.proofs.ExchangeLaws.{taken_one}
+use Rattle.frame_line.specs.declared.fault.LineFault.{LineFault}
 use Rattle.frame_line.specs.Receiving.{IsReceived, bytes_in}
 use Rattle.frame_line.specs.Talking.{IsTalk}
 
@@ -42,3 +43,8 @@ heard_one bytes_of turns old new from to s t body r e = record {
   bytes = r.bytes;
   cut = taken_one (old.pending ++ bytes_in r.pieces) (bytes_of body) new.pending r.ends.0.fits r.ends.0.spelt;
 }
+
+-- why no body comes does not turn on what bodies are
+pub unheard_alike : {A B : Type 0} (f : A → List ℕ) (g : B → List ℕ) (turns : ℕ) (old new : FrameStream) (from to : KnownSource) (fault : LineFault)
+    → IsReceived f turns old new from to (Err fault) → IsReceived g turns old new from to (Err fault)
+unheard_alike f g turns old new from to fault r = record { pieces = r.pieces; needed = r.needed; bytes = r.bytes; within = r.within; ends = r.ends }

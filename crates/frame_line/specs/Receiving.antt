@@ -72,16 +72,20 @@ AreNeeded pending (piece ∷ pieces) = (frame_at pending ≡ Err unfinished) × 
 abbrev pub bytes_in : List (List ℕ) → List ℕ
 bytes_in pieces = flat_map (λ (piece : List ℕ). piece) pieces
 
--- how it ends, by all that is pending behind the last piece
+-- how it fails, by all that is pending behind the last piece
+abbrev pub FailsAs : ℕ → ℕ → List ℕ → FrameStream → FrameStream → KnownSource → KnownSource → LineFault → Type 0
+FailsAs turns pieces all old new from to FrameTooLong = (frame_at all ≡ Err too_long) × (new.pending ≡ all) × IsUsed pieces 0 0 from to
+FailsAs turns pieces all old new from to Ended = (all ≡ []) × (new.pending ≡ []) × IsAtEnd to.left × IsUsed (pieces + 1) 0 1 from to
+FailsAs turns pieces all old new from to Cut = (frame_at all ≡ Err unfinished) × (all ≢ []) × (new.pending ≡ all) × IsAtEnd to.left × IsUsed (pieces + 1) 0 1 from to
+FailsAs turns pieces all old new from to Turns = (frame_at all ≡ Err unfinished) × (pieces ≡ turns) × (new.pending ≡ all) × IsUsed pieces 0 0 from to
+FailsAs turns pieces all old new from to Read = (frame_at all ≡ Err unfinished) × (new.pending ≡ all) × IsUsed (pieces + 1) 1 0 from to
+FailsAs turns pieces all old new from to Write = ⊥
+FailsAs turns pieces all old new from to Memory = ((old.is_spent ≡ true) ⊎ ((0 < pieces) ⊎ IsOk (frame_at all))) × IsUsed pieces 0 0 from to
+
+-- how it ends: a body stands next, or it fails
 abbrev pub EndsAs : {B : Type 0} → (B → List ℕ) → ℕ → ℕ → List ℕ → FrameStream → FrameStream → KnownSource → KnownSource → Result B LineFault → Type 0
 EndsAs bytes_of turns pieces all old new from to (Ok body) = StandsNext all (bytes_of body) new.pending × IsUsed pieces 0 0 from to
-EndsAs bytes_of turns pieces all old new from to (Err FrameTooLong) = (frame_at all ≡ Err too_long) × (new.pending ≡ all) × IsUsed pieces 0 0 from to
-EndsAs bytes_of turns pieces all old new from to (Err Ended) = (all ≡ []) × (new.pending ≡ []) × IsAtEnd to.left × IsUsed (pieces + 1) 0 1 from to
-EndsAs bytes_of turns pieces all old new from to (Err Cut) = (frame_at all ≡ Err unfinished) × (all ≢ []) × (new.pending ≡ all) × IsAtEnd to.left × IsUsed (pieces + 1) 0 1 from to
-EndsAs bytes_of turns pieces all old new from to (Err Turns) = (frame_at all ≡ Err unfinished) × (pieces ≡ turns) × (new.pending ≡ all) × IsUsed pieces 0 0 from to
-EndsAs bytes_of turns pieces all old new from to (Err Read) = (frame_at all ≡ Err unfinished) × (new.pending ≡ all) × IsUsed (pieces + 1) 1 0 from to
-EndsAs bytes_of turns pieces all old new from to (Err Write) = ⊥
-EndsAs bytes_of turns pieces all old new from to (Err Memory) = ((old.is_spent ≡ true) ⊎ ((0 < pieces) ⊎ IsOk (frame_at all))) × IsUsed pieces 0 0 from to
+EndsAs bytes_of turns pieces all old new from to (Err fault) = FailsAs turns pieces all old new from to fault
 
 -- so many pieces at most were pulled, each where it was needed, and it ended
 pub record IsReceived {B : Type 0} (bytes_of : B → List ℕ) (turns : ℕ) (old new : FrameStream) (from to : KnownSource) (result : Result B LineFault) : Type 0 where

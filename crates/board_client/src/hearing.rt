@@ -1,0 +1,43 @@
+//! Texts that are heard and taken.
+
+ghost use Rattle.board_client.specs.Client.{client_at};
+ghost use Rattle.board_client.specs.Hearing.{AreTextsHeard, IsTextHeard};
+
+use crate::fault::ClientFault;
+use devices::{Sink, Source};
+use frame_line::Line;
+use replica_core::Replica;
+
+/// Hears a text, and takes what it tells.
+pub(crate) fn hear_text<S: Source + Drop, K: Sink + Drop>(
+    line: &mut Line<S, K>,
+    replica: &mut Replica,
+) -> Result<(), ClientFault>
+    ensures { IsTextHeard (client_at line.old.frames (S.known line.old.source) (K.known line.old.sink) replica.old) (client_at line.new.frames (S.known line.new.source) (K.known line.new.sink) replica.new) result }
+{
+    let text = match line.hear() {
+        Ok(text) => text,
+        Err(fault) => return Err(ClientFault::Line(fault)),
+    };
+    match replica.take_bytes(&text) {
+        Ok(()) => Ok(()),
+        Err(fault) => Err(ClientFault::Text(fault)),
+    }
+}
+
+/// Hears so many texts, and takes what each tells before the next is heard.
+pub(crate) fn hear_texts<S: Source + Drop, K: Sink + Drop>(
+    line: &mut Line<S, K>,
+    replica: &mut Replica,
+    count: u32,
+) -> Result<(), ClientFault>
+    ensures { AreTextsHeard count (client_at line.old.frames (S.known line.old.source) (K.known line.old.sink) replica.old) (client_at line.new.frames (S.known line.new.source) (K.known line.new.sink) replica.new) result }
+{
+    for _text in 0..count {
+        match hear_text(line, replica) {
+            Ok(()) => {}
+            Err(fault) => return Err(fault),
+        }
+    }
+    Ok(())
+}

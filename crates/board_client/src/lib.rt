@@ -1,0 +1,12 @@
+//! A client of a board: a replica that polls over a line of frames.
+//!
+//! What the client shows is what its replica holds: the greatest-stamped writes of the edits that it was
+//! handed (Shapiro et al., INRIA RR-7506).
+#![tactic(auto)]
+
+mod fault;
+mod hearing;
+mod polling;
+
+pub use fault::ClientFault;
+pub use polling::{Polling, poll, poll_once};
