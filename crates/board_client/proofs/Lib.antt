@@ -1,0 +1,4 @@
+pub mod TryLaws
+pub mod HearingLaws
+pub mod PollingLaws
+pub mod PushingLaws

@@ -1,3 +1,5 @@
 pub mod Client
 pub mod Hearing
+pub mod Tries
 pub mod Polling
+pub mod Pushing

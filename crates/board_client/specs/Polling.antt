@@ -1,58 +1,73 @@
 -- What a poll does.
-use Rattle.std.specs.Prelude.{◌≡◌, ◌⊎◌, ℕ, ◌<◌, ◌≤◌, List, [], ◌∷◌, map, replicate, length, Result, Ok, Err, IfOk, ⊤}
-use Rattle.client_protocol.specs.Spelling.{IsRefusal, SpellsPolled, polled_body}
+use Rattle.std.specs.Prelude.{◌≡◌, ◌⊎◌, ℕ, ◌<◌, ◌≤◌, List, [], ◌∷◌, length, Result, Ok, Err, IfOk}
+use Rattle.client_protocol.specs.Spelling.{SpellsPolled, polled_body}
 use Rattle.client_protocol.specs.declared.polled.Polled.TheVariants as polled
 use Rattle.session_hub.specs.Replies.{most_edits, whole_mark}
+use Rattle.replica_core.specs.Replica.{ReplicaState}
 use Rattle.board_client.specs.declared.fault.ClientFault.{ClientFault}
 use Rattle.board_client.specs.declared.fault.ClientFault.TheVariants.{Line, NoReply, Text, Memory}
 use Rattle.board_client.specs.declared.polling.Polling.{Polling}
 use Rattle.board_client.specs.declared.polling.Polling.TheVariants.{Edits, Whole, Refused}
-use Rattle.board_client.specs.Client.{ClientState, IsTalk}
+use Rattle.board_client.specs.Client.{LineState, IsTalk}
 use Rattle.board_client.specs.Hearing.{IsTaken, AreTaken, IsAsked, IsTextHeard, AreTextsHeard}
+use Rattle.board_client.specs.Tries.{IsRefused}
 
 -- the body of the request
 abbrev pub poll_request : List ℕ
 poll_request = 3 ∷ []
 
 -- a poll was said; edits were announced, so many texts heard, and each taken
-pub record BringsEdits (count : ℕ) (a b : ClientState) : Type 0 where
+pub record BringsEdits (count : ℕ) (a b : LineState) (old new : ReplicaState) : Type 0 where
   pub some : count ≤ most_edits
   pub texts : List (List ℕ)
   pub number : length texts ≡ count
   pub talk : IsTalk a b (poll_request ∷ []) (polled_body count ∷ texts)
-  pub taken : AreTaken a.replica texts b.replica
+  pub taken : AreTaken old texts new
 
 -- a poll was said; the mark of a whole plane and its text were heard, and it was taken
-pub record BringsWhole (a b : ClientState) : Type 0 where
+pub record BringsWhole (a b : LineState) (old new : ReplicaState) : Type 0 where
   pub text : List ℕ
   pub talk : IsTalk a b (poll_request ∷ []) (polled_body whole_mark ∷ text ∷ [])
-  pub taken : IsTaken a.replica text b.replica
+  pub taken : IsTaken old text new
 
 -- a poll was said, and a refusal heard
-abbrev pub BringsRefusal : ℕ → ClientState → ClientState → Type 0
-BringsRefusal number a b = (0 < number) × IsTalk a b (poll_request ∷ []) ((number ∷ []) ∷ []) × (b.replica ≡ a.replica)
+pub record BringsRefusal (number : ℕ) (a b : LineState) (old new : ReplicaState) : Type 0 where
+  pub some : 0 < number
+  pub talk : IsTalk a b (poll_request ∷ []) ((number ∷ []) ∷ [])
+  pub kept : new ≡ old
 
--- an announcement was heard, and not all that it announces came or was taken
-pub record FailsBehind (a b : ClientState) (fault : ClientFault) : Type 0 where
-  pub mid : ClientState
-  pub kept : mid.replica ≡ a.replica
+-- a poll was said, and what is no reply to it heard
+pub record BringsNothing (a b : LineState) (old new : ReplicaState) : Type 0 where
+  pub body : List ℕ
+  pub faulty : SpellsPolled body polled.Faulty
+  pub talk : IsTalk a b (poll_request ∷ []) (body ∷ [])
+  pub kept : new ≡ old
+
+-- so many edits, or a whole plane, were announced, and not all that was announced came and was taken
+pub record FailsBehind (fault : ClientFault) (a b : LineState) (old new : ReplicaState) : Type 0 where
+  pub mid : LineState
   pub count : ℕ
   pub talk : IsTalk a mid (poll_request ∷ []) (polled_body count ∷ [])
-  pub fails : ((count ≡ whole_mark) × IsTextHeard {A = Unit {0}} mid b (Err fault)) ⊎ ((count ≤ most_edits) × AreTextsHeard {A = Unit {0}} count mid b (Err fault))
+  pub fails : ((count ≡ whole_mark) × IsTextHeard {A = Unit {0}} mid b old new (Err fault)) ⊎ ((count ≤ most_edits) × AreTextsHeard {A = Unit {0}} count mid b old new (Err fault))
+
+-- the poll could not be said, or nothing came
+pub record FailsBefore (request : List ℕ) (fault : ClientFault) (a b : LineState) (old new : ReplicaState) : Type 0 where
+  pub failed : IsAsked {B = List ℕ} (λ body. body) request a b (Err fault)
+  pub kept : new ≡ old
 
 -- what came of a poll
-abbrev pub IsPollOnce : ClientState → ClientState → Result Polling ClientFault → Type 0
-IsPollOnce a b (Ok (Edits count)) = BringsEdits count a b
-IsPollOnce a b (Ok Whole) = BringsWhole a b
-IsPollOnce a b (Ok (Refused number)) = BringsRefusal number a b
-IsPollOnce a b (Err Memory) = b ≡ a
-IsPollOnce a b (Err NoReply) = (body : List ℕ) × SpellsPolled body polled.Faulty × IsTalk a b (poll_request ∷ []) (body ∷ []) × (b.replica ≡ a.replica)
-IsPollOnce a b (Err (Text fault)) = FailsBehind a b (Text fault)
-IsPollOnce a b (Err (Line fault)) = IsAsked {B = List ℕ} (λ body. body) poll_request a b (Err (Line fault)) ⊎ FailsBehind a b (Line fault)
+abbrev pub IsPollOnce : LineState → LineState → ReplicaState → ReplicaState → Result Polling ClientFault → Type 0
+IsPollOnce a b old new (Ok (Edits count)) = BringsEdits count a b old new
+IsPollOnce a b old new (Ok Whole) = BringsWhole a b old new
+IsPollOnce a b old new (Ok (Refused number)) = BringsRefusal number a b old new
+IsPollOnce a b old new (Err Memory) = (b ≡ a) × (new ≡ old)
+IsPollOnce a b old new (Err NoReply) = BringsNothing a b old new
+IsPollOnce a b old new (Err (Text fault)) = FailsBehind (Text fault) a b old new
+IsPollOnce a b old new (Err (Line fault)) = FailsBefore poll_request (Line fault) a b old new ⊎ FailsBehind (Line fault) a b old new
 
 -- ---- tries
 
--- a refusal that may pass in a moment
+-- a refusal that may pass in a moment: reads are closed, or memory was wanted
 abbrev pub IsBriefNumber : ℕ → Type 0
 IsBriefNumber number = (number ≡ 30) ⊎ (number ≡ 255)
 
@@ -60,21 +75,11 @@ abbrev pub IsBrief : Polling → Type 0
 IsBrief (Refused number) = IsBriefNumber number
 IsBrief _ = ⊥
 
-abbrev pub AreBrief : List ℕ → Type 0
-AreBrief [] = ⊤
-AreBrief (number ∷ numbers) = IsBriefNumber number × AreBrief numbers
-
--- polls that were refused for a moment, one after another
-pub record AreRefused (numbers : List ℕ) (a b : ClientState) : Type 0 where
-  pub brief : AreBrief numbers
-  pub talk : IsTalk a b (replicate (length numbers) poll_request) (map (λ (number : ℕ). number ∷ []) numbers)
-  pub kept : b.replica ≡ a.replica
-
 -- at most nine refusals, and what came of the poll behind them; it was refused for a moment itself only as the tenth
-pub record IsPoll (a b : ClientState) (result : Result Polling ClientFault) : Type 0 where
-  pub refused : List ℕ
-  pub mid : ClientState
-  pub refusals : AreRefused refused a mid
-  pub few : length refused ≤ 9
-  pub last : IsPollOnce mid b result
-  pub patient : IfOk result (λ polling. IsBrief polling → length refused ≡ 9)
+pub record IsPoll (a b : LineState) (old new : ReplicaState) (result : Result Polling ClientFault) : Type 0 where
+  pub times : ℕ
+  pub mid : LineState
+  pub refusals : IsRefused IsBriefNumber poll_request times a mid
+  pub few : times ≤ 9
+  pub last : IsPollOnce mid b old new result
+  pub patient : IfOk result (λ polling. IsBrief polling → times ≡ 9)

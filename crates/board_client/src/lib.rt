@@ -7,6 +7,8 @@
 mod fault;
 mod hearing;
 mod polling;
+mod pushing;
 
 pub use fault::ClientFault;
 pub use polling::{Polling, poll, poll_once};
+pub use pushing::{Pushing, push};

@@ -1,21 +1,24 @@
 //! Polls.
 
-ghost use Rattle.board_client.specs.Client.{client_at};
-ghost use Rattle.board_client.specs.Hearing.{IsAsked};
-ghost use Rattle.replica_core.specs.Replica.{ReplicaState};
+ghost use Rattle.board_client.specs.Client.{line_at};
 ghost use Rattle.board_client.specs.Polling.{IsBrief, IsPoll, IsPollOnce};
 ghost use Rattle.std.specs.Prelude.{IsTrue, ◌↔◌};
 
 use crate::fault::ClientFault;
-use crate::hearing::{hear_text, hear_texts};
+use crate::hearing::{ask, hear_text, hear_texts};
 use client_protocol::{Asking, Polled, polled_in, request_body};
 use devices::{Sink, Source};
 use frame_line::Line;
-use message_frames::Framed;
 use replica_core::Replica;
 use std::alloc::Global;
 use std::thread;
 use std::time::{Clock, Duration};
+
+/// How often a poll is tried again that was refused for a moment.
+const TRIES_MORE: u32 = 9;
+
+/// How many milliseconds pass between two tries.
+const PAUSE: u64 = 5;
 
 /// What came of a poll.
 #[derive(Clone, Copy, Debug, PartialEq, Eq)]
@@ -34,7 +37,7 @@ pub fn poll_once<S: Source + Drop, K: Sink + Drop>(
     line: &mut Line<S, K>,
     replica: &mut Replica,
 ) -> Result<Polling, ClientFault>
-    ensures { IsPollOnce (client_at line.old.frames (S.known line.old.source) (K.known line.old.sink) replica.old) (client_at line.new.frames (S.known line.new.source) (K.known line.new.sink) replica.new) result }
+    ensures { IsPollOnce (line_at line.old.frames (S.known line.old.source) (K.known line.old.sink)) (line_at line.new.frames (S.known line.new.source) (K.known line.new.sink)) replica.old replica.new result }
 {
     let Ok(request) = request_body(alloc, Asking::Poll) else {
         return Err(ClientFault::Memory);
@@ -57,29 +60,6 @@ pub fn poll_once<S: Source + Drop, K: Sink + Drop>(
     }
 }
 
-/// Says a request, and hears the first body of its reply.
-fn ask<S: Source + Drop, K: Sink + Drop>(
-    line: &mut Line<S, K>,
-    request: &Framed,
-) -> Result<Vec<u8>, ClientFault>
-    ensures { (r : ReplicaState) → IsAsked (λ body. body.items) request.now (client_at line.old.frames (S.known line.old.source) (K.known line.old.sink) r) (client_at line.new.frames (S.known line.new.source) (K.known line.new.sink) r) result }
-{
-    match line.say(request) {
-        Ok(()) => {}
-        Err(fault) => return Err(ClientFault::Line(fault)),
-    }
-    match line.hear() {
-        Ok(body) => Ok(body),
-        Err(fault) => Err(ClientFault::Line(fault)),
-    }
-}
-
-/// How often a poll is tried again that was refused for a moment.
-const TRIES_MORE: u32 = 9;
-
-/// What passes between two tries.
-const PAUSE: Duration = Duration::from_millis(5);
-
 /// Polls, and takes what comes. Where the board is closed to reads for a moment, or has no memory for its
 /// reply, it is tried again some milliseconds later, ten times in all.
 pub fn poll<C: Clock, S: Source + Drop, K: Sink + Drop>(
@@ -88,7 +68,7 @@ pub fn poll<C: Clock, S: Source + Drop, K: Sink + Drop>(
     line: &mut Line<S, K>,
     replica: &mut Replica,
 ) -> Result<Polling, ClientFault>
-    ensures { IsPoll (client_at line.old.frames (S.known line.old.source) (K.known line.old.sink) replica.old) (client_at line.new.frames (S.known line.new.source) (K.known line.new.sink) replica.new) result }
+    ensures { IsPoll (line_at line.old.frames (S.known line.old.source) (K.known line.old.sink)) (line_at line.new.frames (S.known line.new.source) (K.known line.new.sink)) replica.old replica.new result }
 {
     for _tried in 0..TRIES_MORE {
         let polling = match poll_once(alloc, line, replica) {
@@ -98,7 +78,7 @@ pub fn poll<C: Clock, S: Source + Drop, K: Sink + Drop>(
         if !is_brief(polling) {
             return Ok(polling);
         }
-        thread::sleep(clock, PAUSE);
+        thread::sleep(clock, Duration::from_millis(PAUSE));
     }
     poll_once(alloc, line, replica)
 }

@@ -25,6 +25,10 @@ talk_on old mid new from by to s r t said more heard next p q = record {
       (taken_on ((old.pending ++ p.pulled) ++ q.pulled) (mid.pending ++ q.pulled) new.pending heard next (taken_more (old.pending ++ p.pulled) mid.pending q.pulled heard p.cut) q.cut);
 }
 
+-- nothing was said or heard
+pub talk_none : (old : FrameStream) (from : KnownSource) (s : KnownSink) → IsTalk old old from from s s [] []
+talk_none old from s = record { pushed = pushed_none s; pulled = []; bytes = Consumes-nil from.left; cut = record { are_bodies = refl; spelt = append-nil old.pending } }
+
 -- a body was said
 pub said_one : (old new : FrameStream) (from to : KnownSource) (s t : KnownSink) (body : List ℕ) → ArePushed s t (body ∷ []) → new ≡ old → to ≡ from → IsTalk old new from to s t (body ∷ []) []
 said_one old new from to s t body p e f = record {
