@@ -3,3 +3,4 @@ pub mod Hearing
 pub mod Tries
 pub mod Polling
 pub mod Pushing
+pub mod Drawing

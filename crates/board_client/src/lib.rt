@@ -4,11 +4,13 @@
 //! handed (Shapiro et al., INRIA RR-7506).
 #![tactic(auto)]
 
+mod drawing;
 mod fault;
 mod hearing;
 mod polling;
 mod pushing;
 
+pub use drawing::{Drawing, draw};
 pub use fault::ClientFault;
 pub use polling::{Polling, poll, poll_once};
 pub use pushing::{Pushing, push};
