@@ -2,3 +2,4 @@ pub mod TryLaws
 pub mod HearingLaws
 pub mod PollingLaws
 pub mod PushingLaws
+pub mod GreetingLaws

@@ -4,3 +4,4 @@ pub mod Tries
 pub mod Polling
 pub mod Pushing
 pub mod Drawing
+pub mod Greeting

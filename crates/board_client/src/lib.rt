@@ -6,11 +6,13 @@
 
 mod drawing;
 mod fault;
+mod greeting;
 mod hearing;
 mod polling;
 mod pushing;
 
 pub use drawing::{Drawing, draw};
 pub use fault::ClientFault;
+pub use greeting::{greet, leave};
 pub use polling::{Polling, poll, poll_once};
 pub use pushing::{Pushing, push};

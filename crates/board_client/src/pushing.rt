@@ -50,7 +50,8 @@ pub fn push<C: Clock, S: Source + Drop, K: Sink + Drop>(
     push_once(line, request)
 }
 
-fn push_once<S: Source + Drop, K: Sink + Drop>(
+/// Says a request whose answer is one byte, and hears it.
+pub(crate) fn push_once<S: Source + Drop, K: Sink + Drop>(
     line: &mut Line<S, K>,
     request: &Framed,
 ) -> Result<Pushing, ClientFault>
