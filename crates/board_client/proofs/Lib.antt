@@ -3,3 +3,4 @@ pub mod HearingLaws
 pub mod PollingLaws
 pub mod PushingLaws
 pub mod GreetingLaws
+pub mod ClientLaws

@@ -1,11 +1,18 @@
 -- What is asked and heard, and taken by the replica.
 use Rattle.std.specs.Prelude.{◌≡◌, ◌⊎◌, ℕ, ◌<◌, ◌^◌, List, [], ◌∷◌, length, Result, Ok, Err}
 use Rattle.devices.specs.Count.{one_more}
-use Rattle.delta_exchange.specs.MessageReading.{message_of}
+use Rattle.delta_exchange.specs.declared.message.Content.TheVariants.{Edits}
+use Rattle.delta_exchange.specs.Delta.{AreTellable}
+use Rattle.delta_exchange.specs.MessageReading.{HasMap, message_of}
+use Rattle.delta_exchange.specs.Spelling.{delta_text}
+use Rattle.delta_exchange.specs.State.{IsTellableMap}
+use Rattle.delta_exchange.specs.Versions.{IsReadableStateText}
+use Rattle.edit_stamps.specs.Edit.{PlaneEdit}
+use Rattle.stamped_writes.specs.Write.{Writes}
 use Rattle.frame_line.specs.declared.fault.LineFault.{LineFault}
 use Rattle.frame_line.specs.declared.fault.LineFault.TheVariants as lines
 use Rattle.frame_line.specs.Receiving.{IsReceived}
-use Rattle.replica_core.specs.Exchange.{IsTakingText}
+use Rattle.replica_core.specs.Exchange.{IsTakingText, TakesSome}
 use Rattle.replica_core.specs.Replica.{ReplicaState}
 use Rattle.replica_core.specs.declared.fault.Fault.{Fault}
 use Rattle.board_client.specs.declared.fault.ClientFault.{ClientFault}
@@ -40,9 +47,11 @@ IsAsked bytes_of request a b (Err fault) = ⊥
 
 -- ---- what is taken
 
--- what a text tells is taken whole
-abbrev pub IsTaken : ReplicaState → List ℕ → ReplicaState → Type 0
-IsTaken old text new = IsTakingText {A = Unit {0}} old new text (message_of old.rule text) (Ok tt)
+-- what a text tells is taken whole: the edits of a delta, or the map of a state in either version
+pub record IsTaken (old : ReplicaState) (text : List ℕ) (new : ReplicaState) : Type 0 where
+  pub told : IsTakingText {A = Unit {0}} old new text (message_of old.rule text) (Ok tt)
+  pub edits : (meant : List PlaneEdit) → AreTellable old.rule.states meant → text ≡ delta_text old.rule meant → TakesSome old new (λ content. content ≡ Edits meant)
+  pub map : (meant : Writes) → IsTellableMap old.rule.states meant → IsReadableStateText old.rule meant text → TakesSome old new (λ content. HasMap content meant)
 
 -- a text is not taken
 abbrev pub IsNotTaken : ReplicaState → List ℕ → ReplicaState → Fault → Type 0

@@ -5,3 +5,4 @@ pub mod Polling
 pub mod Pushing
 pub mod Drawing
 pub mod Greeting
+pub mod Laws

@@ -8,11 +8,13 @@ mod drawing;
 mod fault;
 mod greeting;
 mod hearing;
+mod laws;
 mod polling;
 mod pushing;
 
 pub use drawing::{Drawing, draw};
 pub use fault::ClientFault;
 pub use greeting::{greet, leave};
+pub use laws::client_laws;
 pub use polling::{Polling, poll, poll_once};
 pub use pushing::{Pushing, push};
