@@ -1,0 +1,71 @@
+-- What a client's replica stands for.
+use Rattle.std.proofs.Common.{◌≡◌, ◌≤◌, ◌<◌, ℕ, ◌+◌, Bool, true, false, List, [], ◌∷◌, ◌++◌, Result, Ok, Err, refl, sym, ap, subst, ◌∙◌, arith, append-nil, append_assoc}
+use Rattle.std.specs.Prelude.{IsTrue, not, nat_lt}
+use Rattle.generations_rule.specs.Refusal.{unless, when, ◌>>=◌}
+use Rattle.generations_rule.specs.Rule.{GenerationsRule}
+use Rattle.edit_stamps.specs.Edit.{PlaneEdit, greatest, writes_of}
+use Rattle.edit_stamps.specs.Stamp.{counter_in, last_counter, stamp_of}
+use Rattle.edit_stamps.proofs.ClockLaws.{stamp_in}
+use Rattle.stamped_writes.specs.Write.{at_most}
+use Rattle.delta_exchange.specs.Delta.{AreTellable}
+use Rattle.delta_exchange.specs.Spelling.{delta_text}
+use Rattle.delta_exchange.specs.State.{IsTellableMap}
+use Rattle.delta_exchange.specs.Versions.{IsReadableStateText}
+use Rattle.replica_core.specs.declared.fault.Fault.{Fault}
+use Rattle.replica_core.specs.declared.fault.Fault.TheVariants as faults
+use Rattle.replica_core.specs.Peers.{HoldsEdits}
+use Rattle.replica_core.specs.Replica.{ReplicaState, made, or_edit_fault, stamp_after}
+use Rattle.replica_core.proofs.DrawLaws.{made_stamp}
+use Rattle.replica_core.proofs.HeadlineLaws.{greatest_of}
+use Rattle.replica_core.proofs.PeerLaws.{holds_what_it_took}
+use Rattle.replica_events.specs.declared.edit_spec.EditSpec.{EditSpec}
+use Rattle.stamped_tree.specs.Plane.{map_of}
+use Rattle.board_client.specs.Hearing.{AreTaken, IsTaken}
+use Rattle.board_client.specs.Laws.{DrawsAbove, HoldsWhatItHeard, TellEdits}
+
+-- ---- what is held
+
+taken_edits : (rule : GenerationsRule) (E F : List PlaneEdit) (texts : List (List ℕ)) (r s : ReplicaState) → HoldsEdits rule E r → AreTaken r texts s → TellEdits rule F texts → HoldsEdits rule (E ++ F) s
+taken_edits rule E [] [] r s held taken told = subst (λ F. HoldsEdits rule F s) (sym (append-nil E)) (subst (HoldsEdits rule E) (sym taken) held)
+taken_edits rule E [] (text ∷ texts) r s held taken told = absurd told
+taken_edits rule E (e ∷ F) [] r s held taken told = absurd told
+taken_edits rule E (e ∷ F) (text ∷ texts) r s held taken told =
+    let one : IsTaken r text taken.0 = taken.1 in
+    let tellable = subst (λ g. AreTellable g.states (e ∷ [])) (sym held.same_rule) told.0 in
+    let spelt : text ≡ delta_text r.rule (e ∷ []) = told.1 ∙ ap (λ g. delta_text g (e ∷ [])) (sym held.same_rule) in
+    let next = holds_what_it_took.edits rule E (e ∷ []) r taken.0 held (one.edits (e ∷ []) tellable spelt) in
+    subst (λ F. HoldsEdits rule F s) (append_assoc E (e ∷ []) F) (taken_edits rule (E ++ e ∷ []) F texts taken.0 s next taken.2 told.2)
+
+pub holds_what_it_heard : HoldsWhatItHeard
+holds_what_it_heard = record {
+  edits = λ rule E F count a b r s held p told. taken_edits rule E F p.texts r s held p.taken told;
+  whole = λ rule E F a b r s held p tellable spelt.
+      holds_what_it_took.map rule E F r s (greatest F) held (λ c. refl)
+      (p.taken.map (greatest F) (subst (λ g. IsTellableMap g.states (greatest F)) (sym held.same_rule) tellable) (subst (λ g. IsReadableStateText g (greatest F) p.text) (sym held.same_rule) spelt));
+  drawn = λ rule E e a b r s held p. holds_what_it_took.edits rule E (e ∷ []) r s held p.1;
+}
+
+-- ---- counters
+
+-- the stamp and the edit of a drawing that nothing refuses
+drawn_as : (next : Result ℕ Fault) (g : GenerationsRule) (spec : EditSpec) (e : PlaneEdit) → (next >>= (λ stamp. or_edit_fault (made g stamp spec))) ≡ Ok e
+    → (stamp : ℕ) × (next ≡ Ok stamp) × (or_edit_fault (made g stamp spec) ≡ Ok e)
+drawn_as (Ok stamp) g spec e is = (stamp, refl, is)
+drawn_as (Err fault) g spec e is = absurd cc
+
+stamp_is : (n number stamp : ℕ) (b : Bool) → unless (when (not b) faults.ClockFull) (stamp_of (counter_in n + 1) number) ≡ Ok stamp → stamp ≡ stamp_of (counter_in n + 1) number
+stamp_is n number stamp true is = cc
+stamp_is n number stamp false is = absurd cc
+
+counters : (held n stamp number : ℕ) → held ≤ n → stamp ≡ stamp_of (counter_in n + 1) number → counter_in held < counter_in stamp
+counters held n stamp number below is = omega arith
+
+pub draws_above : DrawsAbove
+draws_above = record {
+  above = λ rule E r n spec e held h greatest_is drawn here edit.
+      let at = drawn_as (stamp_after (counter_in n) r.number) r.rule spec e drawn in
+      let stamp : at.0 ≡ stamp_of (counter_in n + 1) r.number = stamp_is n r.number at.0 (nat_lt (counter_in n) last_counter) at.1 in
+      let own : e.stamp ≡ at.0 = made_stamp r.rule at.0 spec e at.2 in
+      let below : held.stamp ≤ n = stamp_in held (map_of r.plane) n edit (λ c. subst (λ w. IsTrue (at_most (writes_of held c) w)) (sym (h.map c)) ((greatest_of E c).above held here)) greatest_is in
+      counters held.stamp n e.stamp r.number below (own ∙ stamp);
+}

@@ -1,0 +1,6 @@
+pub mod TryLaws
+pub mod HearingLaws
+pub mod PollingLaws
+pub mod PushingLaws
+pub mod GreetingLaws
+pub mod ClientLaws

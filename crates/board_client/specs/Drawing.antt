@@ -1,0 +1,62 @@
+-- What a drawing does.
+use Rattle.std.specs.Prelude.{◌≡◌, ℕ, List, [], ◌∷◌, Result, Ok, Err}
+use Rattle.generations_rule.specs.Rule.{GenerationsRule}
+use Rattle.edit_stamps.specs.Edit.{PlaneEdit}
+use Rattle.edit_stamps.specs.PlaneMap.{IsGreatestStamp}
+use Rattle.edit_stamps.specs.Stamp.{counter_in}
+use Rattle.delta_exchange.specs.Spelling.{delta_text}
+use Rattle.delta_exchange.specs.declared.message.Content.{Content}
+use Rattle.delta_exchange.specs.declared.message.Content.TheVariants as content
+use Rattle.replica_core.specs.declared.fault.Fault.{Fault}
+use Rattle.replica_core.specs.Exchange.{IsTakingOf}
+use Rattle.replica_core.specs.Replica.{ReplicaState, edit_drawn}
+use Rattle.replica_events.specs.declared.edit_spec.EditSpec.{EditSpec}
+use Rattle.stamped_tree.specs.Plane.{map_of}
+use Rattle.board_client.specs.declared.drawing.Drawing.{Drawing}
+use Rattle.board_client.specs.declared.drawing.Drawing.TheVariants.{Drawn, Refused, Unpublished}
+use Rattle.board_client.specs.declared.fault.ClientFault.{ClientFault}
+use Rattle.board_client.specs.declared.fault.ClientFault.TheVariants.{Line, NoReply, Text, Memory}
+use Rattle.board_client.specs.declared.pushing.Pushing.{Pushing}
+use Rattle.board_client.specs.declared.pushing.Pushing.TheVariants as pushing
+use Rattle.board_client.specs.Client.{LineState}
+use Rattle.board_client.specs.Pushing.{IsPush}
+
+-- the request that an edit be published
+abbrev pub push_bytes : GenerationsRule → PlaneEdit → List ℕ
+push_bytes r e = 2 ∷ delta_text r (e ∷ [])
+
+-- an edit, and no other content
+abbrev pub IsEditAlone : PlaneEdit → Content → Type 0
+IsEditAlone e c = c ≡ content.Edits (e ∷ [])
+
+-- the request was pushed, and ended so; the replica is as it was
+abbrev pub IsPushedAs : List ℕ → LineState → LineState → ReplicaState → ReplicaState → Result Pushing ClientFault → Type 0
+IsPushedAs request a b old new result = IsPush request a b result × (new ≡ old)
+
+-- the board has the edit, and the replica took it, or did not
+abbrev pub IsPublished : PlaneEdit → LineState → LineState → ReplicaState → ReplicaState → Result (Unit {0}) Fault → Type 0
+IsPublished e a b old new result = IsPush (push_bytes old.rule e) a b (Ok pushing.Done) × IsTakingOf old new (IsEditAlone e) result
+
+-- what came of an edit that was to be published
+abbrev pub IsPublishing : PlaneEdit → LineState → LineState → ReplicaState → ReplicaState → Result Drawing ClientFault → Type 0
+IsPublishing e a b old new (Ok (Drawn counter)) = (counter ≡ counter_in e.stamp) × IsPublished e a b old new (Ok tt)
+IsPublishing e a b old new (Ok (Unpublished number)) = IsPushedAs (push_bytes old.rule e) a b old new (Ok (pushing.Refused number))
+IsPublishing e a b old new (Ok (Refused fault)) = ⊥
+IsPublishing e a b old new (Err Memory) = (b ≡ a) × (new ≡ old)
+IsPublishing e a b old new (Err (Text fault)) = IsPublished e a b old new (Err fault)
+IsPublishing e a b old new (Err (Line fault)) = IsPushedAs (push_bytes old.rule e) a b old new (Err (Line fault))
+IsPublishing e a b old new (Err NoReply) = IsPushedAs (push_bytes old.rule e) a b old new (Err NoReply)
+
+-- nothing was pushed, and the replica is as it was
+abbrev pub IsUntouched : LineState → LineState → ReplicaState → ReplicaState → Type 0
+IsUntouched a b old new = (b ≡ a) × (new ≡ old)
+
+-- the edit that is meant was to be published; or it is refused, and nothing pushed; or memory for it is wanting
+abbrev pub Draws : Result PlaneEdit Fault → LineState → LineState → ReplicaState → ReplicaState → Result Drawing ClientFault → Type 0
+Draws meant a b old new (Ok (Refused fault)) = (meant ≡ Err fault) × IsUntouched a b old new
+Draws meant a b old new (Err Memory) = IsUntouched a b old new
+Draws meant a b old new result = (e : PlaneEdit) × (meant ≡ Ok e) × IsPublishing e a b old new result
+
+-- the edit is the one that a draw would make at the greatest stamp that the replica holds
+abbrev pub IsDrawing : EditSpec → LineState → LineState → ReplicaState → ReplicaState → Result Drawing ClientFault → Type 0
+IsDrawing spec a b old new result = (n : ℕ) × IsGreatestStamp n (map_of old.plane) × Draws (edit_drawn old.rule (counter_in n) old.number spec) a b old new result

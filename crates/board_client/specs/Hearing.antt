@@ -1,0 +1,97 @@
+-- What is asked and heard, and taken by the replica.
+use Rattle.std.specs.Prelude.{◌≡◌, ◌⊎◌, ℕ, ◌<◌, ◌^◌, List, [], ◌∷◌, length, Result, Ok, Err}
+use Rattle.devices.specs.Count.{one_more}
+use Rattle.delta_exchange.specs.declared.message.Content.TheVariants.{Edits}
+use Rattle.delta_exchange.specs.Delta.{AreTellable}
+use Rattle.delta_exchange.specs.MessageReading.{HasMap, message_of}
+use Rattle.delta_exchange.specs.Spelling.{delta_text}
+use Rattle.delta_exchange.specs.State.{IsTellableMap}
+use Rattle.delta_exchange.specs.Versions.{IsReadableStateText}
+use Rattle.edit_stamps.specs.Edit.{PlaneEdit}
+use Rattle.stamped_writes.specs.Write.{Writes}
+use Rattle.frame_line.specs.declared.fault.LineFault.{LineFault}
+use Rattle.frame_line.specs.declared.fault.LineFault.TheVariants as lines
+use Rattle.frame_line.specs.Receiving.{IsReceived}
+use Rattle.replica_core.specs.Exchange.{IsTakingText, TakesSome}
+use Rattle.replica_core.specs.Replica.{ReplicaState}
+use Rattle.replica_core.specs.declared.fault.Fault.{Fault}
+use Rattle.board_client.specs.declared.fault.ClientFault.{ClientFault}
+use Rattle.board_client.specs.declared.fault.ClientFault.TheVariants.{Line, Text}
+use Rattle.board_client.specs.Client.{LineState, IsTalk}
+
+-- ---- the line
+
+-- the next body does not come
+pub record IsUnheard (fault : LineFault) (a b : LineState) : Type 0 where
+  pub received : IsReceived {B = List ℕ} (λ body. body) (2 ^ 32) a.frames b.frames a.source b.source (Err fault)
+  pub sink : b.sink ≡ a.sink
+
+-- the sink failed, so that nothing could be said, or not all of it
+pub record IsUnsaid (fault : LineFault) (a b : LineState) : Type 0 where
+  pub write : fault ≡ lines.Write
+  pub failed : b.sink.failures ≡ one_more a.sink.failures
+  pub frames : b.frames ≡ a.frames
+  pub source : b.source ≡ a.source
+
+-- a request was said, and then nothing came
+pub record IsUnanswered (request : List ℕ) (fault : LineFault) (a b : LineState) : Type 0 where
+  pub mid : LineState
+  pub said : IsTalk a mid (request ∷ []) []
+  pub unheard : IsUnheard fault mid b
+
+-- a request was said, and the first body of its reply heard; or the line failed
+abbrev pub IsAsked : {B : Type 0} → (B → List ℕ) → List ℕ → LineState → LineState → Result B ClientFault → Type 0
+IsAsked bytes_of request a b (Ok body) = IsTalk a b (request ∷ []) (bytes_of body ∷ [])
+IsAsked bytes_of request a b (Err (Line fault)) = IsUnsaid fault a b ⊎ IsUnanswered request fault a b
+IsAsked bytes_of request a b (Err fault) = ⊥
+
+-- ---- what is taken
+
+-- what a text tells is taken whole: the edits of a delta, or the map of a state in either version
+pub record IsTaken (old : ReplicaState) (text : List ℕ) (new : ReplicaState) : Type 0 where
+  pub told : IsTakingText {A = Unit {0}} old new text (message_of old.rule text) (Ok tt)
+  pub edits : (meant : List PlaneEdit) → AreTellable old.rule.states meant → text ≡ delta_text old.rule meant → TakesSome old new (λ content. content ≡ Edits meant)
+  pub map : (meant : Writes) → IsTellableMap old.rule.states meant → IsReadableStateText old.rule meant text → TakesSome old new (λ content. HasMap content meant)
+
+-- a text is not taken
+abbrev pub IsNotTaken : ReplicaState → List ℕ → ReplicaState → Fault → Type 0
+IsNotTaken old text new fault = IsTakingText {A = Unit {0}} old new text (message_of old.rule text) (Err fault)
+
+-- texts are taken one after another
+abbrev pub AreTaken : ReplicaState → List (List ℕ) → ReplicaState → Type 0
+AreTaken old [] new = new ≡ old
+AreTaken old (text ∷ texts) new = (next : ReplicaState) × IsTaken old text next × AreTaken next texts new
+
+-- a text was heard, and P holds of it
+pub record HasHeard (P : List ℕ → Type 0) (a b : LineState) : Type 0 where
+  pub text : List ℕ
+  pub talk : IsTalk a b [] (text ∷ [])
+  pub told : P text
+
+-- a text was heard and taken; or none came, or the one that came is not taken
+abbrev pub IsTextHeard : {A : Type 0} → LineState → LineState → ReplicaState → ReplicaState → Result A ClientFault → Type 0
+IsTextHeard a b old new (Ok done) = HasHeard (λ text. IsTaken old text new) a b
+IsTextHeard a b old new (Err (Line fault)) = IsUnheard fault a b × (new ≡ old)
+IsTextHeard a b old new (Err (Text fault)) = HasHeard (λ text. IsNotTaken old text new fault) a b
+IsTextHeard a b old new (Err fault) = ⊥
+
+-- so many texts were heard, and each was taken before the next was heard
+pub record AreHeard (count : ℕ) (a b : LineState) (old new : ReplicaState) : Type 0 where
+  pub texts : List (List ℕ)
+  pub number : length texts ≡ count
+  pub talk : IsTalk a b [] texts
+  pub taken : AreTaken old texts new
+
+-- fewer than so many were heard and taken, and the next one did not come, or is not taken
+pub record AreCutShort (count : ℕ) (fault : ClientFault) (a b : LineState) (old new : ReplicaState) : Type 0 where
+  pub few : ℕ
+  pub fewer : few < count
+  pub mid : LineState
+  pub between : ReplicaState
+  pub first : AreHeard few a mid old between
+  pub next : IsTextHeard {A = Unit {0}} mid b between new (Err fault)
+
+-- all of them; or fewer
+abbrev pub AreTextsHeard : {A : Type 0} → ℕ → LineState → LineState → ReplicaState → ReplicaState → Result A ClientFault → Type 0
+AreTextsHeard count a b old new (Ok done) = AreHeard count a b old new
+AreTextsHeard count a b old new (Err fault) = AreCutShort count fault a b old new

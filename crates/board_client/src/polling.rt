@@ -1,0 +1,94 @@
+//! Polls.
+
+ghost use Rattle.board_client.specs.Client.{line_at};
+ghost use Rattle.board_client.specs.Polling.{IsBrief, IsPoll, IsPollOnce};
+ghost use Rattle.std.specs.Prelude.{IsTrue, ◌↔◌};
+
+use crate::fault::ClientFault;
+use crate::hearing::{ask, hear_text, hear_texts};
+use client_protocol::{Asking, Polled, polled_in, request_body};
+use devices::{Sink, Source};
+use frame_line::Line;
+use replica_core::Replica;
+use std::alloc::Global;
+use std::thread;
+use std::time::{Clock, Duration};
+
+/// How often a poll is tried again that was refused for a moment.
+const TRIES_MORE: u32 = 9;
+
+/// How many milliseconds pass between two tries.
+const PAUSE: u64 = 5;
+
+/// What came of a poll.
+#[derive(Clone, Copy, Debug, PartialEq, Eq)]
+pub enum Polling {
+    /// So many edits came, and were taken.
+    Edits(u32),
+    /// The board's whole plane came, and was taken.
+    Whole,
+    /// The poll was refused, by a number of the table of faults that is not 0.
+    Refused(u8),
+}
+
+/// Polls once, and takes what comes. After a fault the line is of no further use.
+pub fn poll_once<S: Source + Drop, K: Sink + Drop>(
+    alloc: Global,
+    line: &mut Line<S, K>,
+    replica: &mut Replica,
+) -> Result<Polling, ClientFault>
+    ensures { IsPollOnce (line_at line.old.frames (S.known line.old.source) (K.known line.old.sink)) (line_at line.new.frames (S.known line.new.source) (K.known line.new.sink)) replica.old replica.new result }
+{
+    let Ok(request) = request_body(alloc, Asking::Poll) else {
+        return Err(ClientFault::Memory);
+    };
+    let first = match ask(line, &request) {
+        Ok(first) => first,
+        Err(fault) => return Err(fault),
+    };
+    match polled_in(&first) {
+        Polled::Refused(number) => Ok(Polling::Refused(number)),
+        Polled::Faulty => Err(ClientFault::NoReply),
+        Polled::Whole => match hear_text(line, replica) {
+            Ok(()) => Ok(Polling::Whole),
+            Err(fault) => Err(fault),
+        },
+        Polled::Edits(count) => match hear_texts(line, replica, count) {
+            Ok(()) => Ok(Polling::Edits(count)),
+            Err(fault) => Err(fault),
+        },
+    }
+}
+
+/// Polls, and takes what comes. Where the board is closed to reads for a moment, or has no memory for its
+/// reply, it is tried again some milliseconds later, ten times in all.
+pub fn poll<C: Clock, S: Source + Drop, K: Sink + Drop>(
+    clock: &C,
+    alloc: Global,
+    line: &mut Line<S, K>,
+    replica: &mut Replica,
+) -> Result<Polling, ClientFault>
+    ensures { IsPoll (line_at line.old.frames (S.known line.old.source) (K.known line.old.sink)) (line_at line.new.frames (S.known line.new.source) (K.known line.new.sink)) replica.old replica.new result }
+{
+    for _tried in 0..TRIES_MORE {
+        let polling = match poll_once(alloc, line, replica) {
+            Ok(polling) => polling,
+            Err(fault) => return Err(fault),
+        };
+        if !is_brief(polling) {
+            return Ok(polling);
+        }
+        thread::sleep(clock, Duration::from_millis(PAUSE));
+    }
+    poll_once(alloc, line, replica)
+}
+
+/// Whether a poll was refused for a moment: 30 where reads are closed, 255 where memory was wanted.
+fn is_brief(polling: Polling) -> bool
+    ensures { IsTrue result ↔ IsBrief polling }
+{
+    match polling {
+        Polling::Refused(number) => number == 30 || number == 255,
+        Polling::Edits(_) | Polling::Whole => false,
+    }
+}

@@ -1,0 +1,61 @@
+-- What the first frame of a reply spells.
+use Rattle.std.specs.Prelude.{◌≡◌, ◌≢◌, ℕ, ◌<◌, ◌≤◌, ◌^◌, List, [], ◌∷◌}
+use Rattle.std.specs.Int.{w32, to_be_bytes}
+use Rattle.generations_rule.specs.Rule.{GenerationsRule, IsRule}
+use Rattle.generations_rule.specs.RuleText.{text_of}
+use Rattle.session_hub.specs.Replies.{hello_body, most_edits, whole_mark}
+use Rattle.client_protocol.specs.declared.answer.Answer.{Answer}
+use Rattle.client_protocol.specs.declared.answer.Answer.TheVariants as answer
+use Rattle.client_protocol.specs.declared.greeting.Greeting.{Greeting}
+use Rattle.client_protocol.specs.declared.greeting.Greeting.TheVariants as greeting
+use Rattle.client_protocol.specs.declared.polled.Polled.{Polled}
+use Rattle.client_protocol.specs.declared.polled.Polled.TheVariants as polled
+
+-- a refusal is its number alone, which is not 0
+abbrev pub IsRefusal : List ℕ → ℕ → Type 0
+IsRefusal body number = (0 < number) × (body ≡ number ∷ [])
+
+abbrev pub IsNoRefusal : List ℕ → Type 0
+IsNoRefusal body = (number : ℕ) → 0 < number → body ≢ number ∷ []
+
+-- ---- what was done
+
+abbrev pub SpellsAnswer : List ℕ → Answer → Type 0
+SpellsAnswer body answer.Done = body ≡ 0 ∷ []
+SpellsAnswer body (answer.Refused number) = IsRefusal body number
+SpellsAnswer body answer.Faulty = IsNoRefusal body × (body ≢ 0 ∷ [])
+
+-- ---- polls
+
+-- a 0, and a number in four bytes
+abbrev pub polled_body : ℕ → List ℕ
+polled_body number = 0 ∷ to_be_bytes w32 number
+
+abbrev pub SpellsPolled : List ℕ → Polled → Type 0
+SpellsPolled body (polled.Edits number) = (number ≤ most_edits) × (body ≡ polled_body number)
+SpellsPolled body polled.Whole = body ≡ polled_body whole_mark
+SpellsPolled body (polled.Refused number) = IsRefusal body number
+SpellsPolled body polled.Faulty = IsNoRefusal body × ((number : ℕ) → number < 2 ^ 32 → body ≢ polled_body number)
+
+-- the same of the four bytes behind the 0
+abbrev pub SpellsCount : List ℕ → Polled → Type 0
+SpellsCount bytes (polled.Edits number) = (number ≤ most_edits) × (bytes ≡ to_be_bytes w32 number)
+SpellsCount bytes polled.Whole = bytes ≡ to_be_bytes w32 whole_mark
+SpellsCount bytes _ = ⊥
+
+-- ---- greetings
+
+-- the number of a seat
+abbrev pub IsSeat : ℕ → Type 0
+IsSeat number = (0 < number) × (number < 2 ^ 16)
+
+abbrev pub SpellsGreeting : List ℕ → Greeting → Type 0
+SpellsGreeting body (greeting.Seat number rule) = IsSeat number × IsRule rule × (body ≡ hello_body rule number)
+SpellsGreeting body (greeting.Refused number) = IsRefusal body number
+SpellsGreeting body greeting.Faulty = IsNoRefusal body × ((rule : GenerationsRule) (number : ℕ) → IsRule rule → IsSeat number → body ≢ hello_body rule number)
+
+-- the same of a seat's number and a rule's text that were read
+abbrev pub SpellsSeat : ℕ → List ℕ → Greeting → Type 0
+SpellsSeat seat text (greeting.Seat number rule) = (0 < seat) × IsRule rule × (number ≡ seat) × (text ≡ text_of rule)
+SpellsSeat seat text (greeting.Refused number) = ⊥
+SpellsSeat seat text greeting.Faulty = (rule : GenerationsRule) → IsRule rule → 0 < seat → text ≢ text_of rule

@@ -1,0 +1,2 @@
+pub mod PullingLaws
+pub mod TalkLaws

@@ -1,0 +1,3 @@
+pub mod LineFault
+pub mod Receiving
+pub mod Talking
