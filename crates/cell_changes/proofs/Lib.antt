@@ -1,0 +1,6 @@
+pub mod Lists
+pub mod SettledCells
+pub mod Changing
+pub mod Putting
+pub mod Joining
+pub mod Walking
