@@ -80,7 +80,7 @@ may_change map e c differ = go (listed e.cells c) refl (is_covered e.area c) ref
   where
     go : (o : Option ℕ) → listed e.cells c ≡ o → (b : Bool) → is_covered e.area c ≡ b → MayChange map e c
     go (Some s) l b k = (let r = listed_place e.cells c s l in inl (r.0, (r.1.0, r.1.1)))
-    go None l true k = inr (record { covered = k; nonzero = λ nothing. differ (rw (l, k) (state_stays (map c) (record { stamp = e.stamp; state = 0 }) (sym nothing))) })
+    go None l true k = inr (k, λ nothing. differ (rw (l, k) (state_stays (map c) (record { stamp = e.stamp; state = 0 }) (sym nothing))))
     go None l false k = absurd (differ (rw (l, k) (unwritten_stays (map c))))
 
 module _ (map : Writes) (cells : List Cell) where

@@ -1,4 +1,5 @@
 pub mod Lists
+pub mod AreaLaws
 pub mod SettledCells
 pub mod Changing
 pub mod Putting

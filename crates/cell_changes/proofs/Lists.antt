@@ -1,7 +1,8 @@
 -- Which elements lists have.
-use Rattle.std.proofs.Common.{◌≡◌, ◌⊎◌, zero, suc, Bool, true, List, [], ◌∷◌, map, inl, inr, sym, ap, subst, arith}
-use Rattle.std.specs.Prelude.{Contains, filter, IfOk, OnOk, Result, Ok, Err}
+use Rattle.std.proofs.Common.{◌≡◌, ◌⊎◌, zero, suc, Bool, true, List, [], ◌∷◌, map, inl, inr, refl, sym, ap, subst, arith}
+use Rattle.std.specs.Prelude.{Contains, filter, find, length, Some, ◌==◌, IfOk, OnOk, Result, Ok, Err}
 use Rattle.std.proofs.lemmas.Bool.{cases_Bool}
+use Rattle.stamped_tree.proofs.Overwriting.{no_length}
 use Rattle.stamped_tree.proofs.Gathering.{contains_head, contains_tail}
 
 pub contains_none : {X : Type 0} (x : X) → Contains [] x → ⊥
@@ -34,6 +35,21 @@ mapped_has f p (z ∷ xs) x h passes = elim (contains_cases z x xs h) [
     | inr other ↦ rw other (mapped_has f p xs x below passes)
   ]
 ]
+
+-- what is found passes the test
+pub find_passes : {X : Type 0} (p : X → Bool) (xs : List X) (x : X) → find p xs ≡ Some x → p x ≡ true
+find_passes p [] x e = cc
+find_passes p (y ∷ xs) x e = elim (cases_Bool (p y)) [
+  | inl passes ↦ subst (λ z. p z ≡ true) (the_one (rw passes at e)) passes
+  | inr fails ↦ find_passes p xs x (rw fails at e)
+]
+  where
+    the_one : Some y ≡ Some x → y ≡ x
+    the_one z = cc
+
+pub no_items : {X : Type 0} (xs : List X) → true ≡ (length xs == 0) → xs ≡ []
+no_items [] h = refl
+no_items (x ∷ xs) h = absurd (let none = no_length (length (x ∷ xs)) h in omega (arith, none))
 
 -- ---- results
 

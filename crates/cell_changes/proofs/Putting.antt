@@ -1,16 +1,16 @@
 -- Cells that are put behind others, one after another.
 use Rattle.std.proofs.Common.{◌≡◌, ◌⊎◌, ℕ, ◌+◌, ◌<◌, ◌≤◌, List, [], ◌∷◌, ◌++◌, length, take, get_or, inl, inr, refl, sym, ap, subst, ◌∙◌}
-use Rattle.std.specs.Prelude.{Contains, Option, None, IsTrue, false}
+use Rattle.std.specs.Prelude.{Contains, filter_map}
 use Rattle.std.proofs.lemmas.List.{take_all, take_more}
 use Rattle.std.proofs.lemmas.List.Elements.{Contains-append_left, Contains-push, Contains-push_cases}
 use Rattle.generations_rule.specs.Place.{Place}
 use Rattle.multistate_rle.specs.declared.cell.Cell.{Cell}
 use Rattle.multistate_rle.specs.Cells.{place_of}
 use Rattle.stamped_writes.specs.Write.{Writes}
-use Rattle.edit_stamps.specs.declared.rect.Rect.{Rect}
-use Rattle.edit_stamps.specs.Edit.{PlaneEdit, is_covered}
+use Rattle.edit_stamps.specs.Edit.{PlaneEdit}
 use Rattle.cell_changes.specs.Changes.{cell_in}
-use Rattle.cell_changes.specs.Put.{IsNonzeroCovered, IsPlaceOf, MayChange, Puts, PutsCell, SomeMayChange}
+use Rattle.cell_changes.specs.Put.{IsNonzeroIn, IsPlaceOf, Puts, PutsCell, SomeLists, SomeMayChange}
+use Rattle.cell_changes.proofs.AreaLaws.{some_area}
 use Rattle.cell_changes.proofs.Lists.{contains_none}
 
 -- ---- one cell
@@ -65,27 +65,25 @@ module _ (map : Writes) where
 
   -- ---- edits
 
-  pub edit_put : (e : PlaneEdit) (old mid new : List Cell) → Puts map (IsNonzeroCovered map e.area) old mid → Puts map (IsPlaceOf e.cells) mid new → Puts map (MayChange map e) old new
-  edit_put e old mid new p q = put_then (IsNonzeroCovered map e.area) (IsPlaceOf e.cells) (MayChange map e) old mid new (λ c may. elim may [ inl there ↦ inr there | inr there ↦ inl there ]) p q
-
-  pub no_area : (area : Option Rect) (old : List Cell) → area ≡ None → Puts map (IsNonzeroCovered map area) old old
-  no_area area old none = nothing_put (IsNonzeroCovered map area) old (λ c is. not_covered (subst (λ o. IsTrue (is_covered o c)) none is.covered))
-    where
-      not_covered : IsTrue false → ⊥
-      not_covered t = cc
-
-  pub no_edit : (edits : List PlaneEdit) (old : List Cell) → Puts map (SomeMayChange map (take 0 edits)) old old
-  no_edit edits old = nothing_put (SomeMayChange map (take 0 edits)) old (λ c is. contains_none is.0 is.1.0)
+  pub no_edit : (edits : List PlaneEdit) (old : List Cell) → Puts map (SomeLists (take 0 edits)) old old
+  no_edit edits old = nothing_put (SomeLists (take 0 edits)) old (λ c is. contains_none is.0 is.1.0)
 
   pub next_edit : (edits : List PlaneEdit) (i : ℕ) (e : PlaneEdit) (old mid new : List Cell) → i < length edits → e ≡ get_or edits i e
-      → Puts map (SomeMayChange map (take i edits)) old mid → Puts map (MayChange map e) mid new → Puts map (SomeMayChange map (take (i + 1) edits)) old new
-  next_edit edits i e old mid new l at put more = put_then (SomeMayChange map (take i edits)) (MayChange map e) (SomeMayChange map (take (i + 1) edits)) old mid new either put more
+      → Puts map (SomeLists (take i edits)) old mid → Puts map (IsPlaceOf e.cells) mid new → Puts map (SomeLists (take (i + 1) edits)) old new
+  next_edit edits i e old mid new l at put more = put_then (SomeLists (take i edits)) (IsPlaceOf e.cells) (SomeLists (take (i + 1) edits)) old mid new either put more
     where
-      either : (c : Place) → SomeMayChange map (take (i + 1) edits) c → SomeMayChange map (take i edits) c ⊎ MayChange map e c
+      either : (c : Place) → SomeLists (take (i + 1) edits) c → SomeLists (take i edits) c ⊎ IsPlaceOf e.cells c
       either c is = elim (Contains-push_cases (take i edits) (get_or edits i e) is.0 (subst (λ cells. Contains cells is.0) (take_more edits i e l) is.1.0)) [
         | inl before ↦ inl (is.0, (before, is.1.1))
-        | inr last ↦ inr (subst (λ e. MayChange map e c) (sym last ∙ sym at) is.1.1)
+        | inr last ↦ inr (subst (λ (d : PlaneEdit). IsPlaceOf d.cells c) (sym last ∙ sym at) is.1.1)
       ]
 
-  pub all_edits : (edits : List PlaneEdit) (i : ℕ) (old new : List Cell) → length edits ≤ i → Puts map (SomeMayChange map (take i edits)) old new → Puts map (SomeMayChange map edits) old new
-  all_edits edits i old new all put = subst (λ es. Puts map (SomeMayChange map es) old new) (take_all i edits all) put
+  pub all_edits : (edits : List PlaneEdit) (i : ℕ) (old new : List Cell) → length edits ≤ i → Puts map (SomeLists (take i edits)) old new → Puts map (SomeLists edits) old new
+  all_edits edits i old new all put = subst (λ es. Puts map (SomeLists es) old new) (take_all i edits all) put
+
+  -- what areas cover, and what is listed
+  pub edits_put : (edits : List PlaneEdit) (old mid new : List Cell) → Puts map (IsNonzeroIn map (filter_map (λ e. e.area) edits)) old mid → Puts map (SomeLists edits) mid new → Puts map (SomeMayChange map edits) old new
+  edits_put edits old mid new p q = put_then (IsNonzeroIn map (filter_map (λ e. e.area) edits)) (SomeLists edits) (SomeMayChange map edits) old mid new (λ c may. elim may.1.1 [
+    | inl lists ↦ inr (may.0, (may.1.0, lists))
+    | inr covers ↦ inl (record { covered = some_area edits may.0 c may.1.0 covers.0; nonzero = covers.1 })
+  ]) p q

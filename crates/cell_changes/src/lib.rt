@@ -3,6 +3,7 @@
 #![tactic(auto)]
 
 mod area_walk;
+mod areas;
 mod settling;
 mod states;
 mod watched;

@@ -1,10 +1,11 @@
 //! Places that may change.
 
-ghost use Rattle.std.specs.Prelude.{◌≡◌, map, filter, IfOk, OnOk};
+ghost use Rattle.std.specs.Prelude.{◌≡◌, map, filter, filter_map, IfOk, OnOk};
 ghost use Rattle.stamped_tree.specs.Plane.{map_of};
-ghost use Rattle.cell_changes.specs.Put.{MayChange, Puts, has_changed, now_in};
+ghost use Rattle.cell_changes.specs.Put.{IsNonzeroIn, Puts, SomeLists, has_changed, now_in};
 
 use crate::area_walk::push_covered;
+use crate::areas::areas_of;
 use crate::settling::settled_cells;
 use crate::states::{now_in, push_places};
 use edit_stamps::Edit;
@@ -36,14 +37,13 @@ impl Watched {
     ghost use Rattle.cell_changes.specs.Changes.{AreChanges, Watches, WatchesJoin};
 
     /// What may change in a plane by edits: the places that they list, and the cells in their areas whose
-    /// state is not 0.
+    /// state is not 0. The areas are walked together, and what several have is found once.
     pub fn of_edits(alloc: Global, plane: &Plane, edits: &[Edit]) -> Result<Watched, AllocError>
         ensures { IfOk result (λ watched. WatchesJoin watched (map_of plane.now) (greatest edits.now)) }
     {
         let mut cells = Vec::new(alloc);
-        for edit in edits {
-            push_written(plane, edit, &mut cells)?;
-        }
+        push_covered_by_edits(alloc, plane, edits, &mut cells)?;
+        push_listed(plane, edits, &mut cells)?;
         Ok(Watched { cells })
     }
 
@@ -78,10 +78,25 @@ fn changed_cells(alloc: Global, cells: &[Cell], now: &Plane) -> Result<Vec<Cell>
     Ok(changed)
 }
 
-/// Puts what an edit may change last.
-fn push_written(plane: &Plane, edit: &Edit, cells: &mut Vec<Cell>) -> Result<(), AllocError>
-    ensures { OnOk result (Puts (map_of plane.now) (MayChange (map_of plane.now) edit.now) cells.old.items cells.new.items) }
+/// Puts the cells of the areas of edits last whose state is not 0.
+fn push_covered_by_edits(
+    alloc: Global,
+    plane: &Plane,
+    edits: &[Edit],
+    cells: &mut Vec<Cell>,
+) -> Result<(), AllocError>
+    ensures { OnOk result (Puts (map_of plane.now) (IsNonzeroIn (map_of plane.now) (filter_map (λ e. e.area) edits.now)) cells.old.items cells.new.items) }
 {
-    push_covered(plane, edit.area(), cells)?;
-    push_places(plane, edit.listed_cells(), cells)
+    let areas = areas_of(alloc, edits)?;
+    push_covered(alloc, plane, &areas, cells)
+}
+
+/// Puts the places that edits list last.
+fn push_listed(plane: &Plane, edits: &[Edit], cells: &mut Vec<Cell>) -> Result<(), AllocError>
+    ensures { OnOk result (Puts (map_of plane.now) (SomeLists edits.now) cells.old.items cells.new.items) }
+{
+    for edit in edits {
+        push_places(plane, edit.listed_cells(), cells)?;
+    }
+    Ok(())
 }
