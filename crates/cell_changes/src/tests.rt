@@ -48,6 +48,14 @@ const AREA: Rect = Rect {
     height: 3,
 };
 
+/// An area with that cell, and with one that the stroke draws as it was.
+const ROW: Rect = Rect {
+    x: -2,
+    y: 0,
+    width: 8,
+    height: 1,
+};
+
 static CHANGED: [Cell; 2] = [
     Cell {
         x: 9,
@@ -77,12 +85,13 @@ fn draw(plane: &mut Plane, edit: &Edit) -> Result<(), StoreFault> {
 }
 
 #[test]
-fn tells_a_clear_and_a_stroke(rt: HostRuntime) -> Result<(), Fail> {
+fn tells_clears_and_a_stroke(rt: HostRuntime) -> Result<(), Fail> {
     let alloc = rt.alloc();
     let mut plane = Plane::of_edit(alloc, &stroke(alloc, 1, &BOARD)?)?;
     let edits = [
         Edit::clear(alloc, stamp(2)?, AREA)?,
-        stroke(alloc, 3, &STROKE)?,
+        Edit::clear(alloc, stamp(3)?, ROW)?,
+        stroke(alloc, 4, &STROKE)?,
     ];
     let watched = Watched::of_edits(alloc, &plane, &edits)?;
     for edit in &edits {

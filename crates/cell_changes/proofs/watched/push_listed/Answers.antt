@@ -1,4 +1,4 @@
-use Rattle.std.proofs.Common.{arith, subst}
+use Rattle.std.proofs.Common.{subst}
 use Rattle.stamped_tree.specs.Plane.{map_of}
 use Rattle.cell_changes.specs.Put.{IsPlaceOf, Puts}
 use Rattle.cell_changes.proofs.Putting.{all_edits, next_edit, no_edit}
