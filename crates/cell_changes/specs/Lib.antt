@@ -1,0 +1,3 @@
+pub mod Areas
+pub mod Changes
+pub mod Put

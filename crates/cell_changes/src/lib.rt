@@ -1,0 +1,15 @@
+//! Which cells of a plane look different after something was joined into it: the parts that may change
+//! are looked at before, and again afterwards.
+#![tactic(auto)]
+
+mod area_walk;
+mod areas;
+mod settling;
+mod states;
+mod watched;
+
+pub use multistate_rle::Cell;
+pub use watched::Watched;
+
+#[cfg(test)]
+mod tests;
