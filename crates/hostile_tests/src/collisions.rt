@@ -69,7 +69,7 @@ fn written(stamp: u64) -> Written {
 
 /// The stamps of the two leaves' first two places.
 fn stamps_in(plane: &Plane) -> Leaves {
-    [0, 8].map(|column| [0, 1].map(|place| at_corner(plane, column + place, 0).stamp))
+    [0, 8].map(|column| [0, 1].map(|place| at_corner(plane, column | place, 0).stamp))
 }
 
 /// The stamps that are read of a text, and how many squares.

@@ -14,7 +14,7 @@ pub fn stream(alloc: Global, chance: &mut Chance) -> Result<Vec<u8>, AllocError>
 
 /// A body of up to 39 bytes behind its length.
 fn push_frame(stream: &mut Vec<u8>, chance: &mut Chance) -> Result<(), AllocError> {
-    let length = chance.below(40) as u32;
+    let length = chance.word() % 40;
     stream.extend_from_slice(&length.to_be_bytes())?;
     for _ in 0..length {
         stream.push(chance.byte() & 3)?;

@@ -71,17 +71,25 @@ pub fn pattern(alloc: Global, chance: &mut Chance) -> Result<Vec<u8>, AllocError
     for _ in 0..chance.below(3) {
         text.extend_from_slice(chance.one_of(&FRONTS, "").as_bytes())?;
     }
-    let header = if chance.is_one_in(20) { 6 } else { 5 };
-    text.extend_from_slice(chance.one_of(&HEADERS[..header], "").as_bytes())?;
+    let headers = if chance.is_one_in(20) {
+        &HEADERS[..6]
+    } else {
+        &HEADERS[..5]
+    };
+    text.extend_from_slice(chance.one_of(headers, "").as_bytes())?;
     push_tokens(&mut text, chance)?;
     Ok(text)
 }
 
 /// Tokens; in most cases none that is faulty.
 fn push_tokens(text: &mut Vec<u8>, chance: &mut Chance) -> Result<(), AllocError> {
-    let most = if chance.is_one_in(4) { 32 } else { 21 };
+    let tokens = if chance.is_one_in(4) {
+        &TOKENS[..32]
+    } else {
+        &TOKENS[..21]
+    };
     for _ in 0..chance.below(24) {
-        text.extend_from_slice(chance.one_of(&TOKENS[..most], "").as_bytes())?;
+        text.extend_from_slice(chance.one_of(tokens, "").as_bytes())?;
     }
     if chance.is_one_in(2) {
         text.push(b'!')?;

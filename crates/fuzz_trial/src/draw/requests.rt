@@ -19,7 +19,7 @@ pub fn request(alloc: Global, chance: &mut Chance) -> Result<Vec<u8>, AllocError
         2 => push_delta(&mut request, chance)?,
         5 => push_generations(&mut request, chance, 1)?,
         7 => {
-            let count = chance.below(4) as u16;
+            let count = (chance.word() & 3) as u16;
             request.extend_from_slice(&count.to_be_bytes())?;
             push_generations(&mut request, chance, count)?;
         }

@@ -113,7 +113,8 @@ fn push_leaves(
     Ok(())
 }
 
-/// One or two squares of a level: the first has all of the level below, in their order.
+/// One or two squares of a level: the first has all of the level below, in their order. In a few cases the
+/// order is another, or the second is the first once more.
 fn push_squares(
     entries: &mut Vec<u8>,
     chance: &mut Chance,
@@ -121,17 +122,19 @@ fn push_squares(
     below: Level,
     are_two: bool,
 ) -> Result<(), AllocError> {
+    let start = entries.len();
     let (first, second) = two_places(chance);
+    let last = below.first.wrapping_add(u32::from(below.are_two));
     push_four(
         entries,
         chance,
         level,
-        [
-            (first, below.first),
-            (second, below.first.wrapping_add(u32::from(below.are_two))),
-        ],
+        [(first, below.first), (second, last)],
     )?;
-    if are_two {
+    if are_two && chance.is_one_in(40) {
+        let again = Vec::from_slice(*entries.allocator(), entries.get(start..).unwrap_or(&[]))?;
+        entries.extend_from_slice(&again)?;
+    } else if are_two {
         let place = chance.below(4);
         push_four(
             entries,
@@ -143,10 +146,18 @@ fn push_squares(
     Ok(())
 }
 
-/// Two of four places, in their order.
+/// Two of four places, in their order but for a few cases.
 fn two_places(chance: &mut Chance) -> (usize, usize) {
-    chance.one_of(&[(0, 1), (0, 2), (0, 3), (1, 2), (1, 3), (2, 3)], (0, 3))
+    let (first, second) = chance.one_of(&PLACES, (0, 3));
+    if chance.is_one_in(80) {
+        (second, first)
+    } else {
+        (first, second)
+    }
 }
+
+/// The pairs of places of quarters.
+static PLACES: [(usize, usize); 6] = [(0, 1), (0, 2), (0, 3), (1, 2), (1, 3), (2, 3)];
 
 /// A square of four quarters: entries at some places, and blanks at the others.
 fn push_four(

@@ -181,7 +181,7 @@ fn step_by(token: Token, place: u64, byte: u8) -> Step {
     let place = Some(token.place.unwrap_or(place));
     if let Some(prefix) = token.prefix {
         return match byte {
-            b'A'..=b'X' => Step::Cells(prefix * 24 + u64::from(byte - b'A') + 1),
+            b'A'..=b'X' => Step::Cells(state_of(prefix, byte - b'A')),
             _ => Step::Tag,
         };
     }
@@ -203,6 +203,13 @@ fn step_by(token: Token, place: u64, byte: u8) -> Step {
         b'!' => Step::Ends,
         _ => Step::Tag,
     }
+}
+
+/// The state of a prefix and a letter, counted from 0.
+fn state_of(prefix: u64, letter: u8) -> u64 {
+    prefix
+        .saturating_mul(24)
+        .saturating_add(u64::from(letter) + 1)
 }
 
 fn longer(count: u64, digit: u8) -> u64 {

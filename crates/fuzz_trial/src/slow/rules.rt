@@ -44,11 +44,11 @@ fn push_counts(form: &mut Vec<u8>, digits: &[u8]) -> Result<(), AllocError> {
 }
 
 /// A number of states: one to three digits, from 2 to 256.
-fn states_of(digits: &[u8]) -> Option<u32> {
+fn states_of(digits: &[u8]) -> Option<u64> {
     if digits.len() > 3 {
         return None;
     }
-    let states = number(digits, 256)? as u32;
+    let states = number(digits, 256)?;
     if states < 2 { None } else { Some(states) }
 }
 

@@ -246,8 +246,8 @@ fn push_word(
     word: Word,
 ) -> Result<bool, AllocError> {
     let text = match word {
-        Word::Number => number(argument, u64::from(u32::MAX)).map(|n| n as i64),
-        Word::State => number(argument, 255).map(|n| n as i64),
+        Word::Number => unsigned(argument, u64::from(u32::MAX)),
+        Word::State => unsigned(argument, 255),
         Word::Coordinate => signed(argument),
         Word::Name => return push_name(spelling, argument),
     };
@@ -258,6 +258,11 @@ fn push_word(
         }
         None => Ok(false),
     }
+}
+
+/// A number of at most so much.
+fn unsigned(argument: &[u8], most: u64) -> Option<i64> {
+    i64::try_from(number(argument, most)?).ok()
 }
 
 fn push_name(spelling: &mut Vec<u8>, name: &[u8]) -> Result<bool, AllocError> {
