@@ -1,7 +1,7 @@
 //! Feeds bytes by chance, good and changed, to each call that reads what others send, and compares each answer
 //! with that of a slow reader of its own. Prints how many were accepted and refused; where an answer differs it
-//! prints the bytes and ends with status 1. The words of the command line are how many rounds there are, and
-//! the seed.
+//! prints the bytes and ends with status 1. Two words of the command line say how many rounds there are, and the
+//! seed.
 #![tactic(auto)]
 
 mod chance;
@@ -13,16 +13,17 @@ mod rounds;
 mod slow;
 mod verdict;
 
-use anyhow::{Context, Result, ensure};
+use anyhow::{Context, Result, bail, ensure};
 use rounds::{CALLS, Call, Round, played};
 use std::alloc::{AllocGlobal, Global};
 use std::env;
 use std::thread::Threads;
 use verdict::Tally;
 
-/// How many rounds there are of each call, and which seed, if nothing else is said.
+/// How many rounds there are of each call, if nothing else is said.
 const ROUNDS: u64 = 150;
 
+/// Their seed, if nothing else is said.
 const SEED: u64 = 1;
 
 /// What is asked for.
@@ -37,18 +38,20 @@ fn main(rt: HostRuntime) -> Result<()> {
     run_all(rt, rt.alloc(), asked)
 }
 
-/// The numbers on the command line.
-fn asked_of(rt: &(impl env::Env + Alloc)) -> Result<Asked> {
-    let mut words = env::args(rt)?.skip(1);
-    let rounds = match words.next() {
-        Some(word) => word.parse::<u64>().context("how many rounds")?,
-        None => ROUNDS,
-    };
-    let seed = match words.next() {
-        Some(word) => word.parse::<u64>().context("which seed")?,
-        None => SEED,
-    };
-    Ok(Asked { rounds, seed })
+/// What the words on the command line ask for.
+fn asked_of(rt: &(impl env::Env + AllocGlobal)) -> Result<Asked> {
+    let words: Vec<String> = env::args(rt)?.collect(rt.alloc())?;
+    match words.as_slice() {
+        [] | [_] => Ok(Asked {
+            rounds: ROUNDS,
+            seed: SEED,
+        }),
+        [_, rounds, seed] => Ok(Asked {
+            rounds: rounds.parse::<u64>().context("how many rounds")?,
+            seed: seed.parse::<u64>().context("which seed")?,
+        }),
+        _ => bail!("the words are how many rounds there are, and the seed"),
+    }
 }
 
 fn run_all<R: Threads + AllocGlobal + Print + Copy + Drop + Sync>(
