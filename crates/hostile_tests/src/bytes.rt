@@ -13,23 +13,20 @@ use std::test::Fail;
 fn values_read(
     alloc: Global,
     rule: &Rule,
-    text: &mut [u8],
+    text: &[u8],
     place: usize,
 ) -> Result<Option<u32>, AllocError> {
-    let before = text.get(place).copied().unwrap_or(0);
+    let mut changed = Vec::from_slice(alloc, text)?;
     let mut read = 0_u32;
-    for value in 0..=255_u8 {
-        if let Some(byte) = text.get_mut(place) {
-            *byte = value;
+    for value in 0..256_u16 {
+        if let Some(byte) = changed.get_mut(place) {
+            *byte = value as u8;
         }
-        match is_told(alloc, rule, text)? {
+        match is_told(alloc, rule, &changed)? {
             Some(true) => read = read.saturating_add(1),
             Some(false) => return Ok(None),
             None => {}
         }
-    }
-    if let Some(byte) = text.get_mut(place) {
-        *byte = before;
     }
     Ok(Some(read))
 }
@@ -46,20 +43,39 @@ fn is_told(alloc: Global, rule: &Rule, text: &[u8]) -> Result<Option<bool>, Allo
     Ok(Some(is_first && is_written_again(alloc, rule, &again)?))
 }
 
+/// Texts whose bytes are set.
+#[derive(Clone, Copy)]
+enum Tried {
+    Area,
+    Leaf,
+    Squares,
+    First,
+}
+
+impl Tried {
+    /// With how many values of a byte the text is read.
+    fn meant(self, place: usize) -> u32 {
+        match self {
+            Tried::Area => AREA_MEANT.get(place).copied().unwrap_or(0),
+            Tried::Leaf => leaf_meant(place),
+            Tried::Squares => four_meant(place),
+            Tried::First => first_meant(place),
+        }
+    }
+}
+
 /// The first of some places at which a text is read with another number of values than is meant, and that
 /// number.
-fn first_amiss<F: Fn(usize) -> u32>(
+fn first_amiss(
     alloc: Global,
-    text: &mut Vec<u8>,
+    text: &[u8],
     places: Range<usize>,
-    meant: F,
-) -> Result<Option<(usize, Option<u32>)>, Fail>
-    requires { F.IsAlwaysCallable meant }
-{
+    tried: Tried,
+) -> Result<Option<(usize, Option<u32>)>, Fail> {
     let rule = brians_brain()?;
     for place in places {
-        let read = values_read(alloc, &rule, text.as_mut_slice(), place)?;
-        if read != Some(meant(place)) {
+        let read = values_read(alloc, &rule, text, place)?;
+        if read != Some(tried.meant(place)) {
             return Ok(Some((place, read)));
         }
     }
@@ -80,10 +96,10 @@ static AREA_MEANT: [u32; 52] = [
 
 #[test]
 fn bytes_of_an_area_are_refused_or_told(rt: HostRuntime) -> Result<(), Fail> {
-    let mut text = text_of(rt.alloc(), DELTA, AREA)?;
+    let text = text_of(rt.alloc(), DELTA, AREA)?;
     assert_eq!(rt; text.len(), 52);
-    let meant = |place: usize| AREA_MEANT.get(place).copied().unwrap_or(0);
-    assert_eq!(rt; first_amiss(rt.alloc(), &mut text, 0..52, meant)?, None);
+    let amiss = first_amiss(rt.alloc(), &text, 0..52, Tried::Area)?;
+    assert_eq!(rt; amiss, None);
     Ok(())
 }
 
@@ -93,19 +109,17 @@ static WRITE_MEANT: [u32; 9] = [256, 256, 256, 256, 256, 255, 256, 255, 3];
 
 /// The head, the number of entries and the level, and writes behind them.
 fn leaf_meant(place: usize) -> u32 {
-    if place < 15 {
-        return 1;
+    match place.checked_sub(15) {
+        Some(behind) => WRITE_MEANT.get(behind % 9).copied().unwrap_or(0),
+        None => 1,
     }
-    WRITE_MEANT.get((place - 15) % 9).copied().unwrap_or(0)
 }
 
 #[test]
 fn bytes_of_a_leaf_are_refused_or_told(rt: HostRuntime) -> Result<(), Fail> {
-    let mut text = checkered(rt.alloc())?;
-    assert_eq!(rt;
-        first_amiss(rt.alloc(), &mut text, 0..60, leaf_meant)?,
-        None
-    );
+    let text = checkered(rt.alloc())?;
+    let amiss = first_amiss(rt.alloc(), &text, 0..60, Tried::Leaf)?;
+    assert_eq!(rt; amiss, None);
     Ok(())
 }
 
@@ -121,12 +135,10 @@ fn four_meant(place: usize) -> u32 {
 
 #[test]
 fn bytes_of_squares_are_refused_or_told(rt: HostRuntime) -> Result<(), Fail> {
-    let mut text = checkered(rt.alloc())?;
+    let text = checkered(rt.alloc())?;
     assert_eq!(rt; text.len(), 2323);
-    assert_eq!(rt;
-        first_amiss(rt.alloc(), &mut text, 1168..2323, four_meant)?,
-        None
-    );
+    let amiss = first_amiss(rt.alloc(), &text, 1168..2323, Tried::Squares)?;
+    assert_eq!(rt; amiss, None);
     Ok(())
 }
 
@@ -140,11 +152,9 @@ fn first_meant(place: usize) -> u32 {
 
 #[test]
 fn bytes_of_version_1_are_refused_or_told(rt: HostRuntime) -> Result<(), Fail> {
-    let mut text = first_in_corner(rt.alloc(), 3, 63)?;
+    let text = first_in_corner(rt.alloc(), 3, 63)?;
     assert_eq!(rt; text.len(), 1371);
-    assert_eq!(rt;
-        first_amiss(rt.alloc(), &mut text, 0..1371, first_meant)?,
-        None
-    );
+    let amiss = first_amiss(rt.alloc(), &text, 0..1371, Tried::First)?;
+    assert_eq!(rt; amiss, None);
     Ok(())
 }

@@ -69,7 +69,14 @@ fn written(stamp: u64) -> Written {
 
 /// The stamps of the two leaves' first two places.
 fn stamps_in(plane: &Plane) -> Leaves {
-    [0, 8].map(|column| [0, 1].map(|place| at_corner(plane, column | place, 0).stamp))
+    [leaf_stamps(plane, 0, 0), leaf_stamps(plane, 8, 0)]
+}
+
+/// The stamps of the first two places of a leaf.
+fn leaf_stamps(plane: &Plane, column: u32, row: u32) -> [u64; 2] {
+    let first = at_corner(plane, column, row);
+    let second = at_corner(plane, column | 1, row);
+    [first.stamp, second.stamp]
 }
 
 /// The stamps that are read of a text, and how many squares.
@@ -153,8 +160,7 @@ fn leaves_shown(plane: &Plane) -> u32 {
     let mut shown = 0_u32;
     for leaf in 0..LEAVES {
         let (column, row) = place_of(leaf);
-        let stamps = [0, 1].map(|place| at_corner(plane, column.saturating_add(place), row).stamp);
-        if stamps == stamps_of(leaf) {
+        if leaf_stamps(plane, column, row) == stamps_of(leaf) {
             shown = shown.saturating_add(1);
         }
     }

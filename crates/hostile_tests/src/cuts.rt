@@ -14,14 +14,14 @@ const TWO_EDITS: &str = "00000002 \
     ffffffffffffffff 01 40000000 40000000 00000002 00000001 00000001 40000001 40000000 01";
 
 /// Messages of each kind.
-fn messages(alloc: Global) -> Result<[Vec<u8>; 5], AllocError> {
-    Ok([
-        text_of(alloc, DELTA, TWO_EDITS)?,
-        even(alloc)?,
-        checkered(alloc)?,
-        first_in_corner(alloc, 0, 0)?,
-        first_in_corner(alloc, 3, 63)?,
-    ])
+fn messages(alloc: Global) -> Result<Vec<Vec<u8>>, AllocError> {
+    let mut texts = Vec::new(alloc);
+    texts.push(text_of(alloc, DELTA, TWO_EDITS)?)?;
+    texts.push(even(alloc)?)?;
+    texts.push(checkered(alloc)?)?;
+    texts.push(first_in_corner(alloc, 0, 0)?)?;
+    texts.push(first_in_corner(alloc, 3, 63)?)?;
+    Ok(texts)
 }
 
 /// How many bytes a text has at its first beginning that is not short.
@@ -37,28 +37,34 @@ fn first_not_short(alloc: Global, rule: &Rule, text: &[u8]) -> usize {
 #[test]
 fn each_beginning_is_short(rt: HostRuntime) -> Result<(), Fail> {
     let rule = brians_brain()?;
-    for text in messages(rt.alloc())? {
-        assert_eq!(rt; first_not_short(rt.alloc(), &rule, &text), text.len());
-        assert_eq!(rt; fault_of(rt.alloc(), &text)?, None);
+    let texts = messages(rt.alloc())?;
+    assert_eq!(rt; texts.len(), 5);
+    for text in &texts {
+        assert_eq!(rt; first_not_short(rt.alloc(), &rule, text), text.len());
+        assert_eq!(rt; fault_of(rt.alloc(), text)?, None);
     }
     Ok(())
 }
 
-/// A text behind which another stands.
-fn followed(alloc: Global, text: &[u8], behind: &[u8]) -> Result<Vec<u8>, AllocError> {
-    let mut longer = Vec::from_slice(alloc, text)?;
-    longer.extend_from_slice(behind)?;
-    Ok(longer)
+/// Whether bytes behind a text are told: itself, one 0, or many others.
+fn are_told_behind(alloc: Global, text: &[u8]) -> Result<bool, Fail> {
+    let all: [&[u8]; 3] = [text, &[0], &[255; 600]];
+    for behind in all {
+        let mut longer = Vec::from_slice(alloc, text)?;
+        longer.extend_from_slice(behind)?;
+        if fault_of(alloc, &longer)? != Some(ReadFault::Trailing) {
+            return Ok(false);
+        }
+    }
+    Ok(true)
 }
 
 #[test]
 fn nothing_may_stand_behind_a_message(rt: HostRuntime) -> Result<(), Fail> {
-    for text in messages(rt.alloc())? {
-        let all: [&[u8]; 3] = [text.as_slice(), &[0], &[255; 600]];
-        for behind in all {
-            let longer = followed(rt.alloc(), &text, behind)?;
-            assert_eq!(rt; fault_of(rt.alloc(), &longer)?, Some(ReadFault::Trailing));
-        }
+    let texts = messages(rt.alloc())?;
+    assert_eq!(rt; texts.len(), 5);
+    for text in &texts {
+        assert!(rt; are_told_behind(rt.alloc(), text)?);
     }
     Ok(())
 }
