@@ -13,7 +13,7 @@ use std::alloc::Global;
 
 /// What two live cells are five generations later.
 const LATER: &str = "#CXRLE Pos=-2,-5 Gen=5\nx = 6, y = 11, rule = 345/2/4\n\
-    2.2A$2.2B$.A2CA$.B2.B$AC2.CA$.B2B.B$AC2.CA$.B2.B$.A2CA$2.2B$2.2A!\n";
+    2.2A$2.2B$.A2CA$.B2.B$AC2.CA$B.2B.B$AC2.CA$.B2.B$.A2CA$2.2B$2.2A!\n";
 
 /// An export, and what it gives.
 struct ExportRow {
