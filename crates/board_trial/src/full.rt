@@ -13,30 +13,33 @@ fn fails<J: Naming, H: Wait + Drop>(relay: &mut Relay<J, H>, seat: &mut Seat<J>)
     turned(relay, seat) == full && relay.turn() == full && sees(seat, 0, 0)
 }
 
-/// How many steps are as they are meant to be: what is submitted is not published, and the relay does not
-/// finish.
+/// Whether an edit is submitted, and is not published.
+fn is_kept<J: Naming, R: Wait, H: Wait + Drop>(
+    rt: &R,
+    alloc: Global,
+    relay: &mut Relay<J, H>,
+    seat: &mut Seat<J>,
+) -> bool {
+    submitted_by(rt, alloc, seat, 1).is_some() && fails(relay, seat)
+}
+
+/// How many steps are as they are meant to be: the board was started, what is submitted is not published, and
+/// the relay does not finish.
 pub fn keeps<J: Naming, R: Wait, H: Wait + Drop>(
     rt: &R,
     alloc: Global,
     mut relay: Relay<J, H>,
     mut seats: Vec<Seat<J>>,
 ) -> usize {
-    let Some(mut seat) = seats.pop() else {
-        return 0;
+    let is_kept = match seats.first_mut() {
+        Some(seat) => is_kept(rt, alloc, &mut relay, seat),
+        None => false,
     };
-    let Some(_) = submitted_by(rt, alloc, &mut seat, 1) else {
-        return 1;
-    };
-    if !fails(&mut relay, &mut seat) {
-        return 1;
-    }
     relay.close();
-    if seats.push(seat).is_err() {
-        return 2;
-    }
-    if stays_full(alloc, relay, seats) {
-        3
-    } else {
-        2
+    let stays = stays_full(alloc, relay, seats);
+    match (is_kept, stays) {
+        (true, true) => 3,
+        (true, false) => 2,
+        _ => 1,
     }
 }

@@ -56,44 +56,62 @@ fn hands_out_all<J: Naming>(seat: &mut Seat<J>) -> bool {
     }
 }
 
-/// How many steps are as they are meant to be: a seat that learnt of the first edit and of the last is handed
-/// the 1,024 between, and one that learnt of the last alone the plane; neither is handed more then. All is
-/// accounted for.
+/// The receipt of the last of all edits, where a seat that learns of the first is handed it.
+fn last<J: Naming, R: Wait, H: Wait + Drop>(
+    rt: &R,
+    alloc: Global,
+    relay: &mut Relay<J, H>,
+    one: &mut Seat<J>,
+    two: &mut Seat<J>,
+) -> Option<Receipt<J>> {
+    let first = passed(rt, alloc, relay, one, 1)?;
+    two.learn(&first);
+    if !hands_out(two, 1, 1) || !pass(rt, alloc, relay, one) {
+        return None;
+    }
+    passed(rt, alloc, relay, one, EDITS)
+}
+
+/// How many steps are as they are meant to be where two seats learn of the last edit: one that learnt of the
+/// first is handed the 1,024 between, and the other the plane; neither is handed more then.
+fn handed<J: Naming>(receipt: &Receipt<J>, two: &mut Seat<J>, three: &mut Seat<J>) -> usize {
+    two.learn(receipt);
+    three.learn(receipt);
+    if !hands_out(two, 2, KEPT) || !hands_out(two, 1026, 0) {
+        return 0;
+    }
+    if hands_out_all(three) && hands_out(three, 1026, 0) {
+        2
+    } else {
+        1
+    }
+}
+
+/// The same behind all edits.
+fn handed_late<J: Naming, R: Wait, H: Wait + Drop>(
+    rt: &R,
+    alloc: Global,
+    relay: &mut Relay<J, H>,
+    seats: &mut [Seat<J>],
+) -> usize {
+    let Some((one, [two, three])) = seats.split_first_mut() else {
+        return 0;
+    };
+    match last(rt, alloc, relay, one, two) {
+        Some(receipt) => handed(&receipt, two, three),
+        None => 0,
+    }
+}
+
+/// The same, and all is accounted for.
 pub fn hands<J: Naming, R: Wait, H: Wait + Drop>(
     rt: &R,
     alloc: Global,
     mut relay: Relay<J, H>,
     mut seats: Vec<Seat<J>>,
 ) -> usize {
-    let (Some(mut three), Some(mut two), Some(mut one)) = (seats.pop(), seats.pop(), seats.pop())
-    else {
-        return 0;
-    };
-    let Some(first) = passed(rt, alloc, &mut relay, &mut one, 1) else {
-        return 0;
-    };
-    two.learn(&first);
-    if !hands_out(&mut two, 1, 1) || !pass(rt, alloc, &mut relay, &mut one) {
-        return 0;
-    }
-    let Some(last) = passed(rt, alloc, &mut relay, &mut one, EDITS) else {
-        return 0;
-    };
-    two.learn(&last);
-    three.learn(&last);
-    if !hands_out(&mut two, 2, KEPT) || !hands_out(&mut two, 1026, 0) {
-        return 0;
-    }
-    if !hands_out_all(&mut three) || !hands_out(&mut three, 1026, 0) {
-        return 1;
-    }
+    let met = handed_late(rt, alloc, &mut relay, &mut seats);
     relay.close();
-    if seats.push(one).is_err() || seats.push(two).is_err() || seats.push(three).is_err() {
-        return 2;
-    }
-    if finished(alloc, relay, seats, &ALL) {
-        3
-    } else {
-        2
-    }
+    let is_accounted = finished(alloc, relay, seats, &ALL);
+    if met == 2 && is_accounted { 3 } else { met }
 }

@@ -54,6 +54,26 @@ fn reads<J: Naming>(seat: &mut Seat<J>) -> bool {
     sees(seat, FIRST, 1) && read(seat).is_ok_and(|plane| has_row(&plane, 1))
 }
 
+/// How many steps of one edit's way from seat one to seat two are as they are meant to be.
+fn passed<J: Naming, R: Wait, H: Wait + Drop>(
+    rt: &R,
+    alloc: Global,
+    relay: &mut Relay<J, H>,
+    one: &mut Seat<J>,
+    two: &mut Seat<J>,
+) -> usize {
+    let Some(pending) = submitted_by(rt, alloc, one, 1) else {
+        return 1;
+    };
+    if !publishes(relay, two) {
+        return 2;
+    }
+    match received(rt, one, pending) {
+        Some(receipt) if polls(two, &receipt) => if reads(two) { 5 } else { 4 },
+        _ => 3,
+    }
+}
+
 /// How many steps of one edit's way are as they are meant to be: it is submitted, published and received,
 /// handed out to another seat and read there, and accounted for.
 pub fn goes<J: Naming, R: Wait, H: Wait + Drop>(
@@ -62,33 +82,13 @@ pub fn goes<J: Naming, R: Wait, H: Wait + Drop>(
     mut relay: Relay<J, H>,
     mut seats: Vec<Seat<J>>,
 ) -> usize {
-    let (Some(mut two), Some(mut one)) = (seats.pop(), seats.pop()) else {
-        return 0;
+    let met = match seats.split_first_mut() {
+        Some((one, [two])) => passed(rt, alloc, &mut relay, one, two),
+        _ => 0,
     };
-    let Some(pending) = submitted_by(rt, alloc, &mut one, 1) else {
-        return 1;
-    };
-    if !publishes(&mut relay, &mut two) {
-        return 2;
-    }
-    let Some(receipt) = received(rt, &mut one, pending) else {
-        return 2;
-    };
-    if !polls(&mut two, &receipt) {
-        return 3;
-    }
-    if !reads(&mut two) {
-        return 4;
-    }
     relay.close();
-    if seats.push(one).is_err() || seats.push(two).is_err() {
-        return 5;
-    }
-    if finished(alloc, relay, seats, &ONE) {
-        6
-    } else {
-        5
-    }
+    let is_accounted = finished(alloc, relay, seats, &ONE);
+    if met == 5 && is_accounted { 6 } else { met }
 }
 
 /// Whether an edit of another replica is refused, and one whose state the rule does not have.
@@ -103,42 +103,48 @@ fn refuses_strangers<J: Naming, R: Wait>(rt: &R, alloc: Global, seat: &mut Seat<
         && is_refused(rt, seat, beyond, SubmitFault::StateRange)
 }
 
+/// Whether two edits are accepted, and a third finds the inbox full.
+fn fills<J: Naming, R: Wait>(rt: &R, alloc: Global, seat: &mut Seat<J>) -> bool {
+    let third = drawn(alloc, &seat.rule(), 3, 1, 1);
+    submitted_by(rt, alloc, seat, 1).is_some()
+        && submitted_by(rt, alloc, seat, 2).is_some()
+        && is_refused(rt, seat, third, SubmitFault::Full)
+}
+
 /// How many steps are as they are meant to be where submissions are refused: of strangers, of a third where
-/// the inbox has room for two, and behind the close; then what is queued is published and accounted for.
+/// the inbox has room for two, and behind the close.
+fn refused<J: Naming, R: Wait, H: Wait + Drop>(
+    rt: &R,
+    alloc: Global,
+    relay: &mut Relay<J, H>,
+    seat: &mut Seat<J>,
+) -> usize {
+    if !refuses_strangers(rt, alloc, seat) {
+        return 0;
+    }
+    if !fills(rt, alloc, seat) {
+        return 1;
+    }
+    relay.close();
+    let late = drawn(alloc, &seat.rule(), 3, 1, 1);
+    if is_refused(rt, seat, late, SubmitFault::Closed) {
+        3
+    } else {
+        2
+    }
+}
+
+/// The same; then what is queued is published and accounted for.
 pub fn refuses<J: Naming, R: Wait, H: Wait + Drop>(
     rt: &R,
     alloc: Global,
     mut relay: Relay<J, H>,
     mut seats: Vec<Seat<J>>,
 ) -> usize {
-    let (Some(two), Some(mut one)) = (seats.pop(), seats.pop()) else {
-        return 0;
+    let met = match seats.first_mut() {
+        Some(seat) => refused(rt, alloc, &mut relay, seat),
+        None => 0,
     };
-    let rule = one.rule();
-    if !refuses_strangers(rt, alloc, &mut one) {
-        return 0;
-    }
-    let (Some(_), Some(_)) = (
-        submitted_by(rt, alloc, &mut one, 1),
-        submitted_by(rt, alloc, &mut one, 2),
-    ) else {
-        return 1;
-    };
-    let third = drawn(alloc, &rule, 3, 1, 1);
-    if !is_refused(rt, &mut one, third, SubmitFault::Full) {
-        return 1;
-    }
-    relay.close();
-    let late = drawn(alloc, &rule, 3, 1, 1);
-    if !is_refused(rt, &mut one, late, SubmitFault::Closed) {
-        return 2;
-    }
-    if seats.push(one).is_err() || seats.push(two).is_err() {
-        return 3;
-    }
-    if finished(alloc, relay, seats, &TWO) {
-        4
-    } else {
-        3
-    }
+    let is_accounted = finished(alloc, relay, seats, &TWO);
+    if met == 3 && is_accounted { 4 } else { met }
 }
