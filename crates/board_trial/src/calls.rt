@@ -19,9 +19,15 @@ pub fn submitted<J: Naming, R: Wait>(
     let accepted = seat.accepted();
     let before = told(&edit);
     match seat.submit(rt, edit) {
-        Err((edit, SubmitFault::Memory)) if seat.accepted() == accepted && told(&edit) == before =>
-            { seat.submit(rt, edit) }
-        done => done,
+        Ok(pending) => Ok(pending),
+        Err((edit, fault)) => {
+            let is_back = told(&edit) == before && seat.accepted() == accepted;
+            if fault == SubmitFault::Memory && is_back {
+                seat.submit(rt, edit)
+            } else {
+                Err((edit, fault))
+            }
+        }
     }
 }
 

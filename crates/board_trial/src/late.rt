@@ -94,7 +94,13 @@ fn handed_late<J: Naming, R: Wait, H: Wait + Drop>(
     relay: &mut Relay<J, H>,
     seats: &mut [Seat<J>],
 ) -> usize {
-    let Some((one, [two, three])) = seats.split_first_mut() else {
+    let Some((one, others)) = seats.split_first_mut() else {
+        return 0;
+    };
+    let Some((two, others)) = others.split_first_mut() else {
+        return 0;
+    };
+    let Some(three) = others.first_mut() else {
         return 0;
     };
     match last(rt, alloc, relay, one, two) {

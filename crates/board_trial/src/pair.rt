@@ -74,6 +74,22 @@ fn passed<J: Naming, R: Wait, H: Wait + Drop>(
     }
 }
 
+/// The same of the first two seats.
+fn passed_on<J: Naming, R: Wait, H: Wait + Drop>(
+    rt: &R,
+    alloc: Global,
+    relay: &mut Relay<J, H>,
+    seats: &mut [Seat<J>],
+) -> usize {
+    let Some((one, others)) = seats.split_first_mut() else {
+        return 0;
+    };
+    match others.first_mut() {
+        Some(two) => passed(rt, alloc, relay, one, two),
+        None => 0,
+    }
+}
+
 /// How many steps of one edit's way are as they are meant to be: it is submitted, published and received,
 /// handed out to another seat and read there, and accounted for.
 pub fn goes<J: Naming, R: Wait, H: Wait + Drop>(
@@ -82,10 +98,7 @@ pub fn goes<J: Naming, R: Wait, H: Wait + Drop>(
     mut relay: Relay<J, H>,
     mut seats: Vec<Seat<J>>,
 ) -> usize {
-    let met = match seats.split_first_mut() {
-        Some((one, [two])) => passed(rt, alloc, &mut relay, one, two),
-        _ => 0,
-    };
+    let met = passed_on(rt, alloc, &mut relay, &mut seats);
     relay.close();
     let is_accounted = finished(alloc, relay, seats, &ONE);
     if met == 5 && is_accounted { 6 } else { met }
