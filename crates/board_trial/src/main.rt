@@ -1,61 +1,102 @@
 //! Makes each call of the running board that takes memory, once more where memory was refused, and tells
-//! whether it answers as it is meant to. With any one allocation refused the lines have to be the same.
+//! whether it answers as it is meant to. With any one allocation refused the lines have to be the same. With
+//! the word `--late` one edit more than a board keeps is published too, for seats that poll late.
 #![tactic(auto)]
 
 mod account;
+mod calls;
 mod drawn;
-mod seats;
+mod full;
+mod late;
+mod pair;
+mod ways;
 
 use generations_rule::Rule;
-use relay_board::{Opened, StartFault, start};
-use seats::{Answers, named};
+use relay_board::{Opened, StartFault, start, start_within};
 use std::alloc::{AllocGlobal, Global};
-use std::io;
 use std::marker::Brand;
 use std::sync::Wait;
+use std::{env, io};
+use ways::{LATE, ROWS, Row, named};
 
 fn main(rt: HostRuntime) -> io::Result<()> {
-    let answers = tried(rt, rt.alloc());
-    tell_all(&rt, &answers)
+    let alloc = rt.alloc();
+    let is_late = has_late(&rt);
+    for row in &ROWS {
+        tell_all(&rt, row.calls, tried(rt, alloc, row))?;
+    }
+    if is_late {
+        tell_all(&rt, LATE.calls, tried(rt, alloc, &LATE))?;
+    }
+    Ok(())
 }
 
-/// A board of one seat. Where memory is refused it is started once more.
+/// Whether the word `--late` stands on the command line. Where memory is refused it is read once more.
+fn has_late(rt: &(impl env::Env + Alloc)) -> bool {
+    match has_word(rt) {
+        Ok(found) => found,
+        Err(_) => has_word(rt).unwrap_or(false),
+    }
+}
+
+fn has_word(rt: &(impl env::Env + Alloc)) -> io::Result<bool> {
+    for word in env::args(rt)? {
+        if word.as_str() == "--late" {
+            return Ok(true);
+        }
+    }
+    Ok(false)
+}
+
+/// A board for a way.
+fn opened<R: Wait + Drop + Copy>(
+    rt: R,
+    alloc: Global,
+    rule: Rule,
+    row: &Row,
+) -> Result<Opened<R>, StartFault> {
+    match row.room {
+        Some(nodes) if nodes > 0 => start_within(rt, alloc, rule, row.sessions, 2, nodes),
+        _ => start(rt, alloc, rule, row.sessions, 2),
+    }
+}
+
+/// The same. Where memory is refused it is started once more.
 fn started<R: Wait + Drop + Copy>(
     rt: R,
     alloc: Global,
     rule: Rule,
+    row: &Row,
 ) -> Result<Opened<R>, StartFault> {
-    match start(rt, alloc, rule, 1, 2) {
-        Err(StartFault::Memory) => start(rt, alloc, rule, 1, 2),
+    match opened(rt, alloc, rule, row) {
+        Err(StartFault::Memory) => opened(rt, alloc, rule, row),
         done => done,
     }
 }
 
-/// One edit's way from its seat to the account. Where memory is refused before there is a seat, all of it
-/// is begun again.
-fn tried<R: Wait + Drop + Copy>(rt: R, alloc: Global) -> Answers {
+/// How many calls of a way, in order, answer as they are meant to. Where memory is refused before there is a
+/// seat, all of it is begun again.
+fn tried<R: Wait + Drop + Copy>(rt: R, alloc: Global, row: &Row) -> usize {
     let Ok(rule) = Rule::parse(b"/2/3") else {
-        return Answers::none();
+        return 0;
     };
-    let Ok(opened) = started(rt, alloc, rule) else {
-        return Answers::none();
+    let Ok(opened) = started(rt, alloc, rule, row) else {
+        return 0;
     };
-    if let Ok(answers) = named::<Brand, R>(rt, alloc, opened) {
-        return answers;
+    if let Ok(met) = named::<Brand, R>(rt, alloc, opened, row.way) {
+        return met;
     }
-    let Ok(opened) = started(rt, alloc, rule) else {
-        return Answers::none();
+    let Ok(opened) = started(rt, alloc, rule, row) else {
+        return 0;
     };
-    named::<Brand, R>(rt, alloc, opened).unwrap_or(Answers::none())
+    named::<Brand, R>(rt, alloc, opened, row.way).unwrap_or(0)
 }
 
-fn tell_all(rt: &impl Print, answers: &Answers) -> io::Result<()> {
-    tell(rt, "start, Opened::named", answers.started)?;
-    tell(rt, "Seat::submit", answers.submitted)?;
-    tell(rt, "Relay::turn", answers.published)?;
-    tell(rt, "Seat::poll", answers.polled)?;
-    tell(rt, "Seat::plane", answers.read)?;
-    tell(rt, "Relay::finish", answers.finished)
+fn tell_all(rt: &impl Print, calls: &[&str], met: usize) -> io::Result<()> {
+    for (place, call) in calls.iter().enumerate() {
+        tell(rt, call, place < met)?;
+    }
+    Ok(())
 }
 
 fn tell(rt: &impl Print, call: &str, meant: bool) -> io::Result<()> {

@@ -49,3 +49,67 @@ pub fn body_is_taken(alloc: Global) -> bool {
         _ => false,
     }
 }
+
+/// Four requests, each of one byte behind its length.
+static REQUESTS: [u8; 20] = [0, 0, 0, 1, 1, 0, 0, 0, 1, 3, 0, 0, 0, 1, 9, 0, 0, 0, 1, 6];
+
+/// A length above 2^24.
+static TOO_LONG: [u8; 4] = [1, 0, 0, 1];
+
+/// The first bodies of a stream, each of one byte; `None` where that is not what stands there.
+fn bodies(frames: &mut Frames) -> Result<Option<[u8; 4]>, FrameFault> {
+    let mut first = [0; 4];
+    for byte in first.iter_mut() {
+        let Some(body) = frames.next()? else {
+            return Ok(None);
+        };
+        match body.as_slice() {
+            [only] => *byte = *only,
+            _ => return Ok(None),
+        }
+    }
+    Ok(Some(first))
+}
+
+/// A stream of pieces of so many bytes.
+fn fed_in_pieces(alloc: Global, size: usize) -> Result<Frames, AllocError> {
+    let mut frames = Frames::new(alloc);
+    for piece in REQUESTS.chunks(size.max(1)) {
+        feed(&mut frames, piece)?;
+    }
+    Ok(frames)
+}
+
+/// The bodies of that stream, of another where memory is refused.
+fn bodies_in_pieces(alloc: Global, size: usize) -> Result<Option<[u8; 4]>, FrameFault> {
+    let mut frames = fed_in_pieces(alloc, size)?;
+    match bodies(&mut frames) {
+        Err(FrameFault::Memory) if frames.feed(&STREAM).is_err() => {
+            bodies(&mut fed_in_pieces(alloc, size)?)
+        }
+        answer => answer,
+    }
+}
+
+/// However a stream is cut, it has the same bodies.
+pub fn pieces_make_no_difference(alloc: Global) -> bool {
+    for size in [1, 3, 20] {
+        if bodies_in_pieces(alloc, size) != Ok(Some([1, 3, 9, 6])) {
+            return false;
+        }
+    }
+    true
+}
+
+fn is_too_long(answer: Result<Option<Vec<u8>>, FrameFault>) -> bool {
+    matches!(answer, Err(FrameFault::FrameTooLong))
+}
+
+/// A frame that is too long is told for ever.
+pub fn long_frame_is_refused(alloc: Global) -> bool {
+    let mut frames = Frames::new(alloc);
+    if feed(&mut frames, &TOO_LONG).is_err() {
+        return false;
+    }
+    is_too_long(frames.next()) && is_too_long(frames.next())
+}

@@ -1,19 +1,17 @@
 //! Replicas and worlds.
 
-ghost use Rattle.std.specs.Prelude.{◌≡◌, [], IfSome, IsTrue};
-ghost use Rattle.edit_stamps.specs.Edit.{has_states_below};
+ghost use Rattle.std.specs.Prelude.{◌≡◌, ◌≤◌, [], IfSome, IsTrue};
+ghost use Rattle.edit_stamps.specs.Edit.{has_states_below, HaveStatesBelow};
 
 use crate::edits;
-use edit_stamps::{Edit, EditFault, Stamp};
+use edit_stamps::{Edit, EditFault, Stamp, Write};
 use generations_rule::Rule;
 use multistate_rle::Cell;
-use replica_core::{
-    CellList, EditSpec, Event, Fault, Message, Replica, Reply, Stop, World, replay,
-};
+use replica_core::{CellList, EditSpec, Fault, Message, Replica};
 use std::alloc::{AllocError, Global};
 
 /// Cells to be drawn.
-fn spec(alloc: Global, cells: &[Cell]) -> Result<EditSpec, AllocError> {
+pub fn spec(alloc: Global, cells: &[Cell]) -> Result<EditSpec, AllocError> {
     let list = match Vec::from_slice(alloc, cells) {
         Ok(list) => list,
         Err(AllocError) => Vec::from_slice(alloc, cells)?,
@@ -21,47 +19,102 @@ fn spec(alloc: Global, cells: &[Cell]) -> Result<EditSpec, AllocError> {
     Ok(EditSpec::Cells(CellList::of_vec(list)))
 }
 
+/// A new replica of a rule.
+pub fn replica_of(alloc: Global, rule: Rule, number: u16) -> Option<Replica>
+    requires { 1 ≤ number }
+    ensures { IfSome result (λ replica. replica.rule ≡ rule) }
+{
+    match Replica::new(alloc, rule, number) {
+        Ok(replica) => Some(replica),
+        Err(Fault::Memory) => Replica::new(alloc, rule, number).ok(),
+        Err(_) => None,
+    }
+}
+
 pub fn replica(alloc: Global, number: u16) -> Option<Replica> {
     if number == 0 {
         return None;
     }
     let rule = Rule::parse(b"345/2/4").ok()?;
-    match Replica::new(alloc, rule, number) {
-        Err(Fault::Memory) => Replica::new(alloc, rule, number).ok(),
-        answer => answer.ok(),
-    }
+    replica_of(alloc, rule, number)
 }
 
 pub fn shown(replica: &Replica) -> [u8; 2] {
     [replica.get(0, 0).state, replica.get(1, 0).state]
 }
 
-/// Whether a refused call has left nothing behind.
-pub fn is_new(replica: &Replica) -> bool {
-    shown(replica) == [0, 0] && replica.journal().is_empty()
+/// What a replica holds, as far as it is looked at: a call that wants memory has to leave it so.
+#[derive(Clone, Copy, Debug, PartialEq, Eq)]
+pub struct Holding {
+    /// The writes at two cells.
+    pub origin: Write,
+    pub beside: Write,
+    /// How many edits its journal has, and the stamp of the last; 0 where there is none.
+    pub edits: usize,
+    pub last: u64,
+    /// The greatest stamp.
+    pub greatest: u64,
 }
 
-/// The first draw of a replica.
-fn draw(replica: &mut Replica, spec: &EditSpec) -> Result<Edit, Fault> {
+pub fn held(replica: &Replica) -> Holding {
+    let journal = replica.journal();
+    Holding {
+        origin: replica.get(0, 0),
+        beside: replica.get(1, 0),
+        edits: journal.len(),
+        last: match journal.last() {
+            Some(edit) => edit.stamp().number(),
+            None => 0,
+        },
+        greatest: replica.plane().greatest_stamp(),
+    }
+}
+
+/// Draws. Where memory is refused, the replica holds what it held.
+pub fn draw(replica: &mut Replica, spec: &EditSpec) -> Result<Edit, Fault> {
+    let before = held(replica);
     match replica.draw_as(spec) {
-        Err(Fault::Memory) if is_new(replica) => replica.draw_as(spec),
+        Err(Fault::Memory) if held(replica) == before => replica.draw_as(spec),
         answer => answer,
     }
+}
+
+/// The draw of two states side by side.
+fn pair(alloc: Global, states: [u8; 2]) -> Option<EditSpec> {
+    let cells = [edits::cell(0, states[0]), edits::cell(1, states[1])];
+    spec(alloc, &cells).ok()
 }
 
 /// A replica that drew two states side by side.
 pub fn drawn(alloc: Global, states: [u8; 2]) -> Option<Replica> {
     let mut replica = replica(alloc, 1)?;
-    let spec = spec(
-        alloc,
-        &[edits::cell(0, states[0]), edits::cell(1, states[1])],
-    )
-    .ok()?;
+    let spec = pair(alloc, states)?;
     let edit = draw(&mut replica, &spec).ok()?;
     if edit.stamp().replica() != 1 {
         return None;
     }
     Some(replica)
+}
+
+fn edit_of(replica: &Replica, spec: &EditSpec) -> Result<Edit, Fault> {
+    match replica.edit_of(spec) {
+        Err(Fault::Memory) => replica.edit_of(spec),
+        answer => answer,
+    }
+}
+
+/// An edit is made, and the replica that made it holds what it held.
+pub fn edit_is_made(alloc: Global) -> bool {
+    let Some(replica) = drawn(alloc, [2, 3]) else {
+        return false;
+    };
+    let Some(spec) = pair(alloc, [1, 1]) else {
+        return false;
+    };
+    edit_of(&replica, &spec).is_ok_and(|edit| edit.stamp().number() == 131_073
+        && edit.listed_cells().len() == 2)
+        && shown(&replica) == [2, 3]
+        && replica.journal().len() == 1
 }
 
 pub fn edit_is_drawn(alloc: Global) -> bool {
@@ -90,12 +143,18 @@ fn snapshot(replica: &Replica) -> Result<Message, Fault> {
     }
 }
 
+/// Takes a message. Where memory is refused, the replica holds what it held.
+pub fn take(taker: &mut Replica, message: &Message) -> Result<(), Fault> {
+    let before = held(taker);
+    match taker.take(message) {
+        Err(Fault::Memory) if held(taker) == before => taker.take(message),
+        answer => answer,
+    }
+}
+
 fn taken(alloc: Global, message: &Message) -> Option<Replica> {
     let mut taker = replica(alloc, 2)?;
-    match taker.take(message) {
-        Err(Fault::Memory) if is_new(&taker) => taker.take(message).ok()?,
-        answer => answer.ok()?,
-    }
+    take(&mut taker, message).ok()?;
     Some(taker)
 }
 
@@ -133,13 +192,68 @@ fn edit(alloc: Global, rule: &Rule) -> Option<Edit>
     }
 }
 
+/// A list of that edit.
+fn list(alloc: Global, rule: &Rule) -> Option<Vec<Edit>>
+    ensures { IfSome result (λ edits. HaveStatesBelow rule.now.states edits.items) }
+{
+    let edit = edit(alloc, rule)?;
+    let mut edits = room(alloc)?;
+    edits.push(edit).ok()?;
+    Some(edits)
+}
+
 /// A message of one edit.
 fn message(alloc: Global) -> Option<Message> {
     let rule = Rule::parse(b"345/2/4").ok()?;
-    let edit = edit(alloc, &rule)?;
-    let mut edits = room(alloc)?;
-    edits.push(edit).ok()?;
+    let edits = list(alloc, &rule)?;
     Some(Message::of_edits(rule, edits))
+}
+
+/// Takes edits of the replica's rule. Where memory is refused, the replica holds what it held.
+fn take_edits(taker: &mut Replica, edits: &[Edit]) -> bool
+    requires { HaveStatesBelow taker.old.rule.states edits.now }
+{
+    let before = held(taker);
+    match taker.take_edits(edits) {
+        Err(Fault::Memory) if held(taker) == before => taker.take_edits(edits).is_ok(),
+        answer => answer.is_ok(),
+    }
+}
+
+/// A replica that took a list of one edit.
+fn taker_of_list(alloc: Global) -> Option<Replica> {
+    let rule = Rule::parse(b"345/2/4").ok()?;
+    let edits = list(alloc, &rule)?;
+    let mut taker = replica_of(alloc, rule, 2)?;
+    if !take_edits(&mut taker, edits.as_slice()) {
+        return None;
+    }
+    Some(taker)
+}
+
+pub fn list_is_taken(alloc: Global) -> bool {
+    taker_of_list(alloc).is_some_and(|taker| shown(&taker) == [2, 3] && taker.journal().len() == 1)
+}
+
+/// Whether two replicas hold the same.
+pub fn hold_same(replica: &Replica, other: &Replica) -> Result<bool, AllocError> {
+    match replica.holds_same(other) {
+        Err(AllocError) => replica.holds_same(other),
+        answer => answer,
+    }
+}
+
+pub fn replicas_are_compared(alloc: Global) -> bool {
+    let Some(replica) = drawn(alloc, [2, 3]) else {
+        return false;
+    };
+    let Ok(message) = snapshot(&replica) else {
+        return false;
+    };
+    let Some(taker) = taken(alloc, &message) else {
+        return false;
+    };
+    hold_same(&replica, &taker) == Ok(true)
 }
 
 pub fn edits_are_taken(alloc: Global) -> bool {
@@ -148,55 +262,4 @@ pub fn edits_are_taken(alloc: Global) -> bool {
     };
     taken(alloc, &message).is_some_and(|taker| shown(&taker) == [2, 3]
         && taker.journal().len() == 1)
-}
-
-pub fn world_is_new(alloc: Global) -> bool {
-    let Ok(rule) = Rule::parse(b"345/2/4") else {
-        return false;
-    };
-    let world = match World::new(alloc, rule, 3) {
-        Err(Stop::Memory) => World::new(alloc, rule, 3),
-        answer => answer,
-    };
-    world.is_ok_and(|world| world.replica(3).is_some() && world.replica(4).is_none())
-}
-
-/// Replica 1 draws and sends its map, and replica 2 takes it.
-fn run(alloc: Global, events: &[Event]) -> Result<Vec<Reply>, Stop> {
-    let Ok(rule) = Rule::parse(b"345/2/4") else {
-        return Err(Stop::StoreFull);
-    };
-    let (_world, replies) = match replay(alloc, rule, 2, events) {
-        Err(Stop::Memory) => replay(alloc, rule, 2, events)?,
-        answer => answer?,
-    };
-    Ok(replies)
-}
-
-pub fn events_are_run(alloc: Global) -> bool {
-    let Ok(spec) = spec(alloc, &[edits::cell(0, 2)]) else {
-        return false;
-    };
-    let events = [
-        Event::Draw(1, spec),
-        Event::SendState(1),
-        Event::Deliver(1, 2),
-        Event::Deliver(2, 2),
-        Event::Show(2, 0, 0),
-    ];
-    run(alloc, &events).is_ok_and(|replies| are_meant(&replies))
-}
-
-fn are_meant(replies: &[Reply]) -> bool {
-    let [
-        Reply::Drawn(stamp),
-        Reply::Sent(1),
-        Reply::Taken,
-        Reply::Refused(Fault::NoMessage),
-        Reply::Shown(write),
-    ] = replies
-    else {
-        return false;
-    };
-    stamp.number() == 65537 && write.stamp == 65537 && write.state == 2
 }

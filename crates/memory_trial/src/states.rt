@@ -2,6 +2,7 @@
 
 use crate::{deltas, edits, planes};
 use delta_exchange::{Message, ReadFault, read, write_state};
+use generations_rule::Rule;
 use stamped_tree::Plane;
 use std::alloc::{AllocError, Global};
 
@@ -54,13 +55,17 @@ pub fn state_is_written(alloc: Global) -> bool {
     written(alloc, &plane).is_ok_and(|bytes| bytes.as_slice() == text().as_slice())
 }
 
-fn read_text(alloc: Global, text: &[u8]) -> Result<Message, ReadFault> {
-    let Some((rule, _)) = edits::drawing(1) else {
-        return Err(ReadFault::Memory);
-    };
-    match read(alloc, &rule, text) {
-        Err(ReadFault::Memory) => read(alloc, &rule, text),
+fn read_under(alloc: Global, rule: &Rule, text: &[u8]) -> Result<Message, ReadFault> {
+    match read(alloc, rule, text) {
+        Err(ReadFault::Memory) => read(alloc, rule, text),
         answer => answer,
+    }
+}
+
+fn read_text(alloc: Global, text: &[u8]) -> Result<Message, ReadFault> {
+    match edits::drawing(1) {
+        Some((rule, _)) => read_under(alloc, &rule, text),
+        None => Err(ReadFault::OtherRule),
     }
 }
 
@@ -88,4 +93,73 @@ pub fn delta_is_read(alloc: Global) -> bool {
         Some([row]) => edits::is_row(row),
         _ => false,
     })
+}
+
+/// The plane where nothing was written, in the version that is written and in the one before.
+const EMPTY: &[u8] = b"GLWS\x02\x04/2/3\0\0\0\0\0\0\0\0\0\0\0\0";
+
+const EMPTY_BEFORE: &[u8] = b"GLWS\x01\x04/2/3\0\0\0\0\0\0\0\0\0";
+
+/// The same with each quarter told, which is not how it is written.
+const QUARTERED: &[u8] = b"GLWS\x02\x04/2/3\0\0\0\x01\x1f\
+    \0\0\0\0\0\0\0\0\0\0\0\0\0\0\0\0\0\0\0\0\0\0\0\0\0\0\0\0\0\0\0\0\0\0\0\0";
+
+const QUARTERED_BEFORE: &[u8] = b"GLWS\x01\x04/2/3\x02\
+    \0\0\0\0\0\0\0\0\0\0\0\0\0\0\0\0\0\0\0\0\0\0\0\0\0\0\0\0\0\0\0\0\0\0\0\0";
+
+/// Texts of states under `/2/3`, and why they are none.
+static FAULTS: [(&[u8], ReadFault); 6] = [
+    (QUARTERED, ReadFault::NotCanonical),
+    (QUARTERED_BEFORE, ReadFault::NotCanonical),
+    (
+        b"GLWS\x02\x04/2/3\0\0\0\0\0\0\0\0\0\0\0\0\0",
+        ReadFault::Trailing,
+    ),
+    (b"GLWS\x01\x04/2/3\0\0\0\0\0\0\0\0\0\0", ReadFault::Trailing),
+    (b"GLWS\x03", ReadFault::Version),
+    (b"GLWS\x02\x04/3/3", ReadFault::OtherRule),
+];
+
+fn is_fault(answer: Result<Message, ReadFault>, fault: ReadFault) -> bool {
+    answer.is_err_and(|told| told == fault)
+}
+
+pub fn faults_are_told(alloc: Global) -> bool {
+    let Ok(rule) = Rule::parse(b"/2/3") else {
+        return false;
+    };
+    for (text, fault) in &FAULTS {
+        if !is_fault(read_under(alloc, &rule, text), *fault) {
+            return false;
+        }
+    }
+    true
+}
+
+/// Whether each text that ends before this one is too short.
+fn are_short(alloc: Global, rule: &Rule, text: &[u8]) -> bool {
+    for end in 0..text.len() {
+        if !is_fault(read_under(alloc, rule, &text[..end]), ReadFault::Short) {
+            return false;
+        }
+    }
+    true
+}
+
+pub fn short_texts_are_refused(alloc: Global) -> bool {
+    Rule::parse(b"/2/3").is_ok_and(|rule| are_short(alloc, &rule, QUARTERED)
+        && are_short(alloc, &rule, QUARTERED_BEFORE))
+}
+
+/// Whether a text is that of the plane where nothing was written.
+fn is_empty(answer: Result<Message, ReadFault>) -> bool {
+    answer.is_ok_and(|message| match message.plane() {
+        Some(plane) => plane.greatest_stamp() == 0 && plane.nodes() == 1,
+        None => false,
+    })
+}
+
+pub fn empty_state_is_read(alloc: Global) -> bool {
+    Rule::parse(b"/2/3").is_ok_and(|rule| is_empty(read_under(alloc, &rule, EMPTY))
+        && is_empty(read_under(alloc, &rule, EMPTY_BEFORE)))
 }

@@ -1,11 +1,9 @@
-//! Many exports by one worker.
+//! Many exports, by one worker and by two.
 
 ghost use Rattle.edit_stamps.specs.PlaneMap.{HasStatesBelow};
 ghost use Rattle.stamped_tree.specs.Plane.{map_of};
-ghost use Rattle.edit_stamps.specs.PlaneMap.{HasStatesBelow};
-ghost use Rattle.stamped_tree.specs.Plane.{map_of};
 
-use crate::memory::one_cell;
+use crate::memory::two_cells;
 use crate::rows::Verdict;
 use export::ExportFault;
 use export_workers::{Export, Free, export_many};
@@ -15,15 +13,16 @@ use std::alloc::Global;
 use std::thread::Threads;
 
 /// One past the last is among them.
-static GENERATIONS: [u32; 4] = [1, 536_870_913, 0, 1];
+static GENERATIONS: [u32; 4] = [3, 536_870_913, 0, 3];
 
-/// The one cell begins to die.
-const LATER: &[u8] = b"#CXRLE Pos=0,0 Gen=1\nx = 1, y = 1, rule = /2/3\nB!\n";
+/// Two live cells three generations later.
+const LATER: &[u8] = b"#CXRLE Pos=-1,-3 Gen=3\nx = 4, y = 7, rule = /2/3\n\
+    .2A$.2B$A2.A$B2.B$A2.A$.2B$.2A!\n";
 
 static EXPORTS: [Result<&'static [u8], ExportFault>; 4] = [
     Ok(LATER),
     Err(ExportFault::GenRange),
-    Ok(b"#CXRLE Pos=0,0 Gen=0\nx = 1, y = 1, rule = /2/3\nA!\n"),
+    Ok(b"#CXRLE Pos=0,0 Gen=0\nx = 2, y = 1, rule = /2/3\n2A!\n"),
     Ok(LATER),
 ];
 
@@ -49,35 +48,37 @@ fn met(exports: &[Export]) -> Verdict {
     }
     let mut met = Verdict::Row;
     for (export, expected) in exports.iter().zip(EXPORTS.iter()) {
-        if is_want(export) {
-            met = Verdict::Want;
-        } else if !is_export(export, expected) {
-            return Verdict::Neither;
-        }
+        met = met.beside(is_want(export), is_export(export, expected));
     }
     met
 }
 
-fn exported<R: Threads + Sync>(rt: &R, alloc: Global, rule: &Rule, plane: &Plane) -> Verdict
+fn exported<R: Threads + Sync>(
+    rt: &R,
+    alloc: Global,
+    rule: &Rule,
+    plane: &Plane,
+    workers: u16,
+) -> Verdict
     requires { HasStatesBelow rule.now.states (map_of plane.now) }
 {
-    match export_many(rt, alloc, rule, plane, &GENERATIONS, 1, &Free) {
+    match export_many(rt, alloc, rule, plane, &GENERATIONS, workers, &Free) {
         Ok(exports) => met(exports.as_slice()),
         Err(_) => Verdict::Want,
     }
 }
 
-/// Whether one worker exports as it is meant to, at the second time where there was no memory.
-pub fn exports<R: Threads + Sync>(rt: &R, alloc: Global) -> bool {
+/// Whether so many workers export as they are meant to, at the second time where there was no memory.
+pub fn exports<R: Threads + Sync>(rt: &R, alloc: Global, workers: u16) -> bool {
     let Ok(rule) = Rule::parse(b"/2/3") else {
         return false;
     };
-    let Some(plane) = one_cell(alloc, &rule) else {
+    let Some(plane) = two_cells(alloc, &rule) else {
         return false;
     };
-    match exported(rt, alloc, &rule, &plane) {
+    match exported(rt, alloc, &rule, &plane, workers) {
         Verdict::Row => true,
-        Verdict::Want => exported(rt, alloc, &rule, &plane) == Verdict::Row,
+        Verdict::Want => exported(rt, alloc, &rule, &plane, workers) == Verdict::Row,
         Verdict::Neither => false,
     }
 }

@@ -12,9 +12,10 @@ mod serving;
 mod state;
 
 use generations_rule::Rule;
-use memory::{is_answered, polls, polls_plane, pushes};
+use memory::{is_answered, is_answered_of_two, polls, polls_plane, pushes};
 use relay_board::{Opened, StartFault, start};
 use seats::{Answers, named};
+use serving::{ASK, PUSH, serves};
 use std::alloc::{AllocGlobal, Global};
 use std::io;
 use std::marker::Brand;
@@ -25,9 +26,20 @@ fn main(rt: HostRuntime) -> io::Result<()> {
     let alloc = rt.alloc();
     ask_memory(rt, alloc)?;
     ask_planes(rt, alloc)?;
-    tell(&rt, "serve", serving::serves(rt, alloc))?;
-    tell(&rt, "export_many", exports::exports(&rt, alloc))?;
+    ask_all(rt, alloc)?;
     tell_seat(&rt, &seat_answers(rt, alloc))
+}
+
+/// Services, and many exports.
+fn ask_all<R: Threads + Sync + Print + Drop + Copy>(rt: R, alloc: Global) -> io::Result<()> {
+    tell(&rt, "serve of a push", serves(rt, alloc, &PUSH))?;
+    tell(&rt, "serve of no push", serves(rt, alloc, &ASK))?;
+    tell(
+        &rt,
+        "export_many by one worker",
+        exports::exports(&rt, alloc, 1),
+    )?;
+    tell(&rt, "export_many by two", exports::exports(&rt, alloc, 2))
 }
 
 /// Requests over a hub in memory that show no plane.
@@ -44,7 +56,12 @@ fn ask_memory<R: Threads + Sync + Print + Drop + Copy>(rt: R, alloc: Global) -> 
 fn ask_planes<R: Threads + Sync + Print + Drop + Copy>(rt: R, alloc: Global) -> io::Result<()> {
     tell(&rt, "Whole", is_answered(rt, alloc, &rows::WHOLE))?;
     tell(&rt, "Export", is_answered(rt, alloc, &rows::EXPORT))?;
-    tell(&rt, "Many", is_answered(rt, alloc, &rows::MANY))
+    tell(&rt, "Many", is_answered(rt, alloc, &rows::MANY))?;
+    tell(
+        &rt,
+        "Many of two cells",
+        is_answered_of_two(rt, alloc, &rows::MANY_OF_TWO),
+    )
 }
 
 /// A board of one seat. Where memory is refused it is started once more.

@@ -48,8 +48,8 @@ pub static PUSH_TWO: Row = Row {
     last: false,
 };
 
-/// An edit of replica 2, and the same of counter 0.
-pub static PUSH_REFUSED: [Row; 2] = [
+/// An edit of replica 2, the same of counter 0, and a state.
+pub static PUSH_REFUSED: [Row; 3] = [
     Row {
         request: b"\x02GLWD\x01\x04/2/3\0\0\0\x01\0\0\0\0\0\x01\0\x02\0\0\0\0\x01\x40\0\0\0\x40\0\0\0\x01",
         bodies: &[Body::Bytes(&[28])],
@@ -58,6 +58,11 @@ pub static PUSH_REFUSED: [Row; 2] = [
     Row {
         request: b"\x02GLWD\x01\x04/2/3\0\0\0\x01\0\0\0\0\0\0\0\x02\0\0\0\0\x01\x40\0\0\0\x40\0\0\0\x01",
         bodies: &[Body::Bytes(&[18])],
+        last: false,
+    },
+    Row {
+        request: b"\x02GLWS\x01\x04/2/3\0\0\0\0\0\0\0\0\0",
+        bodies: &[Body::Bytes(&[33])],
         last: false,
     },
 ];
@@ -119,6 +124,18 @@ pub static MANY: Row = Row {
     last: false,
 };
 
+/// The same of two cells.
+pub static MANY_OF_TWO: Row = Row {
+    request: &[7, 0, 3, 0, 0, 0, 1, 32, 0, 0, 1, 0, 0, 0, 0],
+    bodies: &[
+        Body::Bytes(&[0, 0, 3]),
+        Body::Bytes(b"\0#CXRLE Pos=0,-1 Gen=1\nx = 2, y = 3, rule = /2/3\n2A$2B$2A!\n"),
+        Body::Bytes(&[22]),
+        Body::Bytes(b"\0#CXRLE Pos=0,0 Gen=0\nx = 2, y = 1, rule = /2/3\n2A!\n"),
+    ],
+    last: false,
+};
+
 pub static BYE: Row = Row {
     request: &[6],
     bodies: &[Body::Bytes(&[0])],
@@ -136,9 +153,21 @@ pub static FAULTY: Row = Row {
 #[derive(Clone, Copy, Debug, PartialEq, Eq)]
 pub enum Verdict {
     Row,
-    /// There was no memory for it, or for a text of many, beside which the others are as they are to be.
+    /// There was no memory for it, or for one text of many, beside which the others are as they are to be.
     Want,
     Neither,
+}
+
+impl Verdict {
+    /// The verdict with one place more, which wants memory or is as it is to be, or neither. No second place
+    /// wants memory where one allocation is refused.
+    pub fn beside(self, is_want: bool, is_meant: bool) -> Verdict {
+        match self {
+            Verdict::Row if is_want => Verdict::Want,
+            met if is_meant => met,
+            _ => Verdict::Neither,
+        }
+    }
 }
 
 fn is_body(frame: &Framed, body: &Body) -> bool {
@@ -164,11 +193,7 @@ fn met_bodies(frames: &[Framed], bodies: &[Body]) -> Verdict {
     }
     let mut met = Verdict::Row;
     for (frame, body) in frames.iter().zip(bodies) {
-        if is_want(frame) {
-            met = Verdict::Want;
-        } else if !is_body(frame, body) {
-            return Verdict::Neither;
-        }
+        met = met.beside(is_want(frame), is_body(frame, body));
     }
     met
 }

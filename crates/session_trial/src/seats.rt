@@ -102,11 +102,12 @@ fn asked_all<J: Naming, R: Threads + Wait + Sync + Drop>(
     session: &mut Session<SeatHub<J, R>, R>,
 ) -> Answers {
     let mut answers = Answers::none();
-    let [other_seat, no_stamp] = &PUSH_REFUSED;
+    let [other_seat, no_stamp, state] = &PUSH_REFUSED;
     answers.started = asked(session, &HELLO);
     answers.pushed = asked(session, &PUSH_ONE)
         && asked(session, other_seat)
-        && asked(session, no_stamp);
+        && asked(session, no_stamp)
+        && asked(session, state);
     answers.polled = asked(session, &POLL_ONE);
     answers.read = asked(session, &WHOLE) && asked(session, &EXPORT) && asked(session, &MANY);
     answers.ended = asked(session, &BYE);
