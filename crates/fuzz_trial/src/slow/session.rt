@@ -2,6 +2,7 @@
 
 use crate::draw::messages::{LIFE, push_head};
 use crate::fields::Fields;
+use crate::slow::deltas::SlowEdit;
 use crate::slow::message::{Heard, hear};
 use delta_exchange::ReadFault;
 use std::alloc::{AllocError, Global};
@@ -9,11 +10,13 @@ use std::alloc::{AllocError, Global};
 /// The last generation that is exported.
 const LAST_GENERATION: u32 = 1 << 29;
 
-/// What stands behind a reply of one byte that is a refusal.
+/// The number of a refusal: an edit of another seat.
 const NOT_YOURS: u8 = 28;
 
+/// A generation past the last.
 const LATE: u8 = 22;
 
+/// What is no request.
 const NO_REQUEST: u8 = 33;
 
 /// What was pushed and not polled yet, as deltas.
@@ -70,20 +73,13 @@ impl SlowSession {
     }
 
     fn push(&mut self, delta: &[u8]) -> Result<Vec<Vec<u8>>, AllocError> {
-        let number = match hear(self.alloc, LIFE, delta) {
-            Err(ReadFault::Memory) => return Err(AllocError),
-            Err(fault) => number_of(fault),
-            Ok(Heard::Edits(edits)) => match edits.as_slice() {
-                [edit] if edit.stamp & 0xffff == 1 => {
-                    self.fresh.push(Vec::from_slice(self.alloc, delta)?)?;
-                    0
-                }
-                [_] => NOT_YOURS,
-                _ => NO_REQUEST,
-            },
-            Ok(Heard::Map(_)) => NO_REQUEST,
-        };
-        self.number(number)
+        match refusal_of(&hear(self.alloc, LIFE, delta))? {
+            Some(number) => self.number(number),
+            None => {
+                self.fresh.push(Vec::from_slice(self.alloc, delta)?)?;
+                self.number(0)
+            }
+        }
     }
 
     fn poll(&mut self) -> Result<Vec<Vec<u8>>, AllocError> {
@@ -135,6 +131,25 @@ impl SlowSession {
             bodies.push(self.export(generation)?)?;
         }
         Ok(bodies)
+    }
+}
+
+/// The number with which a push of this is refused, if it is.
+fn refusal_of(heard: &Result<Heard, ReadFault>) -> Result<Option<u8>, AllocError> {
+    match heard {
+        Err(ReadFault::Memory) => Err(AllocError),
+        Err(fault) => Ok(Some(number_of(*fault))),
+        Ok(Heard::Edits(edits)) => Ok(refusal_of_edits(edits)),
+        Ok(Heard::Map(_)) => Ok(Some(NO_REQUEST)),
+    }
+}
+
+/// One edit may be pushed, if its replica is the seat's.
+fn refusal_of_edits(edits: &[SlowEdit]) -> Option<u8> {
+    match edits {
+        [edit] if edit.stamp & 0xffff == 1 => None,
+        [_] => Some(NOT_YOURS),
+        _ => Some(NO_REQUEST),
     }
 }
 
