@@ -38,6 +38,7 @@ impl Watched {
 
     /// What may change in a plane by edits: the places that they list, and the cells in their areas whose
     /// state is not 0. The areas are walked together, and what several have is found once.
+    /// The only error is want of memory.
     pub fn of_edits(alloc: Global, plane: &Plane, edits: &[Edit]) -> Result<Watched, AllocError>
         ensures { IfOk result (λ watched. WatchesJoin watched (map_of plane.now) (greatest edits.now)) }
     {
@@ -48,6 +49,7 @@ impl Watched {
     }
 
     /// What may change in a plane by a whole map: the cells of both whose state is not 0. Both are walked.
+    /// The only error is want of memory.
     pub fn of_planes(plane: &Plane, other: &Plane) -> Result<Watched, AllocError>
         ensures { IfOk result (λ watched. WatchesJoin watched (map_of plane.now) (map_of other.now)) }
     {
@@ -58,6 +60,7 @@ impl Watched {
     }
 
     /// Those of the places whose state is another one now, with the state now, by `y`, then `x`, each once.
+    /// The only error is want of memory.
     pub fn changes(&self, alloc: Global, now: &Plane) -> Result<Vec<Cell>, AllocError>
         ensures { IfOk result (λ cells. (before : Writes) → Watches self.now before (map_of now.now) → AreChanges before (map_of now.now) cells.items) }
     {
