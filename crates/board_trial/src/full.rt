@@ -10,7 +10,7 @@ use std::sync::Wait;
 /// Whether a turn fails for want of room, and so does the next; the seat sees nothing.
 fn fails<J: Naming, H: Wait + Drop>(relay: &mut Relay<J, H>, seat: &mut Seat<J>) -> bool {
     let full = Turn::Failed(TurnFault::StoreFull);
-    turned(relay, seat) == full && relay.turn() == full && sees(seat, 0, 0)
+    turned(relay, seat) == full && turned(relay, seat) == full && sees(seat, 0, 0)
 }
 
 /// Whether an edit is submitted, and is not published.
