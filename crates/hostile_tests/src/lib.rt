@@ -4,7 +4,7 @@
 #[cfg(test)]
 mod announced;
 #[cfg(test)]
-mod bytes;
+mod byte_values;
 #[cfg(test)]
 mod collisions;
 #[cfg(test)]
