@@ -63,7 +63,7 @@ pub fn number(digits: &[u8], most: u64) -> Option<u64> {
             return None;
         }
         let units = u64::from(digit.wrapping_sub(b'0'));
-        number = number.saturating_mul(10).saturating_add(units);
+        number = number.checked_mul(10)?.checked_add(units)?;
     }
     if number <= most { Some(number) } else { None }
 }
