@@ -13,6 +13,7 @@ use crate::history::History;
 use crate::rule::{BoardRule, Note, Sees, Sight};
 use crate::value::{Board, Publication};
 use crate::window::Window;
+use keyed_hash::HashKey;
 use left_right::writer::Writer;
 use std::alloc::{AllocError, Global};
 use std::marker::Model;
@@ -43,19 +44,24 @@ impl Model for Publisher {
 type BoardWriter = Writer<Board, Publication, Sight, BoardRule>;
 
 /// A writer of two empty boards, with room for so many readers.
-fn opened(alloc: Global, front: &Front, seats: usize) -> Result<BoardWriter, AllocError>
+fn opened(
+    alloc: Global,
+    front: &Front,
+    seats: usize,
+    key: HashKey,
+) -> Result<BoardWriter, AllocError>
     requires seats { (0 < seats) × (seats < 2 ^ 32) }
     requires empty { list_of front.now ≡ [] }
     ensures { IfOk result (λ w. (w.desk.shown.value.list ≡ []) × (w.desk.shown.value.log ≡ []) × (w.desk.shown.value.origin ≡ origin front.now) × (drop w.behind w.log.items ≡ [])) }
 {
-    let first = Board::new(alloc, front.again())?;
-    let second = Board::new(alloc, front.again())?;
+    let first = Board::with_key(alloc, front.again(), key)?;
+    let second = Board::with_key(alloc, front.again(), key)?;
     Writer::new(alloc, first, second, seats)
 }
 
 impl Publisher {
-    /// An empty list, with room for so many readers, under a rule of so many states.
-    // The first publication, of nothing, tells the writer which history it is of.
+    /// An empty list, with room for so many readers, under a rule of so many states. Its planes find
+    /// their squares by the fixed key's hashes.
     pub fn new<R: Wait>(
         rt: &R,
         alloc: Global,
@@ -65,9 +71,24 @@ impl Publisher {
         requires { (0 < seats) × (seats < 2 ^ 32) }
         ensures { IfOk result (λ p. (p.list ≡ []) × (p.announced ≡ []) × (p.origin.states ≡ states)) }
     {
+        Publisher::with_key(rt, alloc, states, seats, HashKey::fixed())
+    }
+
+    /// The same, whose planes find their squares by a key's hashes.
+    // The first publication, of nothing, tells the writer which history it is of.
+    pub fn with_key<R: Wait>(
+        rt: &R,
+        alloc: Global,
+        states: u16,
+        seats: usize,
+        key: HashKey,
+    ) -> Result<Publisher, AllocError>
+        requires { (0 < seats) × (seats < 2 ^ 32) }
+        ensures { IfOk result (λ p. (p.list ≡ []) × (p.announced ≡ []) × (p.origin.states ≡ states)) }
+    {
         let (history, prefix) = History::new();
         let front = Front::first(prefix, states);
-        let (writer, done) = shown(rt, opened(alloc, &front, seats)?, &front);
+        let (writer, done) = shown(rt, opened(alloc, &front, seats, key)?, &front);
         if done.is_err() {
             writer.take(rt);
             return Err(AllocError);

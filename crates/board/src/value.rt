@@ -14,6 +14,7 @@ use crate::history::{History, Prefix};
 use crate::last::LastEdits;
 use edit_stamps::{Edit, EditList, Write};
 use held_plane::{Added, HeldPlane};
+use keyed_hash::HashKey;
 use left_right::Absorb;
 use poll_news::News;
 use stamped_tree::Plane;
@@ -91,14 +92,22 @@ impl Absorb<Publication> for Board {
 }
 
 impl Board {
-    /// The board of an empty list, under a front.
+    /// The board of an empty list, under a front. Its plane finds its squares by the fixed key's hashes.
     pub fn new(alloc: Global, front: Front) -> Result<Board, AllocError>
+        ensures list { IfOk result (λ b. b.list ≡ []) }
+        ensures front { IfOk result (λ b. (b.log ≡ front.prefix.seen.log) × (b.origin.book ≡ front.prefix.seen.book) × (b.origin.states ≡ front.states)) }
+    {
+        Board::with_key(alloc, front, HashKey::fixed())
+    }
+
+    /// The same, whose plane finds its squares by a key's hashes.
+    pub fn with_key(alloc: Global, front: Front, key: HashKey) -> Result<Board, AllocError>
         ensures list { IfOk result (λ b. b.list ≡ []) }
         ensures front { IfOk result (λ b. (b.log ≡ front.prefix.seen.log) × (b.origin.book ≡ front.prefix.seen.book) × (b.origin.states ≡ front.states)) }
     {
         let (own, prefix) = History::new();
         Ok(Board {
-            plane: HeldPlane::with_room(alloc, u32::MAX)?,
+            plane: HeldPlane::with_room_and_key(alloc, u32::MAX, key)?,
             last: LastEdits::new(alloc)?,
             own,
             prefix,

@@ -15,7 +15,7 @@ use stamped_tree::Plane;
 use std::alloc::Global;
 
 /// How many squares the universe that is run may store if nothing else is said.
-const ROOM: u32 = 0x400_0000;
+pub(crate) const ROOM: u32 = 0x400_0000;
 
 /// The last generation.
 pub const LAST: u32 = 0x2000_0000;
@@ -99,7 +99,7 @@ fn cells_at(
 {
     // For the proof alone: the call tells that what is held is a rule.
     let _states = rule.states();
-    let mut engine = Engine::with_room(alloc, *rule, nodes)?;
+    let mut engine = Engine::with_room_and_key(alloc, *rule, nodes, plane.key())?;
     engine.load(plane)?;
     let run = engine.run(generation);
     // The same, of the engine, which is what it was where it became full.

@@ -7,7 +7,7 @@ ghost use Rattle.generation_engine.specs.Universe.{states_in_writes};
 ghost use Rattle.export.specs.Export.{AreExported, IsExport, IsExportRefused, IsRoomWanted, IsWant, most_cells};
 ghost use Rattle.export.specs.Kept.{IsRunOf};
 
-use crate::exporting::{LAST, MOST_CELLS, cells_within, export};
+use crate::exporting::{LAST, MOST_CELLS, ROOM, cells_within, export};
 use crate::fault::ExportFault;
 use generation_engine::{Engine, EngineFault};
 use generations_rule::Rule;
@@ -118,7 +118,7 @@ fn loaded(alloc: Global, rule: &Rule, plane: &Plane) -> Result<Engine, ExportFau
     ensures at { IfOk result (λ engine. engine.generation ≡ 0) }
     ensures err { IfErr result IsWant }
 {
-    let mut engine = Engine::new(alloc, *rule)?;
+    let mut engine = Engine::with_room_and_key(alloc, *rule, ROOM, plane.key())?;
     engine.load(plane)?;
     Ok(engine)
 }

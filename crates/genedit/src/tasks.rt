@@ -6,12 +6,14 @@ use devices::{ReadSource, Source, WriteSink};
 use genedit_io::RunFault;
 use genedit_lib::run_script;
 use genedit_rle::rle_text;
-use genedit_serve::{listen, serve_on};
+use genedit_serve::{listen, serve_on_with_key};
 use genedit_words::Server;
 use generations_rule::Rule;
+use keyed_hash::HashKey;
 use script_check::{Outcome, check_script};
 use std::alloc::Global;
 use std::net::{Net, TcpListener, TcpStream};
+use std::random::RandomSource;
 use std::rt::Files;
 use std::sync::Wait;
 use std::thread::Threads;
@@ -71,9 +73,10 @@ fn checked<S: Source>(
     }
 }
 
-/// Serves a board.
+/// Serves a board, whose hashes have a key that is drawn from the system.
 pub fn serve<
     R: Print
+        + RandomSource
         + Net<Listener = TcpListener, Stream = TcpStream>
         + Threads
         + Wait
@@ -85,14 +88,18 @@ pub fn serve<
 >(rt: &R, alloc: Global, server: Server) -> Result<u8, RunFault>
     requires { (1 ≤ server.sessions) × (server.sessions ≤ 64) }
 {
+    let Ok(key) = HashKey::drawn(rt) else {
+        return Err(RunFault::Read);
+    };
     let listener = listen(rt, server.port)?;
     let mut sink = WriteSink::new(io::writer(rt));
-    serve_on(
+    serve_on_with_key(
         *rt,
         alloc,
         listener,
         server.rule,
         server.sessions,
+        key,
         &mut sink,
     )?;
     Ok(WELL)

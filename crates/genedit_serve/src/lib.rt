@@ -6,4 +6,4 @@ mod connections;
 mod fault;
 mod server;
 
-pub use server::{INBOX, listen, serve_on};
+pub use server::{INBOX, listen, serve_on, serve_on_with_key};

@@ -10,7 +10,8 @@ use crate::fault::{server_fault, start_fault};
 use devices::Sink;
 use genedit_io::{RunFault, push_output};
 use generations_rule::Rule;
-use relay_board::{Naming, Opened, start};
+use keyed_hash::HashKey;
+use relay_board::{Naming, Opened, ROOM, start_within_with_key};
 use seat_server::serve_seats;
 use std::alloc::Global;
 use std::marker::Brand;
@@ -59,10 +60,37 @@ pub fn serve_on<
     requires { (1 ≤ sessions) × (sessions ≤ 64) }
     ensures { Serves rule sessions (K.known sink.old) (K.known sink.new) result }
 {
+    serve_on_with_key(rt, alloc, listener, rule, sessions, HashKey::fixed(), sink)
+}
+
+/// The same, with a board whose planes find their squares by a key's hashes: what a sender who does not know
+/// the key can make them cost is then what ordinary edits of that length cost.
+pub fn serve_on_with_key<
+    R: Net<Listener = TcpListener, Stream = TcpStream>
+        + Threads
+        + Wait
+        + Copy
+        + Drop
+        + Send
+        + Sync
+        + 'static,
+    K: Sink,
+>(
+    rt: R,
+    alloc: Global,
+    listener: TcpListener,
+    rule: Rule,
+    sessions: u16,
+    key: HashKey,
+    sink: &mut K,
+) -> Result<(), RunFault>
+    requires { (1 ≤ sessions) × (sessions ≤ 64) }
+    ensures { Serves rule sessions (K.known sink.old) (K.known sink.new) result }
+{
     let Ok(address) = listener.local_addr() else {
         return Err(RunFault::Read);
     };
-    match start(rt, alloc, rule, sessions, INBOX) {
+    match start_within_with_key(rt, alloc, rule, sessions, INBOX, ROOM, key) {
         Ok(opened) => serve::<Brand, R, K>(rt, alloc, opened, listener, address.port(), sink),
         Err(fault) => Err(start_fault(fault)),
     }

@@ -17,6 +17,7 @@ use crate::load::universe_of;
 use crate::results::ResultStore;
 use crate::walk::middle_cells;
 use generations_rule::Rule;
+use keyed_hash::HashKey;
 use multistate_rle::Cell;
 use square_store::{Part, Store, StoreFault};
 use stamped_tree::Plane;
@@ -72,7 +73,8 @@ impl Engine {
         Engine::with_room(alloc, rule, ROOM)
     }
 
-    /// An engine without a cell, with room for so many squares, of which an empty universe takes one.
+    /// An engine without a cell, with room for so many squares, of which an empty universe takes one. It
+    /// finds them by the fixed key's hashes.
     pub fn with_room(alloc: Global, rule: Rule, nodes: u32) -> Result<Engine, AllocError>
         requires { 64 ≤ nodes }
         ensures states { IfOk result (λ engine. AreSameStates (states_of engine) (λ _. 0)) }
@@ -80,8 +82,24 @@ impl Engine {
         ensures rule { IfOk result (λ engine. engine.rule ≡ rule) }
         ensures room { IfOk result (λ engine. engine.store.room ≡ nodes) }
     {
+        Engine::with_room_and_key(alloc, rule, nodes, HashKey::fixed())
+    }
+
+    /// The same, which finds its squares by a key's hashes.
+    pub fn with_room_and_key(
+        alloc: Global,
+        rule: Rule,
+        nodes: u32,
+        key: HashKey,
+    ) -> Result<Engine, AllocError>
+        requires { 64 ≤ nodes }
+        ensures states { IfOk result (λ engine. AreSameStates (states_of engine) (λ _. 0)) }
+        ensures generation { IfOk result (λ engine. engine.generation ≡ 0) }
+        ensures rule { IfOk result (λ engine. engine.rule ≡ rule) }
+        ensures room { IfOk result (λ engine. engine.store.room ≡ nodes) }
+    {
         let _states = rule.states();
-        let mut store = Store::new(alloc, nodes);
+        let mut store = Store::with_key(alloc, nodes, key);
         match store.add_blank(0) {
             Ok(root) => Ok(Engine {
                 squares: ResultStore::of_store(alloc, rule, store),
@@ -107,7 +125,8 @@ impl Engine {
         ensures err { OnErr result (self.new ≡ self.old) }
         ensures full { result ≡ Err StoreFault.StoreFull → IsTooSmallFor self.old.store.room plane.now }
     {
-        let mut store = Store::new(self.alloc, self.squares.store().room());
+        let kept = self.squares.store();
+        let mut store = Store::with_key(self.alloc, kept.room(), kept.key());
         let root = universe_of(self.alloc, &mut store, plane)?;
         self.squares = ResultStore::of_store(self.alloc, self.squares.rule(), store);
         self.root = root;

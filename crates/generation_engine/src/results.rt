@@ -17,6 +17,7 @@ use crate::quarters::{middle, padded};
 use bitplane_kernel::{BitLeaf, Block};
 use generations_rule::Rule;
 use indexmap::IndexMap;
+use keyed_hash::HashKey;
 use square_store::{Part, Square, Store, StoreFault};
 use std::alloc::Global;
 use std::marker::Model;
@@ -46,7 +47,7 @@ pub(crate) struct ResultStore {
     /// is found without a hash.
     firsts: Vec<Option<FirstResult>>,
     /// All other results.
-    others: IndexMap<ResultKey, Part>,
+    others: IndexMap<ResultKey, Part, HashKey>,
 }
 
 /// By hand, so that a caller's proof sees one step where it is dropped.
@@ -77,11 +78,12 @@ impl ResultStore {
         ensures { result ≡ record { rule = rule; store = store } }
     {
         let _states = rule.states();
+        let others = IndexMap::with_hasher(alloc, store.key());
         ResultStore {
             rule,
             store,
             firsts: Vec::new(alloc),
-            others: IndexMap::new(alloc),
+            others,
         }
     }
 

@@ -73,6 +73,6 @@ fn add_edit(alloc: Global, plane: &mut Plane, root: Part, edit: &Edit) -> Result
     if plane.square(root).bounds().greatest < edit.stamp().number() {
         return plane.add_overwritten(root, edit);
     }
-    let drawn = Plane::of_edit(alloc, edit)?;
+    let drawn = Plane::of_edit_with_key(alloc, edit, plane.key())?;
     add_joined(alloc, plane, root, &drawn)
 }

@@ -1,6 +1,7 @@
 -- When two leaves are one, what a leaf feeds a hasher, and its lanes from its writes.
-use Rattle.std.specs.Prelude.{◌≡◌, ℕ, List, [], ◌∷◌, length, refl, Bool, true, ◌&&◌}
+use Rattle.std.specs.Prelude.{◌≡◌, ℕ, List, [], ◌∷◌, length, refl, Bool, true, ◌&&◌, ◌++◌, ◌^◌}
 use Rattle.std.proofs.Common.{arith, ap, subst, ◌∙◌, sym}
+use Rattle.std.specs.List.{flat_map}
 use Rattle.std.specs.Bool.{Decides}
 use Rattle.std.specs.Cmp.{IsEquivalence, decided, first_so, second_so}
 use Rattle.std.specs.Hash.{HashWrites, Alike, same_Alike}
@@ -10,16 +11,20 @@ use lib.Pointwise.{pointwise, bytes_decides}
 use lib.Dec.{eqb}
 use Rattle.stamped_writes.specs.declared.write.Write.{Write}
 use Rattle.leaf_merge_lanes.specs.declared.leaf.Leaf.TheInside.{Inside}
-use Rattle.leaf_merge_lanes.specs.Digest.{digest_of}
+use lib.Lanes.{number_l, digits_l}
 use Rattle.leaf_merge_lanes.specs.Leaf.{write_of, stamps_of, states_of}
 
 -- the same writes, place by place
 abbrev pub is_same : List Write → List Write → Bool
 is_same a b = pointwise eqb (stamps_of a) (stamps_of b) && pointwise eqb (states_of a) (states_of b)
 
--- what a leaf feeds a hasher
+-- the states, eight to a number
+unfoldable pub words_of : List ℕ → List ℕ
+words_of states = digits_l (2 ^ 64) 8 (number_l (2 ^ 8) states)
+
+-- what a leaf feeds a hasher: its stamps, and then its states
 abbrev pub hash_writes : List Write → HashWrites
-hash_writes writes = fed.u64 (digest_of (stamps_of writes) (states_of writes))
+hash_writes writes = flat_map fed.u64 (stamps_of writes) ++ flat_map fed.u64 (words_of (states_of writes))
 
 -- lanes of stamps and of states
 abbrev pub inside : List ℕ → List ℕ → Inside

@@ -1,8 +1,9 @@
 //! Leaves, and how two merge.
 
+ghost use Rattle.leaf_merge_lanes.specs.Same.{words_of};
 ghost use Rattle.std.specs.Prelude.{◌≡◌, ◌<◌, ◌↔◌, slice_get, slice_set, replicate, Some, IsTrue, IfSome, IfNone, ℕ};
 
-use crate::{bounds, digest, lanes};
+use crate::{bounds, lanes};
 use stamped_writes::Write;
 use std::hash::{Hash, Hasher};
 use std::marker::Model;
@@ -153,7 +154,7 @@ impl Eq for Leaf {
     ghost laws = { the_laws };
 }
 
-/// One number of all 64 writes.
+/// The stamps, and then the states, eight to a number.
 impl Hash for Leaf {
     ghost use Rattle.leaf_merge_lanes.specs.Same.{hash_writes, alike};
 
@@ -161,7 +162,17 @@ impl Hash for Leaf {
 
     ghost respects_eq = { alike.fed };
 
+    #[inline(always)]
     fn hash<H: Hasher>(&self, state: &mut H) {
-        digest::digest(&self.stamps, &self.states).hash(state);
+        u64::hash_slice(&self.stamps, state);
+        u64::hash_slice(&words(&self.states), state);
     }
+}
+
+/// The states, eight to a number.
+#[inline(always)]
+fn words(states: &[u8; 64]) -> [u64; 8]
+    ensures { result ≡ words_of states.now }
+{
+    u64x8::from_le_bytes(u8x64::from_array(*states)).to_array()
 }

@@ -6,7 +6,6 @@
 #![tactic(auto)]
 
 mod bounds;
-mod digest;
 mod lanes;
 mod leaf;
 

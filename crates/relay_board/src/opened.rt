@@ -15,6 +15,7 @@ use board::Publisher;
 use generations_rule::Rule;
 use held_plane::HeldPlane;
 use inbox::Drain;
+use keyed_hash::HashKey;
 use relay_core::{Door, RelayCore, StartFault, seated};
 use std::alloc::Global;
 use std::sync::{Arc, Wait};
@@ -26,7 +27,7 @@ pub const MOST_SESSIONS: u16 = 64;
 pub const MOST_INBOX: u16 = 1024;
 
 /// Room for so many squares in the relay's own plane, if none is asked for.
-const ROOM: u32 = 1 << 26;
+pub const ROOM: u32 = 1 << 26;
 
 /// A board and an inbox, with no seat yet, and no name. Its drop ends the board.
 pub struct Opened<R: Wait + Drop> {
@@ -122,12 +123,29 @@ pub fn start_within<R: Wait + Drop>(
     ensures ok { IfOk result (λ o. (fits sessions inbox ≡ true) × (o.count ≡ sessions) × (o.rule ≡ rule) × (o.tried.store.room ≡ nodes) × (ruled_capacity (arc_value o.drain.queue) ≡ inbox)) }
     ensures err { IfErr result (λ f. Starts f (fits sessions inbox)) }
 {
+    start_within_with_key(rt, alloc, rule, sessions, inbox, nodes, HashKey::fixed())
+}
+
+/// The same, whose planes find their squares by a key's hashes.
+pub fn start_within_with_key<R: Wait + Drop>(
+    rt: R,
+    alloc: Global,
+    rule: Rule,
+    sessions: u16,
+    inbox: u16,
+    nodes: u32,
+    key: HashKey,
+) -> Result<Opened<R>, StartFault>
+    requires { 1 ≤ nodes }
+    ensures ok { IfOk result (λ o. (fits sessions inbox ≡ true) × (o.count ≡ sessions) × (o.rule ≡ rule) × (o.tried.store.room ≡ nodes) × (ruled_capacity (arc_value o.drain.queue) ≡ inbox)) }
+    ensures err { IfErr result (λ f. Starts f (fits sessions inbox)) }
+{
     if !fits(sessions, inbox) {
         return Err(StartFault::Size);
     }
     let door = Arc::new(alloc, Door::new())?;
-    let tried = HeldPlane::with_room(alloc, nodes)?;
-    let publisher = Publisher::new(&rt, alloc, rule.states(), usize::from(sessions))?;
+    let tried = HeldPlane::with_room_and_key(alloc, nodes, key)?;
+    let publisher = Publisher::with_key(&rt, alloc, rule.states(), usize::from(sessions), key)?;
     let Ok(drain) = Drain::new(alloc, usize::from(inbox), &publisher.front()) else {
         publisher.end(&rt);
         return Err(StartFault::Memory);

@@ -13,15 +13,16 @@ use crate::node::Node;
 use crate::part::Part;
 use crate::square::Square;
 use indexmap::{IndexMap, IndexSet};
+use keyed_hash::HashKey;
 use std::alloc::Global;
 use std::marker::Model;
 
 /// Distinct squares over leaves of one kind, up to a number of them. A square of level k has
 /// `side * 2^k` columns and rows, and leaves are of level 0. Squares are added and never taken out.
 pub struct Store<L: LeafKind> {
-    leaves: IndexSet<L>,
+    leaves: IndexSet<L, HashKey>,
     /// The squares in the order in which they were added, and beside each its summary.
-    squares: IndexMap<Node, L::Summary>,
+    squares: IndexMap<Node, L::Summary, HashKey>,
     room: u32,
 }
 
@@ -49,15 +50,27 @@ impl<L: LeafKind> Model for Store<L> {
 }
 
 impl<L: LeafKind> Store<L> {
-    /// A store of no square, with room for so many.
+    /// A store of no square, with room for so many, that finds its squares by the fixed key's hashes.
     pub fn new(alloc: Global, room: u32) -> Store<L>
         ensures { result ≡ nothing_held room }
     {
+        Store::with_key(alloc, room, HashKey::fixed())
+    }
+
+    /// A store of no square, with room for so many, that finds its squares by a key's hashes.
+    pub fn with_key(alloc: Global, room: u32, key: HashKey) -> Store<L>
+        ensures { result ≡ nothing_held room }
+    {
         Store {
-            leaves: IndexSet::new(alloc),
-            squares: IndexMap::new(alloc),
+            leaves: IndexSet::with_hasher(alloc, key),
+            squares: IndexMap::with_hasher(alloc, key),
             room,
         }
+    }
+
+    /// The key by whose hashes it finds its squares.
+    pub fn key(&self) -> HashKey {
+        *self.squares.hasher()
     }
 
     /// How many squares there are. A blank counts once, whatever its level.

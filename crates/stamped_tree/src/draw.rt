@@ -22,6 +22,7 @@ use crate::leaf_kind::PlaneLeaf;
 use crate::on_plane::{area_on_plane, cells_on_plane};
 use edit_stamps::Edit;
 use indexmap::IndexMap;
+use keyed_hash::HashKey;
 use square_store::{Part, Store, StoreFault};
 use std::alloc::Global;
 
@@ -44,7 +45,7 @@ pub(crate) fn draw_edit(
     let stamp = edit.stamp().number();
     let cells = cells_on_plane(alloc, edit.listed_cells())?;
     let area = area_on_plane(edit.area());
-    let mut kept = IndexMap::new(alloc);
+    let mut kept = IndexMap::with_hasher(alloc, store.key());
     let part = draw(store, &mut kept, 28, root, stamp, &area, cells)?;
     Ok(part)
 }
@@ -57,7 +58,7 @@ pub(crate) fn draw_edit(
 #[cycle(draw)]
 pub(crate) fn draw(
     store: &mut Store<PlaneLeaf>,
-    kept: &mut IndexMap<AreaKey, Part>,
+    kept: &mut IndexMap<AreaKey, Part, HashKey>,
     level: u32,
     part: Part,
     stamp: u64,
@@ -100,7 +101,7 @@ pub(crate) fn draw(
 #[cycle(draw)]
 fn draw_anew(
     store: &mut Store<PlaneLeaf>,
-    kept: &mut IndexMap<AreaKey, Part>,
+    kept: &mut IndexMap<AreaKey, Part, HashKey>,
     level: u32,
     part: Part,
     stamp: u64,

@@ -6,6 +6,7 @@ ghost use Rattle.stamped_tree.specs.Filled.{IsFilled, AreFilled};
 use crate::area::Area;
 use crate::leaf_kind::PlaneLeaf;
 use indexmap::IndexMap;
+use keyed_hash::HashKey;
 use square_store::{Part, Store, StoreFault};
 
 /// A level, a square of that level, and an area of it.
@@ -18,7 +19,7 @@ pub struct AreaKey {
 
 /// The square with an area written over it that was made before.
 pub fn filled(
-    kept: &IndexMap<AreaKey, Part>,
+    kept: &IndexMap<AreaKey, Part, HashKey>,
     store: &Store<PlaneLeaf>,
     level: u32,
     part: Part,
@@ -33,7 +34,7 @@ pub fn filled(
 
 /// Keeps the square with an area written over it.
 pub fn keep(
-    kept: &mut IndexMap<AreaKey, Part>,
+    kept: &mut IndexMap<AreaKey, Part, HashKey>,
     store: &Store<PlaneLeaf>,
     level: u32,
     part: Part,

@@ -26,6 +26,7 @@ use crate::square::Square;
 use crate::walk::nonzero_cells;
 use edit_stamps::{Edit, Write};
 use indexmap::IndexMap;
+use keyed_hash::HashKey;
 use leaf_merge_lanes::Leaf;
 use multistate_rle::Cell;
 use square_store::{Part, Store, StoreFault};
@@ -83,14 +84,29 @@ impl Plane {
         Plane::with_room(alloc, ROOM)
     }
 
-    /// The plane where nothing was written, with room for so many squares.
+    /// The plane where nothing was written, with room for so many squares, which it finds by the fixed
+    /// key's hashes.
     pub fn with_room(alloc: Global, nodes: u32) -> Result<Plane, AllocError>
         requires { 1 ≤ nodes }
         ensures map { IfOk result (λ plane. AreSame (map_of plane) (λ _. unwritten)) }
         ensures nodes { IfOk result (λ plane. length plane.store.squares ≡ 1) }
         ensures room { IfOk result (λ plane. plane.store.room ≡ nodes) }
     {
-        let mut store = Store::new(alloc, nodes);
+        Plane::with_room_and_key(alloc, nodes, HashKey::fixed())
+    }
+
+    /// The same, which finds its squares by a key's hashes.
+    pub fn with_room_and_key(
+        alloc: Global,
+        nodes: u32,
+        key: HashKey,
+    ) -> Result<Plane, AllocError>
+        requires { 1 ≤ nodes }
+        ensures map { IfOk result (λ plane. AreSame (map_of plane) (λ _. unwritten)) }
+        ensures nodes { IfOk result (λ plane. length plane.store.squares ≡ 1) }
+        ensures room { IfOk result (λ plane. plane.store.room ≡ nodes) }
+    {
+        let mut store = Store::with_key(alloc, nodes, key);
         match store.add_blank(0) {
             Ok(root) => Ok(Plane { store, root, alloc }),
             Err(StoreFault::StoreFull) => unreachable!(),
@@ -98,13 +114,21 @@ impl Plane {
         }
     }
 
-    /// The plane of what an edit writes, with room for 2^32 - 1 squares. Want of room is answered as want
-    /// of memory.
+    /// The plane of what an edit writes, with room for 2^32 - 1 squares, which it finds by the fixed key's
+    /// hashes. Want of room is answered as want of memory.
     pub fn of_edit(alloc: Global, edit: &Edit) -> Result<Plane, AllocError>
         ensures map { IfOk result (λ plane. AreSame (map_of plane) (writes_of edit.now)) }
         ensures room { IfOk result (λ plane. plane.store.room ≡ 2 ^ 32 - 1) }
     {
-        let mut store = Store::new(alloc, u32::MAX);
+        Plane::of_edit_with_key(alloc, edit, HashKey::fixed())
+    }
+
+    /// The same, which finds its squares by a key's hashes.
+    pub fn of_edit_with_key(alloc: Global, edit: &Edit, key: HashKey) -> Result<Plane, AllocError>
+        ensures map { IfOk result (λ plane. AreSame (map_of plane) (writes_of edit.now)) }
+        ensures room { IfOk result (λ plane. plane.store.room ≡ 2 ^ 32 - 1) }
+    {
+        let mut store = Store::with_key(alloc, u32::MAX, key);
         let Ok(unwritten) = store.add_blank(0) else {
             return Err(AllocError);
         };
@@ -112,6 +136,12 @@ impl Plane {
             return Err(AllocError);
         };
         Ok(Plane { store, root, alloc })
+    }
+
+    /// The key by whose hashes it finds its squares.
+    pub fn key(&self) -> HashKey {
+        let _ = &self.root;
+        self.store.key()
     }
 
     /// How many squares the plane stores. A blank counts once for each stamp, whatever its level, and
@@ -248,15 +278,15 @@ impl Plane {
         self.root = part;
     }
 
-    /// The same map in a plane of the same room, which stores the root, and the squares that the root
-    /// is cut into, and no other.
+    /// The same map in a plane of the same room and key, which stores the root, and the squares that the
+    /// root is cut into, and no other.
     pub fn copy(&self) -> Result<Plane, AllocError>
         ensures map { IfOk result (λ plane. AreSame (map_of plane) (map_of self.now)) }
         ensures room { IfOk result (λ plane. plane.store.room ≡ self.now.store.room) }
         ensures squares { IfOk result StoresRootAlone }
         ensures nodes { IfOk result (λ plane. length plane.store.squares ≤ length self.now.store.squares) }
     {
-        let mut store = Store::new(self.alloc, self.store.room());
+        let mut store = Store::with_key(self.alloc, self.store.room(), self.store.key());
         let mut copies = IndexMap::new(self.alloc);
         let root = copy_square(
             &self.store,

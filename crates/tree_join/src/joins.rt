@@ -19,6 +19,7 @@ use crate::quarters::quarter_parts;
 use crate::remember::{PartPair, join_made, keep_join};
 use crate::step::{join_leaves, loses, stays};
 use indexmap::IndexMap;
+use keyed_hash::HashKey;
 use stamped_tree::{Part, Plane, StoreFault};
 use std::alloc::Global;
 
@@ -83,7 +84,7 @@ fn join_roots(
     ensures pieces { AddsPiecesOfGrid plane_grid 8 plane.old.store plane.new.store 28 (join_grid plane.old.store other.now.store 28 here there) }
     ensures full { result ≡ Err StoreFault.StoreFull → IsFullStoreFor plane.new.store 28 (join_grid plane.old.store other.now.store 28 here there) }
 {
-    let mut joins = IndexMap::new(alloc);
+    let mut joins = IndexMap::with_hasher(alloc, plane.key());
     let mut copies = IndexMap::new(alloc);
     join_squares(
         plane,
@@ -101,7 +102,7 @@ fn join_roots(
 fn join_squares(
     plane: &mut Plane,
     other: &Plane,
-    joins: &mut IndexMap<PartPair, Part>,
+    joins: &mut IndexMap<PartPair, Part, HashKey>,
     copies: &mut IndexMap<Part, Part>,
     above: u32,
     here: Part,
@@ -142,7 +143,7 @@ fn join_squares(
 fn join_quarters(
     plane: &mut Plane,
     other: &Plane,
-    joins: &mut IndexMap<PartPair, Part>,
+    joins: &mut IndexMap<PartPair, Part, HashKey>,
     copies: &mut IndexMap<Part, Part>,
     above: u32,
     here: Part,

@@ -6,6 +6,7 @@ ghost use Rattle.tree_join.specs.Squares.{AreSameSquares, IsSquareJoin};
 ghost use Rattle.tree_join.specs.Remembered.{RemembersCopies, RemembersJoins, RemembersSame};
 
 use indexmap::{IndexMap, IndexSet};
+use keyed_hash::HashKey;
 use stamped_tree::{Part, Plane, StoreFault};
 use std::alloc::AllocError;
 
@@ -19,7 +20,7 @@ pub(crate) struct PartPair {
 
 /// The join of two squares that was made before.
 pub(crate) fn join_made(
-    joins: &IndexMap<PartPair, Part>,
+    joins: &IndexMap<PartPair, Part, HashKey>,
     plane: &Plane,
     other: &Plane,
     above: u32,
@@ -34,7 +35,7 @@ pub(crate) fn join_made(
 
 /// Keeps the join of two squares.
 pub(crate) fn keep_join(
-    joins: &mut IndexMap<PartPair, Part>,
+    joins: &mut IndexMap<PartPair, Part, HashKey>,
     plane: &Plane,
     other: &Plane,
     above: u32,
@@ -87,7 +88,7 @@ pub(crate) fn keep_copy(
 
 /// Whether two squares were found to have the same writes.
 pub(crate) fn is_pair_kept(
-    kept: &IndexSet<PartPair>,
+    kept: &IndexSet<PartPair, HashKey>,
     plane: &Plane,
     other: &Plane,
     above: u32,
@@ -102,7 +103,7 @@ pub(crate) fn is_pair_kept(
 
 /// Keeps a pair of squares with the same writes.
 pub(crate) fn keep_pair(
-    kept: &mut IndexSet<PartPair>,
+    kept: &mut IndexSet<PartPair, HashKey>,
     plane: &Plane,
     other: &Plane,
     above: u32,

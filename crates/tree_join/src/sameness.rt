@@ -13,6 +13,7 @@ use crate::order::ROOT_ABOVE_LEAF;
 use crate::quarters::quarter_parts;
 use crate::remember::{PartPair, is_pair_kept, keep_pair};
 use indexmap::IndexSet;
+use keyed_hash::HashKey;
 use stamped_tree::{Part, Plane};
 use std::alloc::{AllocError, Global};
 
@@ -30,7 +31,7 @@ pub fn same(plane: &Plane, other: &Plane) -> bool
 pub fn same_remembered(alloc: Global, plane: &Plane, other: &Plane) -> Result<bool, AllocError>
     ensures { IfOk result (λ answer. IsTrue answer ↔ AreSame (map_of plane.now) (map_of other.now)) }
 {
-    let mut kept = IndexSet::new(alloc);
+    let mut kept = IndexSet::with_hasher(alloc, plane.key());
     let root = plane.root().part();
     let others_root = other.root().part();
     let answer = are_same_remembered(plane, other, &mut kept, ROOT_ABOVE_LEAF, root, others_root)?;
@@ -70,7 +71,7 @@ fn are_same(plane: &Plane, other: &Plane, above: u32, part: Part, others: Part) 
 fn are_same_remembered(
     plane: &Plane,
     other: &Plane,
-    kept: &mut IndexSet<PartPair>,
+    kept: &mut IndexSet<PartPair, HashKey>,
     above: u32,
     part: Part,
     others: Part,
@@ -104,7 +105,7 @@ fn are_same_remembered(
 fn are_same_quarters(
     plane: &Plane,
     other: &Plane,
-    kept: &mut IndexSet<PartPair>,
+    kept: &mut IndexSet<PartPair, HashKey>,
     above: u32,
     part: Part,
     others: Part,

@@ -1,5 +1,8 @@
+use Rattle.std.specs.Hash.{fed_then, u64}
+use Rattle.std.specs.List.{flat_map}
 use Rattle.leaf_merge_lanes.specs.Same.{stamps_in, states_in}
 use Rattle.leaf_merge_lanes.proofs.leaf.LeafHash.hash.Goals as goal
 
 pub returns : goal.returns
-returns g c = rw (stamps_in _ _ _ c.self.invariant.0 c.self.invariant.1 c.self.view_is, states_in _ _ _ c.self.invariant.0 c.self.invariant.1 c.self.view_is, ← c.digest.ensures) c.hash.ensures
+returns g c = rw (stamps_in _ _ _ c.self.invariant.0 c.self.invariant.1 c.self.view_is, states_in _ _ _ c.self.invariant.0 c.self.invariant.1 c.self.view_is, ← c.words.ensures)
+    (fed_then g.H.Hasher.write c.args.state.now c.hash_slice.new.state c.hash_slice-2.new.state (flat_map u64 c.self.inside.stamps) (flat_map u64 c.words.result) c.hash_slice.ensures c.hash_slice-2.ensures)

@@ -1,7 +1,7 @@
 use Rattle.std.proofs.Common.{ap, Err, refl}
 use Rattle.generation_engine.specs.Universe.{EngineValue}
 use Rattle.generation_engine.proofs.Reading.{dead_read, dead_engine, never_full}
-use Rattle.generation_engine.proofs.engine.Engine.with_room.Goals as goal
+use Rattle.generation_engine.proofs.engine.Engine.with_room_and_key.Goals as goal
 
 pub invariant_of-result : goal.invariant_of-result
 invariant_of-result c =
@@ -14,4 +14,4 @@ returns-in-Ok-clause-states c =
     rw c.of_store.ensures (dead_read e (c.in-Ok.ensures.draws 30))
 
 pub unreachable-requires : goal.unreachable-requires
-unreachable-requires c = never_full c.args.nodes c.requires (rw c.new-store.ensures at (c.in-Err-StoreFull.ensures.full (ap (λ e. Err e) c.in-Err-StoreFull.field-0-is) 0))
+unreachable-requires c = never_full c.args.nodes c.requires (rw c.with_key-store.ensures at (c.in-Err-StoreFull.ensures.full (ap (λ e. Err e) c.in-Err-StoreFull.field-0-is) 0))

@@ -1,0 +1,2 @@
+use Rattle.std.proofs.Common.{◌≡◌}
+use Rattle.keyed_hash.proofs.hasher.word.Goals as goal
