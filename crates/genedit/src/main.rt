@@ -14,6 +14,7 @@ use std::alloc::{AllocGlobal, Global};
 use std::io::IsTerminal;
 use std::net::{Net, TcpListener, TcpStream};
 use std::process::ExitCode;
+use std::random::RandomSource;
 use std::rt::{Env, Files};
 use std::sync::Wait;
 use std::thread::Threads;
@@ -34,6 +35,7 @@ fn work<
         + Print
         + Eprint
         + AllocGlobal
+        + RandomSource
         + Net<Listener = TcpListener, Stream = TcpStream>
         + Threads
         + Wait
@@ -55,6 +57,7 @@ fn perform<
         + Input
         + Print
         + Eprint
+        + RandomSource
         + Net<Listener = TcpListener, Stream = TcpStream>
         + Threads
         + Wait

@@ -18,13 +18,14 @@ ghost use Rattle.generation_engine.specs.Universe.{states_in_writes};
 ghost use Rattle.export.specs.Kept.{IsRunOf};
 
 use crate::fault::Fault;
-use delta_exchange::{Content, Message, read, write_delta, write_state};
+use delta_exchange::{Content, Message, read_within_with_key, write_delta, write_state};
 use edit_journal::Journal;
 use edit_stamps::{Edit, Stamp, Write, counter_of};
 use export::{export, export_on};
 use generation_engine::Engine;
 use generations_rule::Rule;
 use held_plane::{Added, HeldPlane};
+use keyed_hash::HashKey;
 use replica_events::EditSpec;
 use stamped_tree::Plane;
 use std::alloc::{AllocError, Global};
@@ -91,8 +92,26 @@ impl Replica {
         Replica::with_room(alloc, rule, number, ROOM)
     }
 
-    /// A replica that holds nothing, with room for so many squares. The only error is want of memory.
+    /// A replica that holds nothing, with room for so many squares, which it finds by the fixed key's
+    /// hashes. The only error is want of memory.
     pub fn with_room(alloc: Global, rule: Rule, number: u16, nodes: u32) -> Result<Replica, Fault>
+        requires number { 1 ≤ number }
+        requires nodes { 1 ≤ nodes }
+        ensures new { IfOk result (λ replica. IsNew rule number nodes replica) }
+        ensures err { IfErr result (λ fault. fault ≡ Fault.Memory) }
+    {
+        Replica::with_room_and_key(alloc, rule, number, nodes, HashKey::fixed())
+    }
+
+    /// The same, which finds its squares, those of the planes that it reads, and the edits of its journal
+    /// by a key's hashes.
+    pub fn with_room_and_key(
+        alloc: Global,
+        rule: Rule,
+        number: u16,
+        nodes: u32,
+        key: HashKey,
+    ) -> Result<Replica, Fault>
         requires number { 1 ≤ number }
         requires nodes { 1 ≤ nodes }
         ensures new { IfOk result (λ replica. IsNew rule number nodes replica) }
@@ -100,13 +119,14 @@ impl Replica {
     {
         // For the proof alone: the call tells that what is held is a rule.
         let _rule = rule.states();
-        let plane = HeldPlane::with_room(alloc, nodes)?;
+        let plane = HeldPlane::with_room_and_key(alloc, nodes, key)?;
+        let (key0, key1) = key.pair();
         Ok(Replica {
             alloc,
             rule,
             number,
             plane,
-            journal: Journal::new(alloc),
+            journal: Journal::with_key(alloc, key0, key1),
         })
     }
 
@@ -252,7 +272,8 @@ impl Replica {
             → IsTakingMap self.old self.new meant result }
         ensures change { IfOk result (λ changed. (changed ≡ false) ↔ AreSame (map_of self.new.plane) (map_of self.old.plane)) }
     {
-        let message = read(self.alloc, &self.rule, text)?;
+        let key = self.plane.plane().key();
+        let message = read_within_with_key(self.alloc, &self.rule, text, ROOM, key)?;
         self.take_noting_change(&message)
     }
 
