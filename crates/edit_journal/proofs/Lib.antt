@@ -1,4 +1,2 @@
 pub mod SeenEdits
-pub mod JournalLaws
-mod JournalRows
 pub mod NotedLaws

@@ -2,13 +2,13 @@
 use Rattle.std.proofs.Common.{◌≡◌, ◌∙◌, Bool, true, false, List, [], ◌∷◌, ◌++◌, inl, inr, refl, sym, ap, subst, append_assoc}
 use Rattle.std.specs.Prelude.{◌↔◌, ◌||◌, if◌then◌else◌}
 use Rattle.std.specs.List.{list_any, Contains, IsDistinct}
-use Rattle.std.specs.Cmp.{IsEquivalence, both_ways, equiv}
-use Rattle.std.proofs.lemmas.List.{append-nil}
+use Rattle.std.proofs.lemmas.List.{append-nil, append_cancel_left}
 use Rattle.std.proofs.lemmas.List.Elements.{Contains-append_left, Contains-append_right, Contains-append_cases}
 use Rattle.std.proofs.lemmas.Map.Keys.{IsDistinct-push}
 use Rattle.std.proofs.lemmas.Map.Views.{Contains-from_any, list_any-from_Contains}
 use Rattle.edit_stamps.specs.Edit.{PlaneEdit, is_edit}
-use Rattle.edit_stamps.proofs.OneEdit.{tells_edits}
+use Rattle.edit_stamps.specs.OneEdit.{edits_equiv, tells_edits}
+use Rattle.indexmap.specs.IndexSet.{insert_all}
 use Rattle.edit_journal.specs.Journal.{noted}
 
 told : (a b : PlaneEdit) → is_edit a b ≡ true → a ≡ b
@@ -16,16 +16,6 @@ told a b h = (tells_edits a b).0 h
 
 itself : (a : PlaneEdit) → is_edit a a ≡ true
 itself a = (tells_edits a a).1 refl
-
--- the test of two edits is an equivalence
-pub edits_equiv : IsEquivalence is_edit
-edits_equiv = equiv
-    (record {
-      symm = λ a b.
-          both_ways (is_edit a b) (is_edit b a) (λ h. (tells_edits b a).1 (sym (told a b h))) (λ h. (tells_edits a b).1 (sym (told b a h)));
-      trans = λ a b c p q. (tells_edits a c).1 (told a b p ∙ told b c q);
-    })
-    itself
 
 -- the test for being in a list finds the edit itself
 pub contains_told : (edits : List PlaneEdit) (e : PlaneEdit) → list_any (is_edit e) edits ≡ true → Contains edits e
@@ -90,6 +80,15 @@ pub noted_in_turn : (H E F : List PlaneEdit) → noted H (E ++ F) ≡ noted (not
 noted_in_turn H [] F = refl
 noted_in_turn H (x ∷ E) F = noted_in_turn (if list_any (is_edit x) H then H else H ++ x ∷ []) E F
 
+-- the set that the journal is keeps the order of insertion, so inserting edits notes them
+pub inserted_noted : (H E : List PlaneEdit) → insert_all is_edit H E ≡ noted H E
+inserted_noted H [] = refl
+inserted_noted H (x ∷ E) = inserted_noted (if list_any (is_edit x) H then H else H ++ x ∷ []) E
+
+-- an edit that is not there goes behind
+pub noted_new : (H : List PlaneEdit) (x : PlaneEdit) → list_any (is_edit x) H ≡ false → noted H (x ∷ []) ≡ H ++ x ∷ []
+noted_new H x absent = ap (λ b. if b then H else H ++ x ∷ []) absent
+
 -- what is there already changes nothing
 pub noted_all : (H E : List PlaneEdit) → ((e : PlaneEdit) → Contains E e → Contains H e) → noted H E ≡ H
 noted_all H [] h = refl
@@ -110,3 +109,20 @@ pub noted_behind : (H E : List PlaneEdit) → (fresh : List PlaneEdit) × (noted
 noted_behind H [] = ([], sym (append-nil H))
 noted_behind H (x ∷ E) =
     one_behind (list_any (is_edit x) H) H x (noted H (x ∷ E)) (noted_behind (if list_any (is_edit x) H then H else H ++ x ∷ []) E)
+
+one_fresh : (b : Bool) (H E F : List PlaneEdit) (x : PlaneEdit) → b ≡ list_any (is_edit x) H → ((K G : List PlaneEdit) → noted K E ≡ K ++ G → noted K G ≡ K ++ G)
+    → noted (if b then H else H ++ x ∷ []) E ≡ H ++ F → noted H F ≡ H ++ F
+one_fresh true H E F x is rest h = rest H F h
+one_fresh false H E F x is rest h =
+    let behind = noted_behind (H ++ x ∷ []) E in
+    let begins : F ≡ x ∷ behind.0 = append_cancel_left H F (x ∷ behind.0) (sym h ∙ behind.1 ∙ append_assoc H (x ∷ []) behind.0) in
+    ap (noted H) begins
+    ∙ ap (λ b. noted (if b then H else H ++ x ∷ []) behind.0) (sym is)
+    ∙ rest (H ++ x ∷ []) behind.0 behind.1
+    ∙ sym behind.1
+    ∙ h
+
+-- what noting some edits puts behind a journal is what is noted of it
+pub noted_fresh : (H E F : List PlaneEdit) → noted H E ≡ H ++ F → noted H F ≡ H ++ F
+noted_fresh H [] F h = ap (noted H) (append_cancel_left H F [] (sym h ∙ sym (append-nil H))) ∙ h
+noted_fresh H (x ∷ E) F h = one_fresh (list_any (is_edit x) H) H E F x refl (λ K G. noted_fresh K E G) h

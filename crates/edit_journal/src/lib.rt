@@ -1,6 +1,7 @@
-//! Edits noted in order, each once, and found by their stamps.
+//! Edits noted in order, each once, and found by all that they say.
 #![tactic(auto)]
 
+mod hash_key;
 mod journal;
 mod laws;
 

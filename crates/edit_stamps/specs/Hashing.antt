@@ -1,0 +1,19 @@
+-- What an edit feeds a hasher.
+use Rattle.std.specs.Prelude.{◌++◌}
+use Rattle.std.specs.Hash as fed
+use Rattle.std.specs.Hash.{HashWrites}
+use Rattle.multistate_rle.specs.declared.cell.Cell.{Cell}
+use Rattle.edit_stamps.specs.declared.rect.Rect.{Rect}
+use Rattle.edit_stamps.specs.Edit.{PlaneEdit}
+
+-- a coordinate and the state there
+abbrev pub fed_of_cell : Cell → HashWrites
+fed_of_cell c = fed.i64 c.x ++ fed.i64 c.y ++ fed.u64 c.state
+
+-- a corner and the sides
+abbrev pub fed_of_rect : Rect → HashWrites
+fed_of_rect r = fed.i64 r.x ++ fed.i64 r.y ++ fed.u64 r.width ++ fed.u64 r.height
+
+-- the stamp, the area or that there is none, how many cells are listed, and each of them in order
+abbrev pub fed_of_edit : PlaneEdit → HashWrites
+fed_of_edit e = fed.u64 e.stamp ++ fed.option fed_of_rect e.area ++ fed.slice fed_of_cell e.cells
