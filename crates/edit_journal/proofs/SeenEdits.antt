@@ -1,5 +1,6 @@
 -- Edits that are noted one after another.
-use Rattle.std.proofs.Common.{◌≡◌, ℕ, ◌+◌, ◌<◌, List, [], ◌∷◌, ◌++◌, if◌then◌else◌, length, get_or, drop, drop-cons, add-one, sym, ◌∙◌, ap, subst, arith, inl, inr}
+use Rattle.std.proofs.Common.{◌≡◌, ℕ, Bool, true, false, ◌+◌, ◌<◌, List, [], ◌∷◌, ◌++◌, if◌then◌else◌, length, get_or, take, drop, drop-cons, add-one, append_assoc, sym, ◌∙◌, ap, subst, arith, inl, inr}
+use Rattle.std.proofs.Math.Seq.{take-append_seam}
 use Rattle.std.specs.Prelude.{Contains}
 use Rattle.std.proofs.lemmas.Bool.{cases_lt}
 use Rattle.std.proofs.lemmas.List.{get_or_default}
@@ -33,3 +34,21 @@ noted_next H N edits i x within is next =
 -- all are seen
 pub all_seen : (edits : List PlaneEdit) → AreSeen edits (length edits) → (e : PlaneEdit) → Contains edits e → IsEdit e
 all_seen edits far e has = far has.0 e has.1 has.2
+
+-- ---- edits put behind a journal
+
+-- a list with another in front
+abbrev pub BeginsWith : List PlaneEdit → List PlaneEdit → Type 0
+BeginsWith front whole = (behind : List PlaneEdit) × (whole ≡ front ++ behind)
+
+one_behind : (b : Bool) (H M : List PlaneEdit) (x : PlaneEdit) → BeginsWith H M → BeginsWith H (if b then M else M ++ x ∷ [])
+one_behind true H M x begins = begins
+one_behind false H M x begins = (begins.0 ++ x ∷ [], ap (λ m. m ++ x ∷ []) begins.1 ∙ append_assoc H begins.0 (x ∷ []))
+
+-- a list that one more is inserted into still begins so
+pub still_begins : (H M N : List PlaneEdit) (x : PlaneEdit) → N ≡ (if list_any (is_edit x) M then M else M ++ x ∷ []) → BeginsWith H M → BeginsWith H N
+still_begins H M N x next begins = subst (BeginsWith H) (sym next) (one_behind (list_any (is_edit x) M) H M x begins)
+
+-- what it begins with is what is left when the rest is cut off
+pub front_left : (H M : List PlaneEdit) → BeginsWith H M → take (length H) M ≡ H
+front_left H M begins = ap (take (length H)) begins.1 ∙ take-append_seam H begins.0

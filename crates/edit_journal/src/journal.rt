@@ -1,6 +1,6 @@
 //! The edits that a replica drew or was given in messages, in order.
 
-ghost use Rattle.std.specs.Prelude.{◌≡◌, ◌++◌, ◌∷◌, [], if◌then◌else◌, IfOk, OnOk, OnErr, Contains};
+ghost use Rattle.std.specs.Prelude.{◌≡◌, ◌++◌, ◌∷◌, [], IfOk, OnOk, OnErr, Contains, length, take};
 ghost use Rattle.std.specs.List.{list_any, IsDistinct};
 ghost use Rattle.edit_stamps.specs.Edit.{PlaneEdit, IsEdit, is_edit};
 ghost use Rattle.edit_journal.specs.Journal.{noted};
@@ -67,6 +67,21 @@ impl Journal {
         self.edits.contains(edit)
     }
 
+    /// Notes edits: adds copies of those that are not in it by then at the end, in order, each once. Where
+    /// memory is refused, the journal stays as it was.
+    pub fn note(&mut self, edits: &[Edit]) -> Result<(), AllocError>
+        ensures ok { OnOk result (self.new ≡ noted self.old edits.now) }
+        ensures err { OnErr result (self.new ≡ self.old) }
+        ensures edits { OnOk result ((e : PlaneEdit) → Contains edits.now e → IsEdit e) }
+    {
+        let before = self.edits.len();
+        let noted = insert_copies(&mut self.edits, edits);
+        if noted.is_err() {
+            self.edits.truncate(before);
+        }
+        noted
+    }
+
     /// Copies of those of the edits that are not in it by then, in order, each once, in a journal of
     /// the same key.
     pub fn fresh(&self, edits: &[Edit]) -> Result<Journal, AllocError>
@@ -112,4 +127,19 @@ impl Journal {
     {
         self.edits.append(&mut fresh.edits)
     }
+}
+
+/// Inserts a copy of each edit, whether it is there or not: an edit is hashed once, and that takes longer than
+/// to copy it. Where memory is refused, edits may have been put behind the first ones.
+fn insert_copies(journal: &mut IndexSet<Edit, HashKey>, edits: &[Edit]) -> Result<(), AllocError>
+    ensures ok { OnOk result (journal.new.keys ≡ noted journal.old.keys edits.now) }
+    ensures begins { take (length journal.old.keys) journal.new.keys ≡ journal.old.keys }
+    ensures edits { OnOk result ((e : PlaneEdit) → Contains edits.now e → IsEdit e) }
+{
+    for edit in edits {
+        // For the proof alone: the call tells that it is an edit.
+        let _listed = edit.listed_cells();
+        journal.insert(edit.copy()?)?;
+    }
+    Ok(())
 }

@@ -6,7 +6,7 @@ ghost use Rattle.std.specs.Hash as fed;
 ghost use Rattle.std.specs.Hash.{same_Alike};
 ghost use Rattle.std.specs.List.{fold};
 ghost use Rattle.edit_stamps.specs.Edit.{is_edit};
-ghost use Rattle.edit_stamps.specs.Hashing.{fed_of_cell, fed_of_edit, fed_of_rect};
+ghost use Rattle.edit_stamps.specs.Hashing.{fed_of_cell, fed_of_edit, fed_of_rect, number_of_cell};
 ghost use Rattle.edit_stamps.specs.OneEdit.{edits_equiv, tells_edits};
 
 use crate::edit::Edit;
@@ -29,8 +29,8 @@ impl Eq for Edit {
     ghost laws = { edits_equiv };
 }
 
-/// All that an edit says is fed, so that two that differ anywhere feed a hasher differently. Each
-/// number is a word of eight bytes, which SipHash takes in one step.
+/// All that an edit says is fed, so that two that differ anywhere feed a hasher differently, and in whole
+/// words of eight bytes, each of which SipHash takes in one step.
 impl Hash for Edit {
     ghost hash_input = { fed_of_edit };
 
@@ -76,7 +76,14 @@ fn feed_cells<H: Hasher>(cells: &[Cell], state: &mut H)
 fn feed_cell<H: Hasher>(cell: &Cell, state: &mut H)
     ensures { state.new ≡ fold H.write state.old (fed_of_cell cell.now) }
 {
-    state.write_i64(i64::from(cell.x));
-    state.write_i64(i64::from(cell.y));
-    state.write_u64(u64::from(cell.state));
+    state.write_u128(number_of_cell(cell));
+}
+
+/// A cell as a number of 16 bytes, so that a hasher is called once for it.
+fn number_of_cell(cell: &Cell) -> u128
+    ensures { result ≡ number_of_cell cell.now }
+{
+    let row = u128::from(cell.y.cast_unsigned()) * 0x1_0000_0000;
+    let column = u128::from(cell.x.cast_unsigned());
+    u128::from(cell.state) * 0x1_0000_0000_0000_0000 + row + column
 }
