@@ -13,6 +13,8 @@ mod faults;
 #[cfg(test)]
 mod journals;
 #[cfg(test)]
+mod journals_of_one_stamp;
+#[cfg(test)]
 mod leaves;
 #[cfg(test)]
 mod pastes;
