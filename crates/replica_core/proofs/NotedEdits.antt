@@ -1,5 +1,5 @@
 -- A journal keeps each edit once, and its edits' writes are in the map, as a replica draws and takes.
-use Rattle.std.proofs.Common.{◌≡◌, ℕ, ◌<◌, Bool, true, false, if◌then◌else◌, List, [], ◌∷◌, ◌++◌, sym, subst, arith, inl, inr}
+use Rattle.std.proofs.Common.{◌≡◌, ℕ, ◌<◌, Bool, true, false, if◌then◌else◌, List, [], ◌∷◌, ◌++◌, ◌∙◌, sym, subst, arith, inl, inr}
 use Rattle.std.specs.Prelude.{IsTrue}
 use Rattle.std.specs.List.{Contains, IsDistinct, list_any}
 use Rattle.std.proofs.lemmas.Bool.{cases_Bool}
@@ -13,7 +13,8 @@ use Rattle.stamped_writes.specs.Write.{at_most, Writes, AreSame, IsBelow, joined
 use Rattle.edit_stamps.proofs.WriteLaws.{is_least_upper_bound, is_total}
 use Rattle.edit_stamps.proofs.ClockLaws.{stamp_in}
 use Rattle.edit_journal.specs.Journal.{noted}
-use Rattle.edit_journal.proofs.NotedLaws.{contains_told, edits_equiv, noted_distinct, noted_members}
+use Rattle.edit_journal.proofs.NotedLaws.{contains_told, noted_distinct, noted_members, noted_new}
+use Rattle.edit_stamps.specs.OneEdit.{edits_equiv}
 use Rattle.delta_exchange.specs.declared.message.Content.{Content}
 use Rattle.delta_exchange.specs.declared.message.Content.TheVariants as contents
 use Rattle.delta_exchange.specs.Message.{edits_in, writes_in, IsBelowStates}
@@ -50,6 +51,11 @@ is_new n p journal e greatest above is = elim (cases_Bool (list_any (is_edit e) 
       omega (arith, above, stamp_in e p n (is.edits e has) (is.held e has) greatest)
       )
 ]
+
+-- so it is noted behind all others
+pub drawn_behind : (n : ℕ) (p : Writes) (journal journal_now : List PlaneEdit) (e : PlaneEdit) → IsGreatestStamp n p → n < e.stamp → IsJournalOf p journal
+    → journal_now ≡ noted journal (e ∷ []) → journal_now ≡ journal ++ e ∷ []
+drawn_behind n p journal journal_now e greatest above is now = now ∙ noted_new journal e (is_new n p journal e greatest above is)
 
 pub drawn_journal : (n : ℕ) (p q : Writes) (journal : List PlaneEdit) (e : PlaneEdit) → IsGreatestStamp n p → n < e.stamp → IsEdit e → AreSame q (joined p (writes_of e))
     → IsJournalOf p journal → IsJournalOf q (journal ++ e ∷ [])

@@ -375,7 +375,7 @@ fn make(alloc: Global, rule: &Rule, stamp: Stamp, spec: &EditSpec) -> Result<Edi
 fn draw_into(plane: &mut HeldPlane, journal: &mut Journal, edit: &Edit) -> Result<(), Fault>
     ensures map { OnOk result (AreSame (map_of plane.new) (joined (map_of plane.old) (writes_of edit.now))) }
     ensures room { plane.new.store.room ≡ plane.old.store.room }
-    ensures noted { OnOk result (journal.new ≡ journal.old ++ edit.now ∷ []) }
+    ensures noted { OnOk result (journal.new ≡ noted journal.old (edit.now ∷ [])) }
     ensures before { OnErr result (IsAsBefore plane.old plane.new) }
     ensures unnoted { OnErr result (journal.new ≡ journal.old) }
     ensures err { IfErr result IsWant }
@@ -418,9 +418,8 @@ fn take_edits(plane: &mut HeldPlane, journal: &mut Journal, edits: &[Edit]) -> R
     ensures err { IfErr result IsWant }
     ensures full { IfErr result (λ fault. fault ≡ Fault.StoreFull → length plane.new.store.squares ≡ plane.new.store.room) }
 {
-    let fresh = journal.fresh(edits)?;
     let root = plane.add(Added::Edits(edits))?;
-    journal.append(fresh)?;
+    journal.note(edits)?;
     Ok(plane.set_root(root))
 }
 

@@ -6,7 +6,7 @@ use Rattle.edit_stamps.specs.PlaneMap.{IsGreatestStamp}
 use Rattle.stamped_tree.specs.Plane.{map_of}
 use Rattle.replica_core.specs.Replica.{ReplicaState, edit_drawn, IsDraw, IsJournalOf}
 use Rattle.replica_core.proofs.DrawLaws.{draws, next_above, refuses_made, stops}
-use Rattle.replica_core.proofs.NotedEdits.{below_drawn, drawn_journal, kept}
+use Rattle.replica_core.proofs.NotedEdits.{below_drawn, drawn_behind, drawn_journal, kept}
 use Rattle.edit_stamps.proofs.StateLaws.{states_kept}
 use Rattle.replica_core.proofs.StateLaws.{states_drawn}
 use Rattle.replica_core.proofs.replica.Replica.draw_as.Goals as goal
@@ -34,7 +34,10 @@ returns c =
       told.0,
       told.1,
       draws old new told.0 c.in_ok-stamp.stamp c.args.spec.now c.in_ok-edit.edit told.1 (sym told.2 ∙ c.in_ok-stamp.was) c.in_ok-edit.ensures.edit
-          c.in_ok-edit.ensures.states (record { rule = refl; number = refl; room = c.draw_into.ensures.room }) c.in_ok-draw_into.ensures.map c.in_ok-draw_into.ensures.noted,
+          c.in_ok-edit.ensures.states (record { rule = refl; number = refl; room = c.draw_into.ensures.room }) c.in_ok-draw_into.ensures.map
+          (drawn_behind told.0 (map_of old.plane) old.journal new.journal c.in_ok-edit.edit told.1
+          (next_above told.0 old.number c.in_ok-stamp.stamp old.rule c.args.spec.now c.in_ok-edit.edit (sym told.2 ∙ c.in_ok-stamp.was) c.in_ok-edit.ensures.edit)
+          c.self.invariant.journal c.in_ok-draw_into.ensures.noted),
     )
 
 pub returns-in_err-draw_into : goal.returns-in_err-draw_into
@@ -75,14 +78,15 @@ invariant_of-self-2 c =
     let next = sym told.2 ∙ c.in_ok-stamp.was in
     let before = map_of c.self.inside.plane in
     let behind = map_of c.draw_into.new.plane in
+    let above = next_above told.0 c.self.inside.number c.in_ok-stamp.stamp c.self.inside.rule c.args.spec.now c.in_ok-edit.edit next c.in_ok-edit.ensures.edit in
+    let last = drawn_behind told.0 before c.self.inside.journal c.draw_into.new.journal c.in_ok-edit.edit told.1 above c.self.invariant.journal c.in_ok-draw_into.ensures.noted in
     record {
       number = c.self.invariant.number;
       few = c.self.invariant.few;
       states = states_drawn c.self.inside.rule.states before behind c.in_ok-edit.edit c.in_ok-draw_into.ensures.map c.self.invariant.states c.in_ok-edit.ensures.states;
-      journal = subst (IsJournalOf behind) (sym c.in_ok-draw_into.ensures.noted)
-          (drawn_journal told.0 before behind c.self.inside.journal c.in_ok-edit.edit told.1
-          (next_above told.0 c.self.inside.number c.in_ok-stamp.stamp c.self.inside.rule c.args.spec.now c.in_ok-edit.edit next c.in_ok-edit.ensures.edit)
+      journal = subst (IsJournalOf behind) (sym last)
+          (drawn_journal told.0 before behind c.self.inside.journal c.in_ok-edit.edit told.1 above
           (subst IsEdit c.edit.view_is c.edit.invariant) c.in_ok-draw_into.ensures.map c.self.invariant.journal);
-      noted = subst (HaveStatesBelow c.self.inside.rule.states) (sym c.in_ok-draw_into.ensures.noted)
+      noted = subst (HaveStatesBelow c.self.inside.rule.states) (sym last)
           (below_drawn c.self.inside.rule.states c.self.inside.journal c.in_ok-edit.edit c.self.invariant.noted c.in_ok-edit.ensures.states);
     }
