@@ -46,8 +46,8 @@ impl Model for PatternName {
 }
 
 impl PatternName {
-    /// A copy of a word.
-    pub(crate) fn of(alloc: Global, word: &[u8]) -> Result<PatternName, AllocError>
+    /// A copy of a word, which the caller knows to be a name.
+    pub fn of(alloc: Global, word: &[u8]) -> Result<PatternName, AllocError>
         ensures { IfOk result (λ name. name ≡ word.now) }
     {
         let mut letters = Vec::new(alloc);

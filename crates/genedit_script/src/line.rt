@@ -78,7 +78,7 @@ impl<'a> Lines<'a> {
 }
 
 /// Whether some word stands there, and the first begins no comment.
-fn says_something(line: &[u8]) -> bool
+pub fn says_something(line: &[u8]) -> bool
     ensures { result ≡ is_spoken (words line.now) }
 {
     match split_word(line) {
@@ -115,7 +115,7 @@ fn line_feed_at(text: &[u8]) -> Option<usize>
 }
 
 /// The line without the one carriage return at its end, if it has one.
-fn without_return(line: &[u8]) -> &[u8]
+pub fn without_return(line: &[u8]) -> &[u8]
     ensures { result.now ≡ strip_carriage_return line.now }
 {
     match line.split_last() {

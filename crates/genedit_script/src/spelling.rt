@@ -97,8 +97,8 @@ fn spelled_paste(arguments: &[u8]) -> Option<SpelledPaste<'_>>
     })
 }
 
-/// The word, if it is a name.
-fn name_in(word: &[u8]) -> Option<&[u8]>
+/// The word, if it is a pattern's name: 1 to 16 ASCII letters and digits.
+pub fn name_in(word: &[u8]) -> Option<&[u8]>
     ensures { option_map (λ name. name.now) result ≡ name_spelled word.now }
 {
     if is_name(word) { Some(word) } else { None }
@@ -232,7 +232,8 @@ fn clear_in(arguments: &[u8]) -> Option<Event>
     Some(Event::Draw(replica, EditSpec::Clear(area)))
 }
 
-fn area_in(x: &[u8], y: &[u8], width: &[u8], height: &[u8]) -> Option<Rect>
+/// The area of four words: its corner, of 32 bits with a sign, and its width and height, of 32 bits.
+pub fn area_in(x: &[u8], y: &[u8], width: &[u8], height: &[u8]) -> Option<Rect>
     ensures { result ≡ area_spelled x.now y.now width.now height.now }
 {
     let x = signed(x)?;
@@ -247,8 +248,9 @@ fn area_in(x: &[u8], y: &[u8], width: &[u8], height: &[u8]) -> Option<Rect>
     })
 }
 
-/// The cells of a line's words, unless they are not three for each cell.
-fn cells_in(alloc: Global, line: &[u8]) -> Result<Option<Vec<Cell>>, AllocError>
+/// The cells of a line's words, unless they are not three for each cell: two coordinates of 32 bits
+/// with a sign, and a state up to 255. A line without a word has no cells.
+pub fn cells_in(alloc: Global, line: &[u8]) -> Result<Option<Vec<Cell>>, AllocError>
     ensures { IfOk result (λ cells. option_map (λ v. v.items) cells ≡ cells_spelled (words line.now)) }
 {
     let mut cells = Vec::new(alloc);
@@ -287,8 +289,8 @@ fn cell_in(x: &[u8], y: &[u8], state: &[u8]) -> Option<Cell>
     })
 }
 
-/// A number of 32 bits.
-fn unsigned(word: &[u8]) -> Option<u32>
+/// A number of 32 bits, in decimal digits.
+pub fn unsigned(word: &[u8]) -> Option<u32>
     ensures { result ≡ number_spelled word.now }
 {
     let size = number(u64::from(u32::MAX), word)?;
@@ -304,7 +306,7 @@ fn argument_of<'a>(name: &[u8], line: &'a [u8]) -> Option<&'a [u8]>
 }
 
 /// The words of a line of just three.
-fn three_words(line: &[u8]) -> Option<(&[u8], &[u8], &[u8])>
+pub fn three_words(line: &[u8]) -> Option<(&[u8], &[u8], &[u8])>
     ensures { MatchOption result (length (words line.now) ≡ 3 → ⊥) (λ p. words line.now ≡ p.0.now ∷ p.1.now ∷ p.2.now ∷ []) }
 {
     let (first, rest) = split_word(line)?;
@@ -313,7 +315,7 @@ fn three_words(line: &[u8]) -> Option<(&[u8], &[u8], &[u8])>
 }
 
 /// The words of a line of just two.
-fn two_words(line: &[u8]) -> Option<(&[u8], &[u8])>
+pub fn two_words(line: &[u8]) -> Option<(&[u8], &[u8])>
     ensures { MatchOption result (length (words line.now) ≡ 2 → ⊥) (λ p. words line.now ≡ p.0.now ∷ p.1.now ∷ []) }
 {
     let (first, rest) = split_word(line)?;
@@ -322,7 +324,7 @@ fn two_words(line: &[u8]) -> Option<(&[u8], &[u8])>
 }
 
 /// The word of a line of just one.
-fn only_word(line: &[u8]) -> Option<&[u8]>
+pub fn only_word(line: &[u8]) -> Option<&[u8]>
     ensures { MatchOption result (length (words line.now) ≡ 1 → ⊥) (λ word. words line.now ≡ word.now ∷ []) }
 {
     let (word, rest) = split_word(line)?;
@@ -330,7 +332,7 @@ fn only_word(line: &[u8]) -> Option<&[u8]>
 }
 
 /// Whether there is no further word.
-fn ends(rest: &[u8]) -> bool
+pub fn ends(rest: &[u8]) -> bool
     ensures { IsTrue result ↔ (words rest.now ≡ []) }
 {
     split_word(rest).is_none()
