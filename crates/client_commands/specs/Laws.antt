@@ -1,0 +1,106 @@
+-- What a client's commands are beside those of a script, and what its lines come to from the first on.
+use Rattle.std.specs.Prelude.{◌≡◌, ℕ, ◌<◌, ◌^◌, Bool, true, false, ◌||◌, List, [], ◌∷◌, length, map, codes, Option, Some, None, Result, Ok, Err}
+use Rattle.std.specs.Str.{bytes_eq}
+use Rattle.std.specs.Str.Lines.{strip_carriage_return}
+use Rattle.multistate_rle.specs.Bytes.{◌>=>◌}
+use Rattle.multistate_rle.specs.Position.{words}
+use Rattle.replica_events.specs.declared.event.Event.TheVariants as event
+use Rattle.genedit_script.specs.declared.command.Command.{Command}
+use Rattle.genedit_script.specs.declared.command.Command.TheVariants.{Does, Names, Copies, Ors}
+use Rattle.genedit_script.specs.Script.{opening_spelled, command_spelled, numbered_lines, commands_spelled, onto}
+use Rattle.genedit_script.specs.Laws.{is_skipped}
+use Rattle.client_commands.specs.declared.command.ClientCommand.{ClientCommand}
+use Rattle.client_commands.specs.declared.command.ClientCommand.TheVariants as client
+use Rattle.client_commands.specs.declared.dictation.Heard.{Heard}
+use Rattle.client_commands.specs.declared.dictation.Heard.TheVariants as heard
+use Rattle.client_commands.specs.Commands.{client_command_spelled}
+use Rattle.client_commands.specs.Dictation.{DictationValue, lines_heard, all_heard_by}
+
+-- ---- one command
+
+-- the command of a script that asks replica 1 for the same, where scripts have one
+abbrev pub at_replica_1 : ClientCommand → Option Command
+at_replica_1 (client.Draw drawn) = Some (Does (event.Draw 1 drawn))
+at_replica_1 (client.Pattern name text) = Some (Names name text)
+at_replica_1 (client.Copy placement) = Some (Copies (record { replica = 1; name = placement.name; x = placement.x; y = placement.y }))
+at_replica_1 (client.Or placement) = Some (Ors (record { replica = 1; name = placement.name; x = placement.x; y = placement.y }))
+at_replica_1 (client.Show x y) = Some (Does (event.Show 1 x y))
+at_replica_1 (client.Export generation None) = Some (Does (event.Export 1 generation))
+at_replica_1 (client.Export generation (Some file)) = None
+at_replica_1 client.Poll = None
+at_replica_1 (client.Wait wait) = None
+at_replica_1 (client.Sleep milliseconds) = None
+at_replica_1 (client.Save file) = None
+at_replica_1 (client.Open file) = None
+at_replica_1 client.Bye = None
+
+-- the words of a client's command as those of a script: the replica's number stands behind the name
+abbrev pub with_replica_1 : List (List ℕ) → List (List ℕ)
+with_replica_1 [] = []
+with_replica_1 (name ∷ words) = name ∷ codes "1" ∷ words
+
+-- the names of the commands that a client has from scripts, with all that stands behind them
+abbrev pub is_shared : List ℕ → Bool
+is_shared name =
+    bytes_eq name (codes "cells") || (bytes_eq name (codes "clear") || (bytes_eq name (codes "copy") || (bytes_eq name (codes "or") || bytes_eq name (codes "show"))))
+
+-- whether a line has such a name
+abbrev pub is_shared_line : List (List ℕ) → Bool
+is_shared_line [] = false
+is_shared_line (name ∷ words) = is_shared name
+
+-- at such a name a client asks for what a script asks of replica 1, and neither for anything where the other does not
+abbrev pub SpellTheSame : Type 0
+SpellTheSame = (words : List (List ℕ)) → is_shared_line words ≡ true →
+    client_command_spelled words >=> at_replica_1 ≡ command_spelled (with_replica_1 words)
+
+-- and so at `export`, where no file is named
+abbrev pub ExportTheSame : Type 0
+ExportTheSame = (generation : List ℕ) →
+    client_command_spelled (codes "export" ∷ generation ∷ []) >=> at_replica_1 ≡ command_spelled (with_replica_1 (codes "export" ∷ generation ∷ []))
+
+-- ---- all lines
+
+-- Lines of a client, and lines of a script that ask the same of replica 1. They begin in a block, or in none. Each line of a
+-- block, and each that opens one, stands in both. A command that only a client has stands beside a skipped line.
+pub data AskTheSame : Bool → List (List ℕ) → List (List ℕ) → Type 0 where
+  nothing : {in_block : Bool} → AskTheSame in_block [] []
+  skipped : {line : List ℕ} {lines others : List (List ℕ)} → is_skipped line ≡ true →
+      AskTheSame false lines others → AskTheSame false (line ∷ lines) (line ∷ others)
+  shared : {line other : List ℕ} {lines others : List (List ℕ)} → is_shared_line (words line) ≡ true → words other ≡ with_replica_1 (words line) →
+      AskTheSame false lines others → AskTheSame false (line ∷ lines) (other ∷ others)
+  export : {line other generation : List ℕ} {lines others : List (List ℕ)} →
+      words line ≡ codes "export" ∷ generation ∷ [] → words other ≡ with_replica_1 (words line) →
+      AskTheSame false lines others → AskTheSame false (line ∷ lines) (other ∷ others)
+  own : {line other : List ℕ} {command : ClientCommand} {lines others : List (List ℕ)} →
+      client_command_spelled (words line) ≡ Some command → at_replica_1 command ≡ None → is_skipped other ≡ true →
+      AskTheSame false lines others → AskTheSame false (line ∷ lines) (other ∷ others)
+  opening : {line name : List ℕ} {lines others : List (List ℕ)} → opening_spelled (words line) ≡ Some name →
+      AskTheSame true lines others → AskTheSame false (line ∷ lines) (line ∷ others)
+  inside : {line : List ℕ} {lines others : List (List ℕ)} → bytes_eq line (codes "end") ≡ false →
+      AskTheSame true lines others → AskTheSame true (line ∷ lines) (line ∷ others)
+  closing : {lines others : List (List ℕ)} → AskTheSame false lines others → AskTheSame true (codes "end" ∷ lines) (codes "end" ∷ others)
+
+-- a command in front of those behind it, where a script has it
+abbrev pub onto_found : Option Command → Result (List Command) ℕ → Result (List Command) ℕ
+onto_found None commands = commands
+onto_found (Some command) commands = onto command commands
+
+-- what a script of all that was heard asks of replica 1, or the line of the first fault
+abbrev pub asked_of_replica_1 : List Heard → Result (List Command) ℕ
+asked_of_replica_1 [] = Ok []
+asked_of_replica_1 (heard.Nothing ∷ more) = asked_of_replica_1 more
+asked_of_replica_1 (heard.Command command ∷ more) = onto_found (at_replica_1 command) (asked_of_replica_1 more)
+asked_of_replica_1 (heard.Faulty number ∷ more) = Err number
+
+-- such a script asks for just that, and has its first fault at just that line
+abbrev pub HearTheSame : Type 0
+HearTheSame = (lines others : List (List ℕ)) (number : ℕ) → AskTheSame false lines others →
+    asked_of_replica_1 (lines_heard None (numbered_lines number lines)) ≡ commands_spelled None (numbered_lines number others)
+
+-- ---- one by one
+
+-- lines that are heard one by one from the first on come to what they come to with their numbers from 1
+abbrev pub HearInOrder : Type 0
+HearInOrder = (texts : List (List ℕ)) → length texts < 2 ^ 64 →
+    all_heard_by (record { lines = 0; block = None }) texts ≡ lines_heard None (numbered_lines 1 (map strip_carriage_return texts))

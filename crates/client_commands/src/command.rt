@@ -1,0 +1,86 @@
+//! What a client asks for.
+
+ghost use Rattle.std.specs.Prelude.{◌≡◌, IfOk};
+
+use genedit_script::{PatternName, PatternText};
+use replica_events::EditSpec;
+use std::alloc::{AllocError, Global};
+use std::marker::Model;
+
+/// What a line of a client, or a pattern's block, asks for.
+#[derive(Debug, Drop)]
+pub enum ClientCommand {
+    /// `cells x y s ..` or `clear x y w h`: these cells are drawn.
+    Draw(EditSpec),
+    /// `pattern NAME`, lines, `end`: from here on the name stands for the pattern of the text, if it
+    /// is one.
+    Pattern(PatternName, PatternText),
+    /// `copy NAME x y`: every cell of the named pattern's box is drawn.
+    Copy(Placement),
+    /// `or NAME x y`: the nonzero cells of the named pattern are drawn.
+    Or(Placement),
+    /// `show x y`: the cell at x and y is told.
+    Show(i32, i32),
+    /// `export G [FILE]`: the text of the cells G generations later is written to the file, or told
+    /// where none is named.
+    Export(u32, Option<FileName>),
+    /// `poll`: what others drew is asked for.
+    Poll,
+    /// `wait N [MS]`: edits of others are waited for.
+    Wait(Wait),
+    /// `sleep MS`: nothing is done for so many milliseconds.
+    Sleep(u32),
+    /// `save FILE`: the board is written to the file.
+    Save(FileName),
+    /// `open FILE`: what the file holds is drawn.
+    Open(FileName),
+    /// `bye`: the client ends.
+    Bye,
+}
+
+/// Which pattern is drawn, and where the upper left corner of its box goes.
+#[derive(Debug, Drop)]
+pub struct Placement {
+    /// The name of the pattern.
+    pub name: PatternName,
+    pub x: i32,
+    pub y: i32,
+}
+
+/// How many edits are waited for, and how long at most.
+#[derive(Clone, Copy, Debug, PartialEq, Eq)]
+pub struct Wait {
+    pub edits: u32,
+    pub milliseconds: u32,
+}
+
+/// The name of a file: in a command that was read, a word, so that it has no space and no tab.
+#[derive(Debug, Drop)]
+pub struct FileName {
+    path: Vec<u8>,
+}
+
+impl Model for FileName {
+    ghost use Rattle.std.specs.Prelude.{List, ℕ};
+
+    ghost Value = { List ℕ };
+
+    ghost view = { λ n. n.path.items };
+}
+
+impl FileName {
+    /// A copy of a word.
+    pub fn of(alloc: Global, word: &[u8]) -> Result<FileName, AllocError>
+        ensures { IfOk result (λ name. name ≡ word.now) }
+    {
+        let mut path = Vec::new(alloc);
+        path.extend_from_slice(word)?;
+        Ok(FileName { path })
+    }
+
+    pub fn as_bytes(&self) -> &[u8]
+        ensures { result.now ≡ self.now }
+    {
+        &self.path
+    }
+}

@@ -1,0 +1,12 @@
+//! The commands of a client: what its lines ask for, one by one as they come. They are those of a
+//! script without the replica's number, and some that only a client has.
+#![tactic(auto)]
+
+mod block;
+mod command;
+mod dictation;
+mod spelling;
+
+pub use command::{ClientCommand, FileName, Placement, Wait};
+pub use dictation::{Dictation, Heard};
+pub use spelling::command_in;
