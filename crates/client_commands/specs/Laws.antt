@@ -1,5 +1,5 @@
 -- What a client's commands are beside those of a script, and what its lines come to from the first on.
-use Rattle.std.specs.Prelude.{◌≡◌, ℕ, ◌<◌, ◌^◌, Bool, true, false, ◌||◌, List, [], ◌∷◌, length, map, codes, Option, Some, None, Result, Ok, Err}
+use Rattle.std.specs.Prelude.{◌≡◌, ◌↔◌, ℕ, ◌+◌, ◌<◌, ◌^◌, Bool, true, false, ◌||◌, List, [], ◌∷◌, ◌++◌, length, map, codes, Option, Some, None, Result, Ok, Err}
 use Rattle.std.specs.Str.{bytes_eq}
 use Rattle.std.specs.Str.Lines.{strip_carriage_return}
 use Rattle.multistate_rle.specs.Bytes.{◌>=>◌}
@@ -8,7 +8,7 @@ use Rattle.replica_events.specs.declared.event.Event.TheVariants as event
 use Rattle.genedit_script.specs.declared.command.Command.{Command}
 use Rattle.genedit_script.specs.declared.command.Command.TheVariants.{Does, Names, Copies, Ors}
 use Rattle.genedit_script.specs.Script.{opening_spelled, command_spelled, numbered_lines, commands_spelled, onto}
-use Rattle.genedit_script.specs.Laws.{is_skipped}
+use Rattle.genedit_script.specs.Laws.{is_skipped, HaveNoEnd, block_text}
 use Rattle.client_commands.specs.declared.command.ClientCommand.{ClientCommand}
 use Rattle.client_commands.specs.declared.command.ClientCommand.TheVariants as client
 use Rattle.client_commands.specs.declared.dictation.Heard.{Heard}
@@ -97,6 +97,38 @@ asked_of_replica_1 (heard.Faulty number ∷ more) = Err number
 abbrev pub HearTheSame : Type 0
 HearTheSame = (lines others : List (List ℕ)) (number : ℕ) → AskTheSame false lines others →
     asked_of_replica_1 (lines_heard None (numbered_lines number lines)) ≡ commands_spelled None (numbered_lines number others)
+
+-- ---- all lines, piece by piece
+
+-- what lines come to that ask for nothing, a `nothing` for each
+abbrev pub nothings : List (List ℕ) → List Heard
+nothings lines = map (λ line. heard.Nothing) lines
+
+-- What lines come to, the first of them with some number: a skipped line to nothing, a line that spells a command to that, a
+-- whole block to nothing at each line before its first `end`, and there to the pattern of the lines between, and any other line
+-- to its fault. The end of all lines comes to a fault where it stands in a block, of the block's first line.
+pub data ComeTo : ℕ → List (List ℕ) → List Heard → Type 0 where
+  no_line : {number : ℕ} → ComeTo number [] []
+  skipped_line : {number : ℕ} {line : List ℕ} {lines : List (List ℕ)} {told : List Heard} → is_skipped line ≡ true →
+      ComeTo (number + 1) lines told → ComeTo number (line ∷ lines) (heard.Nothing ∷ told)
+  command_line : {number : ℕ} {line : List ℕ} {command : ClientCommand} {lines : List (List ℕ)} {told : List Heard} →
+      client_command_spelled (words line) ≡ Some command →
+      ComeTo (number + 1) lines told → ComeTo number (line ∷ lines) (heard.Command command ∷ told)
+  faulty_line : {number : ℕ} {line : List ℕ} {lines : List (List ℕ)} {told : List Heard} →
+      is_skipped line ≡ false → opening_spelled (words line) ≡ None → client_command_spelled (words line) ≡ None →
+      ComeTo (number + 1) lines told → ComeTo number (line ∷ lines) (heard.Faulty number ∷ told)
+  whole_block : {number : ℕ} {first name : List ℕ} (between : List (List ℕ)) {lines : List (List ℕ)} {told : List Heard} →
+      opening_spelled (words first) ≡ Some name → HaveNoEnd between → ComeTo (((number + 1) + length between) + 1) lines told →
+      ComeTo number (first ∷ (between ++ codes "end" ∷ lines))
+      (heard.Nothing ∷ (nothings between ++ heard.Command (client.Pattern name (block_text between)) ∷ told))
+  open_block : {number : ℕ} {first name : List ℕ} (between : List (List ℕ)) →
+      opening_spelled (words first) ≡ Some name → HaveNoEnd between →
+      ComeTo number (first ∷ between) (heard.Nothing ∷ (nothings between ++ heard.Faulty number ∷ []))
+
+-- lines come to just that
+abbrev pub HearPieces : Type 0
+HearPieces = (number : ℕ) (lines : List (List ℕ)) (told : List Heard) →
+    (lines_heard None (numbered_lines number lines) ≡ told) ↔ ComeTo number lines told
 
 -- ---- one by one
 

@@ -1,3 +1,4 @@
 pub mod Commands
 pub mod Dictation
 pub mod Laws
+pub mod Rows

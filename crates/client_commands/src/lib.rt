@@ -5,8 +5,12 @@
 mod block;
 mod command;
 mod dictation;
+mod laws;
 mod spelling;
+#[cfg(test)]
+mod tests;
 
 pub use command::{ClientCommand, FileName, Placement, Wait};
 pub use dictation::{Dictation, Heard};
+pub use laws::command_laws;
 pub use spelling::command_in;

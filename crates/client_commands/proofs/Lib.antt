@@ -1,0 +1,3 @@
+pub mod DictationLaws
+pub mod PieceLaws
+pub mod SpellingLaws

@@ -1,0 +1,194 @@
+//! What lines come to, by the names of the commands in them.
+
+use crate::command::{ClientCommand, FileName, Placement};
+use crate::dictation::{Dictation, Heard};
+use replica_events::EditSpec;
+use std::alloc::{AllocError, Global};
+use std::test::Fail;
+
+/// A line, and what it comes to at the beginning of all lines.
+static LINES: [(&str, &str); 47] = [
+    ("cells 0 -1 255 7 8 0", "cells 0 -1 255 7 8 0"),
+    ("clear -3 4 5 6", "clear -3 4 5 6"),
+    ("copy Glider7 -3 4", "copy Glider7 -3 4"),
+    ("or abcdefghijklmn09 -3 4", "or abcdefghijklmn09 -3 4"),
+    ("show -3 4", "show -3 4"),
+    ("export 4", "export 4"),
+    ("export 4 a.rle", "export 4 a.rle"),
+    ("poll", "poll"),
+    ("wait 3", "wait 3 10000"),
+    ("wait 3 7", "wait 3 7"),
+    ("sleep 7", "sleep 7"),
+    ("save a.rle", "save a.rle"),
+    ("open a.rle", "open a.rle"),
+    ("bye", "bye"),
+    (" \tpoll\t ", "poll"),
+    ("poll\r", "poll"),
+    ("", "nothing"),
+    (" \t", "nothing"),
+    ("# poll", "nothing"),
+    (" #poll", "nothing"),
+    ("pattern a", "nothing"),
+    ("cells", "fault 1"),
+    ("cells 0 0", "fault 1"),
+    ("cells 1 0 0 1", "fault 1"),
+    ("cells 0 0 256", "fault 1"),
+    ("cells 2147483648 0 1", "fault 1"),
+    ("clear 0 0 1", "fault 1"),
+    ("clear 0 0 1 -1", "fault 1"),
+    ("clear 1 0 0 1 1", "fault 1"),
+    ("copy a 0", "fault 1"),
+    ("copy a 0 0 0", "fault 1"),
+    ("copy abcdefghijklmno09 0 0", "fault 1"),
+    ("or a_b 0 0", "fault 1"),
+    ("show 1", "fault 1"),
+    ("show 1 2 3", "fault 1"),
+    ("export", "fault 1"),
+    ("export 1 2 3", "fault 1"),
+    ("poll 1", "fault 1"),
+    ("wait", "fault 1"),
+    ("wait 4294967296", "fault 1"),
+    ("wait 1 2 3", "fault 1"),
+    ("sleep", "fault 1"),
+    ("save a b", "fault 1"),
+    ("open", "fault 1"),
+    ("bye bye", "fault 1"),
+    ("pattern abcdefghijklmno09", "fault 1"),
+    ("end", "fault 1"),
+];
+
+#[test]
+fn each_line_comes_to_its_command_or_fault(rt: HostRuntime) -> Result<(), Fail> {
+    for (line, wanted) in LINES {
+        let mut dictation = Dictation::new(rt.alloc());
+        let heard = dictation.hear(line.as_bytes())?;
+        let told = told(rt.alloc(), &heard)?;
+        assert_eq!(rt; told.as_str(), wanted, "of {line}");
+    }
+    Ok(())
+}
+
+/// Lines one after another, each with what it comes to.
+static BLOCKS: [(&str, &str); 14] = [
+    ("poll", "poll"),
+    ("pattern a", "nothing"),
+    ("x = 3, y = 1\r", "nothing"),
+    ("# no comment", "nothing"),
+    ("", "nothing"),
+    (" end", "nothing"),
+    ("end ", "nothing"),
+    ("poll", "nothing"),
+    (
+        "end\r",
+        "pattern a [x = 3, y = 1\n# no comment\n\n end\nend \npoll\n]",
+    ),
+    ("end", "fault 10"),
+    ("bye", "bye"),
+    ("pattern b", "nothing"),
+    ("end", "pattern b []"),
+    ("pattern", "fault 14"),
+];
+
+#[test]
+fn a_block_goes_to_its_end(rt: HostRuntime) -> Result<(), Fail> {
+    let mut dictation = Dictation::new(rt.alloc());
+    for (line, wanted) in BLOCKS {
+        let heard = dictation.hear(line.as_bytes())?;
+        let told = told(rt.alloc(), &heard)?;
+        assert_eq!(rt; told.as_str(), wanted, "of {line}");
+    }
+    Ok(())
+}
+
+#[test]
+fn an_open_block_is_told_at_its_pattern_line(rt: HostRuntime) -> Result<(), Fail> {
+    let mut dictation = Dictation::new(rt.alloc());
+    assert_eq!(rt; dictation.ended(), None);
+    let _skipped = dictation.hear(b"# a block")?;
+    assert!(rt; !dictation.is_in_block());
+    let _opened = dictation.hear(b"pattern a")?;
+    let _within = dictation.hear(b"bo!")?;
+    assert!(rt; dictation.is_in_block());
+    assert_eq!(rt; dictation.ended(), Some(2));
+    let _closed = dictation.hear(b"end")?;
+    assert!(rt; !dictation.is_in_block());
+    assert_eq!(rt; dictation.ended(), None);
+    Ok(())
+}
+
+/// What was heard, in words.
+fn told(alloc: Global, heard: &Heard) -> Result<String, AllocError> {
+    match heard {
+        Heard::Nothing => format!(in alloc; "nothing"),
+        Heard::Command(command) => told_command(alloc, command),
+        Heard::Faulty(line) => format!(in alloc; "fault {line}"),
+    }
+}
+
+fn told_command(alloc: Global, command: &ClientCommand) -> Result<String, AllocError> {
+    match command {
+        ClientCommand::Draw(drawn) => told_drawing(alloc, drawn),
+        ClientCommand::Pattern(name, text) => {
+            let name = word(alloc, name.as_bytes())?;
+            let text = word(alloc, text.as_slice())?;
+            format!(in alloc; "pattern {name} [{text}]")
+        }
+        ClientCommand::Copy(placement) => told_placement(alloc, "copy", placement),
+        ClientCommand::Or(placement) => told_placement(alloc, "or", placement),
+        ClientCommand::Show(x, y) => format!(in alloc; "show {x} {y}"),
+        ClientCommand::Export(generation, None) => format!(in alloc; "export {generation}"),
+        ClientCommand::Export(generation, Some(file)) => {
+            let file = word(alloc, file.as_bytes())?;
+            format!(in alloc; "export {generation} {file}")
+        }
+        ClientCommand::Poll => format!(in alloc; "poll"),
+        ClientCommand::Wait(wait) => format!(in alloc; "wait {} {}", wait.edits, wait.milliseconds),
+        ClientCommand::Sleep(milliseconds) => format!(in alloc; "sleep {milliseconds}"),
+        ClientCommand::Save(file) => told_file(alloc, "save", file),
+        ClientCommand::Open(file) => told_file(alloc, "open", file),
+        ClientCommand::Bye => format!(in alloc; "bye"),
+    }
+}
+
+fn told_drawing(alloc: Global, drawn: &EditSpec) -> Result<String, AllocError> {
+    match drawn {
+        EditSpec::Cells(cells) => {
+            let mut text = format!(in alloc; "cells")?;
+            for cell in cells.as_slice() {
+                let one = format!(in alloc; " {} {} {}", cell.x, cell.y, cell.state)?;
+                text.push_str(one.as_str())?;
+            }
+            Ok(text)
+        }
+        EditSpec::Clear(area) => {
+            format!(in alloc;
+                "clear {} {} {} {}",
+                area.x, area.y, area.width, area.height
+            )
+        }
+        EditSpec::Copy(..) | EditSpec::Or(..) => format!(in alloc; "a pattern"),
+    }
+}
+
+fn told_placement(
+    alloc: Global,
+    command: &str,
+    placement: &Placement,
+) -> Result<String, AllocError> {
+    let name = word(alloc, placement.name.as_bytes())?;
+    format!(in alloc; "{command} {name} {} {}", placement.x, placement.y)
+}
+
+fn told_file(alloc: Global, command: &str, file: &FileName) -> Result<String, AllocError> {
+    let file = word(alloc, file.as_bytes())?;
+    format!(in alloc; "{command} {file}")
+}
+
+/// Bytes of ASCII as text.
+fn word(alloc: Global, bytes: &[u8]) -> Result<String, AllocError> {
+    let mut text = String::new(alloc);
+    for byte in bytes {
+        text.push(char::from(*byte))?;
+    }
+    Ok(text)
+}
