@@ -17,7 +17,7 @@ use Rattle.client_commands.specs.declared.command.ClientCommand.{ClientCommand}
 use Rattle.client_commands.specs.declared.dictation.Heard.{Heard}
 use Rattle.client_commands.specs.declared.dictation.Heard.TheVariants as heard
 use Rattle.client_commands.specs.Commands.{client_command_spelled}
-use Rattle.client_commands.specs.Dictation.{command_or_fault, line_heard, lines_heard, next_number, next_line, all_heard_by}
+use Rattle.client_commands.specs.Dictation.{command_or_fault, line_heard, lines_heard, next_number, all_heard_by}
 use Rattle.client_commands.specs.Laws.{at_replica_1, with_replica_1, SpellTheSame, ExportTheSame, AskTheSame, nothing, skipped, shared, export, own, opening, inside, closing, onto_found, asked_of_replica_1, HearTheSame, HearInOrder}
 use Rattle.client_commands.proofs.SpellingLaws.{Agree, neither, both, equal, IsCommandLine, shared_line, export_line, command_says, command_opens_none}
 

@@ -1,5 +1,5 @@
 -- At a name that a client has from scripts, a client asks for what a script asks of replica 1.
-use Rattle.std.proofs.Common.{◌≡◌, ℕ, List, [], ◌∷◌, refl, sym, ◌∙◌, ap, subst}
+use Rattle.std.proofs.Common.{◌≡◌, ℕ, List, [], ◌∷◌, refl, sym, ap, subst}
 use Rattle.std.specs.Prelude.{Bool, true, false, ◌==◌, ◌||◌, codes, Option, Some, None, option_map, ℤ}
 use Rattle.std.specs.Str.{bytes_eq}
 use Rattle.std.proofs.lemmas.Bool.{eqb-true}
@@ -12,7 +12,7 @@ use Rattle.replica_events.specs.declared.event.Event.TheVariants as event
 use Rattle.replica_events.specs.declared.edit_spec.EditSpec.TheVariants.{Cells, Clear}
 use Rattle.genedit_script.specs.declared.command.Command.{Command}
 use Rattle.genedit_script.specs.declared.command.Command.TheVariants.{Does, Copies, Ors}
-use Rattle.genedit_script.specs.Script.{is_spoken, number_spelled, area_spelled, cells_spelled, name_spelled, argument_behind, opening_spelled, command_spelled}
+use Rattle.genedit_script.specs.Script.{is_spoken, number_spelled, area_spelled, cells_spelled, name_spelled, opening_spelled, command_spelled}
 use Rattle.client_commands.specs.declared.command.ClientCommand.{ClientCommand}
 use Rattle.client_commands.specs.declared.command.ClientCommand.TheVariants as client
 use Rattle.client_commands.specs.Commands.{client_command_spelled}

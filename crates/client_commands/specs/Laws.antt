@@ -14,7 +14,7 @@ use Rattle.client_commands.specs.declared.command.ClientCommand.TheVariants as c
 use Rattle.client_commands.specs.declared.dictation.Heard.{Heard}
 use Rattle.client_commands.specs.declared.dictation.Heard.TheVariants as heard
 use Rattle.client_commands.specs.Commands.{client_command_spelled}
-use Rattle.client_commands.specs.Dictation.{DictationValue, lines_heard, all_heard_by}
+use Rattle.client_commands.specs.Dictation.{lines_heard, all_heard_by}
 
 -- ---- one command
 

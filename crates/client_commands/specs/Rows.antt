@@ -1,5 +1,5 @@
 -- Worked values of the definitions.
-use Rattle.std.specs.Prelude.{◌≡◌, ℕ, List, [], ◌∷◌, Option, Some, None, codes, refl, pos, negsuc, map}
+use Rattle.std.specs.Prelude.{◌≡◌, ℕ, List, [], ◌∷◌, Option, Some, None, codes, refl, pos, negsuc}
 use Rattle.std.specs.Str.Lines.{lines}
 use Rattle.multistate_rle.specs.Position.{words}
 use Rattle.replica_events.specs.declared.edit_spec.EditSpec.TheVariants.{Cells, Clear}
@@ -9,7 +9,7 @@ use Rattle.client_commands.specs.declared.command.ClientCommand.TheVariants.{Dra
 use Rattle.client_commands.specs.declared.dictation.Heard.{Heard}
 use Rattle.client_commands.specs.declared.dictation.Heard.TheVariants.{Nothing, Command, Faulty}
 use Rattle.client_commands.specs.Commands.{client_command_spelled}
-use Rattle.client_commands.specs.Dictation.{lines_heard, heard_by, DictationValue}
+use Rattle.client_commands.specs.Dictation.{lines_heard, heard_by}
 
 -- the command of a line
 abbrev command : List ℕ → Option ClientCommand
