@@ -1,26 +1,36 @@
 -- Hashes with a key: NH (UMAC, Black et al. 1999) of each row of eight numbers, and of what the rows come to.
-use Rattle.std.specs.Prelude.{ℕ, ◌+◌, ◌*◌, ◌/◌, ◌%◌, ◌^◌, ◌==◌, List, [], ◌∷◌, take, drop, slice_index, if◌then◌else◌}
+use Rattle.std.specs.Prelude.{ℕ, ◌+◌, ◌-◌, ◌*◌, ◌/◌, ◌%◌, ◌^◌, ◌==◌, nat_lt, List, [], ◌∷◌, take, drop, slice_index, if◌then◌else◌}
 use Rattle.std.specs.List.{fold}
-use Rattle.std.specs.Hash.{u64}
+use Rattle.std.specs.Hash.{u128}
 use Rattle.std.specs.Hash.FoldHasher as folding
 use Rattle.keyed_hash.specs.declared.key.HashKey.{HashKey}
 use Rattle.keyed_hash.specs.declared.hasher.KeyedHasher.{KeyedHasher}
 
--- the halves of a number, to each of which the key's half is added modulo 2^32, multiplied
-unfoldable pub product : ℕ → ℕ → ℕ
-product key number = (number % 2 ^ 32 + key % 2 ^ 32) % 2 ^ 32 * ((number / 2 ^ 32 + key / 2 ^ 32) % 2 ^ 32)
+-- two numbers, to each of which its part of the key is added modulo 2^64, multiplied
+unfoldable pub product : ℕ → ℕ → ℕ → ℕ → ℕ
+product first_key first second_key second = (first + first_key) % 2 ^ 64 * ((second + second_key) % 2 ^ 64)
 
 -- nothing was taken
 abbrev pub started : HashKey → KeyedHasher
-started key = record { key = key; column = 0; row = 0; sum = 0; total = 0 }
+started key = record { key = key; row = 0; column = 0; first = 0; sum = 0; total = 0 }
 
--- one number more, in a row's column, and the row if that is its last
+-- what the numbers of the row come to with one more, in a column that is odd
+unfoldable pub with_second : KeyedHasher → ℕ → ℕ → ℕ
+with_second h column number = (h.sum + product (slice_index h.key.columns (column - 1)) h.first (slice_index h.key.columns column) number) % 2 ^ 128
+
+-- what the rows come to with one more, by what that comes to
+unfoldable pub with_row : KeyedHasher → ℕ → ℕ
+with_row h sum =
+    let at = 2 * (h.row % 16) in
+    (h.total + product (slice_index h.key.rows at) (sum % 2 ^ 64) (slice_index h.key.rows (at + 1)) (sum / 2 ^ 64)) % 2 ^ 128
+
+-- one number more, in a row's column; the second of two with the first, and with the last the row
 unfoldable pub taken : KeyedHasher → ℕ → KeyedHasher
 taken h number =
-    let sum = (h.sum + product (slice_index h.key.columns (h.column % 8)) number) % 2 ^ 64 in
-    if h.column == 7
-    then record { key = h.key; column = 0; row = (h.row + 1) % 2 ^ 64; sum = 0; total = (h.total + product (slice_index h.key.rows (h.row % 16)) sum) % 2 ^ 64 }
-    else record { key = h.key; column = (h.column + 1) % 2 ^ 64; row = h.row; sum = sum; total = h.total }
+    let column = h.column % 8 in
+    if column % 2 == 0 then record { key = h.key; row = h.row; column = column + 1; first = number; sum = h.sum; total = h.total }
+    else (if nat_lt column 7 then record { key = h.key; row = h.row; column = column + 1; first = h.first; sum = with_second h column number; total = h.total }
+    else record { key = h.key; row = (h.row + 1) % 2 ^ 64; column = 0; first = h.first; sum = 0; total = with_row h (with_second h column number) })
 
 -- the number of some bytes, the lowest first, modulo 2^64
 abbrev pub word_of : List ℕ → ℕ
@@ -35,6 +45,10 @@ word_at bytes place = word_of (take 8 (drop (8 * place) bytes))
 abbrev pub written : KeyedHasher → List ℕ → KeyedHasher
 written h bytes = taken h (word_of bytes)
 
--- the sum of the rows, spread
+-- what the row that is not full comes to, where its last number has no second
+abbrev pub last_sum : KeyedHasher → ℕ
+last_sum h = if h.column % 8 % 2 == 1 then with_second h (h.column % 8) 0 else h.sum
+
+-- what all rows come to, spread
 abbrev pub finished : KeyedHasher → ℕ
-finished h = folding.finish (fold folding.write folding.initial (u64 ((h.total + product (slice_index h.key.rows (h.row % 16)) h.sum) % 2 ^ 64)))
+finished h = folding.finish (fold folding.write folding.initial (u128 (with_row h (last_sum h))))

@@ -1,13 +1,14 @@
 -- Worked values of the definitions.
-use Rattle.std.specs.Prelude.{◌≡◌, ℕ, [], ◌∷◌, refl}
+use Rattle.std.specs.Prelude.{◌≡◌, ◌+◌, ◌*◌, ◌^◌, [], ◌∷◌, refl}
 use Rattle.keyed_hash.specs.Keyed.{product, word_of}
 
--- to 1 and 2 are added 3 and 4, and each wraps by itself
-pub halves : product 0x0000_0004_0000_0003 0x0000_0002_0000_0001 ≡ 24
+-- to 1 and 2 are added 3 and 4
+pub adds_the_key : product 3 1 4 2 ≡ 24
 unfolding product
-halves = refl
+adds_the_key = refl
 
-pub wraps : product 0x0000_0000_0000_0002 0x0000_0005_ffff_ffff ≡ 5
+-- each wraps by itself
+pub wraps : product 2 (2 ^ 64 + 3) 0 5 ≡ 25
 unfolding product
 wraps = refl
 

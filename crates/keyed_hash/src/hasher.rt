@@ -1,31 +1,34 @@
 //! Hashers with a key.
 
-ghost use Rattle.std.specs.Prelude.{◌≡◌};
-ghost use Rattle.keyed_hash.specs.Keyed.{finished, product, started, taken, word_of, written};
+ghost use Rattle.std.specs.Prelude.{◌≡◌, ◌≤◌};
+ghost use Rattle.keyed_hash.specs.Keyed.{finished, product, started, taken, with_row, with_second, word_of, written};
 
 use crate::key::HashKey;
 use std::hash::{FoldHasher, Hasher};
 
-/// The bits of a number's low half.
-const LOW_HALF: u64 = 0xffff_ffff;
+/// The bits of the low half of 128.
+const LOW_HALF: u128 = 0xffff_ffff_ffff_ffff;
 
 /// Takes a key of a table number by number, in rows of eight. Of each row a sum of products with the key's
-/// columns is made (NH), and of these sums one with the key's rows, so that two different keys of up to 128
-/// numbers each, as many in one as in the other, fall together for one in 2^31 keys of hashes at most.
+/// columns is made (NH, two numbers a product), and of the two halves of these sums one with the key's rows.
+/// So two different keys of up to 128 numbers each, as many in one as in the other, have one sum for one in
+/// 2^63 keys of hashes at most.
 ///
 /// Each write is one number: that of its bytes, the lowest first, modulo 2^64. So keys are to be made of
 /// numbers of at most 64 bits.
 #[derive(Clone, Copy)]
 pub struct KeyedHasher {
     pub(crate) key: HashKey,
-    /// How many numbers of the row there are.
-    pub(crate) column: usize,
-    /// How many rows there are before it.
+    /// How many rows there are.
     pub(crate) row: usize,
-    /// What the row comes to so far.
-    pub(crate) sum: u64,
-    /// What the rows before it come to.
-    pub(crate) total: u64,
+    /// How many numbers there are behind them, 0 to 7.
+    pub(crate) column: usize,
+    /// The last of these, where it waits for the next one.
+    pub(crate) first: u64,
+    /// What the others of these come to.
+    pub(crate) sum: u128,
+    /// What the rows come to.
+    pub(crate) total: u128,
 }
 
 impl KeyedHasher {
@@ -36,8 +39,9 @@ impl KeyedHasher {
     {
         KeyedHasher {
             key,
-            column: 0,
             row: 0,
+            column: 0,
+            first: 0,
             sum: 0,
             total: 0,
         }
@@ -48,18 +52,45 @@ impl KeyedHasher {
     fn take(&mut self, number: u64)
         ensures { self.new ≡ taken self.old number }
     {
-        let factor = self.key.columns[self.column % 8];
-        let sum = self.sum.wrapping_add(product(factor, number));
-        if self.column == 7 {
-            let factor = self.key.rows[self.row % 16];
-            self.total = self.total.wrapping_add(product(factor, sum));
-            self.column = 0;
-            self.row = self.row.wrapping_add(1);
-            self.sum = 0;
-        } else {
-            self.column = self.column.wrapping_add(1);
-            self.sum = sum;
+        let column = self.column % 8;
+        if column % 2 == 0 {
+            self.first = number;
+            self.column = column + 1;
+            return;
         }
+        let sum = self.with_second(column, number);
+        if column < 7 {
+            self.sum = sum;
+            self.column = column + 1;
+            return;
+        }
+        self.total = self.with_row(sum);
+        self.row = self.row.wrapping_add(1);
+        self.column = 0;
+        self.sum = 0;
+    }
+
+    /// What the numbers of the row come to with one more, in a column that is odd.
+    #[inline(always)]
+    fn with_second(&self, column: usize, number: u64) -> u128
+        requires { (1 ≤ column) × (column ≤ 7) }
+        ensures { result ≡ with_second self.now column number }
+    {
+        let columns = &self.key.columns;
+        let more = product(columns[column - 1], self.first, columns[column], number);
+        self.sum.wrapping_add(more)
+    }
+
+    /// What the rows come to with one more, by what that comes to.
+    #[inline(always)]
+    fn with_row(&self, sum: u128) -> u128
+        ensures { result ≡ with_row self.now sum }
+    {
+        let rows = &self.key.rows;
+        let at = 2 * (self.row % 16);
+        let low = (sum & LOW_HALF) as u64;
+        let high = (sum >> 64) as u64;
+        self.total.wrapping_add(product(rows[at], low, rows[at + 1], high))
     }
 }
 
@@ -71,9 +102,14 @@ impl Hasher for KeyedHasher {
     /// The sum's low bits are not spread, so that it goes through a hasher without a key.
     #[inline(always)]
     fn finish(&self) -> u64 {
-        let factor = self.key.rows[self.row % 16];
+        let column = self.column % 8;
+        let sum = if column % 2 == 1 {
+            self.with_second(column, 0)
+        } else {
+            self.sum
+        };
         let mut spread = FoldHasher::default();
-        spread.write_u64(self.total.wrapping_add(product(factor, self.sum)));
+        spread.write_u128(self.with_row(sum));
         spread.finish()
     }
 
@@ -98,14 +134,14 @@ impl Hasher for KeyedHasher {
     }
 }
 
-/// The product of the halves of a number, to each of which the key's half is added modulo 2^32.
+/// The product of two numbers, to each of which its part of the key is added modulo 2^64.
 #[inline(always)]
-fn product(key: u64, number: u64) -> u64
-    ensures { result ≡ product key number }
+fn product(first_key: u64, first: u64, second_key: u64, second: u64) -> u128
+    ensures { result ≡ product first_key first second_key second }
 {
-    let low = ((number & LOW_HALF) as u32).wrapping_add((key & LOW_HALF) as u32);
-    let high = ((number >> 32) as u32).wrapping_add((key >> 32) as u32);
-    u64::from(low) * u64::from(high)
+    let first = first.wrapping_add(first_key);
+    let second = second.wrapping_add(second_key);
+    u128::from(first) * u128::from(second)
 }
 
 /// The number of some bytes, the lowest first, modulo 2^64.

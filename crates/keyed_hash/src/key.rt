@@ -10,7 +10,7 @@ use std::io;
 use std::random::RandomSource;
 
 /// How many bytes a key is made of.
-pub const KEY_BYTES: usize = 192;
+pub const KEY_BYTES: usize = 320;
 
 /// What a table's hashes are made with. Equal keys make equal hashers. No result depends on a key: it
 /// decides alone how long a table takes to find what it holds.
@@ -18,8 +18,8 @@ pub const KEY_BYTES: usize = 192;
 pub struct HashKey {
     /// A number for each place of a row of eight.
     pub(crate) columns: [u64; 8],
-    /// A number for each row.
-    pub(crate) rows: [u64; 16],
+    /// Two numbers for each of sixteen rows.
+    pub(crate) rows: [u64; 32],
 }
 
 impl HashKey {
@@ -43,13 +43,13 @@ impl HashKey {
     /// The key of so many bytes: eight of each number, the lowest first.
     pub fn of_bytes(bytes: &[u8; KEY_BYTES]) -> HashKey
         ensures columns { (i : ℕ) → i < 8 → slice_index result.columns i ≡ word_at bytes.now i }
-        ensures rows { (i : ℕ) → i < 16 → slice_index result.rows i ≡ word_at bytes.now (8 + i) }
+        ensures rows { (i : ℕ) → i < 32 → slice_index result.rows i ≡ word_at bytes.now (8 + i) }
     {
         let mut key = HashKey::fixed();
         for place in 0..8 {
             key.columns[place] = number_at(bytes, place);
         }
-        for place in 0..16 {
+        for place in 0..32 {
             key.rows[place] = number_at(bytes, 8 + place);
         }
         key
@@ -57,9 +57,9 @@ impl HashKey {
 
     /// Two numbers of the key, for a hash that takes no more.
     pub fn pair(&self) -> (u64, u64)
-        ensures { result ≡ (slice_index self.now.rows 14, slice_index self.now.rows 15) }
+        ensures { result ≡ (slice_index self.now.rows 30, slice_index self.now.rows 31) }
     {
-        (self.rows[14], self.rows[15])
+        (self.rows[30], self.rows[31])
     }
 }
 
@@ -76,7 +76,7 @@ impl BuildHasher for HashKey {
 
 /// The number of eight bytes from eight times a place on.
 fn number_at(bytes: &[u8; KEY_BYTES], place: usize) -> u64
-    requires { place < 24 }
+    requires { place < 40 }
     ensures { result ≡ word_at bytes.now place }
 {
     word(&bytes[8 * place..8 * place + 8])
@@ -95,7 +95,7 @@ const FIXED_COLUMNS: [u64; 8] = [
 ];
 
 /// Those behind them.
-const FIXED_ROWS: [u64; 16] = [
+const FIXED_ROWS: [u64; 32] = [
     0x3ee5_7890_41c9_8ac3,
     0xf3b8_488c_368c_b0a6,
     0x657e_ecdd_3cb1_3d09,
@@ -112,4 +112,20 @@ const FIXED_ROWS: [u64; 16] = [
     0xa903_8a92_1825_f10d,
     0xedf5_f1d9_0dca_2f6a,
     0x5449_6ad6_7bd2_634c,
+    0xdd7c_01d4_f540_7269,
+    0x935e_82f1_db4c_4f7b,
+    0x69b8_2ebc_9223_3300,
+    0x40d2_9eb5_7de1_d510,
+    0xa2f0_9dab_b45c_6316,
+    0xee52_1d7a_0f4d_3872,
+    0xf169_52ee_72f3_454f,
+    0x377d_35de_a8e4_0225,
+    0x0c7d_e806_4963_bab0,
+    0x0558_2d37_111a_c529,
+    0xd254_741f_599d_c6f7,
+    0x6963_0f75_93d1_08c3,
+    0x417e_f961_81da_a383,
+    0x3c3c_41a3_b433_43a1,
+    0x6e19_905d_cbe5_31df,
+    0x4fa9_fa73_2485_1729,
 ];

@@ -1,5 +1,7 @@
 //! Leaves, and how two merge.
 
+ghost use Rattle.std.specs.Hash as fed;
+ghost use Rattle.std.specs.List.{flat_map, fold};
 ghost use Rattle.leaf_merge_lanes.specs.Same.{words_of};
 ghost use Rattle.std.specs.Prelude.{◌≡◌, ◌<◌, ◌↔◌, slice_get, slice_set, replicate, Some, IsTrue, IfSome, IfNone, ℕ};
 
@@ -164,8 +166,28 @@ impl Hash for Leaf {
 
     #[inline(always)]
     fn hash<H: Hasher>(&self, state: &mut H) {
-        u64::hash_slice(&self.stamps, state);
-        u64::hash_slice(&words(&self.states), state);
+        feed_rows(&self.stamps, state);
+        feed(&words(&self.states), state);
+    }
+}
+
+/// Feeds stamps, a row of eight at a time, so that a hasher of rows of eight has its branches done with when
+/// it is compiled.
+#[inline(always)]
+fn feed_rows<H: Hasher>(stamps: &[u64; 64], state: &mut H)
+    ensures { state.new ≡ fold H.write state.old (flat_map fed.u64 stamps.now) }
+{
+    for row in 0..8 {
+        feed(&stamps[8 * row..8 * row + 8], state);
+    }
+}
+
+#[inline(always)]
+fn feed<H: Hasher>(numbers: &[u64], state: &mut H)
+    ensures { state.new ≡ fold H.write state.old (flat_map fed.u64 numbers.now) }
+{
+    for number in numbers {
+        state.write_u64(*number);
     }
 }
 

@@ -1,8 +1,6 @@
-use Rattle.std.proofs.Common.{◌≡◌}
-use Rattle.std.proofs.lemmas.Nat.{and_mask}
 use Rattle.keyed_hash.specs.Keyed.{product}
 use Rattle.keyed_hash.proofs.hasher.product.Goals as goal
 
 pub returns : goal.returns
 unfolding product
-returns c = rw (c.from.ensures, c.from-2.ensures, and_mask c.args.number 32, and_mask c.args.key 32)
+returns c = rw (c.from.ensures, c.from-2.ensures)

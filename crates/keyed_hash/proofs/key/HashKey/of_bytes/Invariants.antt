@@ -5,13 +5,13 @@ use Rattle.keyed_hash.proofs.key.HashKey.of_bytes.Given as goal
 abbrev pub invariant-loop-place : goal.invariant-loop-place
 invariant-loop-place l = record {
   eight : length l.key.columns ≡ 8;
-  sixteen : length l.key.rows ≡ 16;
+  thirty_two : length l.key.rows ≡ 32;
   columns : (i : ℕ) → i < l.place → slice_index l.key.columns i ≡ word_at l.bytes i;
 }
 
 abbrev pub invariant-loop-place-2 : goal.invariant-loop-place-2
 invariant-loop-place-2 l = record {
-  sixteen : length l.key.rows ≡ 16;
+  thirty_two : length l.key.rows ≡ 32;
   columns : (i : ℕ) → i < 8 → slice_index l.key.columns i ≡ word_at l.bytes i;
   rows : (i : ℕ) → i < l.place → slice_index l.key.rows i ≡ word_at l.bytes (8 + i);
 }
