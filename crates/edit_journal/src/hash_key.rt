@@ -1,5 +1,6 @@
 //! The key by which a journal hashes its edits.
 
+ghost use Rattle.std.specs.Prelude.{◌≡◌};
 ghost use Rattle.std.specs.Hash.DefaultHasher.{with_keys};
 
 use core::hash::keyed_hasher;
@@ -14,7 +15,9 @@ pub struct HashKey {
 }
 
 impl HashKey {
-    pub fn of_words(key0: u64, key1: u64) -> HashKey {
+    pub fn of_words(key0: u64, key1: u64) -> HashKey
+        ensures { result ≡ record { key0 = key0; key1 = key1 } }
+    {
         HashKey { key0, key1 }
     }
 }
