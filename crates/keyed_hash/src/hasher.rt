@@ -90,7 +90,8 @@ impl KeyedHasher {
         let at = 2 * (self.row % 16);
         let low = (sum & LOW_HALF) as u64;
         let high = (sum >> 64) as u64;
-        self.total.wrapping_add(product(rows[at], low, rows[at + 1], high))
+        self.total
+            .wrapping_add(product(rows[at], low, rows[at + 1], high))
     }
 }
 

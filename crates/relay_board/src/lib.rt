@@ -18,7 +18,9 @@ pub use board::{KEPT, News, SeatFault};
 pub use fault::FinishFault;
 pub use finish::{Account, in_order, is_whole};
 pub use naming::Naming;
-pub use opened::{MOST_INBOX, MOST_SESSIONS, Opened, ROOM, start, start_within, start_within_with_key};
+pub use opened::{
+    MOST_INBOX, MOST_SESSIONS, Opened, ROOM, start, start_within, start_within_with_key,
+};
 pub use receipt::{Pending, Receipt};
 pub use relay::Relay;
 pub use relay_core::{Bell, Gone, StartFault, SubmitFault, Turn, TurnFault};

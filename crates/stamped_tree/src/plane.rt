@@ -96,11 +96,7 @@ impl Plane {
     }
 
     /// The same, which finds its squares by a key's hashes.
-    pub fn with_room_and_key(
-        alloc: Global,
-        nodes: u32,
-        key: HashKey,
-    ) -> Result<Plane, AllocError>
+    pub fn with_room_and_key(alloc: Global, nodes: u32, key: HashKey) -> Result<Plane, AllocError>
         requires { 1 ≤ nodes }
         ensures map { IfOk result (λ plane. AreSame (map_of plane) (λ _. unwritten)) }
         ensures nodes { IfOk result (λ plane. length plane.store.squares ≡ 1) }
