@@ -2,6 +2,7 @@
 //! how long those of many pastes are.
 
 mod beside;
+mod crowds;
 mod deltas;
 mod soups;
 mod states;
@@ -13,5 +14,6 @@ use std::rt::Clock;
 pub fn run(rt: &(impl Clock + Print), alloc: Global, is_timed: bool) -> Result<()> {
     states::run(rt, alloc, is_timed)?;
     soups::run(rt, alloc, is_timed)?;
-    deltas::run(rt, alloc, is_timed)
+    deltas::run(rt, alloc, is_timed)?;
+    crowds::run(rt, alloc, is_timed)
 }

@@ -1,24 +1,31 @@
-//! States with leaves that are made to look alike to a sum with known multipliers, as a hash is one: each is
-//! kept for itself.
+//! States with leaves that are made to hash alike, by multipliers that many hashes have or against the fixed
+//! key: each is kept for itself, whatever the key is.
 
 use crate::shapes::{at_corner, push_blanks};
 use crate::spelling::{
     FIRST, Quarter, Written, bytes_of, push_four, push_two, push_write, state_of,
 };
 use crate::telling::{brians_brain, is_told_again, rewritten};
-use delta_exchange::{ReadFault, read};
+use delta_exchange::{ReadFault, read_within_with_key};
 use generations_rule::Rule;
+use keyed_hash::{HashKey, KEY_BYTES};
 use stamped_tree::Plane;
 use std::alloc::{AllocError, Global};
 use std::test::Fail;
 
-/// 2^64 divided by the golden ratio, made odd: a multiplier of many hashes, also of the one for leaves here.
+/// 2^64 divided by the golden ratio, made odd: a multiplier of many hashes.
 const MULTIPLIER: u64 = 0x9e37_79b9_7f4a_7c15;
+
+/// The stamps that with the fixed key's first and second number give 0 modulo 2^64, so that one factor of the
+/// first two places is 0, and the other may be anything.
+const FIRST_FACTOR_0: u64 = 0x1ddf_57c6_84e2_3251;
+
+const SECOND_FACTOR_0: u64 = 0x9187_6195_5e46_9a0c;
 
 /// The stamps in the first two places of two leaves, in which state 1 is written.
 type Leaves = [[u64; 2]; 2];
 
-static PAIRS: [Leaves; 6] = [
+static PAIRS: [Leaves; 8] = [
     // They differ in the highest bits of two stamps.
     [
         [0x1_0001, 0x1_0001],
@@ -41,7 +48,15 @@ static PAIRS: [Leaves; 6] = [
         [MULTIPLIER, MULTIPLIER],
         [MULTIPLIER, 0x9e37_79b9_7f4a_7c16],
     ],
+    // By the fixed key both have one sum.
+    [[FIRST_FACTOR_0, 0x1_0001], [FIRST_FACTOR_0, 0x2_0001]],
+    [[0x1_0001, SECOND_FACTOR_0], [0x2_0001, SECOND_FACTOR_0]],
 ];
+
+/// The fixed key, and another one.
+fn keys() -> [HashKey; 2] {
+    [HashKey::fixed(), HashKey::of_bytes(&[7; KEY_BYTES])]
+}
 
 /// The state of a plane with two leaves beside one another in its first corner.
 fn beside(alloc: Global, leaves: &Leaves) -> Result<Vec<u8>, AllocError> {
@@ -79,13 +94,17 @@ fn leaf_stamps(plane: &Plane, column: u32, row: u32) -> [u64; 2] {
     [first.stamp, second.stamp]
 }
 
-/// The stamps that are read of a text, and how many squares.
+/// How many squares a plane that is read may store.
+const ROOM: u32 = 0x400_0000;
+
+/// The stamps that are read of a text by a key, and how many squares.
 fn stamps_read(
     alloc: Global,
     rule: &Rule,
     text: &[u8],
+    key: HashKey,
 ) -> Result<Option<(Leaves, u32)>, ReadFault> {
-    let message = read(alloc, rule, text)?;
+    let message = read_within_with_key(alloc, rule, text, ROOM, key)?;
     Ok(
         message
             .plane()
@@ -98,7 +117,12 @@ fn leaves_that_hash_alike_are_two(rt: HostRuntime) -> Result<(), Fail> {
     let rule = brians_brain()?;
     for leaves in &PAIRS {
         let text = beside(rt.alloc(), leaves)?;
-        assert_eq!(rt; stamps_read(rt.alloc(), &rule, &text)?, Some((*leaves, 31)));
+        for key in keys() {
+            assert_eq!(rt;
+                stamps_read(rt.alloc(), &rule, &text, key)?,
+                Some((*leaves, 31))
+            );
+        }
         assert!(rt; is_told_again(rt.alloc(), &text)?);
     }
     Ok(())
@@ -107,10 +131,9 @@ fn leaves_that_hash_alike_are_two(rt: HostRuntime) -> Result<(), Fail> {
 /// How many leaves of one hash stand in one state: all of a square of level 8.
 const LEAVES: u32 = 1024;
 
-/// The stamps of one of them: the multiplier times the first, and the second, have one sum in all.
+/// The stamps of one of them: by the fixed key they come to one sum in all.
 fn stamps_of(leaf: u32) -> [u64; 2] {
-    let times = 2000_u64.saturating_sub(u64::from(leaf));
-    [u64::from(leaf) + 65537, MULTIPLIER.wrapping_mul(times)]
+    [FIRST_FACTOR_0, u64::from(leaf) + 65537]
 }
 
 /// A state of version 1 of such leaves, in the first corner of the plane: the levels 31 to 9, the square of
@@ -167,8 +190,13 @@ fn leaves_shown(plane: &Plane) -> u32 {
     shown
 }
 
-fn crowd_read(alloc: Global, rule: &Rule, text: &[u8]) -> Result<Option<u32>, ReadFault> {
-    let message = read(alloc, rule, text)?;
+fn crowd_read(
+    alloc: Global,
+    rule: &Rule,
+    text: &[u8],
+    key: HashKey,
+) -> Result<Option<u32>, ReadFault> {
+    let message = read_within_with_key(alloc, rule, text, ROOM, key)?;
     Ok(message.plane().map(leaves_shown))
 }
 
@@ -178,10 +206,14 @@ fn a_crowd_of_one_hash_is_read_whole(rt: HostRuntime) -> Result<(), Fail> {
     let alloc = rt.alloc();
     let rule = brians_brain()?;
     let first = crowded(alloc)?;
-    assert_eq!(rt; crowd_read(alloc, &rule, &first)?, Some(LEAVES));
+    for key in keys() {
+        assert_eq!(rt; crowd_read(alloc, &rule, &first, key)?, Some(LEAVES));
+    }
     let text = rewritten(alloc, &rule, &first)?.ok_or("a state")?;
     assert_eq!(rt; text.len(), 14 + 1024 * 577 + 341 * 21 + 23 * 33);
     assert!(rt; is_told_again(alloc, &text)?);
-    assert_eq!(rt; crowd_read(alloc, &rule, &text)?, Some(LEAVES));
+    for key in keys() {
+        assert_eq!(rt; crowd_read(alloc, &rule, &text, key)?, Some(LEAVES));
+    }
     Ok(())
 }
