@@ -4,3 +4,4 @@ pub mod PollingLaws
 pub mod PushingLaws
 pub mod GreetingLaws
 pub mod ClientLaws
+pub mod DrawingLaws

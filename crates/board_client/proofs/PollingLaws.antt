@@ -9,7 +9,7 @@ use Rattle.board_client.specs.Client.{LineState, IsTalk}
 use Rattle.board_client.specs.Hearing.{AreCutShort, AreHeard, HasHeard, IsTaken, IsTextHeard}
 use Rattle.board_client.specs.declared.polling.Polling.{Polling}
 use Rattle.board_client.specs.declared.polling.Polling.TheVariants.{Edits, Whole, Refused}
-use Rattle.board_client.specs.Polling.{BringsEdits, BringsWhole, IsBrief, IsBriefNumber, IsPollOnce, poll_request}
+use Rattle.board_client.specs.Polling.{BringsEdits, BringsWhole, IsPollRefusedForAMoment, IsMomentaryPollRefusal, IsPollOnce, poll_request}
 use Rattle.board_client.specs.Tries.{IsRefused}
 use Rattle.board_client.proofs.TryLaws.{both, refused_again}
 
@@ -48,9 +48,9 @@ module _ (a m b : LineState) (old new : ReplicaState) where
   fails_edits Memory count some talk p = absurd p.next
 
 -- one poll more that was refused for a moment
-pub poll_again : (times : ℕ) (a m b : LineState) (old between new : ReplicaState) (polling : Polling) → IsRefused IsBriefNumber poll_request times a m × (between ≡ old) → IsBrief polling → IsPollOnce m b between new (Ok polling)
-    → IsRefused IsBriefNumber poll_request (times + 1) a b × (new ≡ old)
+pub poll_again : (times : ℕ) (a m b : LineState) (old between new : ReplicaState) (polling : Polling) → IsRefused IsMomentaryPollRefusal poll_request times a m × (between ≡ old) → IsPollRefusedForAMoment polling → IsPollOnce m b between new (Ok polling)
+    → IsRefused IsMomentaryPollRefusal poll_request (times + 1) a b × (new ≡ old)
 poll_again times a m b old between new (Refused number) p brief once =
-    (refused_again IsBriefNumber poll_request times number a m b p.0 brief once.talk, once.kept ∙ p.1)
+    (refused_again IsMomentaryPollRefusal poll_request times number a m b p.0 brief once.talk, once.kept ∙ p.1)
 poll_again times a m b old between new (Edits count) p brief once = absurd brief
 poll_again times a m b old between new Whole p brief once = absurd brief

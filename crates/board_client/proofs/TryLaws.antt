@@ -28,14 +28,14 @@ heard_on xs x = sym (map-append alone xs (x ∷ []))
 refused_on : (P : ℕ → Type 0) (request : List ℕ) (xs : List ℕ) (x : ℕ) (a b c : LineState) → AreRefused P request xs a b → P x → IsTalk b c (request ∷ []) ((x ∷ []) ∷ [])
     → AreRefused P request (xs ++ x ∷ []) a c
 refused_on P request xs x a b c p brief talk = record {
-  brief = all_on P xs x p.brief brief;
+  each = all_on P xs x p.each brief;
   talk = subst (λ said. IsTalk a c said (map alone (xs ++ x ∷ []))) (said_on request xs x)
       (subst (IsTalk a c (replicate (length xs) request ++ request ∷ [])) (heard_on xs x)
       (both a b c (replicate (length xs) request) (request ∷ []) (map alone xs) ((x ∷ []) ∷ []) p.talk talk));
 }
 
 pub never_refused : (P : ℕ → Type 0) (request : List ℕ) (a : LineState) → IsRefused P request 0 a a
-never_refused P request a = record { numbers = []; often = refl; refused = record { brief = tt; talk = nothing a } }
+never_refused P request a = record { numbers = []; often = refl; refused = record { each = tt; talk = nothing a } }
 
 -- once more
 pub refused_again : (P : ℕ → Type 0) (request : List ℕ) (times x : ℕ) (a b c : LineState) → IsRefused P request times a b → P x → IsTalk b c (request ∷ []) ((x ∷ []) ∷ []) → IsRefused P request (times + 1) a c

@@ -1,5 +1,6 @@
 -- What a drawing does.
 use Rattle.std.specs.Prelude.{◌≡◌, ℕ, List, [], ◌∷◌, Result, Ok, Err}
+use Rattle.std.specs.Result.{IsOk}
 use Rattle.generations_rule.specs.Rule.{GenerationsRule}
 use Rattle.edit_stamps.specs.Edit.{PlaneEdit}
 use Rattle.edit_stamps.specs.PlaneMap.{IsGreatestStamp}
@@ -51,10 +52,10 @@ IsPublishing e a b old new (Err NoReply) = IsPushedAs (push_bytes old.rule e) a 
 abbrev pub IsUntouched : LineState → LineState → ReplicaState → ReplicaState → Type 0
 IsUntouched a b old new = (b ≡ a) × (new ≡ old)
 
--- the edit that is meant was to be published; or it is refused, and nothing pushed; or memory for it is wanting
+-- the edit that is meant was to be published; or it is refused, and nothing pushed; or memory is wanting, for an edit that nothing refuses
 abbrev pub Draws : Result PlaneEdit Fault → LineState → LineState → ReplicaState → ReplicaState → Result Drawing ClientFault → Type 0
 Draws meant a b old new (Ok (Refused fault)) = (meant ≡ Err fault) × IsUntouched a b old new
-Draws meant a b old new (Err Memory) = IsUntouched a b old new
+Draws meant a b old new (Err Memory) = IsOk meant × IsUntouched a b old new
 Draws meant a b old new result = (e : PlaneEdit) × (meant ≡ Ok e) × IsPublishing e a b old new result
 
 -- the edit is the one that a draw would make at the greatest stamp that the replica holds

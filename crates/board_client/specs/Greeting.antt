@@ -1,5 +1,5 @@
 -- What a greeting and a farewell do.
-use Rattle.std.specs.Prelude.{◌≡◌, ◌⊎◌, ℕ, ◌≤◌, List, [], ◌∷◌, Result, Ok, Err, IfOk}
+use Rattle.std.specs.Prelude.{◌≡◌, ◌⊎◌, ℕ, List, [], ◌∷◌, Result, Ok, Err}
 use Rattle.client_protocol.specs.Spelling.{SpellsGreeting}
 use Rattle.client_protocol.specs.declared.greeting.Greeting.{Greeting}
 use Rattle.client_protocol.specs.declared.greeting.Greeting.TheVariants.{Seat, Refused, Faulty}
@@ -9,7 +9,7 @@ use Rattle.board_client.specs.declared.pushing.Pushing.{Pushing}
 use Rattle.board_client.specs.Client.{LineState, IsTalk}
 use Rattle.board_client.specs.Hearing.{IsAsked}
 use Rattle.board_client.specs.Pushing.{IsPushOnce}
-use Rattle.board_client.specs.Tries.{IsRefused}
+use Rattle.board_client.specs.Tries.{IsTried}
 
 abbrev pub hello_request : List ℕ
 hello_request = 1 ∷ []
@@ -36,22 +36,21 @@ IsGreetingOnce a b (Err Memory) = IsWanting a b
 IsGreetingOnce a b (Err (Line fault)) = IsAsked {B = List ℕ} (λ body. body) hello_request a b (Err (Line fault))
 IsGreetingOnce a b (Err (Text fault)) = ⊥
 
+-- ---- tries
+
 -- a refusal that may pass in a moment: memory was wanted
-abbrev pub IsBriefNumber : ℕ → Type 0
-IsBriefNumber number = number ≡ 255
+abbrev pub IsMomentaryGreetingRefusal : ℕ → Type 0
+IsMomentaryGreetingRefusal number = number ≡ 255
 
-abbrev pub IsBriefGreeting : Greeting → Type 0
-IsBriefGreeting (Refused number) = IsBriefNumber number
-IsBriefGreeting _ = ⊥
+abbrev pub IsGreetingRefusedForAMoment : Greeting → Type 0
+IsGreetingRefusedForAMoment (Refused number) = IsMomentaryGreetingRefusal number
+IsGreetingRefusedForAMoment _ = ⊥
 
--- at most nine refusals, and what came of the greeting behind them
-pub record IsGreeting (a b : LineState) (result : Result Greeting ClientFault) : Type 0 where
-  pub times : ℕ
-  pub mid : LineState
-  pub refusals : IsRefused IsBriefNumber hello_request times a mid
-  pub few : times ≤ 9
-  pub last : IsGreetingOnce mid b result
-  pub patient : IfOk result (λ greeting. IsBriefGreeting greeting → times ≡ 9)
+-- what came of a greeting that was tried
+abbrev pub IsGreeting : LineState → LineState → Result Greeting ClientFault → Type 0
+IsGreeting a b result = IsTried IsMomentaryGreetingRefusal IsGreetingRefusedForAMoment hello_request IsGreetingOnce a b result
+
+-- ---- farewells
 
 -- what came of a farewell
 abbrev pub IsLeaving : LineState → LineState → Result Pushing ClientFault → Type 0

@@ -1,5 +1,5 @@
 -- What a poll does.
-use Rattle.std.specs.Prelude.{◌≡◌, ◌⊎◌, ℕ, ◌<◌, ◌≤◌, List, [], ◌∷◌, length, Result, Ok, Err, IfOk}
+use Rattle.std.specs.Prelude.{◌≡◌, ◌⊎◌, ℕ, ◌<◌, ◌≤◌, List, [], ◌∷◌, length, Result, Ok, Err}
 use Rattle.client_protocol.specs.Spelling.{SpellsPolled, polled_body}
 use Rattle.client_protocol.specs.declared.polled.Polled.TheVariants as polled
 use Rattle.session_hub.specs.Replies.{most_edits, whole_mark}
@@ -10,7 +10,7 @@ use Rattle.board_client.specs.declared.polling.Polling.{Polling}
 use Rattle.board_client.specs.declared.polling.Polling.TheVariants.{Edits, Whole, Refused}
 use Rattle.board_client.specs.Client.{LineState, IsTalk}
 use Rattle.board_client.specs.Hearing.{IsTaken, AreTaken, IsAsked, IsTextHeard, AreTextsHeard}
-use Rattle.board_client.specs.Tries.{IsRefused}
+use Rattle.board_client.specs.Tries.{IsTried}
 
 -- the body of the request
 abbrev pub poll_request : List ℕ
@@ -68,18 +68,13 @@ IsPollOnce a b old new (Err (Line fault)) = FailsBefore poll_request (Line fault
 -- ---- tries
 
 -- a refusal that may pass in a moment: reads are closed, or memory was wanted
-abbrev pub IsBriefNumber : ℕ → Type 0
-IsBriefNumber number = (number ≡ 30) ⊎ (number ≡ 255)
+abbrev pub IsMomentaryPollRefusal : ℕ → Type 0
+IsMomentaryPollRefusal number = (number ≡ 30) ⊎ (number ≡ 255)
 
-abbrev pub IsBrief : Polling → Type 0
-IsBrief (Refused number) = IsBriefNumber number
-IsBrief _ = ⊥
+abbrev pub IsPollRefusedForAMoment : Polling → Type 0
+IsPollRefusedForAMoment (Refused number) = IsMomentaryPollRefusal number
+IsPollRefusedForAMoment _ = ⊥
 
--- at most nine refusals, and what came of the poll behind them; it was refused for a moment itself only as the tenth
-pub record IsPoll (a b : LineState) (old new : ReplicaState) (result : Result Polling ClientFault) : Type 0 where
-  pub times : ℕ
-  pub mid : LineState
-  pub refusals : IsRefused IsBriefNumber poll_request times a mid
-  pub few : times ≤ 9
-  pub last : IsPollOnce mid b old new result
-  pub patient : IfOk result (λ polling. IsBrief polling → times ≡ 9)
+-- what came of a poll that was tried
+abbrev pub IsPoll : LineState → LineState → ReplicaState → ReplicaState → Result Polling ClientFault → Type 0
+IsPoll a b old new result = IsTried IsMomentaryPollRefusal IsPollRefusedForAMoment poll_request (λ mid end. IsPollOnce mid end old new) a b result

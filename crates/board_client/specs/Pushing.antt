@@ -1,5 +1,5 @@
 -- What a push does.
-use Rattle.std.specs.Prelude.{◌≡◌, ◌⊎◌, ℕ, ◌<◌, ◌≤◌, List, [], ◌∷◌, Result, Ok, Err, IfOk}
+use Rattle.std.specs.Prelude.{◌≡◌, ◌⊎◌, ℕ, ◌<◌, List, [], ◌∷◌, Result, Ok, Err}
 use Rattle.client_protocol.specs.Spelling.{SpellsAnswer}
 use Rattle.client_protocol.specs.declared.answer.Answer.TheVariants as answer
 use Rattle.board_client.specs.declared.fault.ClientFault.{ClientFault}
@@ -8,7 +8,7 @@ use Rattle.board_client.specs.declared.pushing.Pushing.{Pushing}
 use Rattle.board_client.specs.declared.pushing.Pushing.TheVariants.{Done, Refused}
 use Rattle.board_client.specs.Client.{LineState, IsTalk}
 use Rattle.board_client.specs.Hearing.{IsAsked}
-use Rattle.board_client.specs.Tries.{IsRefused}
+use Rattle.board_client.specs.Tries.{IsTried}
 
 -- a request was said, and what is no answer to it heard
 pub record IsMisanswered (request : List ℕ) (a b : LineState) : Type 0 where
@@ -26,18 +26,13 @@ IsPushOnce request a b (Err fault) = IsAsked {B = List ℕ} (λ body. body) requ
 -- ---- tries
 
 -- a refusal that may pass in a moment, and that says that the board does not have the edit: the inbox is full, or memory was wanted
-abbrev pub IsBriefNumber : ℕ → Type 0
-IsBriefNumber number = (number ≡ 29) ⊎ (number ≡ 255)
+abbrev pub IsMomentaryPushRefusal : ℕ → Type 0
+IsMomentaryPushRefusal number = (number ≡ 29) ⊎ (number ≡ 255)
 
-abbrev pub IsBriefPush : Pushing → Type 0
-IsBriefPush (Refused number) = IsBriefNumber number
-IsBriefPush Done = ⊥
+abbrev pub IsPushRefusedForAMoment : Pushing → Type 0
+IsPushRefusedForAMoment (Refused number) = IsMomentaryPushRefusal number
+IsPushRefusedForAMoment Done = ⊥
 
--- at most nine refusals, and what came of the same bytes behind them; they were refused for a moment then only as the tenth
-pub record IsPush (request : List ℕ) (a b : LineState) (result : Result Pushing ClientFault) : Type 0 where
-  pub times : ℕ
-  pub mid : LineState
-  pub refusals : IsRefused IsBriefNumber request times a mid
-  pub few : times ≤ 9
-  pub last : IsPushOnce request mid b result
-  pub patient : IfOk result (λ pushing. IsBriefPush pushing → times ≡ 9)
+-- what came of the same bytes, tried again and again
+abbrev pub IsPush : List ℕ → LineState → LineState → Result Pushing ClientFault → Type 0
+IsPush request a b result = IsTried IsMomentaryPushRefusal IsPushRefusedForAMoment request (IsPushOnce request) a b result

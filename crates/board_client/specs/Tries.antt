@@ -1,5 +1,6 @@
 -- The same request again and again.
-use Rattle.std.specs.Prelude.{◌≡◌, ⊤, ℕ, List, [], ◌∷◌, map, replicate, length}
+use Rattle.std.specs.Prelude.{◌≡◌, ⊤, ℕ, ◌≤◌, List, [], ◌∷◌, map, replicate, length, Result, IfOk}
+use Rattle.board_client.specs.declared.fault.ClientFault.{ClientFault}
 use Rattle.board_client.specs.Client.{LineState, IsTalk}
 
 -- each of these numbers is as P says
@@ -9,7 +10,7 @@ AreAll P (number ∷ numbers) = P number × AreAll P numbers
 
 -- a request was said again and again, and refused each time by a number that is as P says
 pub record AreRefused (P : ℕ → Type 0) (request : List ℕ) (numbers : List ℕ) (a b : LineState) : Type 0 where
-  pub brief : AreAll P numbers
+  pub each : AreAll P numbers
   pub talk : IsTalk a b (replicate (length numbers) request) (map (λ (number : ℕ). number ∷ []) numbers)
 
 -- so many times
@@ -17,3 +18,13 @@ pub record IsRefused (P : ℕ → Type 0) (request : List ℕ) (times : ℕ) (a 
   pub numbers : List ℕ
   pub often : length numbers ≡ times
   pub refused : AreRefused P request numbers a b
+
+-- a request was refused at most nine times, each time by a number that is as P says, and this is what came of it behind that:
+-- once more such a refusal only as the tenth
+pub record IsTried {R : Type 0} (P : ℕ → Type 0) (IsRefusedForAMoment : R → Type 0) (request : List ℕ) (SaysOnce : LineState → LineState → Result R ClientFault → Type 0) (a b : LineState) (result : Result R ClientFault) : Type 0 where
+  pub times : ℕ
+  pub mid : LineState
+  pub refusals : IsRefused P request times a mid
+  pub few : times ≤ 9
+  pub last : SaysOnce mid b result
+  pub patient : IfOk result (λ heard. IsRefusedForAMoment heard → times ≡ 9)

@@ -10,7 +10,8 @@ pub enum ClientFault {
     Line(LineFault),
     /// What came is no reply to what was asked.
     NoReply,
-    /// A text that was handed out is not taken: it is none, or memory or room is wanting.
+    /// What the board has is not taken here: a text handed out is none, or memory or room is wanting for
+    /// it or for the client's own edit.
     Text(Fault),
     /// The system refused memory for a request.
     Memory,

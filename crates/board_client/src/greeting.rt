@@ -2,23 +2,17 @@
 
 ghost use Rattle.std.specs.Prelude.{◌↔◌, IsTrue};
 ghost use Rattle.board_client.specs.Client.{line_at};
-ghost use Rattle.board_client.specs.Greeting.{IsBriefGreeting, IsGreeting, IsGreetingOnce, IsLeaving};
+ghost use Rattle.board_client.specs.Greeting.{IsGreeting, IsGreetingOnce, IsGreetingRefusedForAMoment, IsLeaving};
 
 use crate::fault::ClientFault;
 use crate::hearing::ask;
 use crate::pushing::{Pushing, push_once};
+use crate::tries::{TRIES_MORE, pause};
 use client_protocol::{Asking, Greeting, greeting_in, request_body};
 use devices::{Sink, Source};
 use frame_line::Line;
 use std::alloc::Global;
-use std::thread;
-use std::time::{Clock, Duration};
-
-/// How often a greeting is tried again that was refused for a moment.
-const TRIES_MORE: u32 = 9;
-
-/// How many milliseconds pass between two tries.
-const PAUSE: u64 = 5;
+use std::time::Clock;
 
 /// Says a greeting, and hears the seat's number and the board's rule, or a refusal. Where the board had no
 /// memory for its reply the greeting is said again some milliseconds later, ten times in all. What is heard
@@ -38,7 +32,7 @@ pub fn greet<C: Clock, S: Source + Drop, K: Sink + Drop>(
         if !is_brief(&greeting) {
             return Ok(greeting);
         }
-        thread::sleep(clock, Duration::from_millis(PAUSE));
+        pause(clock);
     }
     greet_once(alloc, line)
 }
@@ -65,7 +59,7 @@ fn greet_once<S: Source + Drop, K: Sink + Drop>(
 
 /// Whether a greeting was refused for a moment: 255, where memory was wanted.
 fn is_brief(greeting: &Greeting) -> bool
-    ensures { IsTrue result ↔ IsBriefGreeting greeting.now }
+    ensures { IsTrue result ↔ IsGreetingRefusedForAMoment greeting.now }
 {
     match greeting {
         Greeting::Refused(number) => *number == 255,

@@ -11,10 +11,11 @@ mod hearing;
 mod laws;
 mod polling;
 mod pushing;
+mod tries;
 
 pub use drawing::{Drawing, draw};
 pub use fault::ClientFault;
 pub use greeting::{greet, leave};
 pub use laws::client_laws;
-pub use polling::{Polling, poll, poll_once};
+pub use polling::{Polling, poll};
 pub use pushing::{Pushing, push};

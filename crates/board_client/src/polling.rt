@@ -1,24 +1,18 @@
 //! Polls.
 
 ghost use Rattle.board_client.specs.Client.{line_at};
-ghost use Rattle.board_client.specs.Polling.{IsBrief, IsPoll, IsPollOnce};
+ghost use Rattle.board_client.specs.Polling.{IsPoll, IsPollOnce, IsPollRefusedForAMoment};
 ghost use Rattle.std.specs.Prelude.{IsTrue, ◌↔◌};
 
 use crate::fault::ClientFault;
 use crate::hearing::{ask, hear_text, hear_texts};
+use crate::tries::{TRIES_MORE, pause};
 use client_protocol::{Asking, Polled, polled_in, request_body};
 use devices::{Sink, Source};
 use frame_line::Line;
 use replica_core::Replica;
 use std::alloc::Global;
-use std::thread;
-use std::time::{Clock, Duration};
-
-/// How often a poll is tried again that was refused for a moment.
-const TRIES_MORE: u32 = 9;
-
-/// How many milliseconds pass between two tries.
-const PAUSE: u64 = 5;
+use std::time::Clock;
 
 /// What came of a poll.
 #[derive(Clone, Copy, Debug, PartialEq, Eq)]
@@ -32,7 +26,7 @@ pub enum Polling {
 }
 
 /// Polls once, and takes what comes. After a fault the line is of no further use.
-pub fn poll_once<S: Source + Drop, K: Sink + Drop>(
+fn poll_once<S: Source + Drop, K: Sink + Drop>(
     alloc: Global,
     line: &mut Line<S, K>,
     replica: &mut Replica,
@@ -78,14 +72,14 @@ pub fn poll<C: Clock, S: Source + Drop, K: Sink + Drop>(
         if !is_brief(polling) {
             return Ok(polling);
         }
-        thread::sleep(clock, Duration::from_millis(PAUSE));
+        pause(clock);
     }
     poll_once(alloc, line, replica)
 }
 
 /// Whether a poll was refused for a moment: 30 where reads are closed, 255 where memory was wanted.
 fn is_brief(polling: Polling) -> bool
-    ensures { IsTrue result ↔ IsBrief polling }
+    ensures { IsTrue result ↔ IsPollRefusedForAMoment polling }
 {
     match polling {
         Polling::Refused(number) => number == 30 || number == 255,

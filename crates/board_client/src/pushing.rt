@@ -2,22 +2,16 @@
 
 ghost use Rattle.std.specs.Prelude.{IsTrue, ◌↔◌};
 ghost use Rattle.board_client.specs.Client.{line_at};
-ghost use Rattle.board_client.specs.Pushing.{IsBriefPush, IsPush, IsPushOnce};
+ghost use Rattle.board_client.specs.Pushing.{IsPush, IsPushOnce, IsPushRefusedForAMoment};
 
 use crate::fault::ClientFault;
 use crate::hearing::ask;
+use crate::tries::{TRIES_MORE, pause};
 use client_protocol::{Answer, answer_in};
 use devices::{Sink, Source};
 use frame_line::Line;
 use message_frames::Framed;
-use std::thread;
-use std::time::{Clock, Duration};
-
-/// How often a push is tried again that was refused for a moment.
-const TRIES_MORE: u32 = 9;
-
-/// How many milliseconds pass between two tries.
-const PAUSE: u64 = 5;
+use std::time::Clock;
 
 /// What came of a push.
 #[derive(Clone, Copy, Debug, PartialEq, Eq)]
@@ -45,7 +39,7 @@ pub fn push<C: Clock, S: Source + Drop, K: Sink + Drop>(
         if !is_brief(pushing) {
             return Ok(pushing);
         }
-        thread::sleep(clock, Duration::from_millis(PAUSE));
+        pause(clock);
     }
     push_once(line, request)
 }
@@ -70,7 +64,7 @@ pub(crate) fn push_once<S: Source + Drop, K: Sink + Drop>(
 
 /// Whether a push was refused for a moment: 29 where the inbox is full, 255 where memory was wanted.
 fn is_brief(pushing: Pushing) -> bool
-    ensures { IsTrue result ↔ IsBriefPush pushing }
+    ensures { IsTrue result ↔ IsPushRefusedForAMoment pushing }
 {
     match pushing {
         Pushing::Refused(number) => number == 29 || number == 255,
