@@ -10,6 +10,8 @@ mod step;
 
 pub use genedit_io::RunFault;
 pub use laws::{name_laws, output_laws};
+pub use output::{no_pattern_text, pattern_text, push_line, push_text, text_refusal};
+pub use patterns::Patterns;
 pub use plan::{Plan, PlannedLine, planned};
 pub use run::{run_script, run_script_within};
 pub use step::Text;

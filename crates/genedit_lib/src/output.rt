@@ -82,7 +82,8 @@ pub fn no_pattern_text(alloc: Global) -> Result<Text, AllocError>
     Ok(Text::of_vec(text))
 }
 
-fn push_text(out: &mut Vec<u8>, text: &Text) -> Result<(), AllocError>
+/// A line of output, with its end.
+pub fn push_text(out: &mut Vec<u8>, text: &Text) -> Result<(), AllocError>
     ensures { OnOk result (out.new.items ≡ out.old.items ++ (text.now ++ codes "\n")) }
 {
     out.extend_from_slice(text.as_slice())?;
@@ -91,7 +92,7 @@ fn push_text(out: &mut Vec<u8>, text: &Text) -> Result<(), AllocError>
 }
 
 /// What is printed of a reply, with the end of its line.
-fn push_line(alloc: Global, out: &mut Vec<u8>, reply: &Reply) -> Result<(), AllocError>
+pub fn push_line(alloc: Global, out: &mut Vec<u8>, reply: &Reply) -> Result<(), AllocError>
     ensures { OnOk result (out.new.items ≡ out.old.items ++ reply_line reply.now) }
 {
     match reply {

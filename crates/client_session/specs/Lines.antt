@@ -1,0 +1,76 @@
+-- The lines that a client prints.
+use Rattle.std.specs.Prelude.{ℕ, Bool, ◌||◌, ◌==◌, not, List, [], ◌∷◌, ◌++◌, codes, decimal, filter, flat_map, Option, Some, None}
+use Rattle.std.specs.Fmt.{signed_decimal}
+use Rattle.generations_rule.specs.Rule.{GenerationsRule}
+use Rattle.generations_rule.specs.RuleText.{text_of}
+use Rattle.multistate_rle.specs.declared.cell.Cell.{Cell}
+use Rattle.edit_stamps.specs.declared.rect.Rect.{Rect}
+use Rattle.edit_stamps.specs.Edit.{PlaneEdit}
+use Rattle.edit_stamps.specs.Stamp.{replica_in}
+use Rattle.genedit_io.specs.RunFault.{run_fault_text}
+use Rattle.genedit_io.specs.declared.fault.RunFault.TheVariants.{Refused}
+use Rattle.genedit_lib.specs.Output.{no_pattern_line, stamp_text}
+
+-- the seat's number, and the board's rule
+abbrev pub joined_line : ℕ → GenerationsRule → List ℕ
+joined_line number rule = codes "joined " ++ decimal number ++ codes " " ++ text_of rule ++ codes "\n"
+
+-- ---- what came
+
+-- place and state of a cell, behind a blank
+abbrev pub cell_text : Cell → List ℕ
+cell_text cell = codes " " ++ signed_decimal cell.x ++ codes " " ++ signed_decimal cell.y ++ codes " " ++ decimal cell.state
+
+abbrev pub cells_text : List Cell → List ℕ
+cells_text cells = flat_map cell_text cells
+
+-- corner, width and height of an area, where there is one
+abbrev pub area_text : Option Rect → List ℕ
+area_text None = []
+area_text (Some area) = codes " area " ++ signed_decimal area.x ++ codes " " ++ signed_decimal area.y ++ codes " " ++ decimal area.width ++ codes " " ++ decimal area.height
+
+-- counter and replica of an edit's stamp, its area, and its cells in their order
+abbrev pub edit_line : PlaneEdit → List ℕ
+edit_line e = codes "edit " ++ stamp_text e.stamp ++ area_text e.area ++ codes " cells" ++ cells_text e.cells ++ codes "\n"
+
+-- whether an edit was drawn at another seat
+abbrev pub is_of_another : ℕ → PlaneEdit → Bool
+is_of_another number e = not (replica_in e.stamp == number)
+
+-- an edit of the seat's own is told only where a push was refused by 30
+abbrev pub is_told : Bool → ℕ → PlaneEdit → Bool
+is_told closed number e = closed || is_of_another number e
+
+-- a line for each edit that is told
+abbrev pub edit_lines : Bool → ℕ → List PlaneEdit → List ℕ
+edit_lines closed number edits = flat_map edit_line (filter (is_told closed number) edits)
+
+-- cells that look different, as they are now; no line where there is none
+abbrev pub now_line : List Cell → List ℕ
+now_line [] = []
+now_line (cell ∷ cells) = codes "now" ++ cells_text (cell ∷ cells) ++ codes "\n"
+
+-- the server sent its plane
+abbrev pub whole_line : List ℕ
+whole_line = codes "whole\n"
+
+-- ---- numbers of edits
+
+abbrev pub edits_line : ℕ → List ℕ
+edits_line number = codes "edits " ++ decimal number ++ codes "\n"
+
+abbrev pub late_line : ℕ → List ℕ
+late_line number = codes "late " ++ decimal number ++ codes "\n"
+
+-- ---- what was done
+
+abbrev pub drawn_line : ℕ → ℕ → List ℕ
+drawn_line counter number = codes "drawn " ++ decimal counter ++ codes " " ++ decimal number ++ codes "\n"
+
+-- a refusal by its number, with the name that the table of faults has
+abbrev pub refusal_line : ℕ → List ℕ
+refusal_line number = run_fault_text (Refused number None) ++ codes "\n"
+
+-- the name of a paste stands for no pattern
+abbrev pub nameless_line : List ℕ
+nameless_line = no_pattern_line ++ codes "\n"

@@ -1,0 +1,64 @@
+-- A client between two commands.
+use Rattle.std.specs.Prelude.{◌≡◌, ⊤, ℕ, List, ◌++◌, length, drop, filter, Result, Ok, Err}
+use Rattle.devices.specs.Source.{KnownSource}
+use Rattle.devices.specs.Sink.{KnownSink}
+use Rattle.message_frames.specs.Frames.{FrameStream}
+use Rattle.edit_stamps.specs.Edit.{PlaneEdit}
+use Rattle.board_client.specs.Client.{LineState, line_at}
+use Rattle.client_session.specs.declared.fault.SeatFault.{SeatFault}
+use Rattle.client_session.specs.declared.fault.SeatFault.TheVariants.{Client, Refused, Memory, StoreFull}
+use Rattle.client_session.specs.declared.seat.Seat.{Seat}
+use Rattle.client_session.specs.Lines.{edits_line, is_of_another}
+
+-- the line to the server, the seat, and all that was printed
+pub record Moment : Type 0 where
+  pub line : LineState
+  pub seat : Seat
+  pub out : List ℕ
+
+abbrev pub moment_at : FrameStream → KnownSource → KnownSink → Seat → List ℕ → Moment
+moment_at frames source sink seat out = record { line = line_at frames source sink; seat = seat; out = out }
+
+-- how many edits of others came since a number of edits, or a whole plane, was last told
+abbrev pub others : Seat → ℕ
+others s = length (filter (is_of_another s.replica.number) (drop s.counted s.replica.journal))
+
+-- the edits that a poll or a drawing put behind a seat's journal
+abbrev pub came : Seat → Seat → List PlaneEdit
+came old new = drop (length old.replica.journal) new.replica.journal
+
+-- the seat but for its replica
+abbrev pub KeepsRest : Seat → Seat → Type 0
+KeepsRest old new = new ≡ record old { replica = new.replica }
+
+-- a text was printed, and nothing else done
+pub record Prints (text : List ℕ) (m n : Moment) : Type 0 where
+  pub line : n.line ≡ m.line
+  pub seat : n.seat ≡ m.seat
+  pub out : n.out ≡ m.out ++ text
+
+-- memory or room is wanting
+abbrev pub IsWant : SeatFault → Type 0
+IsWant Memory = ⊤
+IsWant StoreFull = ⊤
+IsWant (Client fault) = ⊥
+IsWant (Refused number) = ⊥
+
+-- how many edits of others came is told in a line, and the count starts anew
+pub record TellsNumber (line_of : ℕ → List ℕ) (old new : Seat) (out out' : List ℕ) : Type 0 where
+  pub told : out' ≡ out ++ line_of (others old)
+  pub counted : new ≡ record old { counted = length old.replica.journal }
+
+-- it is told, or memory is wanting
+abbrev pub IsNumberTold : {A : Type 0} → (ℕ → List ℕ) → Seat → Seat → List ℕ → List ℕ → Result A SeatFault → Type 0
+IsNumberTold line_of old new out out' (Ok done) = TellsNumber line_of old new out out'
+IsNumberTold line_of old new out out' (Err fault) = IsWant fault × (new ≡ old)
+
+-- nothing was said on the line meanwhile
+abbrev pub TellsCount : {A : Type 0} → (ℕ → List ℕ) → Moment → Moment → Result A SeatFault → Type 0
+TellsCount line_of m n result = (n.line ≡ m.line) × IsNumberTold line_of m.seat n.seat m.out n.out result
+
+-- a text is printed, or memory is wanting for it
+abbrev pub IsPrinted : {A : Type 0} → A → List ℕ → Moment → Moment → Result A SeatFault → Type 0
+IsPrinted answer text m n (Ok given) = (given ≡ answer) × Prints text m n
+IsPrinted answer text m n (Err fault) = IsWant fault × (n.line ≡ m.line) × (n.seat ≡ m.seat)

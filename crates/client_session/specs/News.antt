@@ -1,0 +1,80 @@
+-- Polls, and what they bring.
+use Rattle.std.specs.Prelude.{◌≡◌, ◌≢◌, ◌⊎◌, ℕ, length, Result, Ok, Err}
+use Rattle.board_client.specs.declared.polling.Polling.{Polling}
+use Rattle.board_client.specs.declared.polling.Polling.TheVariants as polling
+use Rattle.board_client.specs.declared.fault.ClientFault.{ClientFault}
+use Rattle.board_client.specs.Polling.{IsPoll}
+use Rattle.client_session.specs.declared.fault.SeatFault.{SeatFault}
+use Rattle.client_session.specs.declared.fault.SeatFault.TheVariants.{Client, Refused, Memory, StoreFull}
+use Rattle.client_session.specs.declared.polling.News.{News}
+use Rattle.client_session.specs.declared.polling.News.TheVariants as news
+use Rattle.client_session.specs.Lines.{refusal_line}
+use Rattle.client_session.specs.Moment.{Moment, Prints}
+use Rattle.client_session.specs.Telling.{TellsPoll}
+
+-- the board was polled, the replica took what came, and what stands behind its journal's old end was told
+pub record Polls (polling : Polling) (m n : Moment) : Type 0 where
+  pub polled : IsPoll m.line n.line m.seat.replica n.seat.replica (Ok polling)
+  pub told : TellsPoll polling (length m.seat.replica.journal) (record m.seat { replica = n.seat.replica }) n.seat m.out n.out
+
+-- a poll failed, and nothing is told of it
+pub record FailsPolling (fault : ClientFault) (m n : Moment) : Type 0 where
+  pub polled : IsPoll m.line n.line m.seat.replica n.seat.replica (Err fault)
+  pub told : n.out ≡ m.out
+
+-- a poll ended well, but for what is told of it memory or room is wanting
+pub record LacksTelling (m n : Moment) : Type 0 where
+  pub polling : Polling
+  pub polled : IsPoll m.line n.line m.seat.replica n.seat.replica (Ok polling)
+
+-- how a client ends at a poll: a refusal by 21 is one
+abbrev pub EndsPolling : SeatFault → Moment → Moment → Type 0
+EndsPolling (Client fault) m n = FailsPolling fault m n
+EndsPolling (Refused number) m n = (number ≡ 21) × Polls (polling.Refused 21) m n
+EndsPolling Memory m n = LacksTelling m n
+EndsPolling StoreFull m n = LacksTelling m n
+
+-- one poll, which tells what it brought; by a refusal nothing is told
+abbrev pub IsPollTold : Moment → Moment → Result Polling SeatFault → Type 0
+IsPollTold m n (Ok polling) = (polling ≢ polling.Refused 21) × Polls polling m n
+IsPollTold m n (Err fault) = EndsPolling fault m n
+
+-- a poll that no command asked for
+abbrev pub IsFollowing : {A : Type 0} → Moment → Moment → Result A SeatFault → Type 0
+IsFollowing m n (Ok done) = (polling : Polling) × IsPollTold m n (Ok polling)
+IsFollowing m n (Err fault) = EndsPolling fault m n
+
+-- ---- polls of commands
+
+-- a poll was refused, which is printed
+pub record PrintsRefusal (m n : Moment) : Type 0 where
+  pub number : ℕ
+  pub mid : Moment
+  pub refused : IsPollTold m mid (Ok (polling.Refused number))
+  pub printed : Prints (refusal_line number) mid n
+
+-- what a command's poll brought
+abbrev pub Brings : News → Moment → Moment → Type 0
+Brings news.Edits m n = (count : ℕ) × IsPollTold m n (Ok (polling.Edits count))
+Brings news.Whole m n = IsPollTold m n (Ok polling.Whole)
+Brings news.Refused m n = PrintsRefusal m n
+
+abbrev pub IsNews : Moment → Moment → Result News SeatFault → Type 0
+IsNews m n (Ok news) = Brings news m n
+IsNews m n (Err fault) = EndsPolling fault m n
+
+-- what a command does behind its poll is as P says
+pub record GoesOn {A : Type 0} (P : News → Moment → Moment → Result A SeatFault → Type 0) (m n : Moment) (result : Result A SeatFault) : Type 0 where
+  pub news : News
+  pub mid : Moment
+  pub brought : Brings news m mid
+  pub does : P news mid n result
+
+-- a command that polls first: it goes on behind the poll, or ends at it
+abbrev pub BehindPoll : {A : Type 0} → (News → Moment → Moment → Result A SeatFault → Type 0) → Moment → Moment → Result A SeatFault → Type 0
+BehindPoll P m n (Ok answer) = GoesOn P m n (Ok answer)
+BehindPoll P m n (Err fault) = EndsPolling fault m n ⊎ GoesOn P m n (Err fault)
+
+-- a command does nothing more, and answers so
+abbrev pub Leaves : {A : Type 0} → A → Moment → Moment → Result A SeatFault → Type 0
+Leaves answer m n result = (result ≡ Ok answer) × (n ≡ m)

@@ -1,0 +1,60 @@
+-- What is told of edits and planes that came.
+use Rattle.std.specs.Prelude.{◌≡◌, ◌≢◌, ⊤, ℕ, List, ◌++◌, length, drop, Option, Some, None, Result, Ok, Err}
+use Rattle.multistate_rle.specs.declared.cell.Cell.{Cell}
+use Rattle.stamped_writes.specs.Write.{AreSame, joined}
+use Rattle.edit_stamps.specs.Edit.{PlaneEdit, greatest}
+use Rattle.stamped_tree.specs.Plane.{StampedPlane, map_of}
+use Rattle.cell_changes.specs.Changes.{AreChanges}
+use Rattle.client_session.specs.Lines.{edit_lines, now_line, whole_line}
+use Rattle.client_session.specs.Moment.{IsWant}
+use Rattle.client_session.specs.declared.fault.SeatFault.{SeatFault}
+use Rattle.client_session.specs.declared.fault.SeatFault.TheVariants as faults
+use Rattle.client_session.specs.declared.seat.Seat.{Seat}
+use Rattle.board_client.specs.declared.polling.Polling.{Polling}
+use Rattle.board_client.specs.declared.polling.Polling.TheVariants.{Edits, Whole, Refused}
+
+-- edits are joined into the map that was told, and these are the cells whose state is another one then
+pub record ShowsEdits (edits : List PlaneEdit) (before after : StampedPlane) (cells : List Cell) : Type 0 where
+  pub joins : AreSame (map_of after) (joined (map_of before) (greatest edits))
+  pub changes : AreChanges (map_of before) (map_of after) cells
+
+-- those cells are told, in at most one line
+pub record TellsChanges (edits : List PlaneEdit) (before after : StampedPlane) (out out' : List ℕ) : Type 0 where
+  pub cells : List Cell
+  pub shows : ShowsEdits edits before after cells
+  pub told : out' ≡ out ++ now_line cells
+
+-- the same, where a map is told; else these lines
+abbrev pub TellsCame : List ℕ → List PlaneEdit → Option StampedPlane → Option StampedPlane → List ℕ → List ℕ → Type 0
+TellsCame lines edits None None out out' = out' ≡ out ++ lines
+TellsCame lines edits (Some before) (Some after) out out' = TellsChanges edits before after out out'
+TellsCame lines edits _ _ out out' = ⊥
+
+-- where a map is told, it is a plane's from now on
+abbrev pub ShowsAll : StampedPlane → Option StampedPlane → Option StampedPlane → Type 0
+ShowsAll plane None None = ⊤
+ShowsAll plane (Some before) (Some after) = AreSame (map_of after) (map_of plane)
+ShowsAll plane _ _ = ⊥
+
+-- edits behind so many of the journal are told, each in a line, or what they change; those of the seat's own are told only where a push was refused by 30
+pub record TellsBehind (known : ℕ) (old new : Seat) (out out' : List ℕ) : Type 0 where
+  pub told : TellsCame (edit_lines old.closed old.replica.number (drop known old.replica.journal)) (drop known old.replica.journal) old.shown new.shown out out'
+  pub kept : new ≡ record old { shown = new.shown }
+
+-- that a whole plane came is told alone; the count of edits starts anew
+pub record TellsWhole (old new : Seat) (out out' : List ℕ) : Type 0 where
+  pub told : out' ≡ out ++ whole_line
+  pub shown : ShowsAll old.replica.plane old.shown new.shown
+  pub kept : new ≡ record old { shown = new.shown; counted = length old.replica.journal }
+
+-- what is told of a poll, by a seat whose replica took what came behind so many edits of its journal; of a refusal nothing
+abbrev pub TellsPoll : Polling → ℕ → Seat → Seat → List ℕ → List ℕ → Type 0
+TellsPoll (Edits count) known old new out out' = TellsBehind known old new out out'
+TellsPoll Whole known old new out out' = TellsWhole old new out out'
+TellsPoll (Refused number) known old new out out' = (new ≡ old) × (out' ≡ out)
+
+-- it is told; a refusal by 21 ends the client, as does a want of memory or room
+abbrev pub IsPollingTold : {A : Type 0} → Polling → ℕ → Seat → Seat → List ℕ → List ℕ → Result A SeatFault → Type 0
+IsPollingTold polling known old new out out' (Ok done) = (polling ≢ Refused 21) × TellsPoll polling known old new out out'
+IsPollingTold polling known old new out out' (Err (faults.Refused number)) = (number ≡ 21) × (polling ≡ Refused 21) × (new ≡ old) × (out' ≡ out)
+IsPollingTold polling known old new out out' (Err fault) = IsWant fault × (new.replica ≡ old.replica)

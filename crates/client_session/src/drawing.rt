@@ -1,0 +1,200 @@
+//! Drawings.
+
+ghost use Rattle.std.specs.Prelude.{◌≡◌, IfErr, OnOk, option_map};
+ghost use Rattle.replica_events.specs.declared.edit_spec.EditSpec.TheVariants.{Copy, Or};
+ghost use Rattle.genedit_lib.specs.Patterns.{pattern_in};
+ghost use Rattle.client_session.specs.Drawing.{DrawsAs, IsDrawCommand, IsPaste, TellsDrawing, TellsDrawn, outcome_of};
+ghost use Rattle.client_session.specs.Moment.{IsWant, moment_at};
+
+use crate::fault::SeatFault;
+use crate::lines::{push_drawn, push_nameless, push_refusal};
+use crate::polling::News;
+use crate::seat::{Seat, behind};
+use crate::telling::tell_own;
+use board_client::{Drawing, draw};
+use devices::{Sink, Source};
+use frame_line::Line;
+use genedit_lib::push_line;
+use genedit_script::PatternName;
+use replica_core::Reply;
+use replica_events::EditSpec;
+use std::alloc::Global;
+use std::time::Clock;
+
+/// The refusal behind which a board may have an edit or not.
+const CLOSED: u8 = 30;
+
+/// What came of a drawing, beside what was printed.
+#[derive(Clone, Copy, Debug, PartialEq, Eq)]
+pub enum Outcome {
+    /// What was printed says it.
+    Told,
+    /// The push was refused by 30: the board may have the edit or not. Nothing is pushed any more.
+    InDoubt,
+}
+
+impl Seat {
+    /// Polls, tells what came, and draws an edit: `drawn C R`, and where cells that look different are told
+    /// those behind it; or a refusal of the edit, of the poll or of the push. Once a push was refused by 30
+    /// it is `refused 30 Closed`, and nothing is pushed.
+    pub fn draw<C: Clock, S: Source + Drop, K: Sink + Drop>(
+        &mut self,
+        clock: &C,
+        alloc: Global,
+        line: &mut Line<S, K>,
+        out: &mut Vec<u8>,
+        spec: &EditSpec,
+    ) -> Result<Outcome, SeatFault>
+        ensures { IsDrawCommand spec.now (moment_at line.old.frames (S.known line.old.source) (K.known line.old.sink) self.old out.old.items) (moment_at line.new.frames (S.known line.new.source) (K.known line.new.sink) self.new out.new.items) result }
+    {
+        match self.news(clock, alloc, line, out) {
+            Ok(News::Refused) => Ok(Outcome::Told),
+            Ok(News::Edits | News::Whole) => self.draw_now(clock, alloc, line, out, spec),
+            Err(fault) => Err(fault),
+        }
+    }
+
+    /// `draw` of every cell of the box of a named pattern, with its upper left corner at x and y. A name that
+    /// stands for no pattern is refused by 38, and nothing is said on the line.
+    pub fn copy<C: Clock, S: Source + Drop, K: Sink + Drop>(
+        &mut self,
+        clock: &C,
+        alloc: Global,
+        line: &mut Line<S, K>,
+        out: &mut Vec<u8>,
+        name: &PatternName,
+        x: i32,
+        y: i32,
+    ) -> Result<Outcome, SeatFault>
+        ensures { IsPaste (option_map (λ pattern. Copy pattern x y) (pattern_in self.old.patterns name.now)) (moment_at line.old.frames (S.known line.old.source) (K.known line.old.sink) self.old out.old.items) (moment_at line.new.frames (S.known line.new.source) (K.known line.new.sink) self.new out.new.items) result }
+    {
+        let pattern = match self.patterns.copy_of(name) {
+            Ok(pattern) => pattern,
+            Err(_) => return Err(SeatFault::Memory),
+        };
+        let spec = pattern.map(|pattern| EditSpec::Copy(pattern, x, y));
+        self.paste(clock, alloc, line, out, spec)
+    }
+
+    /// `copy` of the nonzero cells alone.
+    pub fn or<C: Clock, S: Source + Drop, K: Sink + Drop>(
+        &mut self,
+        clock: &C,
+        alloc: Global,
+        line: &mut Line<S, K>,
+        out: &mut Vec<u8>,
+        name: &PatternName,
+        x: i32,
+        y: i32,
+    ) -> Result<Outcome, SeatFault>
+        ensures { IsPaste (option_map (λ pattern. Or pattern x y) (pattern_in self.old.patterns name.now)) (moment_at line.old.frames (S.known line.old.source) (K.known line.old.sink) self.old out.old.items) (moment_at line.new.frames (S.known line.new.source) (K.known line.new.sink) self.new out.new.items) result }
+    {
+        let pattern = match self.patterns.copy_of(name) {
+            Ok(pattern) => pattern,
+            Err(_) => return Err(SeatFault::Memory),
+        };
+        let spec = pattern.map(|pattern| EditSpec::Or(pattern, x, y));
+        self.paste(clock, alloc, line, out, spec)
+    }
+
+    /// The drawing of a paste, or the refusal of its name.
+    fn paste<C: Clock, S: Source + Drop, K: Sink + Drop>(
+        &mut self,
+        clock: &C,
+        alloc: Global,
+        line: &mut Line<S, K>,
+        out: &mut Vec<u8>,
+        spec: Option<EditSpec>,
+    ) -> Result<Outcome, SeatFault>
+        ensures { IsPaste spec (moment_at line.old.frames (S.known line.old.source) (K.known line.old.sink) self.old out.old.items) (moment_at line.new.frames (S.known line.new.source) (K.known line.new.sink) self.new out.new.items) result }
+    {
+        match spec {
+            Some(spec) => self.draw(clock, alloc, line, out, &spec),
+            None => match push_nameless(alloc, out) {
+                Ok(()) => Ok(Outcome::Told),
+                Err(_) => Err(SeatFault::Memory),
+            },
+        }
+    }
+
+    /// The drawing behind its poll.
+    fn draw_now<C: Clock, S: Source + Drop, K: Sink + Drop>(
+        &mut self,
+        clock: &C,
+        alloc: Global,
+        line: &mut Line<S, K>,
+        out: &mut Vec<u8>,
+        spec: &EditSpec,
+    ) -> Result<Outcome, SeatFault>
+        ensures { DrawsAs self.old.closed spec.now (moment_at line.old.frames (S.known line.old.source) (K.known line.old.sink) self.old out.old.items) (moment_at line.new.frames (S.known line.new.source) (K.known line.new.sink) self.new out.new.items) result }
+    {
+        if self.closed {
+            return match push_refusal(alloc, out, CLOSED) {
+                Ok(()) => Ok(Outcome::Told),
+                Err(_) => Err(SeatFault::Memory),
+            };
+        }
+        let known = self.replica.journal().len();
+        let drawing = match draw(clock, alloc, line, &mut self.replica, spec) {
+            Ok(drawing) => drawing,
+            Err(fault) => return Err(SeatFault::Client(fault)),
+        };
+        match self.tell_drawing(alloc, drawing, known, out) {
+            Ok(()) => Ok(outcome_of(drawing)),
+            Err(fault) => Err(fault),
+        }
+    }
+
+    /// Tells what came of a drawing, behind so many edits of the journal.
+    fn tell_drawing(
+        &mut self,
+        alloc: Global,
+        drawing: Drawing,
+        known: usize,
+        out: &mut Vec<u8>,
+    ) -> Result<(), SeatFault>
+        ensures told { OnOk result (TellsDrawing drawing known self.old self.new out.old.items out.new.items) }
+        ensures want { IfErr result IsWant }
+        ensures replica { self.new.replica ≡ self.old.replica }
+    {
+        match drawing {
+            Drawing::Drawn(counter) => self.tell_drawn(alloc, counter, known, out),
+            Drawing::Refused(fault) => {
+                push_line(alloc, out, &Reply::Refused(fault))?;
+                Ok(())
+            }
+            Drawing::Unpublished(number) => {
+                push_refusal(alloc, out, number)?;
+                self.closed = number == CLOSED;
+                Ok(())
+            }
+        }
+    }
+
+    /// Tells that an edit was drawn, and the cells that look different by it.
+    fn tell_drawn(
+        &mut self,
+        alloc: Global,
+        counter: u64,
+        known: usize,
+        out: &mut Vec<u8>,
+    ) -> Result<(), SeatFault>
+        ensures told { OnOk result (TellsDrawn counter known self.old self.new out.old.items out.new.items) }
+        ensures want { IfErr result IsWant }
+        ensures replica { self.new.replica ≡ self.old.replica }
+    {
+        push_drawn(out, counter, self.replica.number())?;
+        let own = behind(self.replica.journal(), known);
+        tell_own(alloc, &mut self.shown, out, own)
+    }
+}
+
+/// Whether it is told what the board has, by what came of a drawing.
+fn outcome_of(drawing: Drawing) -> Outcome
+    ensures { result ≡ outcome_of drawing }
+{
+    match drawing {
+        Drawing::Unpublished(CLOSED) => Outcome::InDoubt,
+        _ => Outcome::Told,
+    }
+}

@@ -1,0 +1,31 @@
+//! Why a client ends.
+
+ghost use Rattle.std.specs.Prelude.{◌≡◌};
+
+use board_client::ClientFault;
+use replica_core::Fault;
+use std::alloc::{AllocError, AllocFailed};
+
+/// Why a client ends.
+#[derive(Clone, Copy, Debug, PartialEq, Eq)]
+pub enum SeatFault {
+    /// The line failed, what came is no reply, or what came, or was drawn, is not taken.
+    Client(ClientFault),
+    /// The greeting was refused, by this number of the table of faults; or a poll was, by 21.
+    Refused(u8),
+    /// The system refused memory.
+    Memory,
+    /// A store of squares is full: of the plane that was told, or of a universe that was run.
+    StoreFull,
+}
+
+impl From<AllocError> for SeatFault {
+    ghost use Rattle.std.specs.Prelude.{◌≡◌};
+    ghost use Rattle.client_session.specs.declared.fault.SeatFault.TheVariants.{Memory};
+
+    ghost from_gives = { λ _ fault. fault ≡ Memory };
+
+    fn from(_error: AllocError) -> SeatFault {
+        SeatFault::Memory
+    }
+}

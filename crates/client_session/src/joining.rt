@@ -1,0 +1,97 @@
+//! Joining a board.
+
+ghost use Rattle.std.specs.Prelude.{◌≡◌, ◌≤◌, IfErr, IfOk};
+ghost use Rattle.client_session.specs.Joining.{IsFresh, IsJoined, IsJoining};
+ghost use Rattle.client_session.specs.Moment.{IsWant};
+ghost use Rattle.board_client.specs.Client.{line_at};
+
+use crate::fault::SeatFault;
+use crate::lines::push_joined;
+use crate::seat::Seat;
+use crate::telling::blank;
+use board_client::{ClientFault, greet};
+use client_protocol::Greeting;
+use devices::{Sink, Source};
+use frame_line::Line;
+use genedit_lib::Patterns;
+use generations_rule::Rule;
+use replica_core::Replica;
+use std::alloc::{AllocError, Global};
+use std::time::Clock;
+
+/// How a seat tells what a poll brought.
+#[derive(Clone, Copy, Debug, PartialEq, Eq)]
+pub enum Telling {
+    /// Each edit.
+    Edits,
+    /// The cells that look different.
+    Changes,
+}
+
+impl Seat {
+    /// Greets the server, prints `joined SEAT RULE`, polls, and tells what came.
+    pub fn join<C: Clock, S: Source + Drop, K: Sink + Drop>(
+        clock: &C,
+        alloc: Global,
+        line: &mut Line<S, K>,
+        out: &mut Vec<u8>,
+        telling: Telling,
+    ) -> Result<Seat, SeatFault>
+        ensures { IsJoining telling (line_at line.old.frames (S.known line.old.source) (K.known line.old.sink)) (line_at line.new.frames (S.known line.new.source) (K.known line.new.sink)) out.old.items out.new.items result }
+    {
+        match greet(clock, alloc, line) {
+            Ok(Greeting::Seat(number, rule)) => {
+                let mut seat = match seated(alloc, out, number, rule, telling) {
+                    Ok(seat) => seat,
+                    Err(fault) => return Err(fault),
+                };
+                match seat.follow(clock, alloc, line, out) {
+                    Ok(()) => Ok(seat),
+                    Err(fault) => Err(fault),
+                }
+            }
+            Ok(Greeting::Refused(number)) => Err(SeatFault::Refused(number)),
+            Ok(Greeting::Faulty) => Err(SeatFault::Client(ClientFault::NoReply)),
+            Err(fault) => Err(SeatFault::Client(fault)),
+        }
+    }
+}
+
+/// The seat of a number at a board of a rule, which is printed.
+fn seated(
+    alloc: Global,
+    out: &mut Vec<u8>,
+    number: u16,
+    rule: Rule,
+    telling: Telling,
+) -> Result<Seat, SeatFault>
+    requires { 1 ≤ number }
+    ensures joined { IfOk result (λ seat. IsJoined telling number rule seat out.old.items out.new.items) }
+    ensures want { IfErr result IsWant }
+{
+    let seat = fresh(alloc, number, rule, telling)?;
+    push_joined(alloc, out, number, &rule)?;
+    Ok(seat)
+}
+
+/// A seat that was handed nothing.
+fn fresh(alloc: Global, number: u16, rule: Rule, telling: Telling) -> Result<Seat, AllocError>
+    requires { 1 ≤ number }
+    ensures { IfOk result (IsFresh telling number rule) }
+{
+    let replica = match Replica::new(alloc, rule, number) {
+        Ok(replica) => replica,
+        Err(_) => return Err(AllocError),
+    };
+    let shown = match telling {
+        Telling::Edits => None,
+        Telling::Changes => Some(blank(alloc)?),
+    };
+    Ok(Seat {
+        replica,
+        patterns: Patterns::new(alloc),
+        shown,
+        counted: 0,
+        closed: false,
+    })
+}

@@ -1,0 +1,188 @@
+//! The lines that a client prints.
+
+ghost use Rattle.std.specs.Prelude.{◌≡◌, ◌++◌, codes, decimal, OnOk};
+ghost use Rattle.std.specs.Fmt.{signed_decimal};
+ghost use Rattle.client_session.specs.Lines.{area_text, cell_text, cells_text, drawn_line, edit_line, edit_lines, edits_line, is_of_another, is_told, joined_line, late_line, nameless_line, now_line, refusal_line, whole_line};
+
+use edit_stamps::{Edit, Rect};
+use genedit_io::RunFault;
+use genedit_lib::{no_pattern_text, push_text};
+use generations_rule::Rule;
+use itoa::Buffer;
+use multistate_rle::Cell;
+use std::alloc::{AllocError, Global};
+
+/// That the client has a seat of this number, at a board of this rule.
+pub(crate) fn push_joined(
+    alloc: Global,
+    out: &mut Vec<u8>,
+    number: u16,
+    rule: &Rule,
+) -> Result<(), AllocError>
+    ensures { OnOk result (out.new.items ≡ out.old.items ++ joined_line number rule.now) }
+{
+    let rule = rule.write_text(alloc)?;
+    out.extend_from_slice(b"joined ")?;
+    push_number(out, u64::from(number))?;
+    out.push(b' ')?;
+    out.extend_from_slice(&rule)?;
+    out.push(b'\n')?;
+    Ok(())
+}
+
+/// A line for each edit that is told: those of other seats, or all.
+pub(crate) fn push_edits(
+    out: &mut Vec<u8>,
+    edits: &[Edit],
+    number: u16,
+    closed: bool,
+) -> Result<(), AllocError>
+    ensures { OnOk result (out.new.items ≡ out.old.items ++ edit_lines closed number edits.now) }
+{
+    for edit in edits {
+        if closed || is_of_another(edit, number) {
+            push_edit(out, edit)?;
+        }
+    }
+    Ok(())
+}
+
+/// Whether an edit was drawn at another seat than the one of this number.
+pub(crate) fn is_of_another(edit: &Edit, number: u16) -> bool
+    ensures { result ≡ is_of_another number edit.now }
+{
+    edit.stamp().replica() != number
+}
+
+fn push_edit(out: &mut Vec<u8>, edit: &Edit) -> Result<(), AllocError>
+    ensures { OnOk result (out.new.items ≡ out.old.items ++ edit_line edit.now) }
+{
+    let stamp = edit.stamp();
+    out.extend_from_slice(b"edit ")?;
+    push_number(out, stamp.counter())?;
+    out.push(b' ')?;
+    push_number(out, u64::from(stamp.replica()))?;
+    push_area(out, edit.area())?;
+    out.extend_from_slice(b" cells")?;
+    push_cells(out, edit.listed_cells())?;
+    out.push(b'\n')?;
+    Ok(())
+}
+
+fn push_area(out: &mut Vec<u8>, area: Option<Rect>) -> Result<(), AllocError>
+    ensures { OnOk result (out.new.items ≡ out.old.items ++ area_text area) }
+{
+    let Some(area) = area else {
+        return Ok(());
+    };
+    out.extend_from_slice(b" area ")?;
+    push_coordinate(out, area.x)?;
+    out.push(b' ')?;
+    push_coordinate(out, area.y)?;
+    out.push(b' ')?;
+    push_number(out, u64::from(area.width))?;
+    out.push(b' ')?;
+    push_number(out, u64::from(area.height))
+}
+
+fn push_cells(out: &mut Vec<u8>, cells: &[Cell]) -> Result<(), AllocError>
+    ensures { OnOk result (out.new.items ≡ out.old.items ++ cells_text cells.now) }
+{
+    for cell in cells {
+        push_cell(out, *cell)?;
+    }
+    Ok(())
+}
+
+fn push_cell(out: &mut Vec<u8>, cell: Cell) -> Result<(), AllocError>
+    ensures { OnOk result (out.new.items ≡ out.old.items ++ cell_text cell) }
+{
+    out.push(b' ')?;
+    push_coordinate(out, cell.x)?;
+    out.push(b' ')?;
+    push_coordinate(out, cell.y)?;
+    out.push(b' ')?;
+    push_number(out, u64::from(cell.state))
+}
+
+/// The cells that look different, as they are now. No line where there is none.
+pub(crate) fn push_now(out: &mut Vec<u8>, cells: &[Cell]) -> Result<(), AllocError>
+    ensures { OnOk result (out.new.items ≡ out.old.items ++ now_line cells.now) }
+{
+    if cells.is_empty() {
+        return Ok(());
+    }
+    out.extend_from_slice(b"now")?;
+    push_cells(out, cells)?;
+    out.push(b'\n')?;
+    Ok(())
+}
+
+/// That the server sent its plane.
+pub(crate) fn push_whole(out: &mut Vec<u8>) -> Result<(), AllocError>
+    ensures { OnOk result (out.new.items ≡ out.old.items ++ whole_line) }
+{
+    out.extend_from_slice(b"whole\n")
+}
+
+/// A number of edits that came.
+pub(crate) fn push_edits_line(out: &mut Vec<u8>, number: u64) -> Result<(), AllocError>
+    ensures { OnOk result (out.new.items ≡ out.old.items ++ edits_line number) }
+{
+    out.extend_from_slice(b"edits ")?;
+    push_number(out, number)?;
+    out.push(b'\n')?;
+    Ok(())
+}
+
+/// The same, where fewer came than were awaited.
+pub(crate) fn push_late_line(out: &mut Vec<u8>, number: u64) -> Result<(), AllocError>
+    ensures { OnOk result (out.new.items ≡ out.old.items ++ late_line number) }
+{
+    out.extend_from_slice(b"late ")?;
+    push_number(out, number)?;
+    out.push(b'\n')?;
+    Ok(())
+}
+
+/// That an edit was drawn, by its counter and the seat's number.
+pub(crate) fn push_drawn(out: &mut Vec<u8>, counter: u64, number: u16) -> Result<(), AllocError>
+    ensures { OnOk result (out.new.items ≡ out.old.items ++ drawn_line counter number) }
+{
+    out.extend_from_slice(b"drawn ")?;
+    push_number(out, counter)?;
+    out.push(b' ')?;
+    push_number(out, u64::from(number))?;
+    out.push(b'\n')?;
+    Ok(())
+}
+
+/// A refusal, by its number.
+pub(crate) fn push_refusal(alloc: Global, out: &mut Vec<u8>, number: u8) -> Result<(), AllocError>
+    ensures { OnOk result (out.new.items ≡ out.old.items ++ refusal_line number) }
+{
+    let text = RunFault::Refused(number, None).to_string(alloc)?;
+    out.extend_from_slice(text.as_bytes())?;
+    out.push(b'\n')?;
+    Ok(())
+}
+
+/// That the name of a paste stands for no pattern.
+pub(crate) fn push_nameless(alloc: Global, out: &mut Vec<u8>) -> Result<(), AllocError>
+    ensures { OnOk result (out.new.items ≡ out.old.items ++ nameless_line) }
+{
+    let text = no_pattern_text(alloc)?;
+    push_text(out, &text)
+}
+
+fn push_number(out: &mut Vec<u8>, number: u64) -> Result<(), AllocError>
+    ensures { OnOk result (out.new.items ≡ out.old.items ++ decimal number) }
+{
+    out.extend_from_slice(Buffer::new().format(number).as_bytes())
+}
+
+fn push_coordinate(out: &mut Vec<u8>, coordinate: i32) -> Result<(), AllocError>
+    ensures { OnOk result (out.new.items ≡ out.old.items ++ signed_decimal coordinate) }
+{
+    out.extend_from_slice(Buffer::new().format(coordinate).as_bytes())
+}

@@ -1,0 +1,51 @@
+//! A client's seat at a board.
+
+ghost use Rattle.std.specs.Prelude.{◌≡◌, drop};
+
+use crate::lines::is_of_another;
+use edit_stamps::Edit;
+use genedit_lib::Patterns;
+use held_plane::HeldPlane;
+use replica_core::Replica;
+
+/// A client's seat at a board: its replica, what pattern each name stands for, and what was told of the
+/// board by now.
+#[derive(Drop)]
+pub struct Seat {
+    /// What the seat was handed, and what it drew.
+    pub replica: Replica,
+    /// Which pattern each name stands for.
+    pub patterns: Patterns,
+    /// What was told of the board, where the cells that look different are told and not each edit.
+    pub shown: Option<HeldPlane>,
+    /// How many edits stood in the replica's journal when a number of edits, or a whole plane, was last told.
+    pub counted: usize,
+    /// Whether a push was refused by 30. Then nothing is pushed any more.
+    pub closed: bool,
+}
+
+impl Seat {
+    ghost use Rattle.client_session.specs.Moment.{others};
+
+    /// How many edits of others came since a number of edits, or a whole plane, was last told.
+    pub fn others(&self) -> usize
+        ensures { result ≡ others self.now }
+    {
+        let number = self.replica.number();
+        behind(self.replica.journal(), self.counted)
+            .iter()
+            .filter(|edit| is_of_another(edit, number))
+            .count()
+    }
+}
+
+/// The edits of a list from a place on.
+pub(crate) fn behind(edits: &[Edit], place: usize) -> &[Edit]
+    ensures { result.now ≡ drop place edits.now }
+{
+    if place <= edits.len() {
+        &edits[place..]
+    } else {
+        &[]
+    }
+}

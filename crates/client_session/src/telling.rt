@@ -1,0 +1,133 @@
+//! What is told of edits and planes that came.
+
+ghost use Rattle.std.specs.Prelude.{[], IfErr, IfOk, OnOk};
+ghost use Rattle.stamped_tree.specs.Plane.{map_of};
+ghost use Rattle.stamped_writes.specs.Write.{AreSame, unwritten};
+ghost use Rattle.client_session.specs.Moment.{IsWant};
+ghost use Rattle.client_session.specs.Telling.{ShowsAll, ShowsEdits, TellsCame, TellsChanges};
+ghost use Rattle.client_session.specs.Lines.{edit_lines};
+
+use crate::fault::SeatFault;
+use crate::lines::{push_edits, push_now};
+use cell_changes::Watched;
+use edit_stamps::Edit;
+use held_plane::{Added, HeldPlane};
+use multistate_rle::Cell;
+use stamped_tree::{Plane, StoreFault};
+use std::alloc::{AllocError, Global};
+
+/// How many squares the plane that was told may have, as the replica's own.
+const ROOM: u32 = 0x400_0000;
+
+/// Tells edits that came: each of them, or the cells that look different.
+pub(crate) fn tell_came(
+    alloc: Global,
+    shown: &mut Option<HeldPlane>,
+    out: &mut Vec<u8>,
+    edits: &[Edit],
+    number: u16,
+    closed: bool,
+) -> Result<(), SeatFault>
+    ensures told { OnOk result (TellsCame (edit_lines closed number edits.now) edits.now shown.old shown.new out.old.items out.new.items) }
+    ensures want { IfErr result IsWant }
+{
+    match shown {
+        Some(shown) => tell_changes(alloc, shown, out, edits),
+        None => {
+            push_edits(out, edits, number, closed)?;
+            Ok(())
+        }
+    }
+}
+
+/// Tells the cells that look different by an edit of the seat's own, where such cells are told.
+pub(crate) fn tell_own(
+    alloc: Global,
+    shown: &mut Option<HeldPlane>,
+    out: &mut Vec<u8>,
+    edits: &[Edit],
+) -> Result<(), SeatFault>
+    ensures told { OnOk result (TellsCame [] edits.now shown.old shown.new out.old.items out.new.items) }
+    ensures want { IfErr result IsWant }
+{
+    match shown {
+        Some(shown) => tell_changes(alloc, shown, out, edits),
+        None => Ok(()),
+    }
+}
+
+/// Tells the cells that look different once edits are joined into what was told.
+fn tell_changes(
+    alloc: Global,
+    shown: &mut HeldPlane,
+    out: &mut Vec<u8>,
+    edits: &[Edit],
+) -> Result<(), SeatFault>
+    ensures told { OnOk result (TellsChanges edits.now shown.old shown.new out.old.items out.new.items) }
+    ensures want { IfErr result IsWant }
+{
+    let cells = changed_cells(alloc, shown, edits)?;
+    push_now(out, &cells)?;
+    Ok(())
+}
+
+/// Joins edits into what was told; the cells that look different then.
+fn changed_cells(
+    alloc: Global,
+    shown: &mut HeldPlane,
+    edits: &[Edit],
+) -> Result<Vec<Cell>, SeatFault>
+    ensures shows { IfOk result (λ cells. ShowsEdits edits.now shown.old shown.new cells.items) }
+    ensures want { IfErr result IsWant }
+{
+    let watched = Watched::of_edits(alloc, shown.plane(), edits)?;
+    match shown.join(Added::Edits(edits)) {
+        Ok(()) => {}
+        Err(fault) => return Err(want(fault)),
+    }
+    let cells = watched.changes(alloc, shown.plane())?;
+    Ok(cells)
+}
+
+/// Has a whole plane stand for what was told, where the cells that look different are told.
+pub(crate) fn show_all(
+    alloc: Global,
+    shown: &mut Option<HeldPlane>,
+    plane: &Plane,
+) -> Result<(), SeatFault>
+    ensures shown { OnOk result (ShowsAll plane.now shown.old shown.new) }
+    ensures want { IfErr result IsWant }
+{
+    if shown.is_some() {
+        *shown = Some(held(alloc, plane)?);
+    }
+    Ok(())
+}
+
+/// A plane with the same map.
+fn held(alloc: Global, plane: &Plane) -> Result<HeldPlane, SeatFault>
+    ensures map { IfOk result (λ copy. AreSame (map_of copy) (map_of plane.now)) }
+    ensures want { IfErr result IsWant }
+{
+    let mut copy = blank(alloc)?;
+    match copy.join(Added::Map(plane)) {
+        Ok(()) => Ok(copy),
+        Err(fault) => Err(want(fault)),
+    }
+}
+
+/// A plane where nothing was written.
+pub(crate) fn blank(alloc: Global) -> Result<HeldPlane, AllocError>
+    ensures { IfOk result (λ plane. AreSame (map_of plane) (λ _. unwritten)) }
+{
+    HeldPlane::with_room(alloc, ROOM)
+}
+
+fn want(fault: StoreFault) -> SeatFault
+    ensures { IsWant result }
+{
+    match fault {
+        StoreFault::Memory => SeatFault::Memory,
+        StoreFault::StoreFull => SeatFault::StoreFull,
+    }
+}

@@ -1,0 +1,81 @@
+//! Waiting for edits of others.
+
+ghost use Rattle.client_session.specs.Moment.{moment_at};
+ghost use Rattle.client_session.specs.Waiting.{IsWait};
+
+use crate::fault::SeatFault;
+use crate::polling::News;
+use crate::seat::Seat;
+use devices::{Sink, Source};
+use frame_line::Line;
+use std::alloc::Global;
+use std::thread;
+use std::time::{Clock, Duration, Instant};
+
+/// How many polls a wait makes at most.
+const TURNS: u64 = 0x1_0000_0000;
+
+/// How long edits are awaited, and how long nothing is done between two polls.
+#[derive(Clone, Copy, Debug, PartialEq, Eq)]
+pub struct Patience {
+    pub milliseconds: u32,
+    pub interval: u32,
+}
+
+impl Seat {
+    /// Polls again and again, and tells what came. It ends by `edits K` once K, how many edits of others
+    /// came since a number of edits, or a whole plane, was last told, is at least the number that is awaited;
+    /// by `late K` once the time is over, which a clock that cannot be read says at once, or 2^32 polls were
+    /// made; and behind `whole` or a refused poll, of which the refusal is printed.
+    pub fn wait<C: Clock, S: Source + Drop, K: Sink + Drop>(
+        &mut self,
+        clock: &C,
+        alloc: Global,
+        line: &mut Line<S, K>,
+        out: &mut Vec<u8>,
+        awaited: u32,
+        patience: Patience,
+    ) -> Result<(), SeatFault>
+        ensures { IsWait awaited (moment_at line.old.frames (S.known line.old.source) (K.known line.old.sink) self.old out.old.items) (moment_at line.new.frames (S.known line.new.source) (K.known line.new.sink) self.new out.new.items) result }
+    {
+        let end = end_of(clock, patience.milliseconds);
+        for _turn in 0..TURNS {
+            match self.news(clock, alloc, line, out) {
+                Ok(News::Edits) => {}
+                Ok(News::Whole | News::Refused) => return Ok(()),
+                Err(fault) => return Err(fault),
+            }
+            if self.others() >= awaited as usize {
+                return self.tell_count(out);
+            }
+            let Some(left) = time_until(clock, end) else {
+                return self.tell_late(out);
+            };
+            thread::sleep(
+                clock,
+                left.min(Duration::from_millis(u64::from(patience.interval))),
+            );
+        }
+        self.tell_late(out)
+    }
+}
+
+/// When so many milliseconds will be over; `None` where the clock cannot be read.
+fn end_of<C: Clock>(clock: &C, milliseconds: u32) -> Option<Instant> {
+    let Ok(now) = Instant::now(clock) else {
+        return None;
+    };
+    now.checked_add(Duration::from_millis(u64::from(milliseconds)))
+}
+
+/// How long it is until an end; `None` where it is over, or the clock cannot be read.
+fn time_until<C: Clock>(clock: &C, end: Option<Instant>) -> Option<Duration> {
+    let end = end?;
+    let Ok(now) = Instant::now(clock) else {
+        return None;
+    };
+    match end.checked_duration_since(now) {
+        Some(left) if !left.is_zero() => Some(left),
+        _ => None,
+    }
+}
