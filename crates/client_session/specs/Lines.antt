@@ -1,5 +1,5 @@
 -- The lines that a client prints.
-use Rattle.std.specs.Prelude.{ℕ, Bool, ◌||◌, ◌==◌, not, List, [], ◌∷◌, ◌++◌, codes, decimal, filter, flat_map, Option, Some, None}
+use Rattle.std.specs.Prelude.{ℕ, ℤ, Bool, ◌||◌, ◌==◌, not, List, [], ◌∷◌, ◌++◌, codes, decimal, filter, flat_map, Option, Some, None}
 use Rattle.std.specs.Fmt.{signed_decimal}
 use Rattle.generations_rule.specs.Rule.{GenerationsRule}
 use Rattle.generations_rule.specs.RuleText.{text_of}
@@ -17,17 +17,25 @@ joined_line number rule = codes "joined " ++ decimal number ++ codes " " ++ text
 
 -- ---- what came
 
--- place and state of a cell, behind a blank
+-- a column and a row, each behind a blank
+abbrev pub place_text : ℤ → ℤ → List ℕ
+place_text x y = codes " " ++ signed_decimal x ++ codes " " ++ signed_decimal y
+
+-- a cell's place and state
 abbrev pub cell_text : Cell → List ℕ
-cell_text cell = codes " " ++ signed_decimal cell.x ++ codes " " ++ signed_decimal cell.y ++ codes " " ++ decimal cell.state
+cell_text cell = place_text cell.x cell.y ++ codes " " ++ decimal cell.state
 
 abbrev pub cells_text : List Cell → List ℕ
 cells_text cells = flat_map cell_text cells
 
--- corner, width and height of an area, where there is one
+-- corner, width and height of an area
+abbrev pub rect_text : Rect → List ℕ
+rect_text area = codes " area" ++ place_text area.x area.y ++ codes " " ++ decimal area.width ++ codes " " ++ decimal area.height
+
+-- of an edit, where it has one
 abbrev pub area_text : Option Rect → List ℕ
 area_text None = []
-area_text (Some area) = codes " area " ++ signed_decimal area.x ++ codes " " ++ signed_decimal area.y ++ codes " " ++ decimal area.width ++ codes " " ++ decimal area.height
+area_text (Some area) = rect_text area
 
 -- counter and replica of an edit's stamp, its area, and its cells in their order
 abbrev pub edit_line : PlaneEdit → List ℕ

@@ -2,9 +2,10 @@
 
 ghost use Rattle.std.specs.Prelude.{◌≡◌, ◌++◌, codes, decimal, OnOk};
 ghost use Rattle.std.specs.Fmt.{signed_decimal};
-ghost use Rattle.client_session.specs.Lines.{area_text, cell_text, cells_text, drawn_line, edit_line, edit_lines, edits_line, is_of_another, is_told, joined_line, late_line, nameless_line, now_line, refusal_line, whole_line};
+ghost use Rattle.genedit_lib.specs.Output.{stamp_text};
+ghost use Rattle.client_session.specs.Lines.{area_text, cell_text, cells_text, drawn_line, edit_line, edit_lines, edits_line, is_of_another, is_told, joined_line, late_line, nameless_line, now_line, place_text, rect_text, refusal_line, whole_line};
 
-use edit_stamps::{Edit, Rect};
+use edit_stamps::{Edit, Rect, Stamp};
 use genedit_io::RunFault;
 use genedit_lib::{no_pattern_text, push_text};
 use generations_rule::Rule;
@@ -57,11 +58,8 @@ pub(crate) fn is_of_another(edit: &Edit, number: u16) -> bool
 fn push_edit(out: &mut Vec<u8>, edit: &Edit) -> Result<(), AllocError>
     ensures { OnOk result (out.new.items ≡ out.old.items ++ edit_line edit.now) }
 {
-    let stamp = edit.stamp();
     out.extend_from_slice(b"edit ")?;
-    push_number(out, stamp.counter())?;
-    out.push(b' ')?;
-    push_number(out, u64::from(stamp.replica()))?;
+    push_stamp(out, edit.stamp())?;
     push_area(out, edit.area())?;
     out.extend_from_slice(b" cells")?;
     push_cells(out, edit.listed_cells())?;
@@ -69,16 +67,30 @@ fn push_edit(out: &mut Vec<u8>, edit: &Edit) -> Result<(), AllocError>
     Ok(())
 }
 
+/// Counter and replica.
+fn push_stamp(out: &mut Vec<u8>, stamp: Stamp) -> Result<(), AllocError>
+    ensures { OnOk result (out.new.items ≡ out.old.items ++ stamp_text stamp) }
+{
+    push_number(out, stamp.counter())?;
+    out.push(b' ')?;
+    push_number(out, u64::from(stamp.replica()))
+}
+
+/// The area of an edit, where it has one.
 fn push_area(out: &mut Vec<u8>, area: Option<Rect>) -> Result<(), AllocError>
     ensures { OnOk result (out.new.items ≡ out.old.items ++ area_text area) }
 {
-    let Some(area) = area else {
-        return Ok(());
-    };
-    out.extend_from_slice(b" area ")?;
-    push_coordinate(out, area.x)?;
-    out.push(b' ')?;
-    push_coordinate(out, area.y)?;
+    match area {
+        Some(area) => push_rect(out, area),
+        None => Ok(()),
+    }
+}
+
+fn push_rect(out: &mut Vec<u8>, area: Rect) -> Result<(), AllocError>
+    ensures { OnOk result (out.new.items ≡ out.old.items ++ rect_text area) }
+{
+    out.extend_from_slice(b" area")?;
+    push_place(out, area.x, area.y)?;
     out.push(b' ')?;
     push_number(out, u64::from(area.width))?;
     out.push(b' ')?;
@@ -97,12 +109,19 @@ fn push_cells(out: &mut Vec<u8>, cells: &[Cell]) -> Result<(), AllocError>
 fn push_cell(out: &mut Vec<u8>, cell: Cell) -> Result<(), AllocError>
     ensures { OnOk result (out.new.items ≡ out.old.items ++ cell_text cell) }
 {
-    out.push(b' ')?;
-    push_coordinate(out, cell.x)?;
-    out.push(b' ')?;
-    push_coordinate(out, cell.y)?;
+    push_place(out, cell.x, cell.y)?;
     out.push(b' ')?;
     push_number(out, u64::from(cell.state))
+}
+
+/// A column and a row, each behind a blank.
+fn push_place(out: &mut Vec<u8>, x: i32, y: i32) -> Result<(), AllocError>
+    ensures { OnOk result (out.new.items ≡ out.old.items ++ place_text x y) }
+{
+    out.push(b' ')?;
+    push_coordinate(out, x)?;
+    out.push(b' ')?;
+    push_coordinate(out, y)
 }
 
 /// The cells that look different, as they are now. No line where there is none.

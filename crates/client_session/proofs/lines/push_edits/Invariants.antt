@@ -1,0 +1,7 @@
+use Rattle.std.proofs.Common.{◌≡◌, ◌++◌, drop}
+use Rattle.client_session.specs.Lines.{edit_lines}
+use Rattle.client_session.proofs.lines.push_edits.Given as goal
+
+-- the lines that are printed, and then those of the edits that are left, are the lines of all
+abbrev pub invariant-loop-edit : goal.invariant-loop-edit
+invariant-loop-edit l = l.fn.out.items ++ edit_lines l.closed l.number l.fn.edits ≡ l.out.items ++ edit_lines l.closed l.number (drop l.edit-index l.edits)
