@@ -1,0 +1,3 @@
+pub mod ShownLaws
+pub mod FreshLaws
+pub mod SeatLaws

@@ -6,3 +6,4 @@ pub mod Waiting
 pub mod Drawing
 pub mod Exporting
 pub mod Joining
+pub mod Laws

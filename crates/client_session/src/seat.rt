@@ -1,6 +1,7 @@
 //! A client's seat at a board.
 
-ghost use Rattle.std.specs.Prelude.{◌≡◌, drop};
+ghost use Rattle.std.specs.Prelude.{◌≡◌, drop, filter, length};
+ghost use Rattle.client_session.specs.Lines.{is_of_another};
 
 use crate::lines::is_of_another;
 use edit_stamps::Edit;
@@ -31,12 +32,19 @@ impl Seat {
     pub fn others(&self) -> usize
         ensures { result ≡ others self.now }
     {
-        let number = self.replica.number();
-        behind(self.replica.journal(), self.counted)
-            .iter()
-            .filter(|edit| is_of_another(edit, number))
-            .count()
+        let since = behind(self.replica.journal(), self.counted);
+        count_others(since, self.replica.number())
     }
+}
+
+/// How many edits of a list were drawn at another seat than the one of a number.
+fn count_others(edits: &[Edit], number: u16) -> usize
+    ensures { result ≡ length (filter (is_of_another number) edits.now) }
+{
+    edits
+        .iter()
+        .filter(|edit| is_of_another(edit, number))
+        .count()
 }
 
 /// The edits of a list from a place on.

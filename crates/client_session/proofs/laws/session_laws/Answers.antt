@@ -1,0 +1,8 @@
+use Rattle.client_session.proofs.SeatLaws.{shows_what_it_holds, tells_what_changed}
+use Rattle.client_session.proofs.laws.session_laws.Goals as goal
+
+pub returns-clause-holds : goal.returns-clause-holds
+returns-clause-holds c = shows_what_it_holds
+
+pub returns-clause-changed : goal.returns-clause-changed
+returns-clause-changed c = tells_what_changed

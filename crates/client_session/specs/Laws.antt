@@ -1,0 +1,53 @@
+-- What is told of a board is what the replica holds.
+use Rattle.std.specs.Prelude.{◌≡◌, ⊤, ℕ, true, List, [], ◌∷◌, ◌++◌, Option, Some, None, Ok}
+use Rattle.generations_rule.specs.Rule.{GenerationsRule}
+use Rattle.multistate_rle.specs.declared.cell.Cell.{Cell}
+use Rattle.delta_exchange.specs.MessageReading.{begins_as_delta}
+use Rattle.stamped_writes.specs.Write.{AreSame}
+use Rattle.stamped_tree.specs.Plane.{StampedPlane, map_of}
+use Rattle.replica_core.specs.Replica.{IsReplica}
+use Rattle.replica_events.specs.declared.edit_spec.EditSpec.{EditSpec}
+use Rattle.cell_changes.specs.Changes.{AreChanges}
+use Rattle.board_client.specs.declared.polling.Polling.TheVariants as polling
+use Rattle.client_session.specs.declared.drawing.Outcome.{Outcome}
+use Rattle.client_session.specs.declared.joining.Telling.{Telling}
+use Rattle.client_session.specs.declared.seat.Seat.{Seat}
+use Rattle.client_session.specs.Drawing.{DrawsAndTells}
+use Rattle.client_session.specs.Joining.{IsFresh}
+use Rattle.client_session.specs.Lines.{now_line}
+use Rattle.client_session.specs.Moment.{Moment}
+use Rattle.client_session.specs.News.{Polls}
+
+-- a map that is told is a plane's
+abbrev pub IsShownAs : StampedPlane → Option StampedPlane → Type 0
+IsShownAs plane None = ⊤
+IsShownAs plane (Some shown) = AreSame (map_of shown) (map_of plane)
+
+-- what is told of the board, where cells that look different are, is what the replica holds
+pub record IsShown (s : Seat) : Type 0 where
+  pub shown : IsShownAs s.replica.plane s.shown
+
+-- each text is one of edits, and none that of a plane, as where a board announces edits
+abbrev pub AreDeltas : List (List ℕ) → Type 0
+AreDeltas [] = ⊤
+AreDeltas (text ∷ texts) = (begins_as_delta text ≡ Ok true) × AreDeltas texts
+
+-- So it is of a new seat, and so it stays behind a poll, whatever it brought, if what was announced as edits was edits; behind any
+-- whole plane; and behind a drawing.
+pub record ShowsWhatItHolds : Type 0 where
+  pub joined : (telling : Telling) (number : ℕ) (rule : GenerationsRule) (s : Seat) → IsFresh telling number rule s → IsShown s
+  pub edits : (count : ℕ) (m n : Moment) → IsReplica m.seat.replica → IsShown m.seat → (p : Polls (polling.Edits count) m n) → AreDeltas p.polled.last.texts → IsShown n.seat
+  pub whole : (m n : Moment) → Polls polling.Whole m n → IsShown n.seat
+  pub refused : (number : ℕ) (m n : Moment) → IsShown m.seat → Polls (polling.Refused number) m n → IsShown n.seat
+  pub drawn : (spec : EditSpec) (outcome : Outcome) (m n : Moment) → IsReplica m.seat.replica → IsShown m.seat → DrawsAndTells spec m n outcome → IsShown n.seat
+
+-- a line tells the cells whose state is another one in the replica's map than before
+pub record TellsDifferences (m n : Moment) (out : List ℕ) : Type 0 where
+  pub cells : List Cell
+  pub changes : AreChanges (map_of m.seat.replica.plane) (map_of n.seat.replica.plane) cells
+  pub told : n.out ≡ out ++ now_line cells
+
+-- Where cells that look different are told and what is told is what the replica holds, before and behind a poll that brought
+-- edits, it tells just those cells.
+abbrev pub TellsWhatChanged : Type 0
+TellsWhatChanged = (count : ℕ) (m n : Moment) (shown : StampedPlane) → m.seat.shown ≡ Some shown → IsShown m.seat → IsShown n.seat → Polls (polling.Edits count) m n → TellsDifferences m n m.out
