@@ -29,8 +29,8 @@ only_fresh H E fresh p held is c =
     let below : IsBelow (greatest H) p = all_below H p held in
     let same : AreSame (greatest (H ++ E)) (greatest (H ++ fresh)) = depends_on_members (H ++ E) (H ++ fresh) (λ e. members e) in
     above H E p below c ∙ ap (greater (p c)) (same c) ∙ sym (above H fresh p below c) where
-  members : (e : PlaneEdit) → Contains (H ++ E) e ↔ Contains (H ++ fresh) e
-  members e = rw (← is) ((noted_members H E e).1, (noted_members H E e).0)
+      members : (e : PlaneEdit) → Contains (H ++ E) e ↔ Contains (H ++ fresh) e
+      members e = rw (← is) ((noted_members H E e).1, (noted_members H E e).0)
 
 -- ---- a map and a journal that grow
 

@@ -1,3 +1,5 @@
 pub mod ShownLaws
 pub mod FreshLaws
 pub mod SeatLaws
+pub mod NewsLaws
+pub mod WaitLaws

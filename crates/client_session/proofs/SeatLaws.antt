@@ -117,9 +117,10 @@ shows_what_it_holds = record {
 alike : (p q r s : Writes) (cells : List Cell) → AreSame p r → AreSame q s → AreChanges p q cells → AreChanges r s cells
 alike p q r s cells first last changes = record {
   sorted = changes.sorted;
-  changed = λ cell.
-      (λ has. (sym (ap (λ w. w.state) (last (place_of cell))) ∙ ((changes.changed cell).0 has).0, λ e. ((changes.changed cell).0 has).1 (ap (λ w. w.state) (first (place_of cell)) ∙ e)),
-      λ both. (changes.changed cell).1 (ap (λ w. w.state) (last (place_of cell)) ∙ both.0, λ e. both.1 (sym (ap (λ w. w.state) (first (place_of cell))) ∙ e)));
+  changed = λ cell. (
+    λ has. (sym (ap (λ w. w.state) (last (place_of cell))) ∙ ((changes.changed cell).0 has).0, λ e. ((changes.changed cell).0 has).1 (ap (λ w. w.state) (first (place_of cell)) ∙ e)),
+    λ both. (changes.changed cell).1 (ap (λ w. w.state) (last (place_of cell)) ∙ both.0, λ e. both.1 (sym (ap (λ w. w.state) (first (place_of cell))) ∙ e)),
+  );
 }
 
 told_as_changed : (before after : Option StampedPlane) (shown p q : StampedPlane) (lines : List ℕ) (came : List PlaneEdit) (out told : List ℕ) → before ≡ Some shown → IsShownAs p before → IsShownAs q after

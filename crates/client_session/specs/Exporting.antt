@@ -1,5 +1,5 @@
 -- What is exported and saved.
-use Rattle.std.specs.Prelude.{◌≡◌, ⊤, ℕ, List, ◌++◌, Option, Some, None, Result, Ok, Err}
+use Rattle.std.specs.Prelude.{◌≡◌, ◌⊎◌, ℕ, List, ◌++◌, Option, Some, None, Result, Ok, Err}
 use Rattle.delta_exchange.specs.StateText.{IsStateText}
 use Rattle.export.specs.declared.fault.ExportFault.{ExportFault}
 use Rattle.replica_core.specs.Exporting.{IsExportOf}

@@ -7,3 +7,4 @@ pub mod Drawing
 pub mod Exporting
 pub mod Joining
 pub mod Laws
+pub mod Rows

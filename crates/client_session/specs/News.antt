@@ -13,9 +13,9 @@ use Rattle.client_session.specs.Moment.{Moment, Prints}
 use Rattle.client_session.specs.Telling.{TellsPoll}
 
 -- the board was polled, the replica took what came, and what stands behind its journal's old end was told
-pub record Polls (polling : Polling) (m n : Moment) : Type 0 where
-  pub polled : IsPoll m.line n.line m.seat.replica n.seat.replica (Ok polling)
-  pub told : TellsPoll polling (length m.seat.replica.journal) (record m.seat { replica = n.seat.replica }) n.seat m.out n.out
+pub record Polls (heard : Polling) (m n : Moment) : Type 0 where
+  pub polled : IsPoll m.line n.line m.seat.replica n.seat.replica (Ok heard)
+  pub told : TellsPoll heard (length m.seat.replica.journal) (record m.seat { replica = n.seat.replica }) n.seat m.out n.out
 
 -- a poll failed, and nothing is told of it
 pub record FailsPolling (fault : ClientFault) (m n : Moment) : Type 0 where
@@ -24,8 +24,8 @@ pub record FailsPolling (fault : ClientFault) (m n : Moment) : Type 0 where
 
 -- a poll ended well, but for what is told of it memory or room is wanting
 pub record LacksTelling (m n : Moment) : Type 0 where
-  pub polling : Polling
-  pub polled : IsPoll m.line n.line m.seat.replica n.seat.replica (Ok polling)
+  pub heard : Polling
+  pub polled : IsPoll m.line n.line m.seat.replica n.seat.replica (Ok heard)
 
 -- how a client ends at a poll: a refusal by 21 is one
 abbrev pub EndsPolling : SeatFault → Moment → Moment → Type 0
@@ -36,12 +36,12 @@ EndsPolling StoreFull m n = LacksTelling m n
 
 -- one poll, which tells what it brought; by a refusal nothing is told
 abbrev pub IsPollTold : Moment → Moment → Result Polling SeatFault → Type 0
-IsPollTold m n (Ok polling) = (polling ≢ polling.Refused 21) × Polls polling m n
+IsPollTold m n (Ok heard) = (heard ≢ polling.Refused 21) × Polls heard m n
 IsPollTold m n (Err fault) = EndsPolling fault m n
 
 -- a poll that no command asked for
 abbrev pub IsFollowing : {A : Type 0} → Moment → Moment → Result A SeatFault → Type 0
-IsFollowing m n (Ok done) = (polling : Polling) × IsPollTold m n (Ok polling)
+IsFollowing m n (Ok done) = (heard : Polling) × IsPollTold m n (Ok heard)
 IsFollowing m n (Err fault) = EndsPolling fault m n
 
 -- ---- polls of commands

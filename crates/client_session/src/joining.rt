@@ -1,8 +1,7 @@
 //! Joining a board.
 
-ghost use Rattle.std.specs.Prelude.{◌≡◌, ◌≤◌, IfErr, IfOk};
-ghost use Rattle.client_session.specs.Joining.{IsFresh, IsJoined, IsJoining};
-ghost use Rattle.client_session.specs.Moment.{IsWant};
+ghost use Rattle.std.specs.Prelude.{◌≤◌, IfOk};
+ghost use Rattle.client_session.specs.Joining.{HasNumber, IsFresh, IsJoined, IsJoining, SeatsAs};
 ghost use Rattle.board_client.specs.Client.{line_at};
 
 use crate::fault::SeatFault;
@@ -39,38 +38,54 @@ impl Seat {
     ) -> Result<Seat, SeatFault>
         ensures { IsJoining telling (line_at line.old.frames (S.known line.old.source) (K.known line.old.sink)) (line_at line.new.frames (S.known line.new.source) (K.known line.new.sink)) out.old.items out.new.items result }
     {
-        match greet(clock, alloc, line) {
-            Ok(Greeting::Seat(number, rule)) => {
-                let mut seat = match seated(alloc, out, number, rule, telling) {
-                    Ok(seat) => seat,
-                    Err(fault) => return Err(fault),
-                };
-                match seat.follow(clock, alloc, line, out) {
-                    Ok(()) => Ok(seat),
-                    Err(fault) => Err(fault),
-                }
-            }
-            Ok(Greeting::Refused(number)) => Err(SeatFault::Refused(number)),
-            Ok(Greeting::Faulty) => Err(SeatFault::Client(ClientFault::NoReply)),
-            Err(fault) => Err(SeatFault::Client(fault)),
+        let greeting = match greet(clock, alloc, line) {
+            Ok(greeting) => greeting,
+            Err(fault) => return Err(SeatFault::Client(fault)),
+        };
+        let mut seat = match seated(alloc, out, &greeting, telling) {
+            Ok(seat) => seat,
+            Err(fault) => return Err(fault),
+        };
+        match seat.follow(clock, alloc, line, out) {
+            Ok(()) => Ok(seat),
+            Err(fault) => Err(fault),
         }
     }
 }
 
-/// The seat of a number at a board of a rule, which is printed.
+/// The seat that a greeting gave, which is printed.
 fn seated(
     alloc: Global,
     out: &mut Vec<u8>,
-    number: u16,
-    rule: Rule,
+    greeting: &Greeting,
     telling: Telling,
 ) -> Result<Seat, SeatFault>
-    requires { 1 ≤ number }
-    ensures joined { IfOk result (λ seat. IsJoined telling number rule seat out.old.items out.new.items) }
-    ensures want { IfErr result IsWant }
+    requires { HasNumber greeting.now }
+    ensures { SeatsAs telling greeting.now out.old.items out.new.items result }
 {
-    let seat = fresh(alloc, number, rule, telling)?;
-    push_joined(alloc, out, number, &rule)?;
+    match greeting {
+        Greeting::Seat(number, rule) => match joined(alloc, out, *number, rule, telling) {
+            Ok(seat) => Ok(seat),
+            Err(_) => Err(SeatFault::Memory),
+        },
+        Greeting::Refused(number) => Err(SeatFault::Refused(*number)),
+        Greeting::Faulty => Err(SeatFault::Client(ClientFault::NoReply)),
+    }
+}
+
+/// The seat of a number at a board of a rule, which is printed.
+fn joined(
+    alloc: Global,
+    out: &mut Vec<u8>,
+    number: u16,
+    rule: &Rule,
+    telling: Telling,
+) -> Result<Seat, AllocError>
+    requires { 1 ≤ number }
+    ensures { IfOk result (λ seat. IsJoined telling number rule.now seat out.old.items out.new.items) }
+{
+    let seat = fresh(alloc, number, *rule, telling)?;
+    push_joined(alloc, out, number, rule)?;
     Ok(seat)
 }
 

@@ -1,0 +1,49 @@
+-- Worked values of the definitions.
+use Rattle.std.specs.Prelude.{◌≡◌, true, false, [], ◌∷◌, None, Some, codes, refl, pos, negsuc}
+use Rattle.std.specs.Fmt.{digits}
+use Rattle.generations_rule.specs.RuleText.{rule_of_text, text_of_set}
+use Rattle.edit_stamps.specs.Edit.{PlaneEdit}
+use Rattle.edit_stamps.specs.Stamp.{stamp_of}
+use Rattle.client_session.specs.Lines.{edit_line, edit_lines, edits_line, joined_line, now_line, refusal_line}
+
+-- seat 2 drew a cell, and seat 1 cleared an area
+abbrev stroke : PlaneEdit
+stroke = record { stamp = stamp_of 3 2; area = None; cells = record { x = pos 3; y = negsuc 3; state = 1 } ∷ [] }
+
+abbrev clear : PlaneEdit
+clear = record { stamp = stamp_of 2 1; area = Some (record { x = pos 0; y = pos 0; width = 2; height = 1 }); cells = [] }
+
+pub joined_at_a_board : joined_line 1 (rule_of_text (codes "/2/3")) ≡ codes "joined 1 /2/3\n"
+unfolding digits text_of_set
+joined_at_a_board = refl
+
+pub drawn_cells : edit_line stroke ≡ codes "edit 3 2 cells 3 -4 1\n"
+unfolding digits
+drawn_cells = refl
+
+pub cleared_area : edit_line clear ≡ codes "edit 2 1 area 0 0 2 1 cells\n"
+unfolding digits
+cleared_area = refl
+
+pub own_edits_are_not_told : edit_lines false 2 (stroke ∷ clear ∷ []) ≡ codes "edit 2 1 area 0 0 2 1 cells\n"
+unfolding digits
+own_edits_are_not_told = refl
+
+pub all_are_told_behind_30 : edit_lines true 2 (stroke ∷ clear ∷ []) ≡ codes "edit 3 2 cells 3 -4 1\nedit 2 1 area 0 0 2 1 cells\n"
+unfolding digits
+all_are_told_behind_30 = refl
+
+pub two_cells_look_different : now_line (record { x = pos 1; y = pos 0; state = 2 } ∷ record { x = pos 0; y = pos 7; state = 0 } ∷ []) ≡ codes "now 1 0 2 0 7 0\n"
+unfolding digits
+two_cells_look_different = refl
+
+pub no_cell_looks_different : now_line [] ≡ []
+no_cell_looks_different = refl
+
+pub no_edit_came : edits_line 0 ≡ codes "edits 0\n"
+unfolding digits
+no_edit_came = refl
+
+pub closed : refusal_line 30 ≡ codes "refused 30 Closed\n"
+unfolding digits
+closed = refl
