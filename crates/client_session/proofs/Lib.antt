@@ -1,5 +1,5 @@
 pub mod ShownLaws
 pub mod FreshLaws
 pub mod SeatLaws
-pub mod NewsLaws
+pub mod PasteLaws
 pub mod WaitLaws

@@ -1,6 +1,6 @@
 //! Drawings.
 
-ghost use Rattle.std.specs.Prelude.{◌≡◌, IfErr, OnOk, option_map};
+ghost use Rattle.std.specs.Prelude.{◌≡◌, IfErr, IfOk, OnOk, option_map};
 ghost use Rattle.replica_events.specs.declared.edit_spec.EditSpec.TheVariants.{Copy, Or};
 ghost use Rattle.genedit_lib.specs.Patterns.{pattern_in};
 ghost use Rattle.client_session.specs.Drawing.{DrawsAs, IsDrawCommand, IsPaste, TellsDrawing, TellsDrawn, outcome_of};
@@ -14,11 +14,11 @@ use crate::telling::tell_own;
 use board_client::{Drawing, draw};
 use devices::{Sink, Source};
 use frame_line::Line;
-use genedit_lib::push_line;
+use genedit_lib::{Patterns, push_line};
 use genedit_script::PatternName;
 use replica_core::Reply;
 use replica_events::EditSpec;
-use std::alloc::Global;
+use std::alloc::{AllocError, Global};
 use std::time::Clock;
 
 /// The refusal behind which a board may have an edit or not.
@@ -31,6 +31,13 @@ pub enum Outcome {
     Told,
     /// The push was refused by 30: the board may have the edit or not. Nothing is pushed any more.
     InDoubt,
+}
+
+/// Where the upper left corner of a pattern's box goes.
+#[derive(Clone, Copy, Debug, PartialEq, Eq)]
+pub struct Corner {
+    pub x: i32,
+    pub y: i32,
 }
 
 impl Seat {
@@ -54,8 +61,8 @@ impl Seat {
         }
     }
 
-    /// `draw` of every cell of the box of a named pattern, with its upper left corner at x and y. A name that
-    /// stands for no pattern is refused by 38, and nothing is said on the line.
+    /// `draw` of every cell of the box of a named pattern. A name that stands for no pattern is refused by 38,
+    /// and nothing is said on the line.
     pub fn copy<C: Clock, S: Source + Drop, K: Sink + Drop>(
         &mut self,
         clock: &C,
@@ -63,16 +70,14 @@ impl Seat {
         line: &mut Line<S, K>,
         out: &mut Vec<u8>,
         name: &PatternName,
-        x: i32,
-        y: i32,
+        corner: Corner,
     ) -> Result<Outcome, SeatFault>
-        ensures { IsPaste (option_map (λ pattern. Copy pattern x y) (pattern_in self.old.patterns name.now)) (moment_at line.old.frames (S.known line.old.source) (K.known line.old.sink) self.old out.old.items) (moment_at line.new.frames (S.known line.new.source) (K.known line.new.sink) self.new out.new.items) result }
+        ensures { IsPaste (option_map (λ pattern. Copy pattern corner.x corner.y) (pattern_in self.old.patterns name.now)) (moment_at line.old.frames (S.known line.old.source) (K.known line.old.sink) self.old out.old.items) (moment_at line.new.frames (S.known line.new.source) (K.known line.new.sink) self.new out.new.items) result }
     {
-        let pattern = match self.patterns.copy_of(name) {
-            Ok(pattern) => pattern,
+        let spec = match copied(&self.patterns, name, corner) {
+            Ok(spec) => spec,
             Err(_) => return Err(SeatFault::Memory),
         };
-        let spec = pattern.map(|pattern| EditSpec::Copy(pattern, x, y));
         self.paste(clock, alloc, line, out, spec)
     }
 
@@ -84,16 +89,14 @@ impl Seat {
         line: &mut Line<S, K>,
         out: &mut Vec<u8>,
         name: &PatternName,
-        x: i32,
-        y: i32,
+        corner: Corner,
     ) -> Result<Outcome, SeatFault>
-        ensures { IsPaste (option_map (λ pattern. Or pattern x y) (pattern_in self.old.patterns name.now)) (moment_at line.old.frames (S.known line.old.source) (K.known line.old.sink) self.old out.old.items) (moment_at line.new.frames (S.known line.new.source) (K.known line.new.sink) self.new out.new.items) result }
+        ensures { IsPaste (option_map (λ pattern. Or pattern corner.x corner.y) (pattern_in self.old.patterns name.now)) (moment_at line.old.frames (S.known line.old.source) (K.known line.old.sink) self.old out.old.items) (moment_at line.new.frames (S.known line.new.source) (K.known line.new.sink) self.new out.new.items) result }
     {
-        let pattern = match self.patterns.copy_of(name) {
-            Ok(pattern) => pattern,
+        let spec = match ored(&self.patterns, name, corner) {
+            Ok(spec) => spec,
             Err(_) => return Err(SeatFault::Memory),
         };
-        let spec = pattern.map(|pattern| EditSpec::Or(pattern, x, y));
         self.paste(clock, alloc, line, out, spec)
     }
 
@@ -197,4 +200,30 @@ fn outcome_of(drawing: Drawing) -> Outcome
         Drawing::Unpublished(CLOSED) => Outcome::InDoubt,
         _ => Outcome::Told,
     }
+}
+
+/// What is to be drawn where every cell of a named pattern's box is, if the name stands for a pattern.
+fn copied(
+    patterns: &Patterns,
+    name: &PatternName,
+    corner: Corner,
+) -> Result<Option<EditSpec>, AllocError>
+    ensures { IfOk result (λ spec. spec ≡ option_map (λ pattern. Copy pattern corner.x corner.y) (pattern_in patterns.now name.now)) }
+{
+    let pattern = patterns.copy_of(name)?;
+    let spec = pattern.map(|pattern| EditSpec::Copy(pattern, corner.x, corner.y));
+    Ok(spec)
+}
+
+/// The same of its nonzero cells alone.
+fn ored(
+    patterns: &Patterns,
+    name: &PatternName,
+    corner: Corner,
+) -> Result<Option<EditSpec>, AllocError>
+    ensures { IfOk result (λ spec. spec ≡ option_map (λ pattern. Or pattern corner.x corner.y) (pattern_in patterns.now name.now)) }
+{
+    let pattern = patterns.copy_of(name)?;
+    let spec = pattern.map(|pattern| EditSpec::Or(pattern, corner.x, corner.y));
+    Ok(spec)
 }

@@ -16,7 +16,7 @@ mod telling;
 mod waiting;
 
 pub use board_client::leave;
-pub use drawing::Outcome;
+pub use drawing::{Corner, Outcome};
 pub use fault::SeatFault;
 pub use joining::Telling;
 pub use laws::session_laws;

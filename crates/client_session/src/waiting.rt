@@ -42,7 +42,8 @@ impl Seat {
         for _turn in 0..TURNS {
             match self.news(clock, alloc, line, out) {
                 Ok(News::Edits) => {}
-                Ok(News::Whole | News::Refused) => return Ok(()),
+                Ok(News::Whole) => return Ok(()),
+                Ok(News::Refused) => return Ok(()),
                 Err(fault) => return Err(fault),
             }
             if self.others() >= awaited as usize {

@@ -1,7 +1,7 @@
 //! Clients of the board in memory.
 
 use crate::board::{Replies, Requests, Shared};
-use client_session::{Outcome, Patience, Seat, SeatFault, Telling};
+use client_session::{Corner, Outcome, Patience, Seat, SeatFault, Telling};
 use edit_stamps::{Cell, Rect};
 use frame_line::Line;
 use genedit_script::{Command, PatternName, PatternText, read_script};
@@ -102,7 +102,7 @@ impl Client {
         y: i32,
     ) -> Result<Outcome, SeatFault> {
         self.seat
-            .copy(clock, alloc, &mut self.line, &mut self.out, name, x, y)
+            .copy(clock, alloc, &mut self.line, &mut self.out, name, Corner { x, y })
     }
 
     pub fn or<C: Clock>(
@@ -114,7 +114,7 @@ impl Client {
         y: i32,
     ) -> Result<Outcome, SeatFault> {
         self.seat
-            .or(clock, alloc, &mut self.line, &mut self.out, name, x, y)
+            .or(clock, alloc, &mut self.line, &mut self.out, name, Corner { x, y })
     }
 
     pub fn name(
