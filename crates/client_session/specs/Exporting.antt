@@ -1,17 +1,19 @@
 -- What is exported and saved.
-use Rattle.std.specs.Prelude.{◌≡◌, ◌⊎◌, ℕ, List, ◌++◌, Option, Some, None, Result, Ok, Err}
+use Rattle.std.specs.Prelude.{◌≡◌, ◌⊎◌, ⊤, ◌^◌, ℕ, List, ◌++◌, Option, Some, None, Result, Ok, Err}
 use Rattle.delta_exchange.specs.StateText.{IsStateText}
 use Rattle.export.specs.declared.fault.ExportFault.{ExportFault}
+use Rattle.export.specs.Export.{IsRoomWanted}
 use Rattle.replica_core.specs.Exporting.{IsExportOf}
 use Rattle.replica_core.specs.Fault.{fault_of_export}
 use Rattle.replica_core.specs.declared.event.Reply.TheVariants as reply
 use Rattle.stamped_tree.specs.Plane.{map_of}
 use Rattle.genedit_lib.specs.Output.{reply_line}
 use Rattle.client_session.specs.declared.fault.SeatFault.{SeatFault}
+use Rattle.client_session.specs.declared.fault.SeatFault.TheVariants.{Memory, StoreFull}
 use Rattle.client_session.specs.declared.polling.News.{News}
 use Rattle.client_session.specs.declared.polling.News.TheVariants as news
 use Rattle.client_session.specs.declared.seat.Seat.{Seat}
-use Rattle.client_session.specs.Moment.{IsWant, Moment}
+use Rattle.client_session.specs.Moment.{Moment}
 use Rattle.client_session.specs.News.{BehindPoll, Leaves}
 
 -- the export is refused, and its refusal is printed
@@ -25,10 +27,16 @@ abbrev pub IsTextGiven : {B : Type 0} → (B → List ℕ) → ℕ → Seat → 
 IsTextGiven bytes_of generation s out out' (Some text) = IsExportOf s.replica generation (Ok (bytes_of text)) × (out' ≡ out)
 IsTextGiven bytes_of generation s out out' None = PrintsExportRefusal generation s out out'
 
+-- memory is wanting, or room for the run of a universe
+abbrev pub IsExportWant : ℕ → Seat → SeatFault → Type 0
+IsExportWant generation s Memory = ⊤
+IsExportWant generation s StoreFull = IsRoomWanted s.replica.rule s.replica.plane generation (2 ^ 26)
+IsExportWant generation s fault = ⊥
+
 -- an export's text, or its refusal, which is printed; or memory or room is wanting
 abbrev pub IsExportAnswer : {B : Type 0} → (B → List ℕ) → ℕ → Seat → List ℕ → List ℕ → Result (Option B) SeatFault → Type 0
 IsExportAnswer bytes_of generation s out out' (Ok text) = IsTextGiven bytes_of generation s out out' text
-IsExportAnswer bytes_of generation s out out' (Err fault) = IsWant fault
+IsExportAnswer bytes_of generation s out out' (Err fault) = IsExportWant generation s fault
 
 -- an export's text is printed
 pub record PrintsExport (generation : ℕ) (s : Seat) (out out' : List ℕ) : Type 0 where
@@ -39,13 +47,13 @@ pub record PrintsExport (generation : ℕ) (s : Seat) (out out' : List ℕ) : Ty
 -- the text is printed, or the refusal
 abbrev pub IsExportPrint : {A : Type 0} → ℕ → Seat → List ℕ → List ℕ → Result A SeatFault → Type 0
 IsExportPrint generation s out out' (Ok done) = PrintsExport generation s out out' ⊎ PrintsExportRefusal generation s out out'
-IsExportPrint generation s out out' (Err fault) = IsWant fault
+IsExportPrint generation s out out' (Err fault) = IsExportWant generation s fault
 
 -- the text of a message of the replica's map, or memory is wanting
 abbrev pub IsStateAnswer : {B : Type 0} → (B → List ℕ) → Seat → Result (Option B) SeatFault → Type 0
 IsStateAnswer bytes_of s (Ok (Some text)) = IsStateText s.replica.rule (map_of s.replica.plane) (bytes_of text)
 IsStateAnswer bytes_of s (Ok None) = ⊥
-IsStateAnswer bytes_of s (Err fault) = IsWant fault
+IsStateAnswer bytes_of s (Err fault) = fault ≡ Memory
 
 -- ---- commands: what the last poll brought is in what is made
 

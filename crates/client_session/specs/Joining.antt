@@ -13,12 +13,11 @@ use Rattle.board_client.specs.declared.fault.ClientFault.TheVariants.{NoReply}
 use Rattle.board_client.specs.Client.{LineState}
 use Rattle.board_client.specs.Greeting.{IsGreeting}
 use Rattle.client_session.specs.declared.fault.SeatFault.{SeatFault}
-use Rattle.client_session.specs.declared.fault.SeatFault.TheVariants.{Client, Refused}
+use Rattle.client_session.specs.declared.fault.SeatFault.TheVariants.{Client, Refused, Memory}
 use Rattle.client_session.specs.declared.joining.Telling.{Telling}
 use Rattle.client_session.specs.declared.joining.Telling.TheVariants.{Edits, Changes}
 use Rattle.client_session.specs.declared.seat.Seat.{Seat}
 use Rattle.client_session.specs.Lines.{joined_line}
-use Rattle.client_session.specs.Moment.{IsWant}
 use Rattle.client_session.specs.News.{IsFollowing}
 
 -- no map is told; or one is where nothing was written
@@ -49,7 +48,7 @@ HasNumber greeting.Faulty = ⊤
 -- by what was greeted a seat was made and printed, or memory is wanting for it; or there is none
 abbrev pub SeatsAs : Telling → Greeting → List ℕ → List ℕ → Result Seat SeatFault → Type 0
 SeatsAs telling (greeting.Seat number rule) out out' (Ok seat) = IsJoined telling number rule seat out out'
-SeatsAs telling (greeting.Seat number rule) out out' (Err fault) = IsWant fault
+SeatsAs telling (greeting.Seat number rule) out out' (Err fault) = fault ≡ Memory
 SeatsAs telling (greeting.Refused number) out out' result = (result ≡ Err (Refused number)) × (out' ≡ out)
 SeatsAs telling greeting.Faulty out out' result = (result ≡ Err (Client NoReply)) × (out' ≡ out)
 

@@ -52,7 +52,7 @@ pub record TellsNumber (line_of : ℕ → List ℕ) (old new : Seat) (out out' :
 -- it is told, or memory is wanting
 abbrev pub IsNumberTold : {A : Type 0} → (ℕ → List ℕ) → Seat → Seat → List ℕ → List ℕ → Result A SeatFault → Type 0
 IsNumberTold line_of old new out out' (Ok done) = TellsNumber line_of old new out out'
-IsNumberTold line_of old new out out' (Err fault) = IsWant fault × (new ≡ old)
+IsNumberTold line_of old new out out' (Err fault) = (fault ≡ Memory) × (new ≡ old)
 
 -- nothing was said on the line meanwhile
 abbrev pub TellsCount : {A : Type 0} → (ℕ → List ℕ) → Moment → Moment → Result A SeatFault → Type 0
@@ -61,4 +61,4 @@ TellsCount line_of m n result = (n.line ≡ m.line) × IsNumberTold line_of m.se
 -- a text is printed, or memory is wanting for it
 abbrev pub IsPrinted : {A : Type 0} → A → List ℕ → Moment → Moment → Result A SeatFault → Type 0
 IsPrinted answer text m n (Ok given) = (given ≡ answer) × Prints text m n
-IsPrinted answer text m n (Err fault) = IsWant fault × (n.line ≡ m.line) × (n.seat ≡ m.seat)
+IsPrinted answer text m n (Err fault) = (fault ≡ Memory) × (n.line ≡ m.line) × (n.seat ≡ m.seat)
