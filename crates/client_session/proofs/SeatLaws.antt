@@ -1,6 +1,5 @@
 -- What is told of a board is what the replica holds.
 use Rattle.std.proofs.Common.{◌≡◌, ℕ, true, List, [], ◌∷◌, ◌++◌, Option, Some, None, Result, Ok, Err, length, drop, refl, sym, ap, subst, ◌∙◌}
-use Rattle.std.specs.Prelude.{IsTrue}
 use Rattle.generations_rule.specs.Rule.{GenerationsRule}
 use Rattle.edit_stamps.specs.Edit.{PlaneEdit, greatest}
 use Rattle.stamped_writes.specs.Write.{Writes, AreSame, greater, joined, unwritten}
@@ -29,7 +28,7 @@ use Rattle.client_session.specs.Joining.{IsBlank}
 use Rattle.client_session.specs.Lines.{drawn_line, now_line}
 use Rattle.client_session.specs.Moment.{Moment}
 use Rattle.client_session.specs.Telling.{ShowsAll, TellsCame}
-use Rattle.client_session.specs.Laws.{AreDeltas, IsShown, IsShownAs, ShowsWhatItHolds, TellsDifferences, TellsWhatChanged}
+use Rattle.client_session.specs.Laws.{AreDeltas, IsShown, IsShownAs, ShowsWhatItHolds, TellsWhatChanged}
 use Rattle.client_session.proofs.FreshLaws.{Grows, HoldsAll, grows_by, grows_not, grows_on, joins_behind}
 
 -- ---- what a replica takes

@@ -1,12 +1,11 @@
 -- Waiting, poll by poll.
-use Rattle.std.proofs.Common.{◌≡◌, ℕ, zero, suc, ◌+◌, ◌<◌, ◌≤◌, Result, Ok, Err, refl, sym, subst, add-one, inl, inr, arith}
+use Rattle.std.proofs.Common.{ℕ, ◌+◌, ◌<◌, ◌≤◌, Result, Ok, Err, refl, sym, subst, add-one, inl, inr}
 use Rattle.client_session.specs.declared.fault.SeatFault.{SeatFault}
-use Rattle.client_session.specs.declared.polling.News.{News}
 use Rattle.client_session.specs.declared.polling.News.TheVariants as news
 use Rattle.client_session.specs.Lines.{edits_line, late_line}
 use Rattle.client_session.specs.Moment.{Moment, TellsCount, others}
 use Rattle.client_session.specs.News.{Brings, EndsPolling}
-use Rattle.client_session.specs.Waiting.{AreInVain, EndsWait, HasEnough, IsInVain, IsWait}
+use Rattle.client_session.specs.Waiting.{AreInVain, EndsWait, HasEnough, IsWait}
 
 pub vain_none : (awaited : ℕ) (m : Moment) → AreInVain awaited 0 m m
 vain_none awaited m = refl

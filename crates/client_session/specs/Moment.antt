@@ -8,7 +8,7 @@ use Rattle.board_client.specs.Client.{LineState, line_at}
 use Rattle.client_session.specs.declared.fault.SeatFault.{SeatFault}
 use Rattle.client_session.specs.declared.fault.SeatFault.TheVariants.{Client, Refused, Memory, StoreFull}
 use Rattle.client_session.specs.declared.seat.Seat.{Seat}
-use Rattle.client_session.specs.Lines.{edits_line, is_of_another}
+use Rattle.client_session.specs.Lines.{is_of_another}
 
 -- the line to the server, the seat, and all that was printed
 pub record Moment : Type 0 where
