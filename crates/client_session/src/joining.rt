@@ -7,13 +7,14 @@ ghost use Rattle.board_client.specs.Client.{line_at};
 use crate::fault::SeatFault;
 use crate::lines::push_joined;
 use crate::seat::Seat;
-use crate::telling::blank;
+use crate::telling::{ROOM, blank};
 use board_client::{ClientFault, greet};
 use client_protocol::Greeting;
 use devices::{Sink, Source};
 use frame_line::Line;
 use genedit_lib::Patterns;
 use generations_rule::Rule;
+use keyed_hash::HashKey;
 use replica_core::Replica;
 use std::alloc::{AllocError, Global};
 use std::time::Clock;
@@ -28,13 +29,15 @@ pub enum Telling {
 }
 
 impl Seat {
-    /// Greets the server, prints `joined SEAT RULE`, polls, and tells what came.
+    /// Greets the server, prints `joined SEAT RULE`, polls, and tells what came. What the seat holds is found
+    /// by a key's hashes.
     pub fn join<C: Clock, S: Source + Drop, K: Sink + Drop>(
         clock: &C,
         alloc: Global,
         line: &mut Line<S, K>,
         out: &mut Vec<u8>,
         telling: Telling,
+        key: HashKey,
     ) -> Result<Seat, SeatFault>
         ensures { IsJoining telling (line_at line.old.frames (S.known line.old.source) (K.known line.old.sink)) (line_at line.new.frames (S.known line.new.source) (K.known line.new.sink)) out.old.items out.new.items result }
     {
@@ -42,7 +45,7 @@ impl Seat {
             Ok(greeting) => greeting,
             Err(fault) => return Err(SeatFault::Client(fault)),
         };
-        let mut seat = match seated(alloc, out, &greeting, telling) {
+        let mut seat = match seated(alloc, out, &greeting, telling, key) {
             Ok(seat) => seat,
             Err(fault) => return Err(fault),
         };
@@ -59,12 +62,13 @@ fn seated(
     out: &mut Vec<u8>,
     greeting: &Greeting,
     telling: Telling,
+    key: HashKey,
 ) -> Result<Seat, SeatFault>
     requires { HasNumber greeting.now }
     ensures { SeatsAs telling greeting.now out.old.items out.new.items result }
 {
     match greeting {
-        Greeting::Seat(number, rule) => match joined(alloc, out, *number, rule, telling) {
+        Greeting::Seat(number, rule) => match joined(alloc, out, *number, rule, telling, key) {
             Ok(seat) => Ok(seat),
             Err(_) => Err(SeatFault::Memory),
         },
@@ -80,27 +84,34 @@ fn joined(
     number: u16,
     rule: &Rule,
     telling: Telling,
+    key: HashKey,
 ) -> Result<Seat, AllocError>
     requires { 1 ≤ number }
     ensures { IfOk result (λ seat. IsJoined telling number rule.now seat out.old.items out.new.items) }
 {
-    let seat = fresh(alloc, number, *rule, telling)?;
+    let seat = fresh(alloc, number, *rule, telling, key)?;
     push_joined(alloc, out, number, rule)?;
     Ok(seat)
 }
 
 /// A seat that was handed nothing.
-fn fresh(alloc: Global, number: u16, rule: Rule, telling: Telling) -> Result<Seat, AllocError>
+fn fresh(
+    alloc: Global,
+    number: u16,
+    rule: Rule,
+    telling: Telling,
+    key: HashKey,
+) -> Result<Seat, AllocError>
     requires { 1 ≤ number }
     ensures { IfOk result (IsFresh telling number rule) }
 {
-    let replica = match Replica::new(alloc, rule, number) {
+    let replica = match Replica::with_room_and_key(alloc, rule, number, ROOM, key) {
         Ok(replica) => replica,
         Err(_) => return Err(AllocError),
     };
     let shown = match telling {
         Telling::Edits => None,
-        Telling::Changes => Some(blank(alloc)?),
+        Telling::Changes => Some(blank(alloc, key)?),
     };
     Ok(Seat {
         replica,

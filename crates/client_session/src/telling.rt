@@ -12,12 +12,13 @@ use crate::lines::{push_edits, push_now};
 use cell_changes::Watched;
 use edit_stamps::Edit;
 use held_plane::{Added, HeldPlane};
+use keyed_hash::HashKey;
 use multistate_rle::Cell;
 use stamped_tree::{Plane, StoreFault};
 use std::alloc::{AllocError, Global};
 
 /// How many squares the plane that was told may have, as the replica's own.
-const ROOM: u32 = 0x400_0000;
+pub(crate) const ROOM: u32 = 0x400_0000;
 
 /// Tells edits that came: each of them, or the cells that look different.
 pub(crate) fn tell_came(
@@ -109,7 +110,7 @@ fn held(alloc: Global, plane: &Plane) -> Result<HeldPlane, SeatFault>
     ensures map { IfOk result (λ copy. AreSame (map_of copy) (map_of plane.now)) }
     ensures want { IfErr result IsWant }
 {
-    let mut copy = blank(alloc)?;
+    let mut copy = blank(alloc, plane.key())?;
     match copy.join(Added::Map(plane)) {
         Ok(()) => Ok(copy),
         Err(fault) => Err(want(fault)),
@@ -117,10 +118,10 @@ fn held(alloc: Global, plane: &Plane) -> Result<HeldPlane, SeatFault>
 }
 
 /// A plane where nothing was written.
-pub(crate) fn blank(alloc: Global) -> Result<HeldPlane, AllocError>
+pub(crate) fn blank(alloc: Global, key: HashKey) -> Result<HeldPlane, AllocError>
     ensures { IfOk result (λ plane. AreSame (map_of plane) (λ _. unwritten)) }
 {
-    HeldPlane::with_room(alloc, ROOM)
+    HeldPlane::with_room_and_key(alloc, ROOM, key)
 }
 
 fn want(fault: StoreFault) -> SeatFault

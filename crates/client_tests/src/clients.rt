@@ -5,6 +5,7 @@ use client_session::{Corner, Outcome, Patience, Seat, SeatFault, Telling};
 use edit_stamps::{Cell, Rect};
 use frame_line::Line;
 use genedit_script::{Command, PatternName, PatternText, read_script};
+use keyed_hash::HashKey;
 use replica_events::{CellList, EditSpec};
 use std::alloc::{AllocError, Global};
 use std::rc::Rc;
@@ -52,7 +53,7 @@ impl Client {
             Requests::new(Rc::clone(board)?, seat),
         );
         let mut out = Vec::new(alloc);
-        match Seat::join(clock, alloc, &mut line, &mut out, telling) {
+        match Seat::join(clock, alloc, &mut line, &mut out, telling, HashKey::fixed()) {
             Ok(seat) => Ok(Client { line, seat, out }),
             Err(_) => {
                 end(line);
@@ -101,8 +102,14 @@ impl Client {
         x: i32,
         y: i32,
     ) -> Result<Outcome, SeatFault> {
-        self.seat
-            .copy(clock, alloc, &mut self.line, &mut self.out, name, Corner { x, y })
+        self.seat.copy(
+            clock,
+            alloc,
+            &mut self.line,
+            &mut self.out,
+            name,
+            Corner { x, y },
+        )
     }
 
     pub fn or<C: Clock>(
@@ -113,8 +120,14 @@ impl Client {
         x: i32,
         y: i32,
     ) -> Result<Outcome, SeatFault> {
-        self.seat
-            .or(clock, alloc, &mut self.line, &mut self.out, name, Corner { x, y })
+        self.seat.or(
+            clock,
+            alloc,
+            &mut self.line,
+            &mut self.out,
+            name,
+            Corner { x, y },
+        )
     }
 
     pub fn name(
