@@ -7,6 +7,7 @@ mod passes;
 use crate::timing::quickest;
 use anyhow::Result;
 use indexmap::IndexSet;
+use keyed_hash::HashKey;
 use leaf_merge_lanes::Leaf;
 use pairs::{Pair, insert, merge, right_places, scattered};
 use passes::{copy_often, hash_often, insert_often, merge_often};
@@ -73,8 +74,8 @@ fn distinct(alloc: Global, pairs: &[Pair]) -> Result<usize, AllocError> {
 }
 
 /// The set of the first leaves.
-fn set_of(alloc: Global, pairs: &[Pair]) -> Result<IndexSet<Leaf>, AllocError> {
-    let mut set = IndexSet::new(alloc);
+fn set_of(alloc: Global, pairs: &[Pair]) -> Result<IndexSet<Leaf, HashKey>, AllocError> {
+    let mut set = IndexSet::with_hasher(alloc, HashKey::fixed());
     insert(&mut set, pairs)?;
     Ok(set)
 }

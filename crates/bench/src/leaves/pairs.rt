@@ -2,11 +2,12 @@
 
 use edit_stamps::Write;
 use indexmap::IndexSet;
+use keyed_hash::HashKey;
 use leaf_merge_lanes::Leaf;
 use rand_core::utils::NextWord;
 use rand_pcg::Pcg32;
 use std::alloc::{AllocError, Global};
-use std::hash::{DefaultHasher, Hash, Hasher};
+use std::hash::BuildHasher;
 
 /// Two leaves, and what they were merged to.
 #[derive(Clone, Copy)]
@@ -91,18 +92,17 @@ fn is_greater(merged: Write, first: Write, second: Write) -> bool {
 /// Hashes the first leaf of each pair.
 #[inline(never)]
 pub fn hash(pairs: &[Pair], start: u64) -> u64 {
+    let key = HashKey::fixed();
     let mut number = start;
     for pair in pairs {
-        let mut hasher = DefaultHasher::default();
-        pair.first.hash(&mut hasher);
-        number ^= hasher.finish();
+        number ^= key.hash_one(&pair.first);
     }
     number
 }
 
 /// Inserts the first leaf of each pair.
 #[inline(never)]
-pub fn insert(set: &mut IndexSet<Leaf>, pairs: &[Pair]) -> Result<(), AllocError> {
+pub fn insert(set: &mut IndexSet<Leaf, HashKey>, pairs: &[Pair]) -> Result<(), AllocError> {
     for pair in pairs {
         set.insert(pair.first)?;
     }

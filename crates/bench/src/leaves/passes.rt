@@ -3,6 +3,7 @@
 use crate::leaves::pairs::{Pair, hash, insert, merge};
 use anyhow::{Result, bail};
 use indexmap::IndexSet;
+use keyed_hash::HashKey;
 use leaf_merge_lanes::Leaf;
 use std::alloc::AllocError;
 
@@ -38,7 +39,7 @@ pub fn hash_often(pairs: &[Pair], repeats: u32) -> Result<()> {
 }
 
 pub fn insert_often(
-    set: &mut IndexSet<Leaf>,
+    set: &mut IndexSet<Leaf, HashKey>,
     pairs: &[Pair],
     repeats: u32,
 ) -> Result<(), AllocError> {
