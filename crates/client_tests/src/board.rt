@@ -95,10 +95,12 @@ impl Board {
             self.reply(seat, &[0, 255, 255, 255, 255])?;
             return self.reply(seat, &text);
         }
-        let [a, b, c, d] = (published.saturating_sub(handed) as u32).to_be_bytes();
+        let [a, b, c, d] = u32::try_from(published.saturating_sub(handed))
+            .ok()?
+            .to_be_bytes();
         self.reply(seat, &[0, a, b, c, d])?;
         for index in handed..published {
-            let text = self.replica.delta(index as u32, 1).ok()?;
+            let text = self.replica.delta(u32::try_from(index).ok()?, 1).ok()?;
             self.reply(seat, &text)?;
         }
         Some(())
@@ -107,9 +109,8 @@ impl Board {
     /// Puts a frame behind what came to a seat.
     fn reply(&mut self, seat: usize, body: &[u8]) -> Option<()> {
         let side = self.seats.get_mut(seat)?;
-        side.replies
-            .extend_from_slice(&(body.len() as u32).to_be_bytes())
-            .ok()?;
+        let length = u32::try_from(body.len()).ok()?;
+        side.replies.extend_from_slice(&length.to_be_bytes()).ok()?;
         side.replies.extend_from_slice(body).ok()
     }
 
