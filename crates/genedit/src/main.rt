@@ -1,23 +1,26 @@
 //! `genedit`: patterns of Generations automata that many edit.
 #![tactic(auto)]
 
+mod clients;
 mod pictures;
 mod tasks;
 
-ghost use Rattle.genedit_words.specs.Given.{IsServable};
+ghost use Rattle.genedit_words.specs.Given.{IsInRange};
 
+use crate::clients::join;
 use crate::pictures::view;
 use crate::tasks::{check, rle, run, serve};
 use genedit_io::RunFault;
 use genedit_words::{Ending, Task, asked, given};
 use std::alloc::{AllocGlobal, Global};
-use std::io::IsTerminal;
+use std::io::{IsTerminal, StdinLock};
 use std::net::{Net, TcpListener, TcpStream};
 use std::process::ExitCode;
 use std::random::RandomSource;
 use std::rt::{Env, Files};
 use std::sync::Wait;
 use std::thread::Threads;
+use std::time::Clock;
 
 fn main(rt: HostRuntime) -> ExitCode {
     match work(&rt, rt.stdout().is_terminal()) {
@@ -31,7 +34,7 @@ fn main(rt: HostRuntime) -> ExitCode {
 fn work<
     R: Env
         + Files
-        + Input
+        + Input<Reader = StdinLock<'static>>
         + Print
         + Eprint
         + AllocGlobal
@@ -39,6 +42,7 @@ fn work<
         + Net<Listener = TcpListener, Stream = TcpStream>
         + Threads
         + Wait
+        + Clock
         + Copy
         + Drop
         + Send
@@ -54,20 +58,21 @@ fn work<
 /// Does a task; the status of the process.
 fn perform<
     R: Files
-        + Input
+        + Input<Reader = StdinLock<'static>>
         + Print
         + Eprint
         + RandomSource
         + Net<Listener = TcpListener, Stream = TcpStream>
         + Threads
         + Wait
+        + Clock
         + Copy
         + Drop
         + Send
         + Sync
         + 'static,
 >(rt: &R, alloc: Global, task: &Task<'_>, to_terminal: bool) -> Result<u8, RunFault>
-    requires { IsServable task.now }
+    requires { IsInRange task.now }
 {
     match task {
         Task::Run => run(rt, alloc),
@@ -75,5 +80,6 @@ fn perform<
         Task::Rle(rule) => rle(rt, alloc, rule),
         Task::View(viewing) => view(rt, alloc, viewing, to_terminal),
         Task::Serve(server) => serve(rt, alloc, *server),
+        Task::Join(client) => join(rt, alloc, *client),
     }
 }

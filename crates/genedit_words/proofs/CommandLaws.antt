@@ -18,8 +18,8 @@ use Rattle.clap.specs.Faults.{check_fault, defaults_fault, entered_fault, fault_
 use Rattle.clap.specs.declared.builder.value_parser.Reading.{Reading}
 use Rattle.clap.specs.declared.builder.value_parser.Reading.TheVariants as reading
 use Rattle.clap.specs.declared.builder.value_parser.ValueParser.TheVariants as vp
-use Rattle.genedit_words.specs.Given.{HasFlag, HasNumber, HasRule, HasServer, HasView, IsNamed, MayHaveNumber}
-use Rattle.genedit_words.specs.Words.{check_shape, file_argument, flag, gen_option, genedit_app, optional, port_option, rle_shape, rule_option, run_shape, serve_shape, sessions_option, view_shape}
+use Rattle.genedit_words.specs.Given.{HasClient, HasFlag, HasNumber, HasRule, HasServer, HasView, IsNamed, MayHaveNumber}
+use Rattle.genedit_words.specs.Words.{check_shape, every_option, file_argument, flag, gen_option, genedit_app, join_shape, optional, port_option, rle_shape, rule_option, run_shape, serve_shape, sessions_option, view_shape}
 use Rattle.genedit_words.proofs.Stops.{both_pass, stops_at_help, walk_passes}
 use Rattle.genedit_words.proofs.RowFacts.{IsWellUsed, UsesWell, all_ok, both_true, rows_well}
 use Rattle.genedit_words.proofs.RuleFacts.{HasValue, drops_minus, first_passes, fit_default, fits, flag_well, found_value, given_value, is_flag_text, keeps_all, no_default, ok, set_well}
@@ -43,6 +43,9 @@ view_built = built_leaf (inherited whole.top view_shape)
 abbrev serve_built : Shape
 serve_built = built_leaf (inherited whole.top serve_shape)
 
+abbrev join_built : Shape
+join_built = built_leaf (inherited whole.top join_shape)
+
 -- ---- each use of an option adds a row that is in order
 
 abbrev given_rule : Rule
@@ -62,6 +65,25 @@ port_well = set_well given_port refl (λ rows h. cc) (λ v vs passes. first_pass
 
 sessions_well : UsesWell ok false given_sessions
 sessions_well = set_well given_sessions refl (λ rows h. cc) (λ v vs passes. first_passes false (vp.Signed (pos 1) (pos 64)) v vs passes)
+
+-- the arguments of `join` beside its port
+abbrev given_every : Rule
+given_every = with_index 1 (filled every_option)
+
+abbrev given_follow : Rule
+given_follow = with_index 1 (filled (flag (codes "follow")))
+
+abbrev given_changes : Rule
+given_changes = with_index 1 (filled (flag (codes "changes")))
+
+every_well : UsesWell ok false given_every
+every_well = set_well given_every refl (λ rows h. cc) (λ v vs passes. first_passes false (vp.Signed (pos 1) (pos 60000)) v vs passes)
+
+follow_well : UsesWell ok false given_follow
+follow_well = flag_well given_follow refl refl refl refl
+
+changes_well : UsesWell ok false given_changes
+changes_well = flag_well given_changes refl refl refl refl
 
 -- the arguments of `view` as they are built: the file is the only one with a place
 abbrev given_file : Rule
@@ -126,6 +148,18 @@ serve_well p = go (p given_rule) (p given_port) (p given_sessions) (p (filled he
     go false false true d = sessions_well
     go false false false true = help_well
     go false false false false = tt
+
+join_well : (p : Rule → Bool) → IsWellUsed ok false (find p join_built.rules)
+join_well p = go (p given_port) (p given_every) (p given_follow) (p given_changes) (p (filled help_rule))
+  where
+    go : (a b c d e : Bool) → IsWellUsed ok false (if a then Some given_port else (if b then Some given_every else (if c then Some given_follow
+        else (if d then Some given_changes else (if e then Some (filled help_rule) else None)))))
+    go true b c d e = port_well
+    go false true c d e = every_well
+    go false false true d e = follow_well
+    go false false false true e = changes_well
+    go false false false false true = help_well
+    go false false false false false = tt
 
 view_well : (p : Rule → Bool) → IsWellUsed ok false (find p view_built.rules)
 view_well p = go (p given_file) (p given_own_rule) (p given_at) (p given_size) (p given_gen) (p given_plain) (p given_svg) (p (filled help_rule))
@@ -302,35 +336,63 @@ view_has_all words passes =
       svg = has_flag (codes "svg") rows fine (λ how v fit. fit);
     }
 
+-- `join` has a port, and what else a client may be asked with
+join_has_all : (words : List Text) → level_fault join_built [] nothing_held words false [] ≡ [] → HasClient (rows_after join_built.rules [] words)
+join_has_all words passes =
+    let rows = rows_after join_built.rules [] words in
+    let has_port = is_given (codes "port") rows in
+    let parts = level_passes join_built [] nothing_held words false [] passes in
+    let fine = rows_well ok join_built join_well (
+      plain_default given_port refl,
+      (
+        plain_default given_every refl,
+        (
+          (λ rs. fit_default rs given_follow (codes "false") refl refl),
+          ((λ rs. fit_default rs given_changes (codes "false") refl refl), (plain_default (filled help_rule) refl, tt)),
+        ),
+      ),
+    ) words parts.0 parts.2 in
+    let port = none_missing has_port false (asks_argument false false (not has_port || false) parts.3) in
+    let port_value = given_value (codes "port") rows fine port.0 in
+    record {
+      port = has_number 0 65535 (codes "port") rows port_value port_value.fit;
+      interval = may_have_number 1 60000 (codes "every") rows fine (λ how v fit. fit);
+      follow = has_flag (codes "follow") rows fine (λ how v fit. fit);
+      changes = has_flag (codes "changes") rows fine (λ how v fit. fit);
+    }
+
 -- ---- which subcommand the words name
 
 -- the subcommand of these that a word names, by what the tests of its name say
-abbrev met_by : Bool → Bool → Bool → Bool → Bool → Bool → Option Shape
-met_by is_run is_check is_rle is_view is_serve is_help = if is_run || false then Some run_built
+abbrev met_by : Bool → Bool → Bool → Bool → Bool → Bool → Bool → Option Shape
+met_by is_run is_check is_rle is_view is_serve is_join is_help = if is_run || false then Some run_built
     else (if is_check || false then Some check_built
     else (if is_rle || false then Some rle_built
     else (if is_view || false then Some view_built
     else (if is_serve || false then Some serve_built
-    else (if is_help || false then Some (built_leaf help_shape) else None)))))
+    else (if is_join || false then Some join_built
+    else (if is_help || false then Some (built_leaf help_shape) else None))))))
 
 entered_named : (stop : Option (Text × List Text)) → is_some (entered whole stop) ≡ true → entered_fault whole stop ≡ [] → stops_at_help stop ≡ false
     → IsNamed (entered whole stop)
 entered_named None has passes not_help = absurd (true≢false (sym has))
 entered_named (Some p) has passes not_help =
-    go (bytes_eq (codes "run") p.0) (bytes_eq (codes "check") p.0) (bytes_eq (codes "rle") p.0) (bytes_eq (codes "view") p.0) (bytes_eq (codes "serve") p.0) (bytes_eq (codes "help") p.0) refl has passes
+    go (bytes_eq (codes "run") p.0) (bytes_eq (codes "check") p.0) (bytes_eq (codes "rle") p.0) (bytes_eq (codes "view") p.0) (bytes_eq (codes "serve") p.0) (bytes_eq (codes "join") p.0)
+    (bytes_eq (codes "help") p.0) refl has passes
   where
-    go : (a b c d e f : Bool) → bytes_eq (codes "help") p.0 ≡ f → is_some (option_map (λ s. rows_at s p.1) (met_by a b c d e f)) ≡ true
-        → option_map_or (λ s. level_fault s [] nothing_held p.1 false []) (met_by a b c d e f) [] ≡ [] → IsNamed (option_map (λ s. rows_at s p.1) (met_by a b c d e f))
-    go true b c d e f is h q = record { name = codes "run"; rows = rows_after run_built.rules [] p.1; met = refl; has = tt }
-    go false true c d e f is h q = record { name = codes "check"; rows = rows_after check_built.rules [] p.1; met = refl; has = tt }
-    go false false true d e f is h q = record { name = codes "rle"; rows = rows_after rle_built.rules [] p.1; met = refl; has = rle_has_rule p.1 q }
-    go false false false true e f is h q = record { name = codes "view"; rows = rows_after view_built.rules [] p.1; met = refl; has = view_has_all p.1 q }
-    go false false false false true f is h q = record { name = codes "serve"; rows = rows_after serve_built.rules [] p.1; met = refl; has = serve_has_all p.1 q }
-    go false false false false false true is h q =
+    go : (a b c d e f g : Bool) → bytes_eq (codes "help") p.0 ≡ g → is_some (option_map (λ s. rows_at s p.1) (met_by a b c d e f g)) ≡ true
+        → option_map_or (λ s. level_fault s [] nothing_held p.1 false []) (met_by a b c d e f g) [] ≡ [] → IsNamed (option_map (λ s. rows_at s p.1) (met_by a b c d e f g))
+    go true b c d e f g is h q = record { name = codes "run"; rows = rows_after run_built.rules [] p.1; met = refl; has = tt }
+    go false true c d e f g is h q = record { name = codes "check"; rows = rows_after check_built.rules [] p.1; met = refl; has = tt }
+    go false false true d e f g is h q = record { name = codes "rle"; rows = rows_after rle_built.rules [] p.1; met = refl; has = rle_has_rule p.1 q }
+    go false false false true e f g is h q = record { name = codes "view"; rows = rows_after view_built.rules [] p.1; met = refl; has = view_has_all p.1 q }
+    go false false false false true f g is h q = record { name = codes "serve"; rows = rows_after serve_built.rules [] p.1; met = refl; has = serve_has_all p.1 q }
+    go false false false false false true g is h q = record { name = codes "join"; rows = rows_after join_built.rules [] p.1; met = refl; has = join_has_all p.1 q }
+    go false false false false false false true is h q =
         let name : codes "help" ≡ p.0 = (bytes_eq-Decides (codes "help") p.0).0 is in
         let helps : bytes_eq p.0 (codes "help") ≡ true = (bytes_eq-Decides p.0 (codes "help")).1 (sym name) in
         absurd (true≢false (sym helps ∙ not_help))
-    go false false false false false false is h q = absurd (true≢false (sym h))
+    go false false false false false false false is h q = absurd (true≢false (sym h))
 
 pub words_named : (words : List Text) → fault_of genedit_app words ≡ [] → IsNamed (subcommand_of genedit_app words)
 words_named words passes =

@@ -2,7 +2,7 @@
 use Rattle.std.specs.Option.{option_map_or}
 use Rattle.std.specs.Str.{bytes_eq}
 use Rattle.std.proofs.Common.{Bool, None, codes, true, false, inl, inr, ◌≡◌, ◌∙◌, ◌≤◌, ◌<◌, ◌^◌, ℕ, List, Option, Some, ap, sym, arith}
-use Rattle.std.specs.Prelude.{option_map, Ok, Result, pos, ◌≤ℤ◌}
+use Rattle.std.specs.Prelude.{option_map, unwrap_or, Ok, Result, pos, ◌≤ℤ◌}
 use Rattle.std.proofs.lemmas.Int.{ints}
 use Rattle.std.specs.Str.Parse.{ParsesUnsigned, digits_value, signed_digits_value, without_leading_plus}
 use Rattle.clap.proofs.CallerReads.{signed_reads}
@@ -31,12 +31,19 @@ module _ {E : Type 0} (k : ℕ) (G : List ℕ → Result ℕ E → Type 0) (only
       ap (option_map (λ (u : List ℕ). digits_value 10 (without_leading_plus u))) has.read ∙ ap (λ (m : ℕ). Some m) (sym (value_of t r n is (reads t has.read)))
 
   -- a number that may be missing
-  pub is_number_if : (high : ℕ) (id : Text) (rows : List Row) (r : Option ℕ) → (one_of id rows ≡ None → r ≡ None) → Reads id rows r → high < 2 ^ k → MayHaveNumber 0 high id rows
+  pub is_number_if : (low high : ℕ) (id : Text) (rows : List Row) (r : Option ℕ) → (one_of id rows ≡ None → r ≡ None) → Reads id rows r → high < 2 ^ k → MayHaveNumber low high id rows
       → number_of id rows ≡ r
-  is_number_if high id rows r none reads small (inl missing) = ap (option_map (λ (u : List ℕ). digits_value 10 (without_leading_plus u))) missing ∙ sym (none missing)
-  is_number_if high id rows r none reads small (inr has) =
-      let got = is_within 0 high id rows r reads small has in
+  is_number_if low high id rows r none reads small (inl missing) = ap (option_map (λ (u : List ℕ). digits_value 10 (without_leading_plus u))) missing ∙ sym (none missing)
+  is_number_if low high id rows r none reads small (inr has) =
+      let got = is_within low high id rows r reads small has in
       is_number id rows r got.0 reads has got.1 ∙ sym got.1
+
+  -- it, or what stands for it where it is missing, is in its range
+  pub is_within_or : (low high other : ℕ) (id : Text) (rows : List Row) (r : Option ℕ) → (one_of id rows ≡ None → r ≡ None) → Reads id rows r → high < 2 ^ k
+      → low ≤ other → other ≤ high → MayHaveNumber low high id rows → (low ≤ unwrap_or r other) × (unwrap_or r other ≤ high)
+  is_within_or low high other id rows r none reads small least most (inl missing) = rw (none missing) (least, most)
+  is_within_or low high other id rows r none reads small least most (inr has) =
+      let got = is_within low high id rows r reads small has in rw got.1 (got.2, got.3)
 
 -- ---- flags
 

@@ -4,7 +4,7 @@ use Rattle.std.specs.Str.{bytes_eq}
 use Rattle.clap.specs.Values.{IsSignedIn}
 use Rattle.clap.specs.Words.{Row, Text, first_of, one_of, without_minus}
 use Rattle.genedit_words.specs.declared.task.Task.{Task}
-use Rattle.genedit_words.specs.declared.task.Task.TheVariants.{Serve}
+use Rattle.genedit_words.specs.declared.task.Task.TheVariants.{Join, Serve}
 
 -- a text for a rule
 abbrev pub HasRule : List Row → Type 0
@@ -36,19 +36,27 @@ pub record HasView (rows : List Row) : Type 0 where
   pub plain : HasFlag (codes "plain") rows
   pub svg : HasFlag (codes "svg") rows
 
--- by the subcommand: whether it is `run`, `rle`, `serve`, `check`, `view`
-abbrev pub HasBy : Bool → Bool → Bool → Bool → Bool → List Row → Type 0
-HasBy true is_rle is_serve is_check is_view rows = ⊤
-HasBy false true is_serve is_check is_view rows = HasRule rows
-HasBy false false true is_check is_view rows = HasServer rows
-HasBy false false false true is_view rows = ⊤
-HasBy false false false false true rows = HasView rows
-HasBy false false false false false rows = ⊥
+-- what a client needs, and may be asked with
+pub record HasClient (rows : List Row) : Type 0 where
+  pub port : HasNumber 0 65535 (codes "port") rows
+  pub interval : MayHaveNumber 1 60000 (codes "every") rows
+  pub follow : HasFlag (codes "follow") rows
+  pub changes : HasFlag (codes "changes") rows
+
+-- by the subcommand: whether it is `run`, `rle`, `serve`, `check`, `view`, `join`
+abbrev pub HasBy : Bool → Bool → Bool → Bool → Bool → Bool → List Row → Type 0
+HasBy true is_rle is_serve is_check is_view is_join rows = ⊤
+HasBy false true is_serve is_check is_view is_join rows = HasRule rows
+HasBy false false true is_check is_view is_join rows = HasServer rows
+HasBy false false false true is_view is_join rows = ⊤
+HasBy false false false false true is_join rows = HasView rows
+HasBy false false false false false true rows = HasClient rows
+HasBy false false false false false false rows = ⊥
 
 -- by its name
 abbrev pub Has : Text → List Row → Type 0
 Has name = HasBy (bytes_eq name (codes "run")) (bytes_eq name (codes "rle")) (bytes_eq name (codes "serve")) (bytes_eq name (codes "check"))
-    (bytes_eq name (codes "view"))
+    (bytes_eq name (codes "view")) (bytes_eq name (codes "join"))
 
 -- a subcommand is named, and has what it needs
 pub record IsNamed (entered : Option (Text × List Row)) : Type 0 where
@@ -57,7 +65,8 @@ pub record IsNamed (entered : Option (Text × List Row)) : Type 0 where
   pub met : entered ≡ Some (name, rows)
   pub has : Has name rows
 
--- a server has one to 64 sessions
-abbrev pub IsServable : Task → Type 0
-IsServable (Serve server) = (1 ≤ server.sessions) × (server.sessions ≤ 64)
-IsServable _ = ⊤
+-- a server has 1 to 64 sessions; a client lets 1 to 60,000 milliseconds pass between two polls
+abbrev pub IsInRange : Task → Type 0
+IsInRange (Serve server) = (1 ≤ server.sessions) × (server.sessions ≤ 64)
+IsInRange (Join client) = (1 ≤ client.interval) × (client.interval ≤ 60000)
+IsInRange _ = ⊤

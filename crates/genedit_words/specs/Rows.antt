@@ -4,7 +4,7 @@ use Rattle.clap.proofs.OnLiterals.{clap_on_literals}
 use Rattle.clap.specs.Words.{Text, fault_of, is_simple_and_free}
 use Rattle.clap.specs.declared.error.kind.ErrorKind.TheVariants as kind
 use Rattle.genedit_io.specs.declared.fault.RunFault.TheVariants.{Refused}
-use Rattle.genedit_words.specs.Told.{Check, Run, View}
+use Rattle.genedit_words.specs.Told.{Check, Join, Run, View}
 use Rattle.genedit_words.specs.Words.{Asks, genedit_app, rle_task, rule_asked, serve_task}
 
 pub no_slashes : rule_asked (codes "23/3") ≡ Err (Refused 1 None)
@@ -72,6 +72,28 @@ window_of_a_file = (refl, refl)
 flag_with_a_value : fault_of genedit_app (genedit (codes "view" ∷ codes "--svg=yes" ∷ [])) ≡ kind.TooManyValues ∷ []
 unfolding clap_on_literals
 flag_with_a_value = refl
+
+client : Asks (genedit (codes "join" ∷ codes "--port" ∷ codes "7020" ∷ []))
+    (Ok (Join (record { port = 7020; interval = 50; is_following = false; tells_changes = false })))
+unfolding clap_on_literals
+client = (refl, refl)
+
+client_that_follows : Asks (genedit (codes "join" ∷ codes "--follow" ∷ codes "--port=1" ∷ codes "--every=60000" ∷ codes "--changes" ∷ []))
+    (Ok (Join (record { port = 1; interval = 60000; is_following = true; tells_changes = true })))
+unfolding clap_on_literals
+client_that_follows = (refl, refl)
+
+client_of_no_port : fault_of genedit_app (genedit (codes "join" ∷ codes "--follow" ∷ [])) ≡ kind.MissingRequiredArgument ∷ []
+unfolding clap_on_literals
+client_of_no_port = refl
+
+no_interval : fault_of genedit_app (genedit (codes "join" ∷ codes "--port=1" ∷ codes "--every=0" ∷ [])) ≡ kind.ValueValidation ∷ []
+unfolding clap_on_literals
+no_interval = refl
+
+interval_too_long : fault_of genedit_app (genedit (codes "join" ∷ codes "--port=1" ∷ codes "--every=60001" ∷ [])) ≡ kind.ValueValidation ∷ []
+unfolding clap_on_literals
+interval_too_long = refl
 
 port_too_great : fault_of genedit_app (serve (codes "--rule=/2/3" ∷ codes "--port=65536" ∷ codes "--sessions=1" ∷ [])) ≡ kind.ValueValidation ∷ []
 unfolding clap_on_literals

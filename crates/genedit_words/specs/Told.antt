@@ -2,6 +2,7 @@
 use Rattle.std.specs.Prelude.{ℕ, Bool, List, Option, option_map, Result, Ok, Err}
 use Rattle.generations_rule.specs.Rule.{GenerationsRule}
 use Rattle.genedit_io.specs.declared.fault.RunFault.{RunFault}
+use Rattle.genedit_words.specs.declared.task.Client.{Client}
 use Rattle.genedit_words.specs.declared.task.Server.{Server}
 use Rattle.genedit_words.specs.declared.task.Task.{Task}
 use Rattle.genedit_words.specs.declared.task.Task.TheVariants as task
@@ -22,12 +23,14 @@ pub data Told : Type 0 where
   Serve : (server : Server) → Told
   Check : (file : Option (List ℕ)) → Told
   View : (viewed : Viewed) → Told
+  Join : (client : Client) → Told
 
 -- what a task is, by its texts
 abbrev pub told_of : Task → Told
 told_of task.Run = Run
 told_of (task.Rle rule) = Rle rule
 told_of (task.Serve server) = Serve server
+told_of (task.Join client) = Join client
 told_of (task.Check file) = Check (option_map (λ s. s.now) file)
 told_of (task.View viewing) = View (record {
   file = option_map (λ s. s.now) viewing.file;

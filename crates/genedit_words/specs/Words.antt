@@ -1,7 +1,7 @@
 -- What the words of the command line ask for.
 use Rattle.std.specs.Option.{option_map_or}
 use Rattle.std.specs.Prelude.{◌≡◌, ◌⊎◌, ◌∷◌, [], ℕ, Bool, List, Option, Some, None, Result, Ok, Err, codes, pos}
-use Rattle.std.specs.Prelude.{true, false, if◌then◌else◌, option_map, option_and_then}
+use Rattle.std.specs.Prelude.{true, false, if◌then◌else◌, option_map, option_and_then, unwrap_or}
 use Rattle.std.specs.Str.{bytes_eq}
 use Rattle.std.specs.Str.Parse.{digits_value, without_leading_plus}
 use Rattle.clap.specs.Words.{App, HasKind, Row, Rule, Shape, Text, fault_of, first_of, new_rule, one_of}
@@ -17,7 +17,8 @@ use Rattle.genedit_io.specs.declared.fault.RunFault.{RunFault}
 use Rattle.genedit_io.specs.declared.fault.RunFault.TheVariants.{Memory, Refused}
 use Rattle.genedit_words.specs.declared.ending.Ending.{Ending}
 use Rattle.genedit_words.specs.declared.ending.Ending.TheVariants as ending
-use Rattle.genedit_words.specs.Told.{Told, Viewed, Check, Rle, Run, Serve, View}
+use Rattle.genedit_words.specs.declared.task.Client.{Client}
+use Rattle.genedit_words.specs.Told.{Told, Viewed, Check, Join, Rle, Run, Serve, View}
 
 -- the rule, or the refusal with which the program ends
 abbrev pub rule_or_refusal : Result GenerationsRule RuleFault → Result GenerationsRule RunFault
@@ -63,6 +64,10 @@ port_option = record (option (codes "port")) { parser = Some (vp.Signed (pos 0) 
 abbrev pub sessions_option : Rule
 sessions_option = record (option (codes "sessions")) { parser = Some (vp.Signed (pos 1) (pos 64)) }
 
+-- milliseconds between two polls: 1 to 60,000
+abbrev pub every_option : Rule
+every_option = record (optional (codes "every")) { parser = Some (vp.Signed (pos 1) (pos 60000)) }
+
 -- a file whose text is read in the place of standard input, which may be given
 abbrev pub file_argument : Rule
 file_argument = record (new_rule (codes "file")) { value_names = 1 }
@@ -84,6 +89,16 @@ view_shape = record (new_shape (codes "view")) {
   rules = file_argument ∷ optional (codes "rule") ∷ optional (codes "at") ∷ optional (codes "size") ∷ gen_option ∷ flag (codes "plain") ∷ flag (codes "svg") ∷ [];
 }
 
+abbrev pub join_shape : Shape
+join_shape = record (new_shape (codes "join")) { rules = port_option ∷ every_option ∷ flag (codes "follow") ∷ flag (codes "changes") ∷ [] }
+
+-- the command line without its subcommands
+abbrev pub top_app : App
+top_app = record {
+  top = record (new_shape (codes "genedit")) { has_version = true; subcommand_required = true };
+  subs = [];
+}
+
 -- `genedit` has a version and no arguments, and one of its subcommands has to be given
 abbrev pub genedit_app : App
 genedit_app = record {
@@ -92,7 +107,7 @@ genedit_app = record {
     has_version = true;
     subcommand_required = true;
   };
-  subs = run_shape ∷ check_shape ∷ rle_shape ∷ view_shape ∷ serve_shape ∷ [];
+  subs = run_shape ∷ check_shape ∷ rle_shape ∷ view_shape ∷ serve_shape ∷ join_shape ∷ [];
 }
 
 -- ---- what words ask for
@@ -156,6 +171,18 @@ view_task rows (Err fault) = Err fault
 abbrev pub view_asked : List Row → Option (Result Told RunFault)
 view_asked rows = Some (view_task rows (rule_if_given (first_of (codes "rule") rows)))
 
+-- how many milliseconds are let pass between two polls: what the option spells, else 50
+abbrev pub interval_asked : List Row → ℕ
+interval_asked rows = unwrap_or (number_of (codes "every") rows) 50
+
+-- a client that polls at this port
+abbrev pub client_at : List Row → ℕ → Client
+client_at rows port = record { port = port; interval = interval_asked rows; is_following = is_set (codes "follow") rows; tells_changes = is_set (codes "changes") rows }
+
+-- a client at the port that the option spells
+abbrev pub join_asked : List Row → Option (Result Told RunFault)
+join_asked rows = option_map (λ port. Ok (Join (client_at rows port))) (number_of (codes "port") rows)
+
 -- what a subcommand asks for, by its name and its rows
 abbrev pub task_of : Text × List Row → Option (Result Told RunFault)
 task_of subcommand = if bytes_eq subcommand.0 (codes "run") then Some (Ok Run)
@@ -163,6 +190,7 @@ task_of subcommand = if bytes_eq subcommand.0 (codes "run") then Some (Ok Run)
     else if bytes_eq subcommand.0 (codes "serve") then serve_asked subcommand.1
     else if bytes_eq subcommand.0 (codes "check") then check_asked subcommand.1
     else if bytes_eq subcommand.0 (codes "view") then view_asked subcommand.1
+    else if bytes_eq subcommand.0 (codes "join") then join_asked subcommand.1
     else None
 
 abbrev pub task_asked : List Text → Option (Result Told RunFault)

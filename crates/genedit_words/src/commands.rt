@@ -3,7 +3,7 @@
 ghost use Rattle.std.specs.Prelude.{◌≡◌, IfOk, false};
 ghost use Rattle.clap.specs.Words.{app_of, rule_of, shape_of};
 ghost use Rattle.clap.specs.declared.builder.command.Command.TheViews.{out-Command as fields_of};
-ghost use Rattle.genedit_words.specs.Words.{check_shape, file_argument, flag, gen_option, genedit_app, option, optional, port_option, rle_shape, run_shape, serve_shape, sessions_option, view_shape};
+ghost use Rattle.genedit_words.specs.Words.{check_shape, every_option, file_argument, flag, gen_option, genedit_app, join_shape, option, optional, port_option, rle_shape, run_shape, serve_shape, sessions_option, top_app, view_shape};
 
 use clap::{Arg, ArgAction, Command, value_parser};
 use std::alloc::{AllocError, Global};
@@ -90,20 +90,62 @@ Examples:
 
 From another machine: ssh -L 7020:127.0.0.1:7020 HOST, and connect to port 7020 there.";
 
+const JOIN_HELP: &str = "\
+Joins a board that `genedit serve` publishes on this machine, and carries out commands from standard
+input, one a line. It prints `joined SEAT RULE`, then what each command prints. Before a drawing it
+polls, so that the drawing goes over all that others drew by then.
+
+  cells x y s ..         draws cells, each a coordinate and a state
+  clear x y w h          draws an area of dead cells, w wide and h high
+  pattern NAME           the lines up to a line `end` are an RLE text; keeps its pattern by name
+  copy NAME x y          draws the pattern's whole box there, dead cells too
+  or NAME x y            draws the pattern's live and dying cells there
+  show x y               prints a cell as it was at the last poll: `cell STATE COUNTER SEAT`
+  export G [FILE]        prints the cells G generations later, or writes them to a file, as an RLE text
+  save FILE              writes the board to a file as a state, with its stamps
+  open FILE              draws the live and dying cells of a state or of an RLE text, in its place
+  poll                   prints what others drew, and `edits K`
+  wait N [MS]            polls until others drew N edits, or until MS milliseconds, 10000 if none are
+                         given, are over: `edits K` or `late K`
+  sleep MS               does nothing for so long
+  bye                    leaves the board, as does the end of the input
+
+A drawing prints `drawn COUNTER SEAT`. Edits of others are told as `edit COUNTER SEAT cells x y s ..`, a
+cleared area as `area x y w h` before `cells`; with --changes as `now x y s ..`, the cells that look
+different now, also those by drawings of your own. `whole` says that more came than can be told.
+A file is written whole or not at all: `wrote BYTES FILE`. What is refused prints
+`refused NUMBER NAME`; a line at fault is told on standard error by its number; and both go on.
+
+The status is 0; 2 where the words are wrong or the board has no seat left; 3 where no server answers, or
+it went away; 4 where a write to standard output failed; 5 without memory.
+
+Examples:
+  echo 'cells 1 0 1 2 1 1 0 2 1 1 2 1 2 2 1' | genedit join --port 7020     draws a glider
+  genedit join --port 7020 --follow                                        type commands, and see the others";
+
 /// The command line: a version, and the subcommands, one of which has to be given.
 pub fn command<'a>(alloc: Global) -> Result<Command<'a>, AllocError>
     ensures { IfOk result (λ command. app_of command ≡ genedit_app) }
 {
-    let command = Command::new(alloc, "genedit")
-        .version("0.1.0")
-        .about("Edits patterns of Generations automata on replicas that agree")
-        .subcommand_required(true)
+    let command = top_command(alloc)
         .subcommand(run_command(alloc))?
         .subcommand(check_command(alloc)?)?
         .subcommand(rle_command(alloc)?)?
         .subcommand(view_command(alloc)?)?
-        .subcommand(serve_command(alloc)?)?;
+        .subcommand(serve_command(alloc)?)?
+        .subcommand(join_command(alloc)?)?;
     Ok(command)
+}
+
+/// The command line without its subcommands.
+fn top_command<'a>(alloc: Global) -> Command<'a>
+    ensures app { app_of result ≡ top_app }
+    ensures local { (fields_of result).has_globals ≡ false }
+{
+    Command::new(alloc, "genedit")
+        .version("0.1.0")
+        .about("Edits patterns of Generations automata on replicas that agree")
+        .subcommand_required(true)
 }
 
 fn run_command<'a>(alloc: Global) -> Command<'a>
@@ -210,7 +252,7 @@ fn serve_command<'a>(alloc: Global) -> Result<Command<'a>, AllocError>
         "TEXT",
         "The rule S/B/C of the board, as /2/3 or 345/2/4",
     );
-    let port = port_argument(alloc);
+    let port = port_argument(alloc, "The port to listen at, 0 for any that is free");
     let sessions = sessions_argument(alloc);
     let command = Command::new(alloc, "serve")
         .about("Serves a board on which several programs draw together")
@@ -221,16 +263,47 @@ fn serve_command<'a>(alloc: Global) -> Result<Command<'a>, AllocError>
     Ok(command)
 }
 
-fn port_argument<'a>(alloc: Global) -> Arg<'a>
+fn join_command<'a>(alloc: Global) -> Result<Command<'a>, AllocError>
+    ensures shape { IfOk result (λ command. shape_of command ≡ join_shape) }
+    ensures local { IfOk result (λ command. (fields_of command).has_globals ≡ false) }
+{
+    let port = port_argument(alloc, "The port that the server printed");
+    let every = every_argument(alloc);
+    let follow = flag(alloc, "follow", "Polls while no command comes");
+    let changes = flag(
+        alloc,
+        "changes",
+        "Tells the cells that look different, and not each edit",
+    );
+    let command = Command::new(alloc, "join")
+        .about("Draws on a board that is served")
+        .override_usage("genedit join --port <P> [OPTIONS] < COMMANDS")
+        .after_help(JOIN_HELP)
+        .arg(port)?
+        .arg(every)?
+        .arg(follow)?
+        .arg(changes)?;
+    Ok(command)
+}
+
+fn every_argument<'a>(alloc: Global) -> Arg<'a>
+    ensures rule { rule_of result ≡ every_option }
+    ensures local { result.global ≡ false }
+{
+    let every = optional(
+        alloc,
+        "every",
+        "MS",
+        "The milliseconds between two polls of --follow or wait, 1 to 60000; else 50",
+    );
+    every.value_parser(value_parser!(u16).range(1..=60_000))
+}
+
+fn port_argument<'a>(alloc: Global, help: &'a str) -> Arg<'a>
     ensures rule { rule_of result ≡ port_option }
     ensures local { result.global ≡ false }
 {
-    let port = required(
-        alloc,
-        "port",
-        "P",
-        "The port to listen at, 0 for any that is free",
-    );
+    let port = required(alloc, "port", "P", help);
     port.value_parser(value_parser!(u16))
 }
 

@@ -8,5 +8,5 @@ mod task;
 mod words;
 
 pub use ending::Ending;
-pub use task::{Server, Task, Viewing};
+pub use task::{Client, Server, Task, Viewing};
 pub use words::{asked, given};

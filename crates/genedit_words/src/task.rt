@@ -12,6 +12,18 @@ pub struct Server {
     pub sessions: u16,
 }
 
+/// A client of a board that is served.
+#[derive(Clone, Copy)]
+pub struct Client {
+    pub port: u16,
+    /// How many milliseconds are let pass between two polls, 1 to 60,000.
+    pub interval: u16,
+    /// Whether it polls while no command comes.
+    pub is_following: bool,
+    /// Whether it tells the cells that look different, and not each edit.
+    pub tells_changes: bool,
+}
+
 /// A picture of a pattern or of a state.
 #[derive(Clone, Copy)]
 pub struct Viewing<'a> {
@@ -39,4 +51,6 @@ pub enum Task<'a> {
     View(Viewing<'a>),
     /// A board is served.
     Serve(Server),
+    /// A board that is served is joined.
+    Join(Client),
 }

@@ -2,19 +2,22 @@
 
 ghost use Rattle.std.specs.Prelude.{◌≡◌, ◌≤◌, ℕ, List, IfErr, IfOk, Ok, Some, codes, map, option_and_then, string_bytes};
 ghost use Rattle.clap.specs.Words.{first_of, found_of, rows_of, subcommand_rows_of};
-ghost use Rattle.genedit_words.specs.Given.{HasFlag, HasNumber, HasRule, HasServer, HasView, IsNamed, IsServable, MayHaveNumber};
+ghost use Rattle.genedit_words.specs.Given.{HasClient, HasFlag, HasNumber, HasRule, HasServer, HasView, IsInRange, IsNamed, MayHaveNumber};
 ghost use Rattle.genedit_words.specs.Told.{told, told_of};
-ghost use Rattle.genedit_words.specs.Words.{Asks, EndsWords, check_asked, is_set, number_of, rle_asked, rule_asked, rule_if_given, serve_asked, task_of, view_asked};
+ghost use Rattle.genedit_words.specs.Words.{Asks, EndsWords, check_asked, interval_asked, is_set, join_asked, number_of, rle_asked, rule_asked, rule_if_given, serve_asked, task_of, view_asked};
 
 use crate::commands::command;
 use crate::ending::Ending;
-use crate::task::{Server, Task, Viewing};
+use crate::task::{Client, Server, Task, Viewing};
 use clap::ArgMatches;
 use genedit_io::RunFault;
 use generations_rule::Rule;
 use std::alloc::{AllocGlobal, Global};
 use std::io::ErrorKind;
 use std::rt::Env;
+
+/// How many milliseconds are let pass between two polls where the words do not say it.
+const INTERVAL: u16 = 50;
 
 /// The words with which the program was started, its own name first.
 pub fn given<R: Env + AllocGlobal>(rt: &R) -> Result<Vec<String>, Ending> {
@@ -28,7 +31,7 @@ pub fn given<R: Env + AllocGlobal>(rt: &R) -> Result<Vec<String>, Ending> {
 /// What the words ask for. Help and the version come as an error, too.
 pub fn asked(alloc: Global, words: &[String]) -> Result<Task<'_>, Ending>
     ensures asks { IfOk result (λ task. Asks (map string_bytes words.now) (Ok (told_of task))) }
-    ensures servable { IfOk result IsServable }
+    ensures range { IfOk result IsInRange }
     ensures ends { IfErr result (EndsWords (map string_bytes words.now)) }
 {
     let matches = command(alloc)?.try_get_matches_from(words)?;
@@ -42,7 +45,7 @@ pub fn asked(alloc: Global, words: &[String]) -> Result<Task<'_>, Ending>
 fn task<'a>(matches: &ArgMatches<'a>) -> Result<Task<'a>, RunFault>
     requires { IsNamed (subcommand_rows_of matches.now) }
     ensures asked { option_and_then task_of (subcommand_rows_of matches.now) ≡ Some (told result) }
-    ensures servable { IfOk result IsServable }
+    ensures range { IfOk result IsInRange }
 {
     if let Some(words) = matches.subcommand_matches("rle") {
         return rle(words);
@@ -56,6 +59,9 @@ fn task<'a>(matches: &ArgMatches<'a>) -> Result<Task<'a>, RunFault>
     if let Some(words) = matches.subcommand_matches("view") {
         return view(words);
     }
+    if let Some(words) = matches.subcommand_matches("join") {
+        return Ok(join(words));
+    }
     Ok(Task::Run)
 }
 
@@ -63,7 +69,7 @@ fn task<'a>(matches: &ArgMatches<'a>) -> Result<Task<'a>, RunFault>
 fn rle<'a>(words: &ArgMatches<'a>) -> Result<Task<'a>, RunFault>
     requires { HasRule (rows_of (found_of words.now)) }
     ensures asked { rle_asked (rows_of (found_of words.now)) ≡ Some (told result) }
-    ensures servable { IfOk result IsServable }
+    ensures range { IfOk result IsInRange }
 {
     let rule = rule(words)?;
     Ok(Task::Rle(rule))
@@ -73,7 +79,7 @@ fn rle<'a>(words: &ArgMatches<'a>) -> Result<Task<'a>, RunFault>
 fn serve<'a>(words: &ArgMatches<'a>) -> Result<Task<'a>, RunFault>
     requires { HasServer (rows_of (found_of words.now)) }
     ensures asked { serve_asked (rows_of (found_of words.now)) ≡ Some (told result) }
-    ensures servable { IfOk result IsServable }
+    ensures range { IfOk result IsInRange }
 {
     let rule = rule(words)?;
     let port = number(words, "port");
@@ -85,10 +91,36 @@ fn serve<'a>(words: &ArgMatches<'a>) -> Result<Task<'a>, RunFault>
     }))
 }
 
+/// What `join` asks for.
+fn join<'a>(words: &ArgMatches<'a>) -> Task<'a>
+    requires { HasClient (rows_of (found_of words.now)) }
+    ensures asked { join_asked (rows_of (found_of words.now)) ≡ Some (Ok (told_of result)) }
+    ensures range { IsInRange result }
+{
+    Task::Join(Client {
+        port: number(words, "port"),
+        interval: interval(words),
+        is_following: is_set(words, "follow"),
+        tells_changes: is_set(words, "changes"),
+    })
+}
+
+/// How many milliseconds are let pass between two polls.
+fn interval(words: &ArgMatches<'_>) -> u16
+    requires { MayHaveNumber 1 60000 (codes "every") (rows_of (found_of words.now)) }
+    ensures value { interval_asked (rows_of (found_of words.now)) ≡ result }
+    ensures range { (1 ≤ result) × (result ≤ 60000) }
+{
+    match words.get_one::<u16>("every") {
+        Some(interval) => interval,
+        None => INTERVAL,
+    }
+}
+
 /// What `check` asks for.
 fn check<'a>(words: &ArgMatches<'a>) -> Task<'a>
     ensures asked { check_asked (rows_of (found_of words.now)) ≡ Some (Ok (told_of result)) }
-    ensures servable { IsServable result }
+    ensures range { IsInRange result }
 {
     Task::Check(words.get_str("file"))
 }
@@ -97,7 +129,7 @@ fn check<'a>(words: &ArgMatches<'a>) -> Task<'a>
 fn view<'a>(words: &ArgMatches<'a>) -> Result<Task<'a>, RunFault>
     requires { HasView (rows_of (found_of words.now)) }
     ensures asked { view_asked (rows_of (found_of words.now)) ≡ Some (told result) }
-    ensures servable { IfOk result IsServable }
+    ensures range { IfOk result IsInRange }
 {
     let rule = rule_if_given(words)?;
     Ok(Task::View(Viewing {

@@ -7,5 +7,5 @@ use Rattle.genedit_words.proofs.words.serve.Goals as goal
 pub number-sessions-requires : goal.number-sessions-requires
 number-sessions-requires c = is_wider 1 64 (codes "sessions") (rows_of (found_of c.args.words.now)) (omega arith) c.requires.sessions
 
-pub returns-clause-servable : goal.returns-clause-servable
-returns-clause-servable c = c.number-sessions.ensures.within 1 64 (omega arith) c.requires.sessions
+pub returns-clause-range : goal.returns-clause-range
+returns-clause-range c = c.number-sessions.ensures.within 1 64 (omega arith) c.requires.sessions

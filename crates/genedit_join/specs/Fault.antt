@@ -1,0 +1,56 @@
+-- Why a client ends before its commands do, as users meet it.
+use Rattle.std.specs.Prelude.{ℕ, List, None, codes}
+use Rattle.board_client.specs.declared.fault.ClientFault.{ClientFault}
+use Rattle.board_client.specs.declared.fault.ClientFault.TheVariants as client
+use Rattle.client_session.specs.declared.fault.SeatFault.{SeatFault}
+use Rattle.client_session.specs.declared.fault.SeatFault.TheVariants as seat
+use Rattle.frame_line.specs.declared.fault.LineFault.{LineFault}
+use Rattle.frame_line.specs.declared.fault.LineFault.TheVariants as line
+use Rattle.genedit_io.specs.declared.fault.RunFault.TheVariants.{Memory, Refused, StoreFull}
+use Rattle.genedit_io.specs.RunFault.{exit_status, run_fault_text}
+use Rattle.replica_core.specs.declared.fault.Fault.{Fault}
+use Rattle.replica_core.specs.declared.fault.Fault.TheVariants as text
+use Rattle.genedit_join.specs.declared.fault.JoinFault.{JoinFault}
+use Rattle.genedit_join.specs.declared.fault.JoinFault.TheVariants.{Gone, NoReply, NoServer, Run}
+
+-- the status of the process
+abbrev pub join_status : JoinFault → ℕ
+join_status (Run fault) = exit_status fault
+join_status NoServer = 3
+join_status Gone = 3
+join_status NoReply = 3
+
+-- what the program says
+abbrev pub join_fault_text : JoinFault → List ℕ
+join_fault_text (Run fault) = run_fault_text fault
+join_fault_text NoServer = codes "no server answers"
+join_fault_text Gone = codes "the server went away"
+join_fault_text NoReply = codes "the server sent what is no reply"
+
+abbrev pub memory_wanted : JoinFault
+memory_wanted = Run Memory
+
+-- a line on which nothing is said or heard any more
+abbrev pub fault_of_line : LineFault → JoinFault
+fault_of_line line.FrameTooLong = NoReply
+fault_of_line line.Memory = memory_wanted
+fault_of_line _ = Gone
+
+-- a text that is not taken: memory or room is wanting, or it is none
+abbrev pub fault_of_text : Fault → JoinFault
+fault_of_text text.Memory = memory_wanted
+fault_of_text text.StoreFull = Run StoreFull
+fault_of_text _ = NoReply
+
+abbrev pub fault_of_client : ClientFault → JoinFault
+fault_of_client (client.Line fault) = fault_of_line fault
+fault_of_client client.NoReply = NoReply
+fault_of_client (client.Text fault) = fault_of_text fault
+fault_of_client client.Memory = memory_wanted
+
+-- a refusal, of the greeting or of a poll, is told as such
+abbrev pub fault_of_seat : SeatFault → JoinFault
+fault_of_seat (seat.Client fault) = fault_of_client fault
+fault_of_seat (seat.Refused number) = Run (Refused number None)
+fault_of_seat seat.Memory = memory_wanted
+fault_of_seat seat.StoreFull = Run StoreFull
