@@ -1,14 +1,13 @@
--- What noting edits gives: which edits there are then, that none is there twice, and that the journal stays in front.
+-- What noting edits gives: which edits there are then, and that none is there twice.
 use Rattle.std.proofs.Common.{◌≡◌, ◌∙◌, Bool, true, false, List, [], ◌∷◌, ◌++◌, inl, inr, refl, sym, ap, subst, append_assoc}
 use Rattle.std.specs.Prelude.{◌↔◌, ◌||◌, if◌then◌else◌}
 use Rattle.std.specs.List.{list_any, Contains, IsDistinct}
-use Rattle.std.proofs.lemmas.List.{append-nil, append_cancel_left}
+use Rattle.std.proofs.lemmas.List.{append-nil}
 use Rattle.std.proofs.lemmas.List.Elements.{Contains-append_left, Contains-append_right, Contains-append_cases}
 use Rattle.std.proofs.lemmas.Map.Keys.{IsDistinct-push}
 use Rattle.std.proofs.lemmas.Map.Views.{Contains-from_any, list_any-from_Contains}
 use Rattle.edit_stamps.specs.Edit.{PlaneEdit, is_edit}
 use Rattle.edit_stamps.specs.OneEdit.{edits_equiv, tells_edits}
-use Rattle.indexmap.specs.IndexSet.{insert_all}
 use Rattle.edit_journal.specs.Journal.{noted}
 
 told : (a b : PlaneEdit) → is_edit a b ≡ true → a ≡ b
@@ -80,11 +79,6 @@ pub noted_in_turn : (H E F : List PlaneEdit) → noted H (E ++ F) ≡ noted (not
 noted_in_turn H [] F = refl
 noted_in_turn H (x ∷ E) F = noted_in_turn (if list_any (is_edit x) H then H else H ++ x ∷ []) E F
 
--- the set that the journal is keeps the order of insertion, so inserting edits notes them
-pub inserted_noted : (H E : List PlaneEdit) → insert_all is_edit H E ≡ noted H E
-inserted_noted H [] = refl
-inserted_noted H (x ∷ E) = inserted_noted (if list_any (is_edit x) H then H else H ++ x ∷ []) E
-
 -- an edit that is not there goes behind
 pub noted_new : (H : List PlaneEdit) (x : PlaneEdit) → list_any (is_edit x) H ≡ false → noted H (x ∷ []) ≡ H ++ x ∷ []
 noted_new H x absent = ap (λ b. if b then H else H ++ x ∷ []) absent
@@ -99,30 +93,3 @@ noted_all H (x ∷ E) h =
 -- what is noted again changes nothing
 pub noted_again : (H E : List PlaneEdit) → noted (noted H E) E ≡ noted H E
 noted_again H E = noted_all (noted H E) E (λ e given. (noted_members H E e).1 (Contains-append_right H E e given))
-
-one_behind : (b : Bool) (H : List PlaneEdit) (x : PlaneEdit) (N : List PlaneEdit) → (fresh : List PlaneEdit) × (N ≡ (if b then H else H ++ x ∷ []) ++ fresh) → (fresh : List PlaneEdit) × (N ≡ H ++ fresh)
-one_behind true H x N h = h
-one_behind false H x N h = (x ∷ h.0, h.1 ∙ append_assoc H (x ∷ []) h.0)
-
--- the journal stays in front
-pub noted_behind : (H E : List PlaneEdit) → (fresh : List PlaneEdit) × (noted H E ≡ H ++ fresh)
-noted_behind H [] = ([], sym (append-nil H))
-noted_behind H (x ∷ E) =
-    one_behind (list_any (is_edit x) H) H x (noted H (x ∷ E)) (noted_behind (if list_any (is_edit x) H then H else H ++ x ∷ []) E)
-
-one_fresh : (b : Bool) (H E F : List PlaneEdit) (x : PlaneEdit) → b ≡ list_any (is_edit x) H → ((K G : List PlaneEdit) → noted K E ≡ K ++ G → noted K G ≡ K ++ G)
-    → noted (if b then H else H ++ x ∷ []) E ≡ H ++ F → noted H F ≡ H ++ F
-one_fresh true H E F x is rest h = rest H F h
-one_fresh false H E F x is rest h =
-    let behind = noted_behind (H ++ x ∷ []) E in
-    let begins : F ≡ x ∷ behind.0 = append_cancel_left H F (x ∷ behind.0) (sym h ∙ behind.1 ∙ append_assoc H (x ∷ []) behind.0) in
-    ap (noted H) begins
-    ∙ ap (λ b. noted (if b then H else H ++ x ∷ []) behind.0) (sym is)
-    ∙ rest (H ++ x ∷ []) behind.0 behind.1
-    ∙ sym behind.1
-    ∙ h
-
--- what noting some edits puts behind a journal is what is noted of it
-pub noted_fresh : (H E F : List PlaneEdit) → noted H E ≡ H ++ F → noted H F ≡ H ++ F
-noted_fresh H [] F h = ap (noted H) (append_cancel_left H F [] (sym h ∙ sym (append-nil H))) ∙ h
-noted_fresh H (x ∷ E) F h = one_fresh (list_any (is_edit x) H) H E F x refl (λ K G. noted_fresh K E G) h

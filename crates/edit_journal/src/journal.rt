@@ -1,11 +1,11 @@
 //! The edits that a replica drew or was given in messages, in order.
 
-ghost use Rattle.std.specs.Prelude.{◌≡◌, ◌++◌, ◌∷◌, [], IfOk, OnOk, OnErr, Contains, length, take};
+ghost use Rattle.std.specs.Prelude.{◌≡◌, ◌∷◌, [], OnOk, OnErr, Contains, length, take};
 ghost use Rattle.std.specs.List.{list_any, IsDistinct};
 ghost use Rattle.edit_stamps.specs.Edit.{PlaneEdit, IsEdit, is_edit};
 ghost use Rattle.edit_journal.specs.Journal.{noted};
 
-use crate::hash_key::HashKey;
+use crate::journal_key::JournalKey;
 use edit_stamps::Edit;
 use indexmap::IndexSet;
 use std::alloc::{AllocError, Global};
@@ -15,7 +15,7 @@ use std::marker::Model;
 /// at a cost of its own length, however many edits there are, of one stamp too.
 #[derive(Debug, Drop)]
 pub struct Journal {
-    edits: IndexSet<Edit, HashKey>,
+    edits: IndexSet<Edit, JournalKey>,
 }
 
 impl Model for Journal {
@@ -41,14 +41,8 @@ impl Journal {
     pub fn with_key(alloc: Global, key0: u64, key1: u64) -> Journal
         ensures { result ≡ [] }
     {
-        Journal::hashed_by(alloc, HashKey::of_words(key0, key1))
-    }
-
-    fn hashed_by(alloc: Global, key: HashKey) -> Journal
-        ensures { result ≡ [] }
-    {
         Journal {
-            edits: IndexSet::with_hasher(alloc, key),
+            edits: IndexSet::with_hasher(alloc, JournalKey::of_words(key0, key1)),
         }
     }
 
@@ -82,33 +76,6 @@ impl Journal {
         noted
     }
 
-    /// Copies of those of the edits that are not in it by then, in order, each once, in a journal of
-    /// the same key.
-    pub fn fresh(&self, edits: &[Edit]) -> Result<Journal, AllocError>
-        ensures fresh { IfOk result (λ fresh. noted self.now edits.now ≡ self.now ++ fresh) }
-        ensures noted { IfOk result (λ fresh. noted self.now fresh ≡ noted self.now edits.now) }
-        ensures edits { OnOk result ((e : PlaneEdit) → Contains edits.now e → IsEdit e) }
-    {
-        let mut fresh = Journal::hashed_by(*self.edits.allocator(), *self.edits.hasher());
-        for edit in edits {
-            self.add_fresh(&mut fresh, edit)?;
-        }
-        Ok(fresh)
-    }
-
-    /// Adds a copy of an edit to another journal, where neither has it.
-    fn add_fresh(&self, fresh: &mut Journal, edit: &Edit) -> Result<(), AllocError>
-        ensures ok { OnOk result (self.now ++ fresh.new ≡ noted (self.now ++ fresh.old) (edit.now ∷ [])) }
-        ensures edit { IsEdit edit.now }
-    {
-        // For the proof alone: the call tells that it is an edit.
-        let _listed = edit.listed_cells();
-        if !self.contains(edit) {
-            fresh.push(edit.copy()?)?;
-        }
-        Ok(())
-    }
-
     /// Adds an edit at the end, where it is not in the journal. Where memory is refused, the journal
     /// stays as it was.
     pub fn push(&mut self, edit: Edit) -> Result<(), AllocError>
@@ -118,20 +85,11 @@ impl Journal {
         self.edits.insert(edit)?;
         Ok(())
     }
-
-    /// Adds those of a journal's edits that are not in this one at the end, in order. Where memory is
-    /// refused, this one stays as it was.
-    pub fn append(&mut self, mut fresh: Journal) -> Result<(), AllocError>
-        ensures ok { OnOk result (self.new ≡ noted self.old fresh) }
-        ensures err { OnErr result (self.new ≡ self.old) }
-    {
-        self.edits.append(&mut fresh.edits)
-    }
 }
 
 /// Inserts a copy of each edit, whether it is there or not: an edit is hashed once, and that takes longer than
 /// to copy it. Where memory is refused, edits may have been put behind the first ones.
-fn insert_copies(journal: &mut IndexSet<Edit, HashKey>, edits: &[Edit]) -> Result<(), AllocError>
+fn insert_copies(journal: &mut IndexSet<Edit, JournalKey>, edits: &[Edit]) -> Result<(), AllocError>
     ensures ok { OnOk result (journal.new.keys ≡ noted journal.old.keys edits.now) }
     ensures begins { take (length journal.old.keys) journal.new.keys ≡ journal.old.keys }
     ensures edits { OnOk result ((e : PlaneEdit) → Contains edits.now e → IsEdit e) }

@@ -1,8 +1,8 @@
 //! Edits noted in order, each once, and found by all that they say.
 #![tactic(auto)]
 
-mod hash_key;
 mod journal;
+mod journal_key;
 mod laws;
 
 pub use journal::Journal;

@@ -45,17 +45,11 @@ fn pushed(alloc: Global, pushed: &[(u64, u8)]) -> Result<Journal, EditFault> {
     Ok(journal)
 }
 
-/// Appends some edits, each once.
-fn append(journal: &mut Journal, edits: &[Edit]) -> Result<(), AllocError> {
-    let fresh = journal.fresh(edits)?;
-    journal.append(fresh)
-}
-
-/// A journal of edits that were pushed one by one, and of others that were appended, each once.
+/// A journal of edits that were pushed one by one, and of others that were noted behind them.
 fn journal(alloc: Global, first: &[(u64, u8)], given: &[(u64, u8)]) -> Result<Journal, EditFault> {
     let edits = edits(alloc, given)?;
     let mut journal = pushed(alloc, first)?;
-    append(&mut journal, &edits)?;
+    journal.note(&edits)?;
     Ok(journal)
 }
 
@@ -81,7 +75,7 @@ fn count_of_found(journal: &Journal, edits: &[Edit]) -> u32 {
     found
 }
 
-/// How many of some edits a journal of pushed and of appended ones finds.
+/// How many of some edits a journal of pushed and of noted ones finds.
 fn found(
     alloc: Global,
     pushed: &[(u64, u8)],

@@ -58,7 +58,7 @@ fn count_of_found(journal: &Journal, edits: &[Edit]) -> usize {
 }
 
 /// How many of so many edits are noted, how many are found then, and how many stand there when all
-/// were noted once more, and put in and appended once more.
+/// were noted once more.
 fn counts(alloc: Global, count: i32) -> Result<[usize; 3], EditFault> {
     let edits = edits_apart(alloc, count)?;
     let mut journal = Journal::new(alloc);
@@ -66,8 +66,6 @@ fn counts(alloc: Global, count: i32) -> Result<[usize; 3], EditFault> {
     let noted = journal.as_slice().len();
     let found = count_of_found(&journal, &edits);
     journal.note(&edits)?;
-    let fresh = Journal::with_key(alloc, 1, 2).fresh(&edits)?;
-    journal.append(fresh)?;
     Ok([noted, found, journal.as_slice().len()])
 }
 

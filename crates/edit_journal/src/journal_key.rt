@@ -9,20 +9,20 @@ use std::hash::{BuildHasher, DefaultHasher};
 /// The two words of a key of SipHash-1-3 (Aumasson and Bernstein 2012), a keyed pseudorandom
 /// function.
 #[derive(Clone, Copy, Debug)]
-pub struct HashKey {
+pub struct JournalKey {
     key0: u64,
     key1: u64,
 }
 
-impl HashKey {
-    pub fn of_words(key0: u64, key1: u64) -> HashKey
+impl JournalKey {
+    pub fn of_words(key0: u64, key1: u64) -> JournalKey
         ensures { result ≡ record { key0 = key0; key1 = key1 } }
     {
-        HashKey { key0, key1 }
+        JournalKey { key0, key1 }
     }
 }
 
-impl BuildHasher for HashKey {
+impl BuildHasher for JournalKey {
     type Hasher = DefaultHasher;
 
     ghost build_hasher = { λ key. with_keys key.key0 key.key1 };
