@@ -1,5 +1,5 @@
 -- What a client's replica stands for.
-use Rattle.std.proofs.Common.{◌≡◌, ◌≤◌, ◌<◌, ℕ, ◌+◌, Bool, true, false, List, [], ◌∷◌, ◌++◌, Result, Ok, Err, refl, sym, ap, subst, ◌∙◌, arith, append-nil, append_assoc}
+use Rattle.std.proofs.Common.{◌≡◌, ◌≤◌, ◌<◌, ℕ, max, ◌+◌, Bool, true, false, List, [], ◌∷◌, ◌++◌, Result, Ok, Err, refl, sym, ap, subst, ◌∙◌, arith, append-nil, append_assoc}
 use Rattle.std.specs.Prelude.{IsTrue, not, nat_lt}
 use Rattle.generations_rule.specs.Refusal.{unless, when, ◌>>=◌}
 use Rattle.generations_rule.specs.Rule.{GenerationsRule}
@@ -14,7 +14,7 @@ use Rattle.delta_exchange.specs.Versions.{IsReadableStateText}
 use Rattle.replica_core.specs.declared.fault.Fault.{Fault}
 use Rattle.replica_core.specs.declared.fault.Fault.TheVariants as faults
 use Rattle.replica_core.specs.Peers.{HoldsEdits}
-use Rattle.replica_core.specs.Replica.{ReplicaState, made, or_edit_fault, stamp_after}
+use Rattle.replica_core.specs.Replica.{ReplicaState, edit_drawn, made, or_edit_fault, stamp_after}
 use Rattle.replica_core.proofs.DrawLaws.{made_stamp}
 use Rattle.replica_core.proofs.HeadlineLaws.{greatest_of}
 use Rattle.replica_core.proofs.PeerLaws.{holds_what_it_took}
@@ -53,19 +53,29 @@ drawn_as : (next : Result ℕ Fault) (g : GenerationsRule) (spec : EditSpec) (e 
 drawn_as (Ok stamp) g spec e is = (stamp, refl, is)
 drawn_as (Err fault) g spec e is = absurd cc
 
-stamp_is : (n number stamp : ℕ) (b : Bool) → unless (when (not b) faults.ClockFull) (stamp_of (counter_in n + 1) number) ≡ Ok stamp → stamp ≡ stamp_of (counter_in n + 1) number
-stamp_is n number stamp true is = cc
-stamp_is n number stamp false is = absurd cc
+stamp_is : (counter number stamp : ℕ) (b : Bool) → unless (when (not b) faults.ClockFull) (stamp_of (counter + 1) number) ≡ Ok stamp → stamp ≡ stamp_of (counter + 1) number
+stamp_is counter number stamp true is = cc
+stamp_is counter number stamp false is = absurd cc
 
-counters : (held n stamp number : ℕ) → held ≤ n → stamp ≡ stamp_of (counter_in n + 1) number → counter_in held < counter_in stamp
-counters held n stamp number below is = omega arith
+-- a drawing's counter is above the one that it was made behind
+past : (g : GenerationsRule) (counter number : ℕ) (spec : EditSpec) (e : PlaneEdit) → edit_drawn g counter number spec ≡ Ok e → counter < counter_in e.stamp
+past g counter number spec e drawn =
+    let at = drawn_as (stamp_after counter number) g spec e drawn in
+    let own : e.stamp ≡ stamp_of (counter + 1) number = made_stamp g at.0 spec e at.2 ∙ stamp_is counter number at.0 (nat_lt counter last_counter) at.1 in
+    one_more counter e.stamp number own where
+      one_more : (counter stamp number : ℕ) → stamp ≡ stamp_of (counter + 1) number → counter < counter_in stamp
+      one_more counter stamp number is = omega arith
+
+counters : (held after n stamp : ℕ) → held ≤ n → max after (counter_in n) < counter_in stamp → counter_in held < counter_in stamp
+counters held after n stamp below is = omega arith
+
+given : (after n stamp : ℕ) → max after n < stamp → after < stamp
+given after n stamp is = omega arith
 
 pub draws_above : DrawsAbove
 draws_above = record {
-  above = λ rule E r n spec e held h greatest_is drawn here edit.
-      let at = drawn_as (stamp_after (counter_in n) r.number) r.rule spec e drawn in
-      let stamp : at.0 ≡ stamp_of (counter_in n + 1) r.number = stamp_is n r.number at.0 (nat_lt (counter_in n) last_counter) at.1 in
-      let own : e.stamp ≡ at.0 = made_stamp r.rule at.0 spec e at.2 in
+  given = λ rule number after n spec e drawn. given after (counter_in n) (counter_in e.stamp) (past rule (max after (counter_in n)) number spec e drawn);
+  above = λ rule E r after n spec e held h greatest_is drawn here edit.
       let below : held.stamp ≤ n = stamp_in held (map_of r.plane) n edit (λ c. subst (λ w. IsTrue (at_most (writes_of held c) w)) (sym (h.map c)) ((greatest_of E c).above held here)) greatest_is in
-      counters held.stamp n e.stamp r.number below (own ∙ stamp);
+      counters held.stamp after n e.stamp below (past r.rule (max after (counter_in n)) r.number spec e drawn);
 }

@@ -6,7 +6,8 @@ use Rattle.replica_core.specs.Replica.{ReplicaState}
 use Rattle.board_client.specs.declared.fault.ClientFault.{ClientFault}
 use Rattle.board_client.specs.declared.fault.ClientFault.TheVariants.{Line, NoReply, Text, Memory}
 use Rattle.board_client.specs.Client.{LineState, IsTalk}
-use Rattle.board_client.specs.Hearing.{AreCutShort, AreHeard, HasHeard, IsTaken, IsTextHeard}
+use Rattle.board_client.specs.Hearing.{AreCutShort, AreHeard, HasHeard, IsAsAnnounced, IsTaken, IsTextHeard}
+use Rattle.board_client.specs.declared.hearing.Announced.TheVariants.{Plane}
 use Rattle.board_client.specs.declared.polling.Polling.{Polling}
 use Rattle.board_client.specs.declared.polling.Polling.TheVariants.{Edits, Whole, Refused}
 use Rattle.board_client.specs.Polling.{BringsEdits, BringsWhole, IsPollRefusedForAMoment, IsMomentaryPollRefusal, IsPollOnce, poll_request}
@@ -19,11 +20,12 @@ announced a m request first read body talk is same spelt =
     subst (λ said. IsTalk a m (said ∷ []) (body ∷ [])) is (subst (λ heard. IsTalk a m (request ∷ []) (heard ∷ [])) (sym same ∙ spelt) talk)
 
 module _ (a m b : LineState) (old new : ReplicaState) where
-  pub brings_whole : IsTalk a m (poll_request ∷ []) (polled_body whole_mark ∷ []) → HasHeard (λ text. IsTaken old text new) m b → BringsWhole a b old new
+  pub brings_whole : IsTalk a m (poll_request ∷ []) (polled_body whole_mark ∷ []) → HasHeard (λ text. IsAsAnnounced Plane text × IsTaken old text new) m b → BringsWhole a b old new
   brings_whole talk heard = record {
     text = heard.text;
     talk = both a m b (poll_request ∷ []) [] (polled_body whole_mark ∷ []) (heard.text ∷ []) talk heard.talk;
-    taken = heard.told;
+    plane = heard.told.0;
+    taken = heard.told.1;
   }
 
   pub brings_edits : (count : ℕ) → count ≤ most_edits → IsTalk a m (poll_request ∷ []) (polled_body count ∷ []) → AreHeard count m b old new → BringsEdits count a b old new
@@ -32,19 +34,20 @@ module _ (a m b : LineState) (old new : ReplicaState) where
     texts = heard.texts;
     number = heard.number;
     talk = both a m b (poll_request ∷ []) [] (polled_body count ∷ []) heard.texts talk heard.talk;
+    deltas = heard.deltas;
     taken = heard.taken;
   }
 
-  pub fails_whole : (fault : ClientFault) → IsTalk a m (poll_request ∷ []) (polled_body whole_mark ∷ []) → IsTextHeard {A = Unit {0}} m b old new (Err fault) → IsPollOnce a b old new (Err fault)
+  pub fails_whole : (fault : ClientFault) → IsTalk a m (poll_request ∷ []) (polled_body whole_mark ∷ []) → IsTextHeard {A = Unit {0}} Plane m b old new (Err fault) → IsPollOnce a b old new (Err fault)
   fails_whole (Line fault) talk p = inr (record { mid = m; count = whole_mark; talk = talk; fails = inl (refl, p) })
   fails_whole (Text fault) talk p = record { mid = m; count = whole_mark; talk = talk; fails = inl (refl, p) }
-  fails_whole NoReply talk p = absurd p
+  fails_whole NoReply talk p = inr (record { mid = m; count = whole_mark; talk = talk; fails = inl (refl, p) })
   fails_whole Memory talk p = absurd p
 
   pub fails_edits : (fault : ClientFault) (count : ℕ) → count ≤ most_edits → IsTalk a m (poll_request ∷ []) (polled_body count ∷ []) → AreCutShort count fault m b old new → IsPollOnce a b old new (Err fault)
   fails_edits (Line fault) count some talk p = inr (record { mid = m; count = count; talk = talk; fails = inr (some, p) })
   fails_edits (Text fault) count some talk p = record { mid = m; count = count; talk = talk; fails = inr (some, p) }
-  fails_edits NoReply count some talk p = absurd p.next
+  fails_edits NoReply count some talk p = inr (record { mid = m; count = count; talk = talk; fails = inr (some, p) })
   fails_edits Memory count some talk p = absurd p.next
 
 -- one poll more that was refused for a moment

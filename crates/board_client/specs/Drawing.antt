@@ -1,5 +1,5 @@
 -- What a drawing does.
-use Rattle.std.specs.Prelude.{◌≡◌, ℕ, List, [], ◌∷◌, Result, Ok, Err}
+use Rattle.std.specs.Prelude.{◌≡◌, ℕ, max, List, [], ◌∷◌, Result, Ok, Err}
 use Rattle.std.specs.Result.{IsOk}
 use Rattle.generations_rule.specs.Rule.{GenerationsRule}
 use Rattle.edit_stamps.specs.Edit.{PlaneEdit}
@@ -58,6 +58,6 @@ Draws meant a b old new (Ok (Refused fault)) = (meant ≡ Err fault) × IsUntouc
 Draws meant a b old new (Err Memory) = IsOk meant × IsUntouched a b old new
 Draws meant a b old new result = (e : PlaneEdit) × (meant ≡ Ok e) × IsPublishing e a b old new result
 
--- the edit is the one that a draw would make at the greatest stamp that the replica holds
-abbrev pub IsDrawing : EditSpec → LineState → LineState → ReplicaState → ReplicaState → Result Drawing ClientFault → Type 0
-IsDrawing spec a b old new result = (n : ℕ) × IsGreatestStamp n (map_of old.plane) × Draws (edit_drawn old.rule (counter_in n) old.number spec) a b old new result
+-- the edit is the one that a draw would make at the greatest stamp that the replica holds, or at a given counter where that is greater
+abbrev pub IsDrawing : ℕ → EditSpec → LineState → LineState → ReplicaState → ReplicaState → Result Drawing ClientFault → Type 0
+IsDrawing after spec a b old new result = (n : ℕ) × IsGreatestStamp n (map_of old.plane) × Draws (edit_drawn old.rule (max after (counter_in n)) old.number spec) a b old new result

@@ -1,6 +1,6 @@
 -- What a greeting and a farewell do.
 use Rattle.std.specs.Prelude.{◌≡◌, ◌⊎◌, ℕ, List, [], ◌∷◌, Result, Ok, Err}
-use Rattle.client_protocol.specs.Spelling.{SpellsGreeting}
+use Rattle.client_protocol.specs.Spelling.{OffersSeat, SpellsGreeting}
 use Rattle.client_protocol.specs.declared.greeting.Greeting.{Greeting}
 use Rattle.client_protocol.specs.declared.greeting.Greeting.TheVariants.{Seat, Refused, Faulty}
 use Rattle.board_client.specs.declared.fault.ClientFault.{ClientFault}
@@ -23,9 +23,9 @@ pub record IsGreeted (greeting : Greeting) (a b : LineState) : Type 0 where
   pub talk : IsTalk a b (hello_request ∷ []) (body ∷ [])
   pub spelt : SpellsGreeting body greeting
 
--- nothing was said, or a reply was heard that found no memory here
+-- nothing was said, or a reply was heard that offers a seat, for whose rule no memory was found here
 abbrev pub IsWanting : LineState → LineState → Type 0
-IsWanting a b = (b ≡ a) ⊎ ((body : List ℕ) × IsTalk a b (hello_request ∷ []) (body ∷ []))
+IsWanting a b = (b ≡ a) ⊎ ((body : List ℕ) × OffersSeat body × IsTalk a b (hello_request ∷ []) (body ∷ []))
 
 abbrev pub IsGreetingOnce : LineState → LineState → Result Greeting ClientFault → Type 0
 IsGreetingOnce a b (Ok (Seat number rule)) = IsGreeted (Seat number rule) a b

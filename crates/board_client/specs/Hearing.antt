@@ -1,9 +1,9 @@
 -- What is asked and heard, and taken by the replica.
-use Rattle.std.specs.Prelude.{◌≡◌, ◌⊎◌, ℕ, ◌<◌, ◌^◌, List, [], ◌∷◌, length, Result, Ok, Err}
+use Rattle.std.specs.Prelude.{◌≡◌, ◌⊎◌, ⊤, ℕ, Bool, true, false, ◌<◌, ◌^◌, List, [], ◌∷◌, length, Result, Ok, Err}
 use Rattle.devices.specs.Count.{one_more}
-use Rattle.delta_exchange.specs.declared.message.Content.TheVariants.{Edits}
+use Rattle.delta_exchange.specs.declared.message.Content.TheVariants as content
 use Rattle.delta_exchange.specs.Delta.{AreTellable}
-use Rattle.delta_exchange.specs.MessageReading.{HasMap, message_of}
+use Rattle.delta_exchange.specs.MessageReading.{HasMap, begins_as_delta, message_of}
 use Rattle.delta_exchange.specs.Spelling.{delta_text}
 use Rattle.delta_exchange.specs.State.{IsTellableMap}
 use Rattle.delta_exchange.specs.Versions.{IsReadableStateText}
@@ -16,7 +16,9 @@ use Rattle.replica_core.specs.Exchange.{IsTakingText, TakesSome}
 use Rattle.replica_core.specs.Replica.{ReplicaState}
 use Rattle.replica_core.specs.declared.fault.Fault.{Fault}
 use Rattle.board_client.specs.declared.fault.ClientFault.{ClientFault}
-use Rattle.board_client.specs.declared.fault.ClientFault.TheVariants.{Line, Text}
+use Rattle.board_client.specs.declared.fault.ClientFault.TheVariants.{Line, Memory, NoReply, Text}
+use Rattle.board_client.specs.declared.hearing.Announced.{Announced}
+use Rattle.board_client.specs.declared.hearing.Announced.TheVariants.{Edits, Plane}
 use Rattle.board_client.specs.Client.{LineState, IsTalk}
 
 -- ---- the line
@@ -50,8 +52,8 @@ IsAsked bytes_of request a b (Err fault) = ⊥
 -- what a text tells is taken whole: the edits of a delta, or the map of a state in either version
 pub record IsTaken (old : ReplicaState) (text : List ℕ) (new : ReplicaState) : Type 0 where
   pub told : IsTakingText {A = Unit {0}} old new text (message_of old.rule text) (Ok tt)
-  pub edits : (meant : List PlaneEdit) → AreTellable old.rule.states meant → text ≡ delta_text old.rule meant → TakesSome old new (λ content. content ≡ Edits meant)
-  pub map : (meant : Writes) → IsTellableMap old.rule.states meant → IsReadableStateText old.rule meant text → TakesSome old new (λ content. HasMap content meant)
+  pub edits : (meant : List PlaneEdit) → AreTellable old.rule.states meant → text ≡ delta_text old.rule meant → TakesSome old new (λ c. c ≡ content.Edits meant)
+  pub map : (meant : Writes) → IsTellableMap old.rule.states meant → IsReadableStateText old.rule meant text → TakesSome old new (λ c. HasMap c meant)
 
 -- a text is not taken
 abbrev pub IsNotTaken : ReplicaState → List ℕ → ReplicaState → Fault → Type 0
@@ -68,28 +70,46 @@ pub record HasHeard (P : List ℕ → Type 0) (a b : LineState) : Type 0 where
   pub talk : IsTalk a b [] (text ∷ [])
   pub told : P text
 
--- a text was heard and taken; or none came, or the one that came is not taken
-abbrev pub IsTextHeard : {A : Type 0} → LineState → LineState → ReplicaState → ReplicaState → Result A ClientFault → Type 0
-IsTextHeard a b old new (Ok done) = HasHeard (λ text. IsTaken old text new) a b
-IsTextHeard a b old new (Err (Line fault)) = IsUnheard fault a b × (new ≡ old)
-IsTextHeard a b old new (Err (Text fault)) = HasHeard (λ text. IsNotTaken old text new fault) a b
-IsTextHeard a b old new (Err fault) = ⊥
+-- ---- what was announced
 
--- so many texts were heard, and each was taken before the next was heard
+-- edits were, and no plane
+abbrev pub is_of_edits : Announced → Bool
+is_of_edits Edits = true
+is_of_edits Plane = false
+
+-- a text is of the kind that was announced, by the bytes that it begins with
+abbrev pub IsAsAnnounced : Announced → List ℕ → Type 0
+IsAsAnnounced announced text = begins_as_delta text ≡ Ok (is_of_edits announced)
+
+-- each text is one of edits
+abbrev pub AreDeltas : List (List ℕ) → Type 0
+AreDeltas [] = ⊤
+AreDeltas (text ∷ texts) = IsAsAnnounced Edits text × AreDeltas texts
+
+-- a text that was announced was heard and taken; or none came, or one of the other kind, or the one that came is not taken
+abbrev pub IsTextHeard : {A : Type 0} → Announced → LineState → LineState → ReplicaState → ReplicaState → Result A ClientFault → Type 0
+IsTextHeard announced a b old new (Ok done) = HasHeard (λ text. IsAsAnnounced announced text × IsTaken old text new) a b
+IsTextHeard announced a b old new (Err (Line fault)) = IsUnheard fault a b × (new ≡ old)
+IsTextHeard announced a b old new (Err NoReply) = HasHeard (λ text. IsAsAnnounced announced text → ⊥) a b × (new ≡ old)
+IsTextHeard announced a b old new (Err (Text fault)) = HasHeard (λ text. IsAsAnnounced announced text × IsNotTaken old text new fault) a b
+IsTextHeard announced a b old new (Err Memory) = ⊥
+
+-- so many texts of edits were heard, and each was taken before the next was heard
 pub record AreHeard (count : ℕ) (a b : LineState) (old new : ReplicaState) : Type 0 where
   pub texts : List (List ℕ)
   pub number : length texts ≡ count
   pub talk : IsTalk a b [] texts
+  pub deltas : AreDeltas texts
   pub taken : AreTaken old texts new
 
--- fewer than so many were heard and taken, and the next one did not come, or is not taken
+-- fewer than so many were heard and taken, and the next one did not come, or is none, or is not taken
 pub record AreCutShort (count : ℕ) (fault : ClientFault) (a b : LineState) (old new : ReplicaState) : Type 0 where
   pub few : ℕ
   pub fewer : few < count
   pub mid : LineState
   pub between : ReplicaState
   pub first : AreHeard few a mid old between
-  pub next : IsTextHeard {A = Unit {0}} mid b between new (Err fault)
+  pub next : IsTextHeard {A = Unit {0}} Edits mid b between new (Err fault)
 
 -- all of them; or fewer
 abbrev pub AreTextsHeard : {A : Type 0} → ℕ → LineState → LineState → ReplicaState → ReplicaState → Result A ClientFault → Type 0

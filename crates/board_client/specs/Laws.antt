@@ -1,5 +1,5 @@
 -- What a client's replica stands for: the edits that it was handed, and those of its own that the board has.
-use Rattle.std.specs.Prelude.{◌≡◌, ⊤, ℕ, ◌<◌, List, [], ◌∷◌, ◌++◌, Ok}
+use Rattle.std.specs.Prelude.{◌≡◌, ⊤, ℕ, max, ◌<◌, List, [], ◌∷◌, ◌++◌, Ok}
 use Rattle.std.specs.List.{Contains}
 use Rattle.generations_rule.specs.Rule.{GenerationsRule}
 use Rattle.edit_stamps.specs.Edit.{PlaneEdit, IsEdit, greatest}
@@ -32,8 +32,9 @@ pub record HoldsWhatItHeard : Type 0 where
       → IsReadableStateText rule (greatest F) p.text → HoldsEdits rule (E ++ F) s
   pub drawn : (rule : GenerationsRule) (E : List PlaneEdit) (e : PlaneEdit) (a b : LineState) (r s : ReplicaState) → HoldsEdits rule E r → IsPublished e a b r s (Ok tt) → HoldsEdits rule (E ++ e ∷ []) s
 
--- The counter of an edit that a client draws is above that of each edit that its replica holds, so above those of its own
--- drawings before it that the board has: no two of those have one stamp.
+-- The counter of an edit that a client draws is above the one that it was given, and above that of each edit that its replica
+-- holds, so above those of its own drawings before it that the board has: no two of those have one stamp.
 pub record DrawsAbove : Type 0 where
-  pub above : (rule : GenerationsRule) (E : List PlaneEdit) (r : ReplicaState) (n : ℕ) (spec : EditSpec) (e held : PlaneEdit) → HoldsEdits rule E r → IsGreatestStamp n (map_of r.plane)
-      → edit_drawn r.rule (counter_in n) r.number spec ≡ Ok e → Contains E held → IsEdit held → counter_in held.stamp < counter_in e.stamp
+  pub given : (rule : GenerationsRule) (number after n : ℕ) (spec : EditSpec) (e : PlaneEdit) → edit_drawn rule (max after (counter_in n)) number spec ≡ Ok e → after < counter_in e.stamp
+  pub above : (rule : GenerationsRule) (E : List PlaneEdit) (r : ReplicaState) (after n : ℕ) (spec : EditSpec) (e held : PlaneEdit) → HoldsEdits rule E r → IsGreatestStamp n (map_of r.plane)
+      → edit_drawn r.rule (max after (counter_in n)) r.number spec ≡ Ok e → Contains E held → IsEdit held → counter_in held.stamp < counter_in e.stamp

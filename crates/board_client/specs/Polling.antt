@@ -9,25 +9,28 @@ use Rattle.board_client.specs.declared.fault.ClientFault.TheVariants.{Line, NoRe
 use Rattle.board_client.specs.declared.polling.Polling.{Polling}
 use Rattle.board_client.specs.declared.polling.Polling.TheVariants.{Edits, Whole, Refused}
 use Rattle.board_client.specs.Client.{LineState, IsTalk}
-use Rattle.board_client.specs.Hearing.{IsTaken, AreTaken, IsAsked, IsTextHeard, AreTextsHeard}
+use Rattle.board_client.specs.Hearing.{AreDeltas, AreTaken, AreTextsHeard, IsAsAnnounced, IsAsked, IsTaken, IsTextHeard}
+use Rattle.board_client.specs.declared.hearing.Announced.TheVariants.{Plane}
 use Rattle.board_client.specs.Tries.{IsTried}
 
 -- the body of the request
 abbrev pub poll_request : List ℕ
 poll_request = 3 ∷ []
 
--- a poll was said; edits were announced, so many texts heard, and each taken
+-- a poll was said; edits were announced, so many texts of edits heard, and each taken
 pub record BringsEdits (count : ℕ) (a b : LineState) (old new : ReplicaState) : Type 0 where
   pub some : count ≤ most_edits
   pub texts : List (List ℕ)
   pub number : length texts ≡ count
   pub talk : IsTalk a b (poll_request ∷ []) (polled_body count ∷ texts)
+  pub deltas : AreDeltas texts
   pub taken : AreTaken old texts new
 
 -- a poll was said; the mark of a whole plane and its text were heard, and it was taken
 pub record BringsWhole (a b : LineState) (old new : ReplicaState) : Type 0 where
   pub text : List ℕ
   pub talk : IsTalk a b (poll_request ∷ []) (polled_body whole_mark ∷ text ∷ [])
+  pub plane : IsAsAnnounced Plane text
   pub taken : IsTaken old text new
 
 -- a poll was said, and a refusal heard
@@ -43,12 +46,12 @@ pub record BringsNothing (a b : LineState) (old new : ReplicaState) : Type 0 whe
   pub talk : IsTalk a b (poll_request ∷ []) (body ∷ [])
   pub kept : new ≡ old
 
--- so many edits, or a whole plane, were announced, and not all that was announced came and was taken
+-- so many edits, or a whole plane, were announced, and not all that was announced came, or what came is none, or was not taken
 pub record FailsBehind (fault : ClientFault) (a b : LineState) (old new : ReplicaState) : Type 0 where
   pub mid : LineState
   pub count : ℕ
   pub talk : IsTalk a mid (poll_request ∷ []) (polled_body count ∷ [])
-  pub fails : ((count ≡ whole_mark) × IsTextHeard {A = Unit {0}} mid b old new (Err fault)) ⊎ ((count ≤ most_edits) × AreTextsHeard {A = Unit {0}} count mid b old new (Err fault))
+  pub fails : ((count ≡ whole_mark) × IsTextHeard {A = Unit {0}} Plane mid b old new (Err fault)) ⊎ ((count ≤ most_edits) × AreTextsHeard {A = Unit {0}} count mid b old new (Err fault))
 
 -- the poll could not be said, or nothing came
 pub record FailsBefore (request : List ℕ) (fault : ClientFault) (a b : LineState) (old new : ReplicaState) : Type 0 where
@@ -61,7 +64,7 @@ IsPollOnce a b old new (Ok (Edits count)) = BringsEdits count a b old new
 IsPollOnce a b old new (Ok Whole) = BringsWhole a b old new
 IsPollOnce a b old new (Ok (Refused number)) = BringsRefusal number a b old new
 IsPollOnce a b old new (Err Memory) = (b ≡ a) × (new ≡ old)
-IsPollOnce a b old new (Err NoReply) = BringsNothing a b old new
+IsPollOnce a b old new (Err NoReply) = BringsNothing a b old new ⊎ FailsBehind NoReply a b old new
 IsPollOnce a b old new (Err (Text fault)) = FailsBehind (Text fault) a b old new
 IsPollOnce a b old new (Err (Line fault)) = FailsBefore poll_request (Line fault) a b old new ⊎ FailsBehind (Line fault) a b old new
 

@@ -32,18 +32,20 @@ pub enum Drawing {
     Unpublished(u8),
 }
 
-/// Draws what the replica would draw of what it holds, and has it published: only where the board has the
-/// edit does the replica take it. So it wins each cell that the replica holds.
+/// Draws what the replica would draw of what it holds, with a counter above a given one too, and has it
+/// published: only where the board has the edit does the replica take it. So it wins each cell that the
+/// replica holds, and all that was drawn elsewhere up to that counter.
 pub fn draw<C: Clock, S: Source + Drop, K: Sink + Drop>(
     clock: &C,
     alloc: Global,
     line: &mut Line<S, K>,
     replica: &mut Replica,
+    after: u64,
     spec: &EditSpec,
 ) -> Result<Drawing, ClientFault>
-    ensures { IsDrawing spec.now (line_at line.old.frames (S.known line.old.source) (K.known line.old.sink)) (line_at line.new.frames (S.known line.new.source) (K.known line.new.sink)) replica.old replica.new result }
+    ensures { IsDrawing after spec.now (line_at line.old.frames (S.known line.old.source) (K.known line.old.sink)) (line_at line.new.frames (S.known line.new.source) (K.known line.new.sink)) replica.old replica.new result }
 {
-    match replica.edit_of(spec) {
+    match replica.edit_of(after, spec) {
         Ok(edit) => publish(clock, alloc, line, replica, &edit),
         Err(Fault::Memory) => Err(ClientFault::Memory),
         Err(fault) => Ok(Drawing::Refused(fault)),

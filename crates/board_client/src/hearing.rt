@@ -1,32 +1,60 @@
 //! Requests and the first body of their replies; texts that are heard and taken.
 
+ghost use Rattle.std.specs.Prelude.{◌≡◌, ◌↔◌, IsTrue, Ok};
+ghost use Rattle.delta_exchange.specs.MessageReading.{begins_as_delta};
 ghost use Rattle.board_client.specs.Client.{line_at};
-ghost use Rattle.board_client.specs.Hearing.{AreTextsHeard, IsAsked, IsTextHeard};
+ghost use Rattle.board_client.specs.Hearing.{AreTextsHeard, IsAsked, IsTextHeard, is_of_edits};
 
 use crate::fault::ClientFault;
+use delta_exchange::is_delta;
 use devices::{Sink, Source};
 use frame_line::Line;
 use message_frames::Framed;
 use replica_core::Replica;
 
-/// Hears a text, and takes what it tells.
+/// What a poll's reply announced.
+#[derive(Clone, Copy, Debug, PartialEq, Eq)]
+pub(crate) enum Announced {
+    /// Texts of edits.
+    Edits,
+    /// The text of a plane.
+    Plane,
+}
+
+/// Whether a text begins as one that was announced.
+fn is_announced(announced: Announced, text: &[u8]) -> bool
+    ensures { IsTrue result ↔ (begins_as_delta text.now ≡ Ok (is_of_edits announced)) }
+{
+    match (announced, is_delta(text)) {
+        (Announced::Edits, Ok(delta)) => delta,
+        (Announced::Plane, Ok(delta)) => !delta,
+        (_, Err(_)) => false,
+    }
+}
+
+/// Hears a text that was announced, and takes what it tells. `NoReply` where it is of the other kind.
 pub(crate) fn hear_text<S: Source + Drop, K: Sink + Drop>(
     line: &mut Line<S, K>,
     replica: &mut Replica,
+    announced: Announced,
 ) -> Result<(), ClientFault>
-    ensures { IsTextHeard (line_at line.old.frames (S.known line.old.source) (K.known line.old.sink)) (line_at line.new.frames (S.known line.new.source) (K.known line.new.sink)) replica.old replica.new result }
+    ensures { IsTextHeard announced (line_at line.old.frames (S.known line.old.source) (K.known line.old.sink)) (line_at line.new.frames (S.known line.new.source) (K.known line.new.sink)) replica.old replica.new result }
 {
     let text = match line.hear() {
         Ok(text) => text,
         Err(fault) => return Err(ClientFault::Line(fault)),
     };
-    match replica.take_bytes(&text) {
+    let bytes: &[u8] = &text;
+    if !is_announced(announced, bytes) {
+        return Err(ClientFault::NoReply);
+    }
+    match replica.take_bytes(bytes) {
         Ok(()) => Ok(()),
         Err(fault) => Err(ClientFault::Text(fault)),
     }
 }
 
-/// Hears so many texts, and takes what each tells before the next is heard.
+/// Hears so many texts of edits, and takes what each tells before the next is heard.
 pub(crate) fn hear_texts<S: Source + Drop, K: Sink + Drop>(
     line: &mut Line<S, K>,
     replica: &mut Replica,
@@ -35,7 +63,7 @@ pub(crate) fn hear_texts<S: Source + Drop, K: Sink + Drop>(
     ensures { AreTextsHeard count (line_at line.old.frames (S.known line.old.source) (K.known line.old.sink)) (line_at line.new.frames (S.known line.new.source) (K.known line.new.sink)) replica.old replica.new result }
 {
     for _text in 0..count {
-        match hear_text(line, replica) {
+        match hear_text(line, replica, Announced::Edits) {
             Ok(()) => {}
             Err(fault) => return Err(fault),
         }

@@ -5,7 +5,7 @@ ghost use Rattle.board_client.specs.Polling.{IsPoll, IsPollOnce, IsPollRefusedFo
 ghost use Rattle.std.specs.Prelude.{IsTrue, ◌↔◌};
 
 use crate::fault::ClientFault;
-use crate::hearing::{ask, hear_text, hear_texts};
+use crate::hearing::{Announced, ask, hear_text, hear_texts};
 use crate::tries::{TRIES_MORE, pause};
 use client_protocol::{Asking, Polled, polled_in, request_body};
 use devices::{Sink, Source};
@@ -43,7 +43,7 @@ fn poll_once<S: Source + Drop, K: Sink + Drop>(
     match polled_in(&first) {
         Polled::Refused(number) => Ok(Polling::Refused(number)),
         Polled::Faulty => Err(ClientFault::NoReply),
-        Polled::Whole => match hear_text(line, replica) {
+        Polled::Whole => match hear_text(line, replica, Announced::Plane) {
             Ok(()) => Ok(Polling::Whole),
             Err(fault) => Err(fault),
         },

@@ -1,8 +1,9 @@
 -- What the first frame of a reply spells.
-use Rattle.std.specs.Prelude.{◌≡◌, ◌≢◌, ℕ, ◌<◌, ◌≤◌, ◌^◌, List, [], ◌∷◌}
-use Rattle.std.specs.Int.{w32, to_be_bytes}
+use Rattle.std.specs.Prelude.{◌≡◌, ◌≢◌, ℕ, ◌<◌, ◌≤◌, ◌^◌, List, [], ◌∷◌, ◌++◌, length}
+use Rattle.std.specs.Result.{IsOk}
+use Rattle.std.specs.Int.{w16, w32, to_be_bytes}
 use Rattle.generations_rule.specs.Rule.{GenerationsRule, IsRule}
-use Rattle.generations_rule.specs.RuleText.{text_of}
+use Rattle.generations_rule.specs.RuleText.{parsed, text_of}
 use Rattle.session_hub.specs.Replies.{hello_body, most_edits, whole_mark}
 use Rattle.client_protocol.specs.declared.answer.Answer.{Answer}
 use Rattle.client_protocol.specs.declared.answer.Answer.TheVariants as answer
@@ -53,6 +54,14 @@ abbrev pub SpellsGreeting : List ℕ → Greeting → Type 0
 SpellsGreeting body (greeting.Seat number rule) = IsSeat number × IsRule rule × (body ≡ hello_body rule number)
 SpellsGreeting body (greeting.Refused number) = IsRefusal body number
 SpellsGreeting body greeting.Faulty = IsNoRefusal body × ((rule : GenerationsRule) (number : ℕ) → IsRule rule → IsSeat number → body ≢ hello_body rule number)
+
+-- behind a 0 stand a seat's number and a text that is a rule's, as it is printed or not
+pub record OffersSeat (body : List ℕ) : Type 0 where
+  pub number : ℕ
+  pub text : List ℕ
+  pub seat : IsSeat number
+  pub rule : IsOk (parsed text)
+  pub bytes : body ≡ 0 ∷ (to_be_bytes w16 number ++ length text ∷ text)
 
 -- the same of a seat's number and a rule's text that were read
 abbrev pub SpellsSeat : ℕ → List ℕ → Greeting → Type 0

@@ -1,7 +1,9 @@
 //! The reply to a greeting.
 
-ghost use Rattle.std.specs.Prelude.{IfOk};
-ghost use Rattle.client_protocol.specs.Spelling.{SpellsGreeting, SpellsSeat};
+ghost use Rattle.std.specs.Prelude.{◌<◌, IfErr, IfOk};
+ghost use Rattle.std.specs.Result.{IsOk};
+ghost use Rattle.generations_rule.specs.RuleText.{parsed};
+ghost use Rattle.client_protocol.specs.Spelling.{OffersSeat, SpellsGreeting, SpellsSeat};
 
 use generations_rule::{Rule, text_laws};
 use std::alloc::{AllocError, Global};
@@ -18,9 +20,10 @@ pub enum Greeting {
 }
 
 /// What the reply to a greeting says: behind a 0 the seat's number in two bytes, how many bytes the rule's
-/// text has, and that text, which is the printed form.
+/// text has, and that text, which is the printed form. Memory is wanting only for the reading of a rule.
 pub fn greeting_in(alloc: Global, body: &[u8]) -> Result<Greeting, AllocError>
-    ensures { IfOk result (SpellsGreeting body.now) }
+    ensures spelt { IfOk result (SpellsGreeting body.now) }
+    ensures want { IfErr result (λ _. OffersSeat body.now) }
 {
     match body {
         [number] if *number != 0 => Ok(Greeting::Refused(*number)),
@@ -32,14 +35,18 @@ pub fn greeting_in(alloc: Global, body: &[u8]) -> Result<Greeting, AllocError>
 }
 
 fn seat_in(alloc: Global, number: u16, text: &[u8]) -> Result<Greeting, AllocError>
-    ensures { IfOk result (SpellsSeat number text.now) }
+    ensures spelt { IfOk result (SpellsSeat number text.now) }
+    ensures want { IfErr result (λ _. (0 < number) × IsOk (parsed text.now)) }
 {
     text_laws();
+    if number == 0 {
+        return Ok(Greeting::Faulty);
+    }
     let Ok(rule) = Rule::parse(text) else {
         return Ok(Greeting::Faulty);
     };
     let printed = rule.write_text(alloc)?;
-    if number > 0 && *printed == *text {
+    if *printed == *text {
         Ok(Greeting::Seat(number, rule))
     } else {
         Ok(Greeting::Faulty)

@@ -1,15 +1,25 @@
 -- Edits that were noted already add nothing to a map that is above them.
-use Rattle.std.proofs.Common.{◌≡◌, zero, suc, List, [], ◌∷◌, ◌++◌, length, drop, refl, sym, ap, subst, ◌∙◌, arith, inl, inr, append-nil, append_assoc}
+use Rattle.std.proofs.Common.{◌≡◌, Bool, true, false, zero, suc, List, [], ◌∷◌, ◌++◌, length, drop, refl, sym, ap, subst, ◌∙◌, arith, inl, inr, append-nil, append_assoc}
 use Rattle.std.proofs.Math.Seq.{drop-append_seam}
 use Rattle.std.proofs.lemmas.List.Elements.{Contains-append_cases}
-use Rattle.std.specs.Prelude.{IsTrue, ◌↔◌}
-use Rattle.std.specs.List.{Contains}
+use Rattle.std.specs.Prelude.{IsTrue, ◌↔◌, if◌then◌else◌}
+use Rattle.std.specs.List.{Contains, list_any}
 use Rattle.generations_rule.specs.Place.{Place}
 use Rattle.stamped_writes.specs.Write.{Writes, AreSame, IsBelow, at_most, greater, joined}
-use Rattle.edit_stamps.specs.Edit.{PlaneEdit, greatest, writes_of}
+use Rattle.edit_stamps.specs.Edit.{PlaneEdit, greatest, is_edit, writes_of}
 use Rattle.edit_stamps.proofs.WriteLaws.{greater-unwritten, depends_on_members, is_lattice, is_least_upper_bound, is_total, joins_lists}
 use Rattle.edit_journal.specs.Journal.{noted}
-use Rattle.edit_journal.proofs.NotedLaws.{noted_behind, noted_members}
+use Rattle.edit_journal.proofs.NotedLaws.{noted_members}
+
+one_behind : (b : Bool) (H : List PlaneEdit) (x : PlaneEdit) (N : List PlaneEdit) → (fresh : List PlaneEdit) × (N ≡ (if b then H else H ++ x ∷ []) ++ fresh) → (fresh : List PlaneEdit) × (N ≡ H ++ fresh)
+one_behind true H x N h = h
+one_behind false H x N h = (x ∷ h.0, h.1 ∙ append_assoc H (x ∷ []) h.0)
+
+-- the journal stays in front
+noted_behind : (H E : List PlaneEdit) → (fresh : List PlaneEdit) × (noted H E ≡ H ++ fresh)
+noted_behind H [] = ([], sym (append-nil H))
+noted_behind H (x ∷ E) =
+    one_behind (list_any (is_edit x) H) H x (noted H (x ∷ E)) (noted_behind (if list_any (is_edit x) H then H else H ++ x ∷ []) E)
 
 all_below : (H : List PlaneEdit) (p : Writes) → ((e : PlaneEdit) → Contains H e → IsBelow (writes_of e) p) → IsBelow (greatest H) p
 all_below [] p held = λ c. is_total.least (p c)

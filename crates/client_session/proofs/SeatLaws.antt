@@ -12,7 +12,7 @@ use Rattle.delta_exchange.specs.declared.fault.ReadFault.{ReadFault}
 use Rattle.stamped_tree.specs.Tree.{Tree}
 use Rattle.generations_rule.specs.Refusal.{◌>>=◌}
 use Rattle.replica_core.specs.Replica.{ReplicaState, IsReplica, Takes}
-use Rattle.board_client.specs.Hearing.{AreTaken, IsTaken}
+use Rattle.board_client.specs.Hearing.{AreDeltas, AreTaken, IsTaken}
 use Rattle.board_client.specs.declared.drawing.Drawing.{Drawing}
 use Rattle.board_client.specs.declared.drawing.Drawing.TheVariants.{Drawn, Refused, Unpublished}
 use Rattle.board_client.specs.Drawing.{IsDrawing}
@@ -28,7 +28,7 @@ use Rattle.client_session.specs.Joining.{IsBlank}
 use Rattle.client_session.specs.Lines.{drawn_line, now_line}
 use Rattle.client_session.specs.Moment.{Moment}
 use Rattle.client_session.specs.Telling.{ShowsAll, TellsCame}
-use Rattle.client_session.specs.Laws.{AreDeltas, IsShown, IsShownAs, ShowsWhatItHolds, TellsWhatChanged}
+use Rattle.client_session.specs.Laws.{IsShown, IsShownAs, ShowsWhatItHolds, TellsWhatChanged}
 use Rattle.client_session.proofs.FreshLaws.{Grows, HoldsAll, grows_by, grows_not, grows_on, joins_behind}
 
 -- ---- what a replica takes
@@ -85,9 +85,9 @@ blank_shown Changes None p new blank = absurd blank
 blank_shown Changes (Some plane) p new blank = λ c. blank c ∙ sym (new c)
 
 -- behind a drawing, by what came of it
-drawn_shown : (drawing : Drawing) (spec : EditSpec) (m n : Moment) → IsReplica m.seat.replica → IsShown m.seat → IsDrawing spec m.line n.line m.seat.replica n.seat.replica (Ok drawing)
+drawn_shown : (drawing : Drawing) (after : ℕ) (spec : EditSpec) (m n : Moment) → IsReplica m.seat.replica → IsShown m.seat → IsDrawing after spec m.line n.line m.seat.replica n.seat.replica (Ok drawing)
     → TellsDrawing drawing (length m.seat.replica.journal) (record m.seat { replica = n.seat.replica }) n.seat m.out n.out → IsShown n.seat
-drawn_shown (Drawn counter) spec m n is shown d tells =
+drawn_shown (Drawn counter) after spec m n is shown d tells =
     let e : PlaneEdit = d.2.0 in
     let takes = d.2.2.1.1 in
     record {
@@ -95,20 +95,20 @@ drawn_shown (Drawn counter) spec m n is shown d tells =
           shown.shown (joins_behind m.seat.replica.journal n.seat.replica.journal (map_of m.seat.replica.plane) (map_of n.seat.replica.plane)
           (took m.seat.replica n.seat.replica takes.0 (e ∷ []) is.journal.held takes.1 takes.2)) tells.told;
     }
-drawn_shown (Refused fault) spec m n is shown d tells = still_shown m.seat n.seat (ap (λ s. s.shown) tells.1) d.2.1.1 shown
-drawn_shown (Unpublished number) spec m n is shown d tells = still_shown m.seat n.seat (ap (λ s. s.shown) tells.kept) d.2.2.1 shown
+drawn_shown (Refused fault) after spec m n is shown d tells = still_shown m.seat n.seat (ap (λ s. s.shown) tells.1) d.2.1.1 shown
+drawn_shown (Unpublished number) after spec m n is shown d tells = still_shown m.seat n.seat (ap (λ s. s.shown) tells.kept) d.2.2.1 shown
 
 pub shows_what_it_holds : ShowsWhatItHolds
 shows_what_it_holds = record {
   joined = λ telling number rule s fresh. record { shown = blank_shown telling s.shown s.replica.plane fresh.replica.map fresh.shown };
-  edits = λ count m n is shown p deltas. record {
+  edits = λ count m n is shown p. record {
     shown = shown_behind m.seat.shown n.seat.shown m.seat.replica.plane n.seat.replica.plane _ (drop (length m.seat.replica.journal) n.seat.replica.journal) m.out n.out shown.shown
         (joins_behind m.seat.replica.journal n.seat.replica.journal (map_of m.seat.replica.plane) (map_of n.seat.replica.plane)
-        (took_all p.polled.last.texts m.seat.replica n.seat.replica is.journal.held deltas p.polled.last.taken)) p.told.told;
+        (took_all p.polled.last.texts m.seat.replica n.seat.replica is.journal.held p.polled.last.deltas p.polled.last.taken)) p.told.told;
   };
   whole = λ m n p. record { shown = all_shown m.seat.shown n.seat.shown n.seat.replica.plane p.told.shown };
   refused = λ number m n shown p. still_shown m.seat n.seat (ap (λ s. s.shown) p.told.0) p.polled.last.kept shown;
-  drawn = λ spec outcome m n is shown d. drawn_shown d.drawing spec m n is shown d.drawn d.told;
+  drawn = λ after spec outcome m n is shown d. drawn_shown d.drawing after spec m n is shown d.drawn d.told;
 }
 
 -- ---- what changed

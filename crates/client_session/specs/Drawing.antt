@@ -1,5 +1,5 @@
 -- What a drawing does.
-use Rattle.std.specs.Prelude.{◌≡◌, ◌⊎◌, ℕ, Bool, true, false, ◌==◌, if◌then◌else◌, List, [], ◌++◌, length, drop, Option, Some, None, Result, Ok, Err}
+use Rattle.std.specs.Prelude.{◌≡◌, ◌⊎◌, ℕ, Bool, true, false, ◌==◌, if◌then◌else◌, List, [], ◌++◌, length, drop, Option, Some, None, IsSome, Result, Ok, Err}
 use Rattle.replica_events.specs.declared.edit_spec.EditSpec.{EditSpec}
 use Rattle.replica_core.specs.declared.event.Reply.TheVariants as reply
 use Rattle.genedit_lib.specs.Output.{reply_line}
@@ -8,7 +8,7 @@ use Rattle.board_client.specs.declared.drawing.Drawing.TheVariants.{Drawn, Refus
 use Rattle.board_client.specs.declared.fault.ClientFault.{ClientFault}
 use Rattle.board_client.specs.Drawing.{IsDrawing}
 use Rattle.client_session.specs.declared.drawing.Outcome.{Outcome}
-use Rattle.client_session.specs.declared.drawing.Outcome.TheVariants.{Told, InDoubt}
+use Rattle.client_session.specs.declared.drawing.Outcome.TheVariants as outcome
 use Rattle.client_session.specs.declared.fault.SeatFault.{SeatFault}
 use Rattle.client_session.specs.declared.fault.SeatFault.TheVariants as faults
 use Rattle.client_session.specs.declared.polling.News.{News}
@@ -23,9 +23,9 @@ use Rattle.client_session.specs.Telling.{TellsCame}
 
 -- a push that was refused by 30 leaves open whether the board has the edit
 abbrev pub outcome_of : Drawing → Outcome
-outcome_of (Drawn counter) = Told
-outcome_of (Refused fault) = Told
-outcome_of (Unpublished number) = if number == 30 then InDoubt else Told
+outcome_of (Drawn counter) = outcome.Drawn
+outcome_of (Refused fault) = outcome.Refused
+outcome_of (Unpublished number) = if number == 30 then outcome.InDoubt else outcome.Refused
 
 -- an edit was drawn, the one behind so many of the journal; where a map is told, what it changes is told behind that
 pub record TellsDrawn (counter known : ℕ) (old new : Seat) (out out' : List ℕ) : Type 0 where
@@ -46,46 +46,47 @@ TellsDrawing (Unpublished number) known old new out out' = TellsRefusedPush numb
 -- ---- what is done
 
 -- a drawing was made, and told
-pub record DrawsAndTells (spec : EditSpec) (m n : Moment) (outcome : Outcome) : Type 0 where
+pub record DrawsAndTells (after : ℕ) (spec : EditSpec) (m n : Moment) (came : Outcome) : Type 0 where
   pub drawing : Drawing
-  pub drawn : IsDrawing spec m.line n.line m.seat.replica n.seat.replica (Ok drawing)
+  pub drawn : IsDrawing after spec m.line n.line m.seat.replica n.seat.replica (Ok drawing)
   pub told : TellsDrawing drawing (length m.seat.replica.journal) (record m.seat { replica = n.seat.replica }) n.seat m.out n.out
-  pub outcome_is : outcome ≡ outcome_of drawing
+  pub outcome_is : came ≡ outcome_of drawing
 
 -- a drawing failed, and nothing is told of it
-pub record FailsDrawing (spec : EditSpec) (fault : ClientFault) (m n : Moment) : Type 0 where
-  pub drawn : IsDrawing spec m.line n.line m.seat.replica n.seat.replica (Err fault)
+pub record FailsDrawing (after : ℕ) (spec : EditSpec) (fault : ClientFault) (m n : Moment) : Type 0 where
+  pub drawn : IsDrawing after spec m.line n.line m.seat.replica n.seat.replica (Err fault)
   pub told : n.out ≡ m.out
 
 -- a drawing was made, but for what is told of it memory or room is wanting
-pub record LacksTelling (spec : EditSpec) (m n : Moment) : Type 0 where
+pub record LacksTelling (after : ℕ) (spec : EditSpec) (m n : Moment) : Type 0 where
   pub drawing : Drawing
-  pub drawn : IsDrawing spec m.line n.line m.seat.replica n.seat.replica (Ok drawing)
+  pub drawn : IsDrawing after spec m.line n.line m.seat.replica n.seat.replica (Ok drawing)
 
 -- a drawing behind its poll, of a seat to which the board is closed, or is not
-abbrev pub DrawsAs : Bool → EditSpec → Moment → Moment → Result Outcome SeatFault → Type 0
-DrawsAs true spec m n result = IsPrinted Told (refusal_line 30) m n result
-DrawsAs false spec m n (Ok outcome) = DrawsAndTells spec m n outcome
-DrawsAs false spec m n (Err (faults.Client fault)) = FailsDrawing spec fault m n
-DrawsAs false spec m n (Err (faults.Refused number)) = ⊥
-DrawsAs false spec m n (Err faults.Memory) = LacksTelling spec m n
-DrawsAs false spec m n (Err faults.StoreFull) = LacksTelling spec m n
+abbrev pub DrawsAs : Bool → ℕ → EditSpec → Moment → Moment → Result Outcome SeatFault → Type 0
+DrawsAs true after spec m n result = IsPrinted outcome.Refused (refusal_line 30) m n result
+DrawsAs false after spec m n (Ok came) = DrawsAndTells after spec m n came
+DrawsAs false after spec m n (Err (faults.Client fault)) = FailsDrawing after spec fault m n
+DrawsAs false after spec m n (Err (faults.Refused number)) = ⊥
+DrawsAs false after spec m n (Err faults.Memory) = LacksTelling after spec m n
+DrawsAs false after spec m n (Err faults.StoreFull) = LacksTelling after spec m n
 
 -- the same by what the poll brought
-abbrev pub DrawsBehind : EditSpec → News → Moment → Moment → Result Outcome SeatFault → Type 0
-DrawsBehind spec news.Edits m n result = DrawsAs m.seat.closed spec m n result
-DrawsBehind spec news.Whole m n result = DrawsAs m.seat.closed spec m n result
-DrawsBehind spec news.Refused m n result = Leaves Told m n result
+abbrev pub DrawsBehind : ℕ → EditSpec → News → Moment → Moment → Result Outcome SeatFault → Type 0
+DrawsBehind after spec news.Edits m n result = DrawsAs m.seat.closed after spec m n result
+DrawsBehind after spec news.Whole m n result = DrawsAs m.seat.closed after spec m n result
+DrawsBehind after spec news.Refused m n result = Leaves outcome.Refused m n result
 
-abbrev pub IsDrawCommand : EditSpec → Moment → Moment → Result Outcome SeatFault → Type 0
-IsDrawCommand spec m n result = BehindPoll (DrawsBehind spec) m n result
+-- with a counter above a given one too
+abbrev pub IsDrawCommand : ℕ → EditSpec → Moment → Moment → Result Outcome SeatFault → Type 0
+IsDrawCommand after spec m n result = BehindPoll (DrawsBehind after spec) m n result
 
 -- a paste is the drawing of what the name's pattern makes; a name that stands for none is refused, and nothing said on the line
 abbrev pub PastesAs : Option EditSpec → Moment → Moment → Result Outcome SeatFault → Type 0
-PastesAs (Some spec) m n result = IsDrawCommand spec m n result
-PastesAs None m n result = IsPrinted Told nameless_line m n result
+PastesAs (Some spec) m n result = IsDrawCommand 0 spec m n result
+PastesAs None m n result = IsPrinted outcome.Refused nameless_line m n result
 
--- or memory for the pattern is wanting before anything is done
+-- or memory for a copy of the name's pattern is wanting before anything is done
 abbrev pub IsPaste : Option EditSpec → Moment → Moment → Result Outcome SeatFault → Type 0
-IsPaste spec m n (Ok outcome) = PastesAs spec m n (Ok outcome)
-IsPaste spec m n (Err fault) = ((fault ≡ faults.Memory) × (n ≡ m)) ⊎ PastesAs spec m n (Err fault)
+IsPaste spec m n (Ok came) = PastesAs spec m n (Ok came)
+IsPaste spec m n (Err fault) = ((fault ≡ faults.Memory) × IsSome spec × (n ≡ m)) ⊎ PastesAs spec m n (Err fault)

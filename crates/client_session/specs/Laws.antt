@@ -1,8 +1,7 @@
 -- What is told of a board is what the replica holds.
-use Rattle.std.specs.Prelude.{◌≡◌, ⊤, ℕ, true, List, [], ◌∷◌, ◌++◌, Option, Some, None, Ok}
+use Rattle.std.specs.Prelude.{◌≡◌, ⊤, ℕ, List, ◌++◌, Option, Some, None}
 use Rattle.generations_rule.specs.Rule.{GenerationsRule}
 use Rattle.multistate_rle.specs.declared.cell.Cell.{Cell}
-use Rattle.delta_exchange.specs.MessageReading.{begins_as_delta}
 use Rattle.stamped_writes.specs.Write.{AreSame}
 use Rattle.stamped_tree.specs.Plane.{StampedPlane, map_of}
 use Rattle.replica_core.specs.Replica.{IsReplica}
@@ -27,19 +26,13 @@ IsShownAs plane (Some shown) = AreSame (map_of shown) (map_of plane)
 pub record IsShown (s : Seat) : Type 0 where
   pub shown : IsShownAs s.replica.plane s.shown
 
--- each text is one of edits, and none that of a plane, as where a board announces edits
-abbrev pub AreDeltas : List (List ℕ) → Type 0
-AreDeltas [] = ⊤
-AreDeltas (text ∷ texts) = (begins_as_delta text ≡ Ok true) × AreDeltas texts
-
--- So it is of a new seat, and so it stays behind a poll, whatever it brought, if what was announced as edits was edits; behind any
--- whole plane; and behind a drawing.
+-- So it is of a new seat, and so it stays behind a poll, whatever it brought, and behind a drawing.
 pub record ShowsWhatItHolds : Type 0 where
   pub joined : (telling : Telling) (number : ℕ) (rule : GenerationsRule) (s : Seat) → IsFresh telling number rule s → IsShown s
-  pub edits : (count : ℕ) (m n : Moment) → IsReplica m.seat.replica → IsShown m.seat → (p : Polls (polling.Edits count) m n) → AreDeltas p.polled.last.texts → IsShown n.seat
+  pub edits : (count : ℕ) (m n : Moment) → IsReplica m.seat.replica → IsShown m.seat → Polls (polling.Edits count) m n → IsShown n.seat
   pub whole : (m n : Moment) → Polls polling.Whole m n → IsShown n.seat
   pub refused : (number : ℕ) (m n : Moment) → IsShown m.seat → Polls (polling.Refused number) m n → IsShown n.seat
-  pub drawn : (spec : EditSpec) (outcome : Outcome) (m n : Moment) → IsReplica m.seat.replica → IsShown m.seat → DrawsAndTells spec m n outcome → IsShown n.seat
+  pub drawn : (after : ℕ) (spec : EditSpec) (outcome : Outcome) (m n : Moment) → IsReplica m.seat.replica → IsShown m.seat → DrawsAndTells after spec m n outcome → IsShown n.seat
 
 -- a line tells the cells whose state is another one in the replica's map than before
 pub record TellsDifferences (m n : Moment) (out : List ℕ) : Type 0 where

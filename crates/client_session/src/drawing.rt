@@ -1,6 +1,6 @@
 //! Drawings.
 
-ghost use Rattle.std.specs.Prelude.{◌≡◌, IfErr, IfOk, OnOk, option_map};
+ghost use Rattle.std.specs.Prelude.{◌≡◌, IfErr, IfOk, IsSome, OnOk, option_map};
 ghost use Rattle.replica_events.specs.declared.edit_spec.EditSpec.TheVariants.{Copy, Or};
 ghost use Rattle.genedit_lib.specs.Patterns.{pattern_in};
 ghost use Rattle.client_session.specs.Drawing.{DrawsAs, IsDrawCommand, IsPaste, TellsDrawing, TellsDrawn, outcome_of};
@@ -27,8 +27,10 @@ const CLOSED: u8 = 30;
 /// What came of a drawing, beside what was printed.
 #[derive(Clone, Copy, Debug, PartialEq, Eq)]
 pub enum Outcome {
-    /// What was printed says it.
-    Told,
+    /// The board has the edit.
+    Drawn,
+    /// It was refused, which is printed: the board does not have it.
+    Refused,
     /// The push was refused by 30: the board may have the edit or not. Nothing is pushed any more.
     InDoubt,
 }
@@ -41,22 +43,24 @@ pub struct Corner {
 }
 
 impl Seat {
-    /// Polls, tells what came, and draws an edit: `drawn C R`, and where cells that look different are told
-    /// those behind it; or a refusal of the edit, of the poll or of the push. Once a push was refused by 30
-    /// it is `refused 30 Closed`, and nothing is pushed.
+    /// Polls, tells what came, and draws an edit with a counter above a given one too, 0 where none is:
+    /// `drawn C R`, and where cells that look different are told those behind it; or a refusal of the edit,
+    /// of the poll or of the push. Once a push was refused by 30 it is `refused 30 Closed`, and nothing is
+    /// pushed.
     pub fn draw<C: Clock, S: Source + Drop, K: Sink + Drop>(
         &mut self,
         clock: &C,
         alloc: Global,
         line: &mut Line<S, K>,
         out: &mut Vec<u8>,
+        after: u64,
         spec: &EditSpec,
     ) -> Result<Outcome, SeatFault>
-        ensures { IsDrawCommand spec.now (moment_at line.old.frames (S.known line.old.source) (K.known line.old.sink) self.old out.old.items) (moment_at line.new.frames (S.known line.new.source) (K.known line.new.sink) self.new out.new.items) result }
+        ensures { IsDrawCommand after spec.now (moment_at line.old.frames (S.known line.old.source) (K.known line.old.sink) self.old out.old.items) (moment_at line.new.frames (S.known line.new.source) (K.known line.new.sink) self.new out.new.items) result }
     {
         match self.news(clock, alloc, line, out) {
-            Ok(News::Refused) => Ok(Outcome::Told),
-            Ok(News::Edits | News::Whole) => self.draw_now(clock, alloc, line, out, spec),
+            Ok(News::Refused) => Ok(Outcome::Refused),
+            Ok(News::Edits | News::Whole) => self.draw_now(clock, alloc, line, out, after, spec),
             Err(fault) => Err(fault),
         }
     }
@@ -112,9 +116,9 @@ impl Seat {
         ensures { IsPaste spec (moment_at line.old.frames (S.known line.old.source) (K.known line.old.sink) self.old out.old.items) (moment_at line.new.frames (S.known line.new.source) (K.known line.new.sink) self.new out.new.items) result }
     {
         match spec {
-            Some(spec) => self.draw(clock, alloc, line, out, &spec),
+            Some(spec) => self.draw(clock, alloc, line, out, 0, &spec),
             None => match push_nameless(alloc, out) {
-                Ok(()) => Ok(Outcome::Told),
+                Ok(()) => Ok(Outcome::Refused),
                 Err(_) => Err(SeatFault::Memory),
             },
         }
@@ -127,18 +131,19 @@ impl Seat {
         alloc: Global,
         line: &mut Line<S, K>,
         out: &mut Vec<u8>,
+        after: u64,
         spec: &EditSpec,
     ) -> Result<Outcome, SeatFault>
-        ensures { DrawsAs self.old.closed spec.now (moment_at line.old.frames (S.known line.old.source) (K.known line.old.sink) self.old out.old.items) (moment_at line.new.frames (S.known line.new.source) (K.known line.new.sink) self.new out.new.items) result }
+        ensures { DrawsAs self.old.closed after spec.now (moment_at line.old.frames (S.known line.old.source) (K.known line.old.sink) self.old out.old.items) (moment_at line.new.frames (S.known line.new.source) (K.known line.new.sink) self.new out.new.items) result }
     {
         if self.closed {
             return match push_refusal(alloc, out, CLOSED) {
-                Ok(()) => Ok(Outcome::Told),
+                Ok(()) => Ok(Outcome::Refused),
                 Err(_) => Err(SeatFault::Memory),
             };
         }
         let known = self.replica.journal().len();
-        let drawing = match draw(clock, alloc, line, &mut self.replica, spec) {
+        let drawing = match draw(clock, alloc, line, &mut self.replica, after, spec) {
             Ok(drawing) => drawing,
             Err(fault) => return Err(SeatFault::Client(fault)),
         };
@@ -192,13 +197,14 @@ impl Seat {
     }
 }
 
-/// Whether it is told what the board has, by what came of a drawing.
+/// Whether the board has the edit, by what came of a drawing.
 fn outcome_of(drawing: Drawing) -> Outcome
     ensures { result ≡ outcome_of drawing }
 {
     match drawing {
+        Drawing::Drawn(_) => Outcome::Drawn,
         Drawing::Unpublished(CLOSED) => Outcome::InDoubt,
-        _ => Outcome::Told,
+        Drawing::Refused(_) | Drawing::Unpublished(_) => Outcome::Refused,
     }
 }
 
@@ -208,7 +214,8 @@ fn copied(
     name: &PatternName,
     corner: Corner,
 ) -> Result<Option<EditSpec>, AllocError>
-    ensures { IfOk result (λ spec. spec ≡ option_map (λ pattern. Copy pattern corner.x corner.y) (pattern_in patterns.now name.now)) }
+    ensures spec { IfOk result (λ spec. spec ≡ option_map (λ pattern. Copy pattern corner.x corner.y) (pattern_in patterns.now name.now)) }
+    ensures want { IfErr result (λ _. IsSome (option_map (λ pattern. Copy pattern corner.x corner.y) (pattern_in patterns.now name.now))) }
 {
     let pattern = patterns.copy_of(name)?;
     let spec = pattern.map(|pattern| EditSpec::Copy(pattern, corner.x, corner.y));
@@ -221,7 +228,8 @@ fn ored(
     name: &PatternName,
     corner: Corner,
 ) -> Result<Option<EditSpec>, AllocError>
-    ensures { IfOk result (λ spec. spec ≡ option_map (λ pattern. Or pattern corner.x corner.y) (pattern_in patterns.now name.now)) }
+    ensures spec { IfOk result (λ spec. spec ≡ option_map (λ pattern. Or pattern corner.x corner.y) (pattern_in patterns.now name.now)) }
+    ensures want { IfErr result (λ _. IsSome (option_map (λ pattern. Or pattern corner.x corner.y) (pattern_in patterns.now name.now))) }
 {
     let pattern = patterns.copy_of(name)?;
     let spec = pattern.map(|pattern| EditSpec::Or(pattern, corner.x, corner.y));

@@ -21,4 +21,4 @@ pub use fault::SeatFault;
 pub use joining::Telling;
 pub use laws::session_laws;
 pub use seat::Seat;
-pub use waiting::Patience;
+pub use waiting::{Patience, end_of, time_until};

@@ -62,7 +62,7 @@ impl Seat {
 }
 
 /// When so many milliseconds will be over; `None` where the clock cannot be read.
-fn end_of<C: Clock>(clock: &C, milliseconds: u32) -> Option<Instant> {
+pub fn end_of<C: Clock>(clock: &C, milliseconds: u32) -> Option<Instant> {
     let Ok(now) = Instant::now(clock) else {
         return None;
     };
@@ -70,7 +70,7 @@ fn end_of<C: Clock>(clock: &C, milliseconds: u32) -> Option<Instant> {
 }
 
 /// How long it is until an end; `None` where it is over, or the clock cannot be read.
-fn time_until<C: Clock>(clock: &C, end: Option<Instant>) -> Option<Duration> {
+pub fn time_until<C: Clock>(clock: &C, end: Option<Instant>) -> Option<Duration> {
     let end = end?;
     let Ok(now) = Instant::now(clock) else {
         return None;

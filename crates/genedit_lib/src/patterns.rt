@@ -1,6 +1,6 @@
 //! Patterns by their names.
 
-ghost use Rattle.std.specs.Prelude.{◌≡◌, List, ℕ, OnOk, IfOk, option_copied};
+ghost use Rattle.std.specs.Prelude.{◌≡◌, List, ℕ, OnOk, IfErr, IfOk, IsSome, option_copied};
 ghost use Rattle.genedit_lib.specs.Output.{no_patterns, with_pattern};
 ghost use Rattle.genedit_lib.specs.Patterns.{pattern_in};
 
@@ -16,7 +16,7 @@ pub struct Patterns {
 }
 
 impl Patterns {
-    ghost use Rattle.std.specs.Prelude.{◌≡◌, List, ℕ, OnOk, IfOk, option_copied};
+    ghost use Rattle.std.specs.Prelude.{◌≡◌, List, ℕ, OnOk, IfErr, IfOk, IsSome, option_copied};
     ghost use Rattle.genedit_lib.specs.Output.{no_patterns, with_pattern};
     ghost use Rattle.genedit_lib.specs.Patterns.{pattern_in};
 
@@ -29,9 +29,10 @@ impl Patterns {
         }
     }
 
-    /// A copy of the pattern that a name stands for.
+    /// A copy of the pattern that a name stands for. Memory is wanted only where it stands for one.
     pub fn copy_of(&self, name: &PatternName) -> Result<Option<Pattern>, AllocError>
-        ensures { IfOk result (λ pattern. pattern ≡ pattern_in self.now name.now) }
+        ensures copy { IfOk result (λ pattern. pattern ≡ pattern_in self.now name.now) }
+        ensures want { IfErr result (λ _. IsSome (pattern_in self.now name.now)) }
     {
         match self.by_name.get(name) {
             Some(pattern) => {

@@ -10,6 +10,8 @@ mod collisions;
 #[cfg(test)]
 mod cuts;
 #[cfg(test)]
+mod keys;
+#[cfg(test)]
 mod pairs;
 #[cfg(test)]
 mod refusals;

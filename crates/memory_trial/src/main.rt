@@ -118,7 +118,7 @@ fn of_planes(alloc: Global) -> [Answer; 10] {
         ("Plane::walk", planes::plane_is_walked(alloc)),
         ("Plane::copy", planes::plane_is_copied(alloc)),
         ("Journal::push", planes::edit_is_noted(alloc)),
-        ("Journal::fresh, append", planes::edits_are_noted(alloc)),
+        ("Journal::note", planes::edits_are_noted(alloc)),
     ]
 }
 

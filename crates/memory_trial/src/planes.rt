@@ -216,23 +216,12 @@ pub fn edit_is_noted(alloc: Global) -> bool {
         && journal.as_slice().len() == 1)
 }
 
-fn fresh(journal: &Journal, edits: &[Edit]) -> Result<Journal, AllocError> {
-    match journal.fresh(edits) {
-        Ok(fresh) => Ok(fresh),
-        Err(AllocError) => journal.fresh(edits),
-    }
-}
-
 /// A journal behind which edits are noted.
 fn noted(alloc: Global, first: &Edit, edits: &[Edit]) -> Result<Journal, AllocError> {
     let mut journal = journal_of(alloc, first)?;
-    let added = fresh(&journal, edits)?;
-    match journal.append(added) {
+    match journal.note(edits) {
         Ok(()) => {}
-        Err(AllocError) => {
-            let again = fresh(&journal, edits)?;
-            journal.append(again)?;
-        }
+        Err(AllocError) => journal.note(edits)?,
     }
     Ok(journal)
 }

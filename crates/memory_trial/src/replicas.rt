@@ -97,8 +97,8 @@ pub fn drawn(alloc: Global, states: [u8; 2]) -> Option<Replica> {
 }
 
 fn edit_of(replica: &Replica, spec: &EditSpec) -> Result<Edit, Fault> {
-    match replica.edit_of(spec) {
-        Err(Fault::Memory) => replica.edit_of(spec),
+    match replica.edit_of(0, spec) {
+        Err(Fault::Memory) => replica.edit_of(0, spec),
         answer => answer,
     }
 }

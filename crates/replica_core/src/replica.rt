@@ -1,6 +1,6 @@
 //! One replica of a shared plane.
 
-ghost use Rattle.std.specs.Prelude.{List, Ok, take, drop, ◌⊎◌, ◌≡◌, ◌≢◌, ◌≤◌, ◌^◌, ◌↔◌, ◌++◌, ◌∷◌, [], ℕ, false, Contains, IfOk, IfErr, IfSome, IsTrue, OnOk, OnErr, length};
+ghost use Rattle.std.specs.Prelude.{List, Ok, take, drop, ◌⊎◌, ◌≡◌, ◌≢◌, ◌≤◌, ◌^◌, ◌↔◌, ◌++◌, ◌∷◌, [], ℕ, false, Contains, IfOk, IfErr, IfSome, IsTrue, OnOk, OnErr, length, max};
 ghost use Rattle.std.specs.Result.{IsOk};
 ghost use Rattle.generations_rule.specs.Refusal.{Answers};
 ghost use Rattle.generations_rule.specs.Place.{at_place};
@@ -210,14 +210,15 @@ impl Replica {
         Ok(edit)
     }
 
-    /// The edit that `draw_as` would draw, made and not taken: for one that is to be taken where others
-    /// have seen it. Refused as there; want of memory is answered only where nothing is refused.
-    pub fn edit_of(&self, spec: &EditSpec) -> Result<Edit, Fault>
+    /// The edit that `draw_as` would draw, made and not taken, with a counter above a given one too: for
+    /// one that is to be taken where others have seen it, and that wins what was drawn with greater
+    /// stamps elsewhere. Refused as there; want of memory is answered only where nothing is refused.
+    pub fn edit_of(&self, after: u64, spec: &EditSpec) -> Result<Edit, Fault>
         ensures made { (n : ℕ) × IsGreatestStamp n (map_of self.now.plane)
-            × IsMadeAs (edit_drawn self.now.rule (counter_in n) self.now.number spec.now) result }
+            × IsMadeAs (edit_drawn self.now.rule (max after (counter_in n)) self.now.number spec.now) result }
         ensures states { IfOk result (λ edit. IsTrue (has_states_below self.now.rule.states edit)) }
     {
-        let stamp = next_stamp(&self.plane, self.number)?;
+        let stamp = next_stamp_after(&self.plane, self.number, after)?;
         make(self.alloc, &self.rule, stamp, spec)
     }
 
@@ -353,6 +354,18 @@ fn next_stamp(plane: &HeldPlane, number: u16) -> Result<Stamp, Fault>
 {
     let counter = counter_of(plane.plane().greatest_stamp());
     Stamp::new(counter + 1, number).ok_or(Fault::ClockFull)
+}
+
+/// The same, one more than a given counter where that is greater.
+fn next_stamp_after(plane: &HeldPlane, number: u16, after: u64) -> Result<Stamp, Fault>
+    requires { 1 ≤ number }
+    ensures { (n : ℕ) × IsGreatestStamp n (map_of plane.now) × (result ≡ stamp_after (max after (counter_in n)) number) }
+{
+    let greatest = after.max(counter_of(plane.plane().greatest_stamp()));
+    if greatest >= Stamp::LAST_COUNTER {
+        return Err(Fault::ClockFull);
+    }
+    Stamp::new(greatest + 1, number).ok_or(Fault::ClockFull)
 }
 
 /// The edit of a specification.

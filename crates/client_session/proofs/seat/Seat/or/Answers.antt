@@ -2,4 +2,4 @@ use Rattle.client_session.proofs.PasteLaws.{pastes}
 use Rattle.client_session.proofs.seat.Seat.or.Goals as goal
 
 pub returns : goal.returns
-returns g c = pastes _ _ _ _ _ c.in-Ok.ensures c.paste.ensures
+returns g c = pastes _ _ _ _ _ c.in-Ok.ensures.spec c.paste.ensures
