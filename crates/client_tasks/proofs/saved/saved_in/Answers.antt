@@ -1,0 +1,16 @@
+use Rattle.std.proofs.Common.{Err, ap}
+use Rattle.delta_exchange.specs.Fault.{IsWantOrFull}
+use Rattle.delta_exchange.specs.MessageReading.{StandsForTold, message_of}
+use Rattle.client_tasks.proofs.SavedLaws.{answered, saved_of}
+use Rattle.client_tasks.proofs.saved.saved_in.Goals as goal
+
+pub returns-in-Err-clause-fault : goal.returns-in-Err-clause-fault
+returns-in-Err-clause-fault c = answered (StandsForTold c.args.rule.now) IsWantOrFull c.in-Err.fault (message_of c.args.rule.now c.args.text.now) c.in-Err.ensures.exact
+
+pub returns-in-Err-clause-too_large : goal.returns-in-Err-clause-too_large
+returns-in-Err-clause-too_large c = λ meant tellable spelt is. c.in-Err.ensures.too_large meant tellable spelt (ap (λ fault. Err fault) is)
+
+pub returns-in-Ok-walk-clause-saved : goal.returns-in-Ok-walk-clause-saved
+returns-in-Ok-walk-clause-saved c =
+    saved_of c.args.rule.now c.args.text.now c.in-Ok.message.content c.in-Some.plane.now c.in-Ok-walk.cells.items c.greatest_stamp.result c.counter_of.result c.in-Some.ensures.value c.in-Ok.ensures.found.1
+    c.in-Ok-walk.ensures c.greatest_stamp.ensures.greatest c.counter_of.ensures

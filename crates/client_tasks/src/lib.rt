@@ -1,0 +1,14 @@
+//! What each command of a client comes to at a board: which of the seat's calls it is, and how a file's
+//! text is drawn again. What is left to its caller are files, time and the end.
+#![tactic(auto)]
+
+mod carrying;
+mod done;
+mod drawing;
+mod opening;
+mod refusing;
+mod saved;
+
+pub use carrying::carry_out;
+pub use done::Done;
+pub use opening::open;
