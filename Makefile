@@ -1,4 +1,4 @@
-.PHONY: test run look build bench memory trial
+.PHONY: test run look build bench memory trial crowd
 
 # How many checks run at a time: one a processor, or fewer, so that each can have 4 GB. The most that
 # one has taken is 3.3.
@@ -32,7 +32,7 @@ build: $(PROGRAM)
 # that measure aside.
 SOURCES := $(shell find crates -name out -prune -o -name trials -prune -o -name must-fail -prune \
 	-o -path '*_tests/*' -prune -o -path '*bench/*' -prune -o -path '*_trial/*' -prune \
-	-o -path 'crates/samples/*' -prune \
+	-o -path 'crates/samples/*' -prune -o -path 'crates/memory_board/*' -prune \
 	-o \( -name '*.rt' -o -name '*.antt' -o -name src -o -name specs -o -name proofs \) -print)
 
 $(PROGRAM): $(SOURCES) crates.txt HANDLES
@@ -54,3 +54,7 @@ memory:
 # CRATES="a b"` tries those of these crates alone.
 trial:
 	@examples/trial $(CRATES)
+
+# Has eight clients draw at once on a board, and draws a board of 1,500,000 cells again.
+crowd: $(PROGRAM)
+	@examples/crowd $(PROGRAM)

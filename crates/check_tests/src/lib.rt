@@ -4,4 +4,8 @@
 #[cfg(test)]
 mod chance;
 #[cfg(test)]
+mod client_lines;
+#[cfg(test)]
+mod clients;
+#[cfg(test)]
 mod mistakes;

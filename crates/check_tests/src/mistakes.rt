@@ -71,7 +71,7 @@ static BLOCKS: [Mistake; 3] = [
     },
 ];
 
-static WORDS: [Mistake; 6] = [
+static WORDS: [Mistake; 7] = [
     Mistake {
         script: b"rule 23/3/2\nreplicas 1\ncopy 1 g\n",
         told: "script:3:9: x is missing: `copy R NAME x y`\ncopy 1 g\n        ^\n1 faults\n",
@@ -93,6 +93,21 @@ static WORDS: [Mistake; 6] = [
         script: b"rule 23/3/2\nreplicas 1\nstate 1 # all of it\n",
         told: "script:3:9: a remark stands on a line of its own, whose first word begins with #\n\
         state 1 # all of it\n        ^\n1 faults\n",
+    },
+    Mistake {
+        script: b"rule 23/3/2\nreplicas 1\npoll\nwait 1\nsleep 1\nsave f\nopen f\nbye\n",
+        told: "script:3:1: `poll` is a command of a client alone (`genedit join`): `genedit run --help` lists those of a script\n\
+        poll\n^^^^\n\
+        script:4:1: `wait` is a command of a client alone (`genedit join`): `genedit run --help` lists those of a script\n\
+        wait 1\n^^^^\n\
+        script:5:1: `sleep` is a command of a client alone (`genedit join`): `genedit run --help` lists those of a script\n\
+        sleep 1\n^^^^^\n\
+        script:6:1: `save` is a command of a client alone (`genedit join`): `genedit run --help` lists those of a script\n\
+        save f\n^^^^\n\
+        script:7:1: `open` is a command of a client alone (`genedit join`): `genedit run --help` lists those of a script\n\
+        open f\n^^^^\n\
+        script:8:1: `bye` is a command of a client alone (`genedit join`): `genedit run --help` lists those of a script\n\
+        bye\n^^^\n6 faults\n",
     },
     Mistake {
         script: b"rule 23/3/2\r\nreplicas 1\r\nstate 1\r\n",

@@ -3,12 +3,13 @@
 use crate::client::{Client, Going, Pace};
 use crate::connection::{Hold, StreamLine, StreamSink, StreamSource, connect, let_go};
 use crate::fault::{JoinFault, of_client};
+use crate::telling::{tell_doubt, tell_fault, tell_open_block};
 use crate::typed::{Typed, typed_lines};
 use client_commands::{Dictation, Heard};
 use client_session::{Seat, SeatFault, Telling, leave};
 use crossbeam_channel::{Receiver, RecvTimeoutError};
 use devices::{Sink, Source};
-use genedit_io::RunFault;
+use genedit_io::{RunFault, push_output};
 use keyed_hash::HashKey;
 use std::alloc::Global;
 use std::net::{Net, TcpListener, TcpStream};
@@ -56,7 +57,7 @@ pub fn join<
 ) -> Result<(), JoinFault> {
     let (line, hold) = connect(rt, alloc, options.port)?;
     hold.limit();
-    let mut client = seated(rt, alloc, options, key, line)?;
+    let mut client = seated(rt, alloc, options, key, line, sink)?;
     hold.unlimit();
     client.push_printed(sink)?;
     let typed = typed_lines(*rt, alloc, source)?;
@@ -66,13 +67,14 @@ pub fn join<
     farewell(alloc, &mut client, &hold)
 }
 
-/// A client that was greeted.
-fn seated<C: Clock>(
+/// A client that was greeted. Where its first poll ends it, what was printed by then is pushed.
+fn seated<C: Clock, O: Sink>(
     clock: &C,
     alloc: Global,
     options: Options,
     key: HashKey,
     mut line: StreamLine,
+    sink: &mut O,
 ) -> Result<Client<StreamSource, StreamSink>, JoinFault> {
     let mut out = Vec::new(alloc);
     match Seat::join(clock, alloc, &mut line, &mut out, options.telling, key) {
@@ -87,8 +89,19 @@ fn seated<C: Clock>(
         }),
         Err(fault) => {
             let_go(line);
-            Err(unanswered(fault))
+            Err(unseated(fault, &out, sink))
         }
+    }
+}
+
+/// Why there is no seat, once what was printed is pushed. Where nothing was, no greeting came.
+fn unseated<O: Sink>(fault: SeatFault, out: &[u8], sink: &mut O) -> JoinFault {
+    if out.is_empty() {
+        return unanswered(fault);
+    }
+    match push_output(sink, out) {
+        Ok(()) => JoinFault::from(fault),
+        Err(fault) => JoinFault::Run(fault),
     }
 }
 
@@ -120,8 +133,8 @@ fn carry_out_all<R: Wait + Clock + Files + Eprint, S: Source + Drop, K: Sink + D
             }
             Next::Failed(fault) => return Err(JoinFault::Run(fault)),
             Next::End => {
-                if let Some(line) = dictation.ended() {
-                    tell_fault(rt, line);
+                if let Some(number) = dictation.ended() {
+                    tell_open_block(rt, alloc, number)?;
                 }
                 return Ok(());
             }
@@ -176,26 +189,17 @@ fn hear<R: Clock + Files + Eprint, S: Source + Drop, K: Sink + Drop, O: Sink>(
     match dictation.hear(line)? {
         Heard::Nothing => Ok(Going::On),
         Heard::Faulty(number) => {
-            tell_fault(rt, number);
+            tell_fault(rt, alloc, number, line)?;
             Ok(Going::On)
         }
         Heard::Command(command) => {
             let going = client.carry_out(rt, alloc, command, sink)?;
             if going == Going::InDoubt {
-                let _ = rt.eprintln(IN_DOUBT);
+                tell_doubt(rt);
             }
             Ok(going)
         }
     }
-}
-
-/// What is said where a push was refused by 30.
-const IN_DOUBT: &str =
-    "genedit: the board may have the last edit or not; it is closed to further ones";
-
-/// Says that a line is at fault.
-fn tell_fault<R: Eprint>(rt: &R, line: u64) {
-    let _ = eprintln!(rt; "genedit: command fault at line {line}");
 }
 
 /// Leaves the board; the answer is not awaited for longer than the patience.

@@ -7,7 +7,7 @@ mod connection;
 mod fault;
 mod files;
 mod joining;
-mod opening;
+mod telling;
 mod typed;
 
 pub use fault::JoinFault;

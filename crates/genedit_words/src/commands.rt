@@ -114,10 +114,14 @@ A drawing prints `drawn COUNTER SEAT`. Edits of others are told as `edit COUNTER
 cleared area as `area x y w h` before `cells`; with --changes as `now x y s ..`, the cells that look
 different now, also those by drawings of your own. `whole` says that more came than can be told.
 A file is written whole or not at all: `wrote BYTES FILE`. What is refused prints
-`refused NUMBER NAME`; a line at fault is told on standard error by its number; and both go on.
+`refused NUMBER NAME`; a line at fault is told on standard error, with its place and its cure, as
+`genedit check` does; and both go on. Of a board that `open` draws in several edits none is drawn behind
+one that is refused.
 
-The status is 0; 2 where the words are wrong or the board has no seat left; 3 where no server answers, or
-it went away; 4 where a write to standard output failed; 5 without memory.
+The status is 0; 2 where the words are wrong, the board has no seat left, or `refused 21 FrameTooLong` says
+that the client fell more than 1,024 edits behind on a board of more than 2^24 bytes, so poll now and then,
+or use --follow; 3 where no server answers, or it went away; 4 where a write to standard output failed;
+5 without memory.
 
 Examples:
   echo 'cells 1 0 1 2 1 1 0 2 1 1 2 1 2 2 1' | genedit join --port 7020     draws a glider

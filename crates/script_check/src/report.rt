@@ -9,7 +9,7 @@ use crate::refusals::Refusal;
 use crate::words::refusal_text;
 use genedit_script::Lines;
 use itoa::Buffer;
-use script_faults::{Note, Notes, Place, reason_text, warning_text};
+use script_faults::{Dialect, Note, Notes, Place, reason_text, warning_text};
 use std::alloc::{AllocError, Global};
 
 /// How many bytes of a line are shown.
@@ -94,8 +94,11 @@ fn faults_among(notes: &[Note]) -> usize
 /// What is said of a note.
 fn told_of(alloc: Global, notes: &Notes, note: &Note, word: &[u8]) -> Result<String, AllocError> {
     match (note, notes.rule) {
-        (Note::Fault(_, reason), _) => reason_text(alloc, *reason, word),
-        (Note::Warning(_, warning), Some(rule)) => warning_text(alloc, *warning, word, &rule),
+        (Note::Fault(_, reason), _) => reason_text(alloc, Dialect::Script, *reason, word),
+        (Note::Warning(_, warning), Some(rule)) => {
+            let told = warning_text(alloc, Dialect::Script, *warning, word, &rule)?;
+            format!(in alloc; "warning: {told}")
+        }
         (Note::Warning(_, _), None) => Ok(String::new(alloc)),
     }
 }

@@ -1,3 +1,6 @@
 pub mod Faults
+pub mod Findings
+pub mod Keywords
 pub mod Laws
 pub mod Rows
+pub mod Warnings

@@ -22,6 +22,9 @@ pub enum Argument {
     From,
     Count,
     Generation,
+    File,
+    Edits,
+    Milliseconds,
 }
 
 impl Argument {
@@ -33,6 +36,7 @@ impl Argument {
             Argument::X | Argument::Y => signed(word).is_some(),
             Argument::Replicas => number(64, word).is_some(),
             Argument::State => number(255, word).is_some(),
+            Argument::File => true,
             _ => number(u64::from(u32::MAX), word).is_some(),
         }
     }
@@ -65,6 +69,9 @@ impl Argument {
             Argument::From => "the place of the first edit",
             Argument::Count => "the number of edits",
             Argument::Generation => "the generation",
+            Argument::File => "the file's name",
+            Argument::Edits => "the number of awaited edits",
+            Argument::Milliseconds => "the number of milliseconds",
         }
     }
 
@@ -76,6 +83,7 @@ impl Argument {
             Argument::Name => "1 to 16 letters and digits",
             Argument::X | Argument::Y => "-2147483648 to 2147483647",
             Argument::State => "0 to 255",
+            Argument::File => "any word",
             _ => "0 to 4294967295",
         }
     }

@@ -1,7 +1,9 @@
 //! What is wrong with a faulty line.
 
-ghost use Rattle.std.specs.Prelude.{IfSome, ◌<◌, length};
+ghost use Rattle.std.specs.Prelude.{IfOk, IfSome, ◌≡◌, ◌+◌, ◌<◌, ◌≤◌, length};
+ghost use Rattle.script_faults.specs.Findings.{StandsIn};
 
+use crate::dialect::Dialect;
 use crate::keyword::Keyword;
 use crate::nearest::nearest;
 use crate::reason::Reason;
@@ -9,10 +11,12 @@ use crate::word::{Word, Words};
 use generations_rule::RuleFault;
 use std::alloc::{AllocError, Global};
 
-/// What is wrong with some bytes of a line.
-#[derive(Clone, Copy)]
+/// What is wrong with some bytes of a line, or behind its last.
+#[derive(Clone, Copy, Debug, PartialEq, Eq)]
 pub struct Finding {
+    /// The first byte, counted from 1.
     pub column: usize,
+    /// How many bytes: 1 at least.
     pub width: usize,
     pub reason: Reason,
 }
@@ -42,7 +46,7 @@ pub fn replicas_finding(alloc: Global, line: &[u8]) -> Result<Finding, AllocErro
     due_finding(alloc, Keyword::Replicas, Reason::ReplicasDue, line)
 }
 
-/// What is wrong with a line that should be a command.
+/// What is wrong with a line that should be a command of a script.
 pub fn command_finding(alloc: Global, head: Head, line: &[u8]) -> Result<Finding, AllocError> {
     if let Some(finding) = strange_finding(line, false) {
         return Ok(finding);
@@ -51,12 +55,64 @@ pub fn command_finding(alloc: Global, head: Head, line: &[u8]) -> Result<Finding
     let Some(word) = words.next_word() else {
         return Ok(whole(line, Reason::NoCommand(None)));
     };
-    match Keyword::of(word.text) {
-        None => Ok(word.finding(Reason::NoCommand(nearest(alloc, word.text)?))),
+    match Dialect::Script.keyword(word.text) {
         Some(Keyword::Rule) => Ok(word.finding(Reason::RuleAgain(head.rule))),
         Some(Keyword::Replicas) => Ok(word.finding(Reason::ReplicasAgain(head.replicas))),
+        _ => spoken_finding(alloc, Dialect::Script, word, words),
+    }
+}
+
+/// What is wrong with a client's line that stands in no block, is not skipped, and neither is a command
+/// nor opens a block. It has no CR at its end, as `genedit_script::without_return` leaves it.
+pub fn client_finding(alloc: Global, line: &[u8]) -> Result<Finding, AllocError>
+    ensures { IfOk result (λ finding. StandsIn finding line.now) }
+{
+    if let Some(finding) = strange_finding(front_of_file(line), true) {
+        return Ok(finding);
+    }
+    let mut words = Words::of(line);
+    match words.next_word() {
+        Some(word) => spoken_finding(alloc, Dialect::Client, word, words),
+        None => Ok(whole(line, Reason::NoCommand(None))),
+    }
+}
+
+/// What of a client's line stands in front of the name of a file, which may have any bytes.
+fn front_of_file(line: &[u8]) -> &[u8]
+    ensures { length result.now ≤ length line.now }
+{
+    let mut words = Words::of(line);
+    let Some(word) = words.next_word() else {
+        return line;
+    };
+    match Dialect::Client.keyword(word.text) {
+        None | Some(Keyword::Save | Keyword::Open) => {}
+        Some(Keyword::Export) => {
+            let _generation = words.next_word();
+        }
+        Some(_) => return line,
+    }
+    words.read()
+}
+
+/// What is wrong with a line of a dialect that begins with a word, in front of these.
+fn spoken_finding(
+    alloc: Global,
+    dialect: Dialect,
+    word: Word<'_>,
+    words: Words<'_>,
+) -> Result<Finding, AllocError>
+    requires counted { 1 ≤ word.column }
+    requires within { word.column + length word.text.now ≤ length words.line.now + 1 }
+    ensures { IfOk result (λ finding. StandsIn finding words.entry.line.now) }
+{
+    match dialect.keyword(word.text) {
         Some(Keyword::End) => Ok(word.finding(Reason::NoBlock)),
-        Some(keyword) => Ok(arguments_finding(keyword, words)),
+        Some(keyword) => Ok(arguments_finding(dialect, keyword, words)),
+        None if dialect.other().keyword(word.text).is_some() => {
+            Ok(word.finding(Reason::OtherDialect))
+        }
+        None => Ok(word.finding(Reason::NoCommand(nearest(alloc, dialect, word.text)?))),
     }
 }
 
@@ -68,7 +124,7 @@ pub fn opening_finding(line: &[u8], almost_end: Option<u64>, closed: bool) -> Fi
     let mut words = Words::of(line);
     match words.next_word() {
         Some(word) if !closed && is_opening(words) => word.finding(Reason::OpenBlock(almost_end)),
-        _ => arguments_finding(Keyword::Pattern, words),
+        _ => arguments_finding(Dialect::Script, Keyword::Pattern, words),
     }
 }
 
@@ -92,10 +148,10 @@ fn due_finding(
     let Some(word) = words.next_word() else {
         return Ok(whole(line, due));
     };
-    match Keyword::of(word.text) {
-        Some(found) if found == keyword => Ok(arguments_finding(keyword, words)),
+    match Dialect::Script.keyword(word.text) {
+        Some(found) if found == keyword => Ok(arguments_finding(Dialect::Script, keyword, words)),
         Some(_) => Ok(word.finding(due)),
-        None => match nearest(alloc, word.text)? {
+        None => match nearest(alloc, Dialect::Script, word.text)? {
             Some(near) if near == keyword => Ok(word.finding(Reason::NoCommand(Some(near)))),
             _ => Ok(word.finding(due)),
         },
@@ -103,23 +159,21 @@ fn due_finding(
 }
 
 /// The first word that does not fit behind a keyword, or the one that is missing.
-fn arguments_finding(keyword: Keyword, mut words: Words<'_>) -> Finding {
-    let mut due = keyword.arguments();
+fn arguments_finding(dialect: Dialect, keyword: Keyword, mut words: Words<'_>) -> Finding
+    ensures { StandsIn result words.entry.line.now }
+{
+    let mut place = 0usize;
     while let Some(word) = words.next_word() {
-        let Some((argument, rest)) = due.split_first() else {
+        let Some(argument) = keyword.argument_at(dialect, place) else {
             return word.finding(surplus(word, keyword));
         };
         if !argument.fits(word.text) {
             return misfit_finding(argument.misfit(word.text), word);
         }
-        due = if rest.is_empty() {
-            keyword.repeated()
-        } else {
-            rest
-        };
+        place = place.saturating_add(1);
     }
-    let reason = match due.first() {
-        Some(argument) => Reason::Missing(*argument, keyword),
+    let reason = match keyword.needed_at(dialect, place) {
+        Some(argument) => Reason::Missing(argument, keyword),
         None => Reason::NoForm(keyword),
     };
     Finding {
@@ -138,7 +192,12 @@ fn surplus(word: Word<'_>, keyword: Keyword) -> Reason {
 }
 
 /// Where a rule's text has a byte that may not stand there, the finding is at that byte.
-fn misfit_finding(reason: Reason, word: Word<'_>) -> Finding {
+fn misfit_finding(reason: Reason, word: Word<'_>) -> Finding
+    requires { 1 ≤ word.column }
+    ensures counted { 1 ≤ result.column }
+    ensures within { result.column ≤ word.entry.column + length word.entry.text.now }
+    ensures some { 1 ≤ result.width }
+{
     match reason {
         Reason::NoRule(RuleFault::Digit(place)) if place < word.text.len() as u64 => Finding {
             column: word.column.saturating_add(place as usize),
@@ -149,8 +208,10 @@ fn misfit_finding(reason: Reason, word: Word<'_>) -> Finding {
     }
 }
 
-/// A byte order mark in front of the script, or a byte that is no text.
-fn strange_finding(line: &[u8], first: bool) -> Option<Finding> {
+/// A byte order mark in front of the script or of a client's line, or a byte that is no text.
+fn strange_finding(line: &[u8], first: bool) -> Option<Finding>
+    ensures { IfSome result (λ finding. StandsIn finding line.now) }
+{
     if first && line.starts_with(BYTE_ORDER_MARK) {
         return Some(Finding {
             column: 1,
@@ -183,7 +244,9 @@ fn is_control(byte: u8) -> bool {
     byte != b'\t' && (byte < b' ' || byte == 127)
 }
 
-fn whole(line: &[u8], reason: Reason) -> Finding {
+fn whole(line: &[u8], reason: Reason) -> Finding
+    ensures { StandsIn result line.now }
+{
     Finding {
         column: 1,
         width: line.len().max(1),

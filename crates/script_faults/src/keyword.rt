@@ -1,8 +1,9 @@
 //! The words with which lines begin.
 
 use crate::argument::Argument;
+use crate::dialect::Dialect;
 
-/// A word with which a line begins, `end` among them.
+/// A word with which a line of a script or of a client begins, `end` among them.
 #[derive(Clone, Copy, Debug, PartialEq, Eq)]
 pub enum Keyword {
     Rule,
@@ -20,41 +21,23 @@ pub enum Keyword {
     Same,
     Dump,
     Export,
+    Poll,
+    Wait,
+    Sleep,
+    Save,
+    Open,
+    Bye,
 }
 
-const KEYWORDS: [Keyword; 15] = [
-    Keyword::Rule,
-    Keyword::Replicas,
-    Keyword::Cells,
-    Keyword::Clear,
-    Keyword::Pattern,
-    Keyword::End,
-    Keyword::Copy,
-    Keyword::Or,
-    Keyword::State,
-    Keyword::Delta,
-    Keyword::Deliver,
-    Keyword::Show,
-    Keyword::Same,
-    Keyword::Dump,
-    Keyword::Export,
-];
-
 impl Keyword {
-    /// All of them.
-    pub fn all() -> [Keyword; 15] {
-        KEYWORDS
-    }
+    ghost use Rattle.std.specs.Prelude.{◌≡◌};
+    ghost use Rattle.std.specs.Str.{bytes_eq};
+    ghost use Rattle.script_faults.specs.Keywords.{keyword_name};
 
-    /// The one that a word is.
-    pub fn of(word: &[u8]) -> Option<Keyword> {
-        KEYWORDS
-            .iter()
-            .find(|keyword| keyword.name().as_bytes() == word)
-            .copied()
-    }
-
-    pub fn name(self) -> &'static str {
+    /// The word itself.
+    pub fn name(self) -> &'static str
+        ensures { result.now ≡ keyword_name self }
+    {
         match self {
             Keyword::Rule => "rule",
             Keyword::Replicas => "replicas",
@@ -71,11 +54,31 @@ impl Keyword {
             Keyword::Same => "same",
             Keyword::Dump => "dump",
             Keyword::Export => "export",
+            Keyword::Poll => "poll",
+            Keyword::Wait => "wait",
+            Keyword::Sleep => "sleep",
+            Keyword::Save => "save",
+            Keyword::Open => "open",
+            Keyword::Bye => "bye",
         }
     }
 
+    /// Whether the word is this one.
+    pub(crate) fn is_named(self, word: &[u8]) -> bool
+        ensures { result ≡ bytes_eq (keyword_name self) word.now }
+    {
+        self.name().as_bytes() == word
+    }
+
     /// How a line with it is written.
-    pub fn form(self) -> &'static str {
+    pub fn form(self, dialect: Dialect) -> &'static str {
+        match dialect {
+            Dialect::Script => self.form_with_replica(),
+            Dialect::Client => self.form_without_replica(),
+        }
+    }
+
+    fn form_with_replica(self) -> &'static str {
         match self {
             Keyword::Rule => "rule S/B/C",
             Keyword::Replicas => "replicas N",
@@ -92,11 +95,38 @@ impl Keyword {
             Keyword::Same => "same A B",
             Keyword::Dump => "dump M",
             Keyword::Export => "export R G",
+            Keyword::Poll => "poll",
+            Keyword::Wait => "wait N [MS]",
+            Keyword::Sleep => "sleep MS",
+            Keyword::Save => "save FILE",
+            Keyword::Open => "open FILE",
+            Keyword::Bye => "bye",
+        }
+    }
+
+    /// A client is one replica, so that its lines name none.
+    fn form_without_replica(self) -> &'static str {
+        match self {
+            Keyword::Cells => "cells x y state ..",
+            Keyword::Clear => "clear x y w h",
+            Keyword::Copy => "copy NAME x y",
+            Keyword::Or => "or NAME x y",
+            Keyword::Show => "show x y",
+            Keyword::Export => "export G [FILE]",
+            _ => self.form_with_replica(),
         }
     }
 
     /// What stands behind it.
-    pub fn arguments(self) -> &'static [Argument] {
+    pub fn arguments(self, dialect: Dialect) -> &'static [Argument] {
+        let arguments = self.arguments_with_replica();
+        match (dialect, arguments.split_first()) {
+            (Dialect::Client, Some((Argument::Replica, behind))) => behind,
+            _ => arguments,
+        }
+    }
+
+    fn arguments_with_replica(self) -> &'static [Argument] {
         match self {
             Keyword::Rule => &[Argument::Rule],
             Keyword::Replicas => &[Argument::Replicas],
@@ -109,7 +139,6 @@ impl Keyword {
                 Argument::Height,
             ],
             Keyword::Pattern => &[Argument::Name],
-            Keyword::End => &[],
             Keyword::Copy | Keyword::Or => &[
                 Argument::Replica,
                 Argument::Name,
@@ -123,6 +152,10 @@ impl Keyword {
             Keyword::Same => &[Argument::Replica, Argument::OtherReplica],
             Keyword::Dump => &[Argument::Message],
             Keyword::Export => &[Argument::Replica, Argument::Generation],
+            Keyword::Wait => &[Argument::Edits],
+            Keyword::Sleep => &[Argument::Milliseconds],
+            Keyword::Save | Keyword::Open => &[Argument::File],
+            Keyword::End | Keyword::Poll | Keyword::Bye => &[],
         }
     }
 
@@ -132,5 +165,34 @@ impl Keyword {
             Keyword::Cells => &[Argument::X, Argument::Y, Argument::State],
             _ => &[],
         }
+    }
+
+    /// What may stand behind that once, and may be left out.
+    pub fn optional(self, dialect: Dialect) -> &'static [Argument] {
+        match (dialect, self) {
+            (Dialect::Client, Keyword::Export) => &[Argument::File],
+            (Dialect::Client, Keyword::Wait) => &[Argument::Milliseconds],
+            _ => &[],
+        }
+    }
+
+    /// What a word behind it stands for, by the word's place from 0, if one may stand there.
+    pub(crate) fn argument_at(self, dialect: Dialect, place: usize) -> Option<Argument> {
+        let arguments = self.arguments(dialect);
+        let Some(behind) = place.checked_sub(arguments.len()) else {
+            return arguments.get(place).copied();
+        };
+        match behind.checked_rem(self.repeated().len()) {
+            Some(place) => self.repeated().get(place).copied(),
+            None => self.optional(dialect).get(behind).copied(),
+        }
+    }
+
+    /// What has to stand at a place behind it, where a word may stand.
+    pub(crate) fn needed_at(self, dialect: Dialect, place: usize) -> Option<Argument> {
+        if self.arguments(dialect).len() <= place && !self.optional(dialect).is_empty() {
+            return None;
+        }
+        self.argument_at(dialect, place)
     }
 }

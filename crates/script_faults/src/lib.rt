@@ -1,7 +1,9 @@
-//! The mistakes of a script, each with its place and its cure: all of them, and not the first alone.
+//! The mistakes of a script, each with its place and its cure: all of them, and not the first alone;
+//! and those of a client's lines, one by one.
 #![tactic(auto)]
 
 mod argument;
+mod dialect;
 mod due;
 mod finding;
 mod keyword;
@@ -16,6 +18,8 @@ mod warning;
 mod word;
 
 pub use argument::Argument;
+pub use dialect::Dialect;
+pub use finding::{Finding, client_finding};
 pub use keyword::Keyword;
 pub use laws::fault_laws;
 pub use note::{Note, Place};
@@ -23,3 +27,4 @@ pub use notes::{Notes, notes_in};
 pub use places::command_places;
 pub use reason::{Reason, Warning};
 pub use texts::{reason_text, warning_text};
+pub use warning::{RuleWarning, rule_warning};

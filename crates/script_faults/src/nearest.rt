@@ -1,5 +1,6 @@
 //! The keyword that a misspelt word may mean.
 
+use crate::dialect::Dialect;
 use crate::keyword::Keyword;
 use std::alloc::{AllocError, Global};
 use strsim::jaro;
@@ -7,8 +8,12 @@ use strsim::jaro;
 /// Longer words are not compared.
 const MOST_BYTES: usize = 32;
 
-/// The keyword nearest to a word, if one is near.
-pub fn nearest(alloc: Global, word: &[u8]) -> Result<Option<Keyword>, AllocError> {
+/// The dialect's keyword nearest to a word, if one is near.
+pub fn nearest(
+    alloc: Global,
+    dialect: Dialect,
+    word: &[u8],
+) -> Result<Option<Keyword>, AllocError> {
     let Ok(word) = std::str::from_utf8(word) else {
         return Ok(None);
     };
@@ -17,11 +22,11 @@ pub fn nearest(alloc: Global, word: &[u8]) -> Result<Option<Keyword>, AllocError
     }
     let mut nearest = None;
     let mut most = 0.7;
-    for keyword in Keyword::all() {
+    for keyword in dialect.keywords() {
         let alike = jaro(alloc, word, keyword.name())?;
         if alike > most {
             most = alike;
-            nearest = Some(keyword);
+            nearest = Some(*keyword);
         }
     }
     Ok(nearest)

@@ -4,15 +4,17 @@ use crate::argument::Argument;
 use crate::keyword::Keyword;
 use generations_rule::RuleFault;
 
-/// What is wrong with a line of a script.
+/// What is wrong with a line of a script or of a client.
 #[derive(Clone, Copy, Debug, PartialEq, Eq)]
 pub enum Reason {
-    /// The file begins with a byte order mark.
+    /// The file, or a client's line, begins with a byte order mark.
     ByteOrderMark,
     /// The byte is no text.
     NoText(u8),
     /// The first word is no command; the nearest one.
     NoCommand(Option<Keyword>),
+    /// The first word begins lines of the other dialect alone.
+    OtherDialect,
     /// A word is missing behind the line's last.
     Missing(Argument, Keyword),
     /// A word stands behind the last that can.
@@ -48,7 +50,7 @@ pub enum Reason {
 /// What is no fault, and may be a mistake.
 #[derive(Clone, Copy, Debug, PartialEq, Eq)]
 pub enum Warning {
-    /// A pattern's header tells another rule than the script's.
+    /// A pattern's header tells another rule than the script's or the board's.
     OtherRule,
     /// A pattern's header tells a rule that cannot be read.
     UnreadRule,

@@ -1,6 +1,7 @@
 //! What notes say.
 
 use crate::argument::Argument;
+use crate::dialect::Dialect;
 use crate::keyword::Keyword;
 use crate::reason::{Reason, Warning};
 use generations_rule::{Rule, RuleFault};
@@ -10,21 +11,22 @@ use std::alloc::{AllocError, Global};
 /// How many bytes of a word are shown.
 const MOST_SHOWN: usize = 40;
 
-/// What is wrong with a word of a script, and what would be right.
-pub fn reason_text(alloc: Global, reason: Reason, word: &[u8]) -> Result<String, AllocError> {
+/// What is wrong with a word of a script or of a client's line, and what would be right.
+pub fn reason_text(
+    alloc: Global,
+    dialect: Dialect,
+    reason: Reason,
+    word: &[u8],
+) -> Result<String, AllocError> {
     match reason {
-        Reason::ByteOrderMark => String::from_str(
-            alloc,
-            "the file begins with a byte order mark (U+FEFF), which is not seen: save it without one",
-        ),
-        Reason::NoText(b'\r') => String::from_str(
-            alloc,
-            "a carriage return stands here without a line feed: lines end with LF, or with CR and LF",
-        ),
-        Reason::NoText(byte) => format!(in alloc; "this byte is no text: {byte} in decimal"),
-        Reason::NoCommand(near) => no_command_text(alloc, near, word),
-        Reason::Missing(argument, keyword) => missing_text(alloc, argument, keyword),
-        Reason::Surplus(keyword) => format!(in alloc; "a word too many: `{}`", keyword.form()),
+        Reason::ByteOrderMark => String::from_str(alloc, mark_text(dialect)),
+        Reason::NoText(byte) => no_text_text(alloc, byte),
+        Reason::NoCommand(near) => no_command_text(alloc, dialect, near, word),
+        Reason::OtherDialect => other_dialect_text(alloc, dialect, word),
+        Reason::Missing(argument, keyword) => missing_text(alloc, dialect, argument, keyword),
+        Reason::Surplus(keyword) => {
+            format!(in alloc; "a word too many: `{}`", keyword.form(dialect))
+        }
         Reason::Remark => String::from_str(
             alloc,
             "a remark stands on a line of its own, whose first word begins with #",
@@ -41,43 +43,60 @@ pub fn reason_text(alloc: Global, reason: Reason, word: &[u8]) -> Result<String,
         }
         Reason::GollyRule => golly_text(alloc, word),
         Reason::NoRule(fault) => no_rule_text(alloc, fault, word),
-        _ => order_text(alloc, reason),
+        _ => order_text(alloc, dialect, reason),
     }
 }
 
-/// What may be wrong with a pattern's header, which tells this rule; the script has another.
+/// What may be wrong with a pattern's header, which tells this word as its rule; the script or the
+/// board has another. It stands behind `warning: `.
 pub fn warning_text(
     alloc: Global,
+    dialect: Dialect,
     warning: Warning,
     word: &[u8],
     rule: &Rule,
 ) -> Result<String, AllocError> {
     let rule = rule_text(alloc, rule)?;
+    let owner = dialect.rule_owner();
     match (warning, spelled_rule(word)) {
         (Warning::OtherRule, Some(told)) => {
             let told = rule_text(alloc, &told)?;
-            format!(in alloc;
-                "warning: this pattern is of the rule {told}, and the script's rule is {rule}"
-            )
+            format!(in alloc; "this pattern is of the rule {told}, and {owner} is {rule}")
         }
-        _ => format!(in alloc;
-            "warning: this pattern's rule is not read; the script's rule is {rule}"
-        ),
+        _ => format!(in alloc; "this pattern's rule is not read; {owner} is {rule}"),
     }
 }
 
+fn mark_text(dialect: Dialect) -> &'static str {
+    match dialect {
+        Dialect::Script => {
+            "the file begins with a byte order mark (U+FEFF), which is not seen: save it without one"
+        }
+        Dialect::Client => {
+            "the line begins with a byte order mark (U+FEFF), which is not seen: leave it out"
+        }
+    }
+}
+
+fn no_text_text(alloc: Global, byte: u8) -> Result<String, AllocError> {
+    if byte == b'\r' {
+        return String::from_str(
+            alloc,
+            "a carriage return stands here without a line feed: lines end with LF, or with CR and LF",
+        );
+    }
+    format!(in alloc; "this byte is no text: {byte} in decimal")
+}
+
 /// What is wrong with the order of lines.
-fn order_text(alloc: Global, reason: Reason) -> Result<String, AllocError> {
+fn order_text(alloc: Global, dialect: Dialect, reason: Reason) -> Result<String, AllocError> {
     match reason {
         Reason::OpenBlock(Some(line)) => {
             format!(in alloc;
                 "this pattern has no line `end`; line {line} has blanks beside its `end`"
             )
         }
-        Reason::OpenBlock(None) => String::from_str(
-            alloc,
-            "this pattern has no line `end`: the line behind its last says just that",
-        ),
+        Reason::OpenBlock(None) => String::from_str(alloc, open_block_text(dialect)),
         Reason::NoBlock => String::from_str(
             alloc,
             "no pattern is open here that `end` could close",
@@ -92,8 +111,18 @@ fn order_text(alloc: Global, reason: Reason) -> Result<String, AllocError> {
         ),
         Reason::RuleAgain(line) => again_text(alloc, "the rule", "first", line),
         Reason::ReplicasAgain(line) => again_text(alloc, "the number of replicas", "second", line),
-        Reason::NoForm(keyword) => format!(in alloc; "the line is written `{}`", keyword.form()),
+        Reason::NoForm(keyword) => {
+            format!(in alloc; "the line is written `{}`", keyword.form(dialect))
+        }
         _ => Ok(String::new(alloc)),
+    }
+}
+
+fn open_block_text(dialect: Dialect) -> &'static str {
+    match dialect {
+        Dialect::Script =>
+            "this pattern has no line `end`: the line behind its last says just that",
+        Dialect::Client => "the input ends in this pattern: a line that says just `end` closes it",
     }
 }
 
@@ -113,18 +142,41 @@ fn again_text(
 
 fn no_command_text(
     alloc: Global,
+    dialect: Dialect,
     near: Option<Keyword>,
     word: &[u8],
 ) -> Result<String, AllocError> {
     let word = shown(alloc, word)?;
+    let program = dialect.program();
     match near {
         Some(near) => format!(in alloc; "`{word}` is no command; did you mean `{}`?", near.name()),
-        None => format!(in alloc; "`{word}` is no command: `genedit run --help` lists them"),
+        None => format!(in alloc; "`{word}` is no command: `{program} --help` lists them"),
     }
 }
 
-fn missing_text(alloc: Global, argument: Argument, keyword: Keyword) -> Result<String, AllocError> {
-    format!(in alloc; "{} is missing: `{}`", argument.name(), keyword.form())
+fn other_dialect_text(alloc: Global, dialect: Dialect, word: &[u8]) -> Result<String, AllocError> {
+    let word = shown(alloc, word)?;
+    let other = dialect.other();
+    format!(in alloc;
+        "`{word}` is a command of {} alone (`{}`): `{} --help` lists those of {}",
+        other.owner(),
+        other.program(),
+        dialect.program(),
+        dialect.owner()
+    )
+}
+
+fn missing_text(
+    alloc: Global,
+    dialect: Dialect,
+    argument: Argument,
+    keyword: Keyword,
+) -> Result<String, AllocError> {
+    format!(in alloc;
+        "{} is missing: `{}`",
+        argument.name(),
+        keyword.form(dialect)
+    )
 }
 
 fn no_number_text(alloc: Global, argument: Argument, word: &[u8]) -> Result<String, AllocError> {
@@ -165,7 +217,7 @@ pub fn rule_text(alloc: Global, rule: &Rule) -> Result<String, AllocError> {
     shown(alloc, &rule.write_text(alloc)?)
 }
 
-/// Some bytes of a script, cut at 40, with `?` for what is not printing ASCII.
+/// Some bytes of a line, cut at 40, with `?` for what is not printing ASCII.
 fn shown(alloc: Global, bytes: &[u8]) -> Result<String, AllocError> {
     let mut text = String::new(alloc);
     for byte in bytes.iter().take(MOST_SHOWN) {

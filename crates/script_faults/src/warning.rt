@@ -1,36 +1,58 @@
-//! Headers that tell another rule than the script's.
+//! Headers that tell another rule than that of the script or of the board.
 
-ghost use Rattle.std.specs.Prelude.{◌≡◌, [], ◌∷◌, ◌≤◌, length};
+ghost use Rattle.std.specs.Prelude.{◌≡◌, [], ◌∷◌, ◌+◌, ◌<◌, ◌≤◌, length, IfSome};
 ghost use Rattle.std.specs.Option.{option_to_list};
+ghost use Rattle.header_rules.specs.HeaderRule.{header_rule_told};
 ghost use Rattle.script_faults.specs.Faults.{fault_lines};
+ghost use Rattle.script_faults.specs.Warnings.{IsWarnedOf};
 
 use crate::note::{Note, Place};
 use crate::reason::Warning;
 use genedit_script::Lines;
 use generations_rule::Rule;
-use header_rules::{HeaderRule, header_rule};
+use header_rules::header_rule;
+
+/// Where a header's rule is warned of.
+#[derive(Clone, Copy, Debug, PartialEq, Eq)]
+pub struct RuleWarning {
+    pub warning: Warning,
+    /// The index of the rule's first byte, in the whole text and from 0.
+    pub place: usize,
+    /// How many bytes the rule has: 1 at least.
+    pub length: usize,
+}
+
+/// The warning that the header of an RLE text tells another rule than this one, compared as rules and
+/// with Golly's spelling read too, or one that cannot be read. `None` where it tells no rule.
+pub fn rule_warning(rule: &Rule, text: &[u8]) -> Option<RuleWarning>
+    ensures warned { IsWarnedOf rule.now (header_rule_told text.now) result }
+    ensures within { IfSome result (λ told. (0 < told.length) × (told.place + told.length ≤ length text.now)) }
+{
+    let told = header_rule(text)?;
+    let warning = match told.rule {
+        None => Warning::UnreadRule,
+        Some(other) if !other.same(rule) => Warning::OtherRule,
+        Some(_) => return None,
+    };
+    Some(RuleWarning {
+        warning,
+        place: told.place,
+        length: told.length,
+    })
+}
 
 /// The warning that the header of the block which these lines begin with tells another rule.
 pub fn header_warning(rule: Rule, lines: Lines<'_>) -> Option<Note>
     ensures { fault_lines (option_to_list result) ≡ [] }
 {
-    let told = header_rule(lines.rest)?;
-    let warning = warning_of(rule, &told)?;
+    let told = rule_warning(&rule, lines.rest)?;
     let (line, column) = place_in(lines, told.place);
     let place = Place {
         line,
         column,
         width: told.length,
     };
-    Some(Note::Warning(place, warning))
-}
-
-fn warning_of(rule: Rule, told: &HeaderRule) -> Option<Warning> {
-    match told.rule {
-        None => Some(Warning::UnreadRule),
-        Some(other) if !other.same(&rule) => Some(Warning::OtherRule),
-        Some(_) => None,
-    }
+    Some(Note::Warning(place, told.warning))
 }
 
 /// The line of a place behind these lines' beginning, and its column.

@@ -14,8 +14,13 @@ pub struct Word<'a> {
 }
 
 impl Word<'_> {
+    ghost use Rattle.std.specs.Prelude.{◌≡◌, ◌≤◌};
+
     /// What is wrong with this word.
-    pub fn finding(self, reason: Reason) -> Finding {
+    pub fn finding(self, reason: Reason) -> Finding
+        ensures column { result.column ≡ self.entry.column }
+        ensures some { 1 ≤ result.width }
+    {
         Finding {
             column: self.column,
             width: self.text.len().max(1),
@@ -33,14 +38,19 @@ pub struct Words<'a> {
 }
 
 impl<'a> Words<'a> {
-    ghost use Rattle.std.specs.Prelude.{◌<◌, length, IfSome};
+    ghost use Rattle.std.specs.Prelude.{◌≡◌, ◌+◌, ◌<◌, ◌≤◌, length, IfSome};
 
-    pub fn of(line: &'a [u8]) -> Words<'a> {
+    pub fn of(line: &'a [u8]) -> Words<'a>
+        ensures { result.line.now ≡ line.now }
+    {
         Words { line, rest: line }
     }
 
     pub fn next_word(&mut self) -> Option<Word<'a>>
         ensures shorter { IfSome result (λ word. length self.new.rest.now < length self.old.rest.now) }
+        ensures line { self.new.line.now ≡ self.old.line.now }
+        ensures counted { IfSome result (λ word. 1 ≤ word.column) }
+        ensures within { IfSome result (λ word. word.column + length word.text.now ≤ length self.old.line.now + 1) }
     {
         let (text, rest) = split_word(self.rest)?;
         let column = self.line.len() - rest.len() - text.len() + 1;
@@ -51,8 +61,18 @@ impl<'a> Words<'a> {
         Some(Word { column, text })
     }
 
+    /// The line up to the end of the last word that was read.
+    pub fn read(&self) -> &'a [u8]
+        ensures { length result.now ≤ length self.now.line.now }
+    {
+        &self.line[..self.line.len() - self.rest.len()]
+    }
+
     /// The column behind the last word that was read.
-    pub fn end(&self) -> usize {
+    pub fn end(&self) -> usize
+        ensures counted { 1 ≤ result }
+        ensures within { result ≤ length self.now.line.now + 1 }
+    {
         self.line.len() - self.rest.len() + 1
     }
 }

@@ -1,0 +1,73 @@
+//! What a client says on standard error.
+
+use delta_exchange::is_delta;
+use genedit_script::without_return;
+use generations_rule::Rule;
+use script_faults::{
+    Dialect, Finding, Reason, client_finding, reason_text, rule_warning, warning_text,
+};
+use std::alloc::{AllocError, Global};
+
+/// What is said where a push was refused by 30.
+const IN_DOUBT: &str =
+    "genedit: the board may have the last edit or not; it is closed to further ones";
+
+/// Says that the board may have the edit that was drawn last, or not.
+pub(crate) fn tell_doubt<R: Eprint>(rt: &R) {
+    let _ = rt.eprintln(IN_DOUBT);
+}
+
+/// Says what is wrong with a line of this number, at which column, and what would be right.
+pub(crate) fn tell_fault<R: Eprint>(
+    rt: &R,
+    alloc: Global,
+    number: u64,
+    line: &[u8],
+) -> Result<(), AllocError> {
+    let line = without_return(line);
+    let finding = client_finding(alloc, line)?;
+    let word = bytes_at(line, finding);
+    let reason = reason_text(alloc, Dialect::Client, finding.reason, word)?;
+    let column = finding.column;
+    let _ = eprintln!(rt; "genedit: fault at line {number}:{column}: {reason}");
+    Ok(())
+}
+
+/// Says that the lines ended in the block that the line of this number opens.
+pub(crate) fn tell_open_block<R: Eprint>(
+    rt: &R,
+    alloc: Global,
+    number: u64,
+) -> Result<(), AllocError> {
+    let reason = reason_text(alloc, Dialect::Client, Reason::OpenBlock(None), b"pattern")?;
+    let _ = eprintln!(rt; "genedit: fault at line {number}:1: {reason}");
+    Ok(())
+}
+
+/// Warns where the header of a pattern's text, which is told by this name, has another rule than the board.
+pub(crate) fn warn_of_rule<R: Eprint>(
+    rt: &R,
+    alloc: Global,
+    rule: &Rule,
+    name: &[u8],
+    text: &[u8],
+) -> Result<(), AllocError> {
+    if is_delta(text) == Ok(false) {
+        return Ok(());
+    }
+    let Some(told) = rule_warning(rule, text) else {
+        return Ok(());
+    };
+    let word = &text[told.place..told.place + told.length];
+    let warning = warning_text(alloc, Dialect::Client, told.warning, word, rule)?;
+    let name = String::from_utf8_lossy(alloc, name)?;
+    let _ = eprintln!(rt; "genedit: warning: {}: {warning}", name.as_str());
+    Ok(())
+}
+
+/// The bytes of a line that a finding is of.
+fn bytes_at(line: &[u8], finding: Finding) -> &[u8] {
+    let begin = finding.column.saturating_sub(1).min(line.len());
+    let end = begin.saturating_add(finding.width).min(line.len());
+    &line[begin..end]
+}

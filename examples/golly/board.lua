@@ -1,0 +1,325 @@
+-- What live.lua and sync.lua share: how they speak with a board, and how they read and put Golly's cells.
+--
+-- Golly's Lua has no sockets. So `genedit join` runs beside Golly: its commands are appended to a file, which `tail`
+-- follows for as long as this Golly runs, and what it prints goes to another file, which is read here.
+--
+-- A list of cells has three numbers a cell: x, y and state. A map has the states of the cells that are not dead, each
+-- at its place, which is one number for x and y.
+
+local g = golly()
+local board = {}
+
+-- the plane of a board: x and y are -2^30 to 2^30 - 1
+local LEAST, PAST = -(1 << 30), 1 << 30
+-- how many cells an edit may have
+local MOST_CELLS = 1 << 20
+-- the level of a square up to which its corners are numbers here
+local MOST_LEVEL = 60
+
+-- Starts `genedit join` in a folder. Its process is told first, and its end last. Fifty times a second `tail` looks
+-- whether Golly is still there, and for commands where the system does not tell it of them.
+local START = [[mkdir -p %s && cd %s && : > commands && : > news && {
+    tail -n +1 -f commands --pid=$PPID -s 0.02 2> /dev/null | {
+        sh -c 'echo "process $$"; exec "$0" join "$@"' %s --port %d %s
+        status=$?
+        rm -f commands
+        echo "ended $status"
+    } > news 2>&1 &
+}]]
+
+-- the first words of the lines that answer a command; every command that is asked here has just one such line
+local ANSWERS = {drawn = true, refused = true, pattern = true, wrote = true}
+
+function board.is_in_plane(x, y)
+    return LEAST <= x and x < PAST and LEAST <= y and y < PAST
+end
+
+function board.place(x, y)
+    return x << 32 | y & 0xffffffff
+end
+
+-- The x and y of a place. Division keeps the sign, as a shift does not.
+function board.at(place)
+    return place // (1 << 32), (place << 32) // (1 << 32)
+end
+
+function board.add(cells, x, y, state)
+    local n = #cells
+    cells[n + 1], cells[n + 2], cells[n + 3] = x, y, state
+end
+
+-- The list of the cells of a map, which may have dead ones.
+function board.list(map)
+    local cells = {}
+    for place, state in pairs(map) do
+        local x, y = board.at(place)
+        board.add(cells, x, y, state)
+    end
+    return cells
+end
+
+-- The cells in which one map differs from another, with their states in the other.
+function board.difference(from, to)
+    local cells = {}
+    for place, state in pairs(to) do
+        if from[place] ~= state then
+            local x, y = board.at(place)
+            board.add(cells, x, y, state)
+        end
+    end
+    for place in pairs(from) do
+        if not to[place] then
+            local x, y = board.at(place)
+            board.add(cells, x, y, 0)
+        end
+    end
+    return cells
+end
+
+-- Sets just these cells in Golly, the dead ones too.
+function board.put(cells)
+    if #cells == 0 then return end
+    -- Golly takes a list of odd length for one with states
+    if #cells % 2 == 0 then cells[#cells + 1] = 0 end
+    g.putcells(cells, 0, 0, 1, 0, 0, 1, "copy")
+end
+
+-- The cells of a list that Golly gave: one of even length has two numbers a cell, and all are of state 1; one of odd
+-- length three, and perhaps a 0 behind them.
+function board.of_golly(list)
+    local cells = {}
+    local step = #list % 2 == 0 and 2 or 3
+    for i = 1, #list - step + 1, step do
+        board.add(cells, list[i], list[i + 1], step == 3 and list[i + 2] or 1)
+    end
+    return cells
+end
+
+-- The commands that draw cells: one edit, or more where they are more than an edit may have.
+function board.drawing(cells)
+    local commands = {}
+    for i = 1, #cells, 3 * MOST_CELLS do
+        local last = math.min(i + 3 * MOST_CELLS - 1, #cells)
+        commands[#commands + 1] = "cells " .. table.concat(cells, " ", i, last)
+    end
+    return commands
+end
+
+-- The state of a cell's token in an RLE text, and the other way round.
+local function state_of(prefix, tag)
+    if tag == "o" then return 1 end
+    if tag == "b" or tag == "." then return 0 end
+    local above = prefix == "" and 0 or 24 * (prefix:byte() - 111)
+    return above + tag:byte() - 64
+end
+
+local function token_of(state)
+    local above = (state - 1) // 24
+    return (above == 0 and "" or string.char(111 + above)) .. string.char(65 + (state - 1) % 24)
+end
+
+-- The map of an RLE file that `genedit` wrote, whose first line tells the position.
+function board.read_rle(path)
+    local file = assert(io.open(path))
+    local left, y, rows = file:read("a"):match("^#CXRLE Pos=(%-?%d+),(%-?%d+)[^\n]*\n[^\n]*\n(.*)")
+    file:close()
+    left, y = tonumber(left), tonumber(y)
+    local map, x = {}, left
+    for count, prefix, tag in rows:gmatch("(%d*)([p-y]?)([%.%$boA-X])") do
+        count = tonumber(count) or 1
+        if tag == "$" then
+            x, y = left, y + count
+        else
+            local state = state_of(prefix, tag)
+            for i = x, state == 0 and x - 1 or x + count - 1 do map[board.place(i, y)] = state end
+            x = x + count
+        end
+    end
+    return map
+end
+
+-- The RLE text of a pattern whose cells stand row by row, and in each row from left to right, as Golly gives them.
+function board.rle(width, height, cells)
+    local tokens, x, y = {"x = " .. width .. ", y = " .. height .. "\n"}, 0, 0
+    for i = 1, #cells, 3 do
+        if cells[i + 1] > y then
+            tokens[#tokens + 1] = cells[i + 1] - y .. "$\n"
+            x, y = 0, cells[i + 1]
+        end
+        if cells[i] > x then tokens[#tokens + 1] = cells[i] - x .. "." end
+        tokens[#tokens + 1] = token_of(cells[i + 2])
+        x = cells[i] + 1
+    end
+    return table.concat(tokens) .. "!"
+end
+
+-- Adds the cells of a node of a macrocell file to a map: a square of 2^level columns and rows. What lies outside of
+-- the plane is not the board's.
+local function add_node(map, nodes, number, x, y)
+    local node = nodes[number]
+    local half = 1 << (node[1] - 1)
+    if x >= PAST or y >= PAST or x + 2 * half <= LEAST or y + 2 * half <= LEAST then return end
+    for quarter = 0, 3 do
+        local child = node[quarter + 2]
+        local left, top = x + half * (quarter & 1), y + half * (quarter >> 1)
+        if child ~= 0 and half == 1 then
+            map[board.place(left, top)] = child
+        elseif child ~= 0 then
+            add_node(map, nodes, child, left, top)
+        end
+    end
+end
+
+-- The map of the pattern that Golly shows. It goes by a macrocell file, since Golly gives no rectangle of a pattern
+-- beyond 10^9, and looks at each row of one that is given.
+function board.read_golly(path)
+    local name = g.getname()
+    g.save(path, "mc")
+    g.setname(name)
+    local map, nodes = {}, {}
+    for line in io.lines(path) do
+        local level, nw, ne, sw, se = line:match("^(%d+) (%d+) (%d+) (%d+) (%d+)$")
+        if level then
+            nodes[#nodes + 1] = {tonumber(level), tonumber(nw), tonumber(ne), tonumber(sw), tonumber(se)}
+        end
+    end
+    if #nodes > 0 then
+        local level = nodes[#nodes][1]
+        assert(level <= MOST_LEVEL, "the pattern is too far apart")
+        -- north is up in a macrocell file, and row 0 is the last of its upper half
+        add_node(map, nodes, #nodes, -(1 << (level - 1)), 1 - (1 << (level - 1)))
+    end
+    return map
+end
+
+-- A helper: `genedit join`, what is said to it, and what it says.
+local Helper = {}
+Helper.__index = Helper
+
+local function quoted(word)
+    return "'" .. word:gsub("'", "'\\''") .. "'"
+end
+
+-- The port of the server, as the environment says it, or else the user.
+function board.port()
+    local text = os.getenv("GENEDIT_PORT") or g.getstring("The port that `genedit serve` printed:", "", "Draw together")
+    return assert(math.tointeger(tonumber(text)), "no port: " .. text)
+end
+
+-- The program, as the environment says it. A path goes on from the folder in which Golly was started.
+local function program()
+    local path = os.getenv("GENEDIT") or "genedit"
+    local goes_on = path:find("/") and path:sub(1, 1) ~= "/"
+    return goes_on and os.getenv("PWD") .. "/" .. path or path
+end
+
+-- Starts a helper at a port, with its files in a folder; words are options of `genedit join`. Lines that answer
+-- nothing are given to the function in `news` that has their first word as its name.
+function board.start(folder, port, words, news)
+    os.execute(START:format(quoted(folder), quoted(folder), quoted(program()), port, words))
+    return board.helper(folder, news)
+end
+
+-- A helper that was started, to be heard from its first line on; nothing where there is none.
+function board.helper(folder, news)
+    local commands, output = io.open(folder .. "commands", "r+"), io.open(folder .. "news")
+    if not commands or not output then return nil end
+    commands:seek("end")
+    local helper = {folder = folder, commands = commands, output = output, news = news, pieces = {}, asked = {}}
+    return setmetatable(helper, Helper)
+end
+
+-- The whole lines that came since the last call. It never waits.
+function Helper:lines()
+    local text = self.output:read("a")
+    self.output:seek("cur", 0) -- forgets that the file had ended
+    local last = text:find("\n[^\n]*$")
+    self.pieces[#self.pieces + 1] = text:sub(1, last)
+    if not last then return function() end end
+    local whole = table.concat(self.pieces)
+    self.pieces = {text:sub(last + 1)}
+    return whole:gmatch("([^\n]*)\n")
+end
+
+-- Where the first line begins that was not heard yet.
+function Helper:position()
+    return self.output:seek() - #table.concat(self.pieces)
+end
+
+-- Hears what came. An answer goes to who asked.
+function Helper:hear()
+    for line in self:lines() do
+        local word = line:match("^%S*")
+        if ANSWERS[word] then
+            local answered = table.remove(self.asked, 1)
+            if answered then answered(line, word) end
+        elseif word == "process" then
+            self.process = line:match("%d+")
+        elseif word == "joined" then
+            self.seat, self.rule = line:match("^joined (%d+) (%S+)$")
+        elseif word == "ended" then
+            self.ended = true
+        elseif word:find(":$") then
+            self.said = line
+        elseif self.news[word] then
+            self.news[word](line)
+        end
+    end
+end
+
+-- Says a command. Once its answer is there, the answer's line and first word are given to a function.
+function Helper:ask(command, answered)
+    self.commands:write(command, "\n")
+    self.commands:flush()
+    self.asked[#self.asked + 1] = answered
+end
+
+-- Hears until something is so, the helper has ended, or the time is over; whether it is so.
+function Helper:await(seconds, is_so)
+    local start = g.millisecs()
+    while not is_so() and not self.ended and g.millisecs() - start < 1000 * seconds do
+        g.sleep(5)
+        g.doevent("") -- lets the user press Escape
+        self:hear()
+    end
+    return is_so()
+end
+
+-- Whether the board let this helper in.
+function Helper:is_joined()
+    return self:await(15, function() return self.rule end)
+end
+
+-- Leaves the board. A helper that has not ended three seconds later is ended, as one that a server lets wait.
+function Helper:leave()
+    pcall(self.ask, self, "bye")
+    local left, ended = pcall(self.await, self, 3, function() return self.ended end)
+    if not (left and ended) and self.process then os.execute("kill " .. self.process) end
+    self.commands:close()
+    self.output:close()
+    for _, name in ipairs {"commands", "news", "kept", "board.rle", "board.mc"} do os.remove(self.folder .. name) end
+    os.remove(self.folder)
+end
+
+-- Why a helper that was not let in, or has ended, is not there.
+function Helper:reason()
+    return self.said or "genedit: no answer from the server"
+end
+
+-- Opens an empty layer for a board, under its rule as it was told; a pattern that is there is left alone.
+function Helper:open_layer(port)
+    if not g.empty() then g.addlayer() end
+    self.name = "board of port " .. port .. ", seat " .. self.seat
+    g.new(self.name)
+    g.setrule(self.rule)
+    g.setmag(3)
+    g.setpos("0", "0")
+    g.setcursor("Draw")
+end
+
+-- Whether a script's fault is that Escape was pressed.
+function board.is_escape(fault)
+    return tostring(fault):find("ABORT SCRIPT", 1, true) ~= nil
+end
+
+return board
