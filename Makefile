@@ -1,4 +1,4 @@
-.PHONY: test run look build bench memory trial crowd
+.PHONY: test run look build bench memory trial
 
 # How many checks run at a time: one a processor, or fewer, so that each can have 4 GB. The most that
 # one has taken is 3.3.
@@ -54,7 +54,3 @@ memory:
 # CRATES="a b"` tries those of these crates alone.
 trial:
 	@examples/trial $(CRATES)
-
-# Has eight clients draw at once on a board, and draws a board of 1,500,000 cells again.
-crowd: $(PROGRAM)
-	@examples/crowd $(PROGRAM)

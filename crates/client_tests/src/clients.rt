@@ -1,22 +1,23 @@
 //! Clients of the board in memory.
 
-use crate::board::{Replies, Requests, Shared};
-use client_session::{Corner, Outcome, Patience, Seat, SeatFault, Telling};
+use client_commands::command_in;
+use client_session::{Outcome, Seat, SeatFault, Telling};
+use client_tasks::{Done, carry_out, open};
 use edit_stamps::{Cell, Rect};
 use frame_line::Line;
 use genedit_script::{Command, PatternName, PatternText, read_script};
 use keyed_hash::HashKey;
+use memory_board::{Replies, Requests, Shared, line_to};
 use replica_events::{CellList, EditSpec};
 use std::alloc::{AllocError, Global};
-use std::rc::Rc;
 use std::test::Fail;
 use std::time::Clock;
 
 /// A client and what it printed.
 pub struct Client {
-    line: Line<Replies, Requests>,
+    pub line: Line<Replies, Requests>,
     pub seat: Seat,
-    out: Vec<u8>,
+    pub out: Vec<u8>,
 }
 
 impl Drop for Client {
@@ -39,19 +40,15 @@ fn end(line: Line<Replies, Requests>) {
 }
 
 impl Client {
-    /// The client at the first seat, 0, or the second, 1.
+    /// The client at a seat, from 1.
     pub fn join<C: Clock>(
         clock: &C,
         alloc: Global,
         board: &Shared,
-        seat: usize,
+        seat: u16,
         telling: Telling,
     ) -> Result<Client, Fail> {
-        let mut line = Line::new(
-            alloc,
-            Replies::new(Rc::clone(board)?, seat),
-            Requests::new(Rc::clone(board)?, seat),
-        );
+        let mut line = line_to(alloc, board, seat)?;
         let mut out = Vec::new(alloc);
         match Seat::join(clock, alloc, &mut line, &mut out, telling, HashKey::fixed()) {
             Ok(seat) => Ok(Client { line, seat, out }),
@@ -71,14 +68,25 @@ impl Client {
         self.seat.poll(clock, alloc, &mut self.line, &mut self.out)
     }
 
+    /// Draws with a counter above a given one too.
+    pub fn draw_after<C: Clock>(
+        &mut self,
+        clock: &C,
+        alloc: Global,
+        after: u64,
+        spec: &EditSpec,
+    ) -> Result<Outcome, SeatFault> {
+        self.seat
+            .draw(clock, alloc, &mut self.line, &mut self.out, after, spec)
+    }
+
     pub fn draw<C: Clock>(
         &mut self,
         clock: &C,
         alloc: Global,
         spec: &EditSpec,
     ) -> Result<Outcome, SeatFault> {
-        self.seat
-            .draw(clock, alloc, &mut self.line, &mut self.out, spec)
+        self.draw_after(clock, alloc, 0, spec)
     }
 
     /// Draws one cell.
@@ -94,63 +102,21 @@ impl Client {
         self.draw(clock, alloc, &spec)
     }
 
-    pub fn copy<C: Clock>(
+    /// Draws what a text holds.
+    pub fn open<C: Clock>(
         &mut self,
         clock: &C,
         alloc: Global,
-        name: &PatternName,
-        x: i32,
-        y: i32,
+        text: &[u8],
     ) -> Result<Outcome, SeatFault> {
-        self.seat.copy(
+        open(
             clock,
             alloc,
             &mut self.line,
+            &mut self.seat,
             &mut self.out,
-            name,
-            Corner { x, y },
+            text,
         )
-    }
-
-    pub fn or<C: Clock>(
-        &mut self,
-        clock: &C,
-        alloc: Global,
-        name: &PatternName,
-        x: i32,
-        y: i32,
-    ) -> Result<Outcome, SeatFault> {
-        self.seat.or(
-            clock,
-            alloc,
-            &mut self.line,
-            &mut self.out,
-            name,
-            Corner { x, y },
-        )
-    }
-
-    pub fn name(
-        &mut self,
-        alloc: Global,
-        name: PatternName,
-        text: &PatternText,
-    ) -> Result<(), AllocError> {
-        self.seat.name_pattern(alloc, &mut self.out, name, text)
-    }
-
-    pub fn show(&mut self, alloc: Global, x: i32, y: i32) -> Result<(), AllocError> {
-        self.seat.show(alloc, &mut self.out, x, y)
-    }
-
-    pub fn export<C: Clock>(
-        &mut self,
-        clock: &C,
-        alloc: Global,
-        generation: u32,
-    ) -> Result<(), SeatFault> {
-        self.seat
-            .export(clock, alloc, &mut self.line, &mut self.out, generation)
     }
 
     pub fn export_text<C: Clock>(
@@ -171,21 +137,26 @@ impl Client {
         self.seat.save(clock, alloc, &mut self.line, &mut self.out)
     }
 
-    pub fn wait<C: Clock>(
-        &mut self,
-        clock: &C,
-        alloc: Global,
-        awaited: u32,
-        patience: Patience,
-    ) -> Result<(), SeatFault> {
-        self.seat.wait(
+    /// Gives the pattern of a script a name.
+    pub fn name(&mut self, alloc: Global, script: &str) -> Result<(), Fail> {
+        let (name, text) = named(alloc, script)?;
+        self.seat.name_pattern(alloc, &mut self.out, name, &text)?;
+        Ok(())
+    }
+
+    /// Carries out the command of a line, which is no block's.
+    pub fn obey<C: Clock>(&mut self, clock: &C, alloc: Global, line: &str) -> Result<Done, Fail> {
+        let command = command_in(alloc, line.as_bytes())?.ok_or("command")?;
+        let done = carry_out(
             clock,
             alloc,
             &mut self.line,
+            &mut self.seat,
             &mut self.out,
-            awaited,
-            patience,
-        )
+            command,
+            5,
+        )?;
+        Ok(done)
     }
 
     /// What was printed since this was asked last.
@@ -212,7 +183,7 @@ pub fn area(x: i32, y: i32, width: u32, height: u32) -> EditSpec {
 }
 
 /// The first name and text in a script.
-pub fn named(alloc: Global, script: &str) -> Result<(PatternName, PatternText), Fail> {
+fn named(alloc: Global, script: &str) -> Result<(PatternName, PatternText), Fail> {
     let script = read_script(alloc, script.as_bytes()).ok().ok_or("script")?;
     for command in script.into_commands() {
         if let Command::Names(name, text) = command {

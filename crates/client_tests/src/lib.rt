@@ -1,13 +1,25 @@
-//! Tests of clients: what they print, at a board in memory.
+//! Tests of clients: what they print and do, at a board in memory.
 #![tactic(auto)]
 
 #[cfg(test)]
-mod board;
-#[cfg(test)]
 mod clients;
+#[cfg(test)]
+mod commands;
+#[cfg(test)]
+mod crowd;
 #[cfg(test)]
 mod lines;
 #[cfg(test)]
+mod many_cells;
+#[cfg(test)]
+mod opening;
+#[cfg(test)]
 mod refusals;
 #[cfg(test)]
+mod texts;
+#[cfg(test)]
+mod told_cells;
+#[cfg(test)]
 mod waits;
+#[cfg(test)]
+mod wrong_texts;

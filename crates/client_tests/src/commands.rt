@@ -1,0 +1,213 @@
+//! Commands: what each prints, and what is left behind it.
+
+use crate::clients::Client;
+use crate::refusals::refuse;
+use client_commands::FileName;
+use client_session::Telling;
+use client_tasks::Done;
+use edit_stamps::Cell;
+use memory_board::{Board, Shared};
+use std::alloc::{AllocError, Global};
+use std::test::Fail;
+
+/// A command, what is left behind it, and what it prints. Before it seat 2 draws the cell `0 9`, if it does.
+struct Row {
+    line: &'static str,
+    left: &'static str,
+    told: &'static str,
+    draws: bool,
+}
+
+static ROWS: [Row; 15] = [
+    Row {
+        line: "cells 0 0 1 1 0 2",
+        left: "told",
+        told: "drawn 1 1\n",
+        draws: false,
+    },
+    Row {
+        line: "clear 1 0 1 1",
+        left: "told",
+        told: "drawn 2 1\n",
+        draws: false,
+    },
+    Row {
+        line: "copy p 2 0",
+        left: "told",
+        told: "drawn 3 1\n",
+        draws: false,
+    },
+    Row {
+        line: "or p 2 1",
+        left: "told",
+        told: "drawn 4 1\n",
+        draws: false,
+    },
+    Row {
+        line: "or nobody 2 1",
+        left: "told",
+        told: "refused 38 NoPattern\n",
+        draws: false,
+    },
+    Row {
+        line: "show 2 1",
+        left: "told",
+        told: "cell 1 4 1\n",
+        draws: true,
+    },
+    Row {
+        line: "poll",
+        left: "told",
+        told: "edit 5 2 cells 0 9 1\nedits 1\n",
+        draws: false,
+    },
+    Row {
+        line: "wait 1 10000",
+        left: "told",
+        told: "edit 6 2 cells 0 9 1\nedits 1\n",
+        draws: true,
+    },
+    Row {
+        line: "wait 1 0",
+        left: "told",
+        told: "late 0\n",
+        draws: false,
+    },
+    Row {
+        line: "export 0",
+        left: "told",
+        told: "#CXRLE Pos=0,0 Gen=0\nx = 3, y = 10, rule = /2/3\nA.A$2.A8$A!\n",
+        draws: false,
+    },
+    Row {
+        line: "export 0 b.rle",
+        left: "write b.rle: #CXRLE Pos=0,0 Gen=0\nx = 3, y = 10, rule = /2/3\nA.A$2.A8$A!\n",
+        told: "edit 7 2 cells 0 9 1\n",
+        draws: true,
+    },
+    Row {
+        line: "export 536870913 b.rle",
+        left: "told",
+        told: "refused 22 GenRange\n",
+        draws: false,
+    },
+    Row {
+        line: "sleep 70",
+        left: "sleep 70",
+        told: "",
+        draws: true,
+    },
+    Row {
+        line: "open b.rle",
+        left: "open b.rle",
+        told: "",
+        draws: true,
+    },
+    Row {
+        line: "bye",
+        left: "leave",
+        told: "",
+        draws: true,
+    },
+];
+
+/// What is left, in words.
+fn words_of(alloc: Global, done: &Done) -> Result<String, Fail> {
+    match done {
+        Done::Told => Ok(String::from_str(alloc, "told")?),
+        Done::InDoubt => Ok(String::from_str(alloc, "in doubt")?),
+        Done::Write(file, text) => Ok(written(alloc, file, text)?),
+        Done::Open(file) => {
+            let name = std::str::from_utf8(file.as_bytes()).ok().ok_or("name")?;
+            Ok(format!(in alloc; "open {name}")?)
+        }
+        Done::Sleep(milliseconds) => Ok(format!(in alloc; "sleep {milliseconds}")?),
+        Done::Leave => Ok(String::from_str(alloc, "leave")?),
+    }
+}
+
+/// What is written to which file, where it is a text.
+fn written(alloc: Global, file: &FileName, text: &[u8]) -> Result<String, AllocError> {
+    let name = std::str::from_utf8(file.as_bytes()).unwrap_or("?");
+    let text = std::str::from_utf8(text).unwrap_or("?");
+    format!(in alloc; "write {name}: {text}")
+}
+
+const PATTERN: &str = "rule /2/3\nreplicas 1\npattern p\nx = 1, y = 1\nA!\nend\n";
+
+/// Seat 2 draws the cell `0 9`.
+fn another_draws(board: &Shared) -> Result<(), Fail> {
+    let mut board = board.try_borrow_mut().ok().ok_or("board")?;
+    let cell = Cell {
+        x: 0,
+        y: 9,
+        state: 1,
+    };
+    board.publish_cell(2, cell)?;
+    Ok(())
+}
+
+#[test]
+fn each_command_once(rt: HostRuntime) -> Result<(), Fail> {
+    let alloc = rt.alloc();
+    let board = Board::shared(alloc, 2)?;
+    let mut a = Client::join(&rt, alloc, &board, 1, Telling::Edits)?;
+    a.name(alloc, PATTERN)?;
+    assert_eq!(rt;
+        a.told(alloc)?.as_str(),
+        "joined 1 /2/3\npattern p 1 1 1 0 0 0\n"
+    );
+    for row in &ROWS {
+        if row.draws {
+            another_draws(&board)?;
+        }
+        let done = a.obey(&rt, alloc, row.line)?;
+        assert_eq!(rt; words_of(alloc, &done)?.as_str(), row.left, "{}", row.line);
+        assert_eq!(rt; a.told(alloc)?.as_str(), row.told, "{}", row.line);
+    }
+    Ok(())
+}
+
+#[test]
+fn a_board_is_saved(rt: HostRuntime) -> Result<(), Fail> {
+    let alloc = rt.alloc();
+    let board = Board::shared(alloc, 2)?;
+    let mut a = Client::join(&rt, alloc, &board, 1, Telling::Edits)?;
+    another_draws(&board)?;
+    let Done::Write(file, text) = a.obey(&rt, alloc, "save my.board")? else {
+        return Err(Fail::from("nothing is written"));
+    };
+    assert_eq!(rt; file.as_bytes(), b"my.board".as_slice());
+    let held = board
+        .try_borrow_mut()
+        .ok()
+        .ok_or("board")?
+        .replica()
+        .state()?;
+    assert_eq!(rt; text, held);
+    assert_eq!(rt;
+        a.told(alloc)?.as_str(),
+        "joined 1 /2/3\nedit 1 2 cells 0 9 1\n"
+    );
+    refuse(&board, 0, false, 31)?;
+    let done = a.obey(&rt, alloc, "save my.board")?;
+    assert_eq!(rt; words_of(alloc, &done)?.as_str(), "told");
+    assert_eq!(rt; a.told(alloc)?.as_str(), "refused 31 NoPlace\n");
+    Ok(())
+}
+
+#[test]
+fn a_drawing_in_doubt(rt: HostRuntime) -> Result<(), Fail> {
+    let alloc = rt.alloc();
+    let board = Board::shared(alloc, 1)?;
+    let mut a = Client::join(&rt, alloc, &board, 1, Telling::Edits)?;
+    a.name(alloc, PATTERN)?;
+    a.told(alloc)?;
+    refuse(&board, 30, false, 0)?;
+    for (line, left) in [("copy p 0 0", "in doubt"), ("cells 0 0 1", "told")] {
+        let done = a.obey(&rt, alloc, line)?;
+        assert_eq!(rt; words_of(alloc, &done)?.as_str(), left, "{line}");
+        assert_eq!(rt; a.told(alloc)?.as_str(), "refused 30 Closed\n", "{line}");
+    }
+    Ok(())
+}

@@ -1,0 +1,215 @@
+//! Eight clients that draw by chance: in the end all hold what the board holds, and what any order of their
+//! edits comes to.
+
+use crate::clients::Client;
+use crate::texts::replica;
+use crate::told_cells::Told;
+use client_session::Telling;
+use memory_board::{Board, Shared};
+use rand_core::utils::NextWord;
+use rand_pcg::Pcg32;
+use std::alloc::{AllocError, Global};
+use std::test::Fail;
+
+const CLIENTS: u16 = 8;
+
+const ROUNDS: u32 = 200;
+
+/// Two of the clients say nothing to the board from the first of these rounds to the last, in which the others
+/// draw more than 1,024 edits.
+const QUIET: (u32, u32) = (3, 196);
+
+/// A client, and what it told.
+#[derive(Drop)]
+struct Member {
+    client: Client,
+    told: Told,
+    is_quiet: bool,
+    tells_changes: bool,
+}
+
+/// A number below another.
+fn below(random: &mut Pcg32, bound: u32) -> u32 {
+    random.next_word() % bound.max(1)
+}
+
+/// A coordinate near the origin, seldom far away.
+fn coordinate(random: &mut Pcg32) -> i64 {
+    let near = i64::from(below(random, 60)) - 30;
+    if below(random, 20) == 0 {
+        near * 30_000_000
+    } else {
+        near
+    }
+}
+
+/// A drawing.
+fn drawing(alloc: Global, random: &mut Pcg32) -> Result<String, AllocError> {
+    let (x, y) = (coordinate(random), coordinate(random));
+    let (state, other) = (below(random, 3), below(random, 3));
+    let (width, height) = (below(random, 9) + 1, below(random, 9) + 1);
+    match below(random, 8) {
+        0 => format!(in alloc; "clear {x} {y} {width} {height}"),
+        1 => format!(in alloc; "copy p {x} {y}"),
+        2 => format!(in alloc; "or p {x} {y}"),
+        3 => format!(in alloc; "cells {x} {y} {state} {y} {x} {other} {x} {y} {other}"),
+        _ => format!(in alloc; "cells {x} {y} {state}"),
+    }
+}
+
+/// A command that a client gives in a round: mostly a drawing.
+fn command(
+    alloc: Global,
+    random: &mut Pcg32,
+    is_quiet: bool,
+    round: u32,
+) -> Result<String, AllocError> {
+    let (x, y) = (coordinate(random), coordinate(random));
+    let (first, last) = QUIET;
+    if is_quiet && first <= round && round <= last {
+        return format!(in alloc; "show {x} {y}");
+    }
+    match below(random, 100) {
+        0 => format!(in alloc; "show {x} {y}"),
+        1 => format!(in alloc; "export {}", below(random, 4)),
+        2 => String::from_str(alloc, "poll"),
+        3 => String::from_str(alloc, "export 0 picture.rle"),
+        _ => drawing(alloc, random),
+    }
+}
+
+const PATTERN: &str = "rule /2/3\nreplicas 1\npattern p\nx = 4, y = 3\nA.BA$2.A$B2A!\nend\n";
+
+/// Clients at the seats of a board, every other one of which tells the cells that look different.
+fn joined(rt: &HostRuntime, board: &Shared) -> Result<Vec<Member>, Fail> {
+    let alloc = rt.alloc();
+    let mut members = Vec::new(alloc);
+    for seat in 1..=CLIENTS {
+        let tells_changes = seat % 2 == 0;
+        let telling = if tells_changes {
+            Telling::Changes
+        } else {
+            Telling::Edits
+        };
+        let mut client = Client::join(rt, alloc, board, seat, telling)?;
+        client.name(alloc, PATTERN)?;
+        members.push(Member {
+            client,
+            told: Told::new(alloc),
+            is_quiet: seat > 6,
+            tells_changes,
+        })?;
+    }
+    Ok(members)
+}
+
+impl Member {
+    /// Gives a command, and hears what is told.
+    fn give(&mut self, rt: &HostRuntime, line: &str) -> Result<(), Fail> {
+        let alloc = rt.alloc();
+        self.client.obey(rt, alloc, line)?;
+        let printed = self.client.told(alloc)?;
+        self.told
+            .hear(printed.as_str(), self.client.seat.replica.plane())
+    }
+
+    /// Whether what it told is what it holds; of one that tells edits nothing is said.
+    fn told_what_it_holds(&self) -> Result<bool, Fail> {
+        let held = self.client.seat.replica.plane().walk()?;
+        Ok(!self.tells_changes || self.told.cells()? == held)
+    }
+}
+
+/// A round: a command of each client.
+fn round(
+    rt: &HostRuntime,
+    random: &mut Pcg32,
+    members: &mut [Member],
+    round: u32,
+) -> Result<(), Fail> {
+    for member in members {
+        let line = command(rt.alloc(), random, member.is_quiet, round)?;
+        member.give(rt, line.as_str())?;
+    }
+    Ok(())
+}
+
+/// All rounds, and a poll of each client.
+fn rounds(rt: &HostRuntime, random: &mut Pcg32, members: &mut [Member]) -> Result<(), Fail> {
+    for number in 0..ROUNDS {
+        round(rt, random, members, number)?;
+    }
+    for member in members {
+        member.give(rt, "poll")?;
+    }
+    Ok(())
+}
+
+/// The state of a replica that takes the edits of a board one by one, in an order by chance.
+fn shuffled_state(alloc: Global, random: &mut Pcg32, board: &Shared) -> Result<Vec<u8>, Fail> {
+    let board = board.try_borrow_mut().ok().ok_or("board")?;
+    let mut fresh = replica(alloc, b"/2/3")?;
+    let mut left = places(alloc, board.replica().journal().len())?;
+    for _edit in 0..board.replica().journal().len() {
+        let at = below(random, left.len() as u32) as usize;
+        if at < left.len() {
+            let place = left.swap_remove(at);
+            fresh.take_bytes(&board.replica().delta(place, 1)?)?;
+        }
+    }
+    Ok(fresh.state()?)
+}
+
+/// The numbers below a number.
+fn places(alloc: Global, count: usize) -> Result<Vec<u32>, AllocError> {
+    let mut places = Vec::new(alloc);
+    for place in 0..u32::try_from(count).unwrap_or(0) {
+        places.push(place)?;
+    }
+    Ok(places)
+}
+
+/// How many clients saved another state than this, told other cells than they hold, or were sent a plane and
+/// drew behind it.
+fn counted(
+    rt: &HostRuntime,
+    members: &mut [Member],
+    state: &[u8],
+) -> Result<(u32, u32, u32), Fail> {
+    let (mut others, mut mistold, mut drew_behind) = (0_u32, 0_u32, 0_u32);
+    for member in members {
+        let saved = member.client.save(rt, rt.alloc())?.ok_or("save")?;
+        if saved.as_slice() != state {
+            others = others.saturating_add(1);
+        }
+        if !member.told_what_it_holds()? {
+            mistold = mistold.saturating_add(1);
+        }
+        if member.told.planes == 1 && member.told.drawn_behind > 0 {
+            drew_behind = drew_behind.saturating_add(1);
+        }
+    }
+    Ok((others, mistold, drew_behind))
+}
+
+/// The board's state, how many edits it has, and how many planes it handed out.
+fn held(board: &Shared) -> Result<(Vec<u8>, usize, u32), Fail> {
+    let board = board.try_borrow_mut().ok().ok_or("board")?;
+    let replica = board.replica();
+    Ok((replica.state()?, replica.journal().len(), board.planes))
+}
+
+#[test]
+fn eight_clients_agree(rt: HostRuntime) -> Result<(), Fail> {
+    let alloc = rt.alloc();
+    let mut random = Pcg32::new(2026, 71);
+    let board = Board::shared(alloc, CLIENTS)?;
+    let mut members = joined(&rt, &board)?;
+    rounds(&rt, &mut random, &mut members)?;
+    let (state, edits, planes) = held(&board)?;
+    assert!(rt; edits > 1024, "{edits}");
+    assert_eq!(rt; planes, 2);
+    assert_eq!(rt; shuffled_state(alloc, &mut random, &board)?, state);
+    assert_eq!(rt; counted(&rt, &mut members, &state)?, (0, 0, 2));
+    Ok(())
+}
