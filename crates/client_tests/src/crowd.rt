@@ -47,7 +47,8 @@ fn coordinate(random: &mut Pcg32) -> i64 {
 fn drawing(alloc: Global, random: &mut Pcg32) -> Result<String, AllocError> {
     let (x, y) = (coordinate(random), coordinate(random));
     let (state, other) = (below(random, 3), below(random, 3));
-    let (width, height) = (below(random, 9) + 1, below(random, 9) + 1);
+    let width = below(random, 9).saturating_add(1);
+    let height = below(random, 9).saturating_add(1);
     match below(random, 8) {
         0 => format!(in alloc; "clear {x} {y} {width} {height}"),
         1 => format!(in alloc; "copy p {x} {y}"),
