@@ -152,7 +152,8 @@ fn shuffled_state(alloc: Global, random: &mut Pcg32, board: &Shared) -> Result<V
     let mut fresh = replica(alloc, b"/2/3")?;
     let mut left = places(alloc, board.replica().journal().len())?;
     for _edit in 0..board.replica().journal().len() {
-        let at = below(random, left.len() as u32) as usize;
+        let count = u32::try_from(left.len()).unwrap_or(1);
+        let at = below(random, count) as usize;
         if at < left.len() {
             let place = left.swap_remove(at);
             fresh.take_bytes(&board.replica().delta(place, 1)?)?;
