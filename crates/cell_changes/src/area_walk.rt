@@ -12,7 +12,7 @@ use crate::areas::{areas_on_square, coordinate_of, is_in_some};
 use edit_stamps::Rect;
 use leaf_merge_lanes::Leaf;
 use multistate_rle::Cell;
-use stamped_tree::{Plane, Square, View};
+use stamped_tree::{Corner, Plane, Square, View};
 use std::alloc::{AllocError, Global};
 
 /// How many levels the root is above a leaf.
@@ -27,26 +27,27 @@ pub fn push_covered(
 ) -> Result<(), AllocError>
     ensures { OnOk result (Puts (map_of plane.now) (IsNonzeroIn (map_of plane.now) areas.now) cells.old.items cells.new.items) }
 {
-    push_square(alloc, &plane.root(), ROOT_ABOVE_LEAF, 0, 0, areas, cells)
+    let corner = Corner { left: 0, top: 0 };
+    push_square(&plane.root(), ROOT_ABOVE_LEAF, corner, areas, cells)
 }
 
-/// Puts those of a square last, so many levels above a leaf, whose corner is in a column and a row.
+/// Puts those of a square last, so many levels above a leaf.
 fn push_square(
-    alloc: Global,
     square: &Square<'_>,
     above: u32,
-    left: u32,
-    top: u32,
+    corner: Corner,
     areas: &[Rect],
     cells: &mut Vec<Cell>,
 ) -> Result<(), AllocError>
     requires above { above ≤ 28 }
     requires stands { IsAt square.now.store above square.now.part }
-    requires left { left + side_at 8 above ≤ 2147483648 }
-    requires top { top + side_at 8 above ≤ 2147483648 }
-    ensures { OnOk result ((map : Writes) → IsSquareOfMap map square.now.store above square.now.part left top
-        → PutsSquare map (IsSoughtOn map areas.now (side_at 8 above) left top) cells.old.items cells.new.items) }
+    requires left { corner.left + side_at 8 above ≤ 2147483648 }
+    requires top { corner.top + side_at 8 above ≤ 2147483648 }
+    ensures { OnOk result ((map : Writes) → IsSquareOfMap map square.now.store above square.now.part corner.left corner.top
+        → PutsSquare map (IsSoughtOn map areas.now (side_at 8 above) corner.left corner.top) cells.old.items cells.new.items) }
 {
+    let Corner { left, top } = corner;
+    let alloc = *cells.allocator();
     let listed = areas_on_square(alloc, areas, left, top, side_of(above))?;
     let near = listed.as_slice();
     if near.is_empty() {
@@ -54,32 +55,39 @@ fn push_square(
     }
     match square.view() {
         View::Blank(_) => Ok(()),
-        View::Leaf(leaf) => push_leaf(leaf, left, top, near, cells),
+        View::Leaf(leaf) => push_leaf(leaf, corner, near, cells),
         View::Four { nw, ne, sw, se } => {
             let half = side_of(above - 1);
-            push_square(alloc, &nw, above - 1, left, top, near, cells)?;
-            push_square(alloc, &ne, above - 1, left + half, top, near, cells)?;
-            push_square(alloc, &sw, above - 1, left, top + half, near, cells)?;
-            push_square(alloc, &se, above - 1, left + half, top + half, near, cells)
+            let east = left + half;
+            let south = top + half;
+            let to_east = Corner { left: east, top };
+            let to_south = Corner { left, top: south };
+            let to_both = Corner {
+                left: east,
+                top: south,
+            };
+            push_square(&nw, above - 1, corner, near, cells)?;
+            push_square(&ne, above - 1, to_east, near, cells)?;
+            push_square(&sw, above - 1, to_south, near, cells)?;
+            push_square(&se, above - 1, to_both, near, cells)
         }
     }
 }
 
 fn push_leaf(
     leaf: &Leaf,
-    left: u32,
-    top: u32,
+    corner: Corner,
     areas: &[Rect],
     cells: &mut Vec<Cell>,
 ) -> Result<(), AllocError>
-    requires left { left + 8 ≤ 2147483648 }
-    requires top { top + 8 ≤ 2147483648 }
-    ensures { OnOk result ((map : Writes) → IsPartOfMap map 8 (grid_of_leaf leaf.now) left top
-        → PutsSquare map (IsSoughtOn map areas.now 8 left top) cells.old.items cells.new.items) }
+    requires left { corner.left + 8 ≤ 2147483648 }
+    requires top { corner.top + 8 ≤ 2147483648 }
+    ensures { OnOk result ((map : Writes) → IsPartOfMap map 8 (grid_of_leaf leaf.now) corner.left corner.top
+        → PutsSquare map (IsSoughtOn map areas.now 8 corner.left corner.top) cells.old.items cells.new.items) }
 {
     for place in 0..64u32 {
         let state = leaf.get(place as usize).state;
-        let cell = cell_at(left + place % 8, top + place / 8, state);
+        let cell = cell_at(corner.left + place % 8, corner.top + place / 8, state);
         push_sought(areas, cell, cells)?;
     }
     Ok(())

@@ -13,7 +13,7 @@ use crate::leaf_kind::EngineLeaf;
 use crate::quarters::middle;
 use multistate_rle::Cell;
 use square_store::{Part, Square, Store};
-use stamped_tree::ListedCell;
+use stamped_tree::{Corner, ListedCell};
 use std::alloc::{AllocError, Global};
 
 /// How many columns a quarter of the middle has, and rows.
@@ -34,40 +34,61 @@ pub(crate) fn middle_cells(
 {
     let parts = middle(store, 30, root);
     let mut found = GatheredCells::with_capacity(alloc, store.summary(root))?;
-    gather(store, 28, parts[0], 0, 0, &mut found)?;
-    gather(store, 28, parts[1], QUARTER, 0, &mut found)?;
-    gather(store, 28, parts[2], 0, QUARTER, &mut found)?;
-    gather(store, 28, parts[3], QUARTER, QUARTER, &mut found)?;
+    let nw = Corner { left: 0, top: 0 };
+    let ne = Corner {
+        left: QUARTER,
+        top: 0,
+    };
+    let sw = Corner {
+        left: 0,
+        top: QUARTER,
+    };
+    let se = Corner {
+        left: QUARTER,
+        top: QUARTER,
+    };
+    gather(store, 28, parts[0], nw, &mut found)?;
+    gather(store, 28, parts[1], ne, &mut found)?;
+    gather(store, 28, parts[2], sw, &mut found)?;
+    gather(store, 28, parts[3], se, &mut found)?;
     Ok(found.into_sorted())
 }
 
-/// Puts the cells of a square, whose corner is in a column and a row, last.
+/// Puts the cells of a square last.
 fn gather(
     store: &Store<EngineLeaf>,
     level: u32,
     part: Part,
-    left: u32,
-    top: u32,
+    corner: Corner,
     found: &mut GatheredCells,
 ) -> Result<(), AllocError>
     requires level { level ≤ 28 }
     requires stands { IsAt store.now level part }
-    requires left { left + side_at 8 level ≤ 4294967296 }
-    requires top { top + side_at 8 level ≤ 4294967296 }
-    ensures { OnOk result (GathersSquare (side_at 8 level) (grid_at leaf_grid 8 store.now level part) left top found.old found.new) }
+    requires left { corner.left + side_at 8 level ≤ 4294967296 }
+    requires top { corner.top + side_at 8 level ≤ 4294967296 }
+    ensures { OnOk result (GathersSquare (side_at 8 level) (grid_at leaf_grid 8 store.now level part) corner.left corner.top found.old found.new) }
 {
     match store.square(part) {
         Square::Blank(_) => Ok(()),
         Square::Leaf(leaf) => {
-            gather_leaf(leaf, left, top, found)?;
+            gather_leaf(leaf, corner, found)?;
             Ok(())
         }
         Square::Four { parts, .. } => {
             let half = side_of(level - 1);
-            gather(store, level - 1, parts[0], left, top, found)?;
-            gather(store, level - 1, parts[1], left + half, top, found)?;
-            gather(store, level - 1, parts[2], left, top + half, found)?;
-            gather(store, level - 1, parts[3], left + half, top + half, found)?;
+            let Corner { left, top } = corner;
+            let east = left + half;
+            let south = top + half;
+            let ne = Corner { left: east, top };
+            let sw = Corner { left, top: south };
+            let se = Corner {
+                left: east,
+                top: south,
+            };
+            gather(store, level - 1, parts[0], corner, found)?;
+            gather(store, level - 1, parts[1], ne, found)?;
+            gather(store, level - 1, parts[2], sw, found)?;
+            gather(store, level - 1, parts[3], se, found)?;
             Ok(())
         }
     }
@@ -75,18 +96,17 @@ fn gather(
 
 fn gather_leaf(
     leaf: &EngineLeaf,
-    left: u32,
-    top: u32,
+    corner: Corner,
     found: &mut GatheredCells,
 ) -> Result<(), AllocError>
-    requires left { left + 8 ≤ 4294967296 }
-    requires top { top + 8 ≤ 4294967296 }
-    ensures { OnOk result (GathersSquare 8 (leaf_grid leaf.now) left top found.old found.new) }
+    requires left { corner.left + 8 ≤ 4294967296 }
+    requires top { corner.top + 8 ≤ 4294967296 }
+    ensures { OnOk result (GathersSquare 8 (leaf_grid leaf.now) corner.left corner.top found.old found.new) }
 {
     for place in 0..64u32 {
         let cell = ListedCell {
-            column: left + place % 8,
-            row: top + place / 8,
+            column: corner.left + place % 8,
+            row: corner.top + place / 8,
             state: leaf.leaf.get(place as usize),
         };
         push_live(cell, found)?;

@@ -46,8 +46,17 @@ pub(crate) fn draw_edit(
     let cells = cells_on_plane(alloc, edit.listed_cells())?;
     let area = area_on_plane(edit.area());
     let mut kept = IndexMap::with_hasher(alloc, store.key());
-    let part = draw(store, &mut kept, 28, root, stamp, &area, cells)?;
+    let on_plane = SquareEdit { stamp, area, cells };
+    let part = draw(store, &mut kept, 28, root, on_plane)?;
     Ok(part)
+}
+
+/// What an edit writes on a square, from the square's corner: state 0 in an area, but for the listed cells.
+#[derive(Drop)]
+pub(crate) struct SquareEdit {
+    pub stamp: u64,
+    pub area: Area,
+    pub cells: Vec<ListedCell>,
 }
 
 /// What becomes of the square of a level at a part: the listed states at the listed cells and state 0
@@ -61,25 +70,25 @@ pub(crate) fn draw(
     kept: &mut IndexMap<AreaKey, Part, HashKey>,
     level: u32,
     part: Part,
-    stamp: u64,
-    area: &Area,
-    cells: Vec<ListedCell>,
+    edit: SquareEdit,
 ) -> Result<Part, StoreFault>
     requires level { level ≤ 28 }
     requires part { IsAt store.old level part }
-    requires stamp { IsTrue (is_stamp stamp) }
-    requires kept { AreFilled store.old stamp kept.old }
-    ensures draws { IfOk result (Draws plane_grid 8 store.new level (drawn_grid store.old level part stamp area.now cells.items)) }
+    requires stamp { IsTrue (is_stamp edit.stamp) }
+    requires kept { AreFilled store.old edit.stamp kept.old }
+    ensures draws { IfOk result (Draws plane_grid 8 store.new level (drawn_grid store.old level part edit.stamp edit.area edit.cells.items)) }
     ensures grows { IsGrown plane_grid 8 store.old store.new }
     ensures writes { HoldPlaneWrites store.old → HoldPlaneWrites store.new }
-    ensures kept { AreFilled store.new stamp kept.new }
-    ensures pieces { AddsPiecesOfGrid plane_grid 8 store.old store.new level (drawn_grid store.old level part stamp area.now cells.items) }
-    ensures full { result ≡ Err StoreFault.StoreFull → IsFullStoreFor store.new level (drawn_grid store.old level part stamp area.now cells.items) }
+    ensures kept { AreFilled store.new edit.stamp kept.new }
+    ensures pieces { AddsPiecesOfGrid plane_grid 8 store.old store.new level (drawn_grid store.old level part edit.stamp edit.area edit.cells.items) }
+    ensures full { result ≡ Err StoreFault.StoreFull → IsFullStoreFor store.new level (drawn_grid store.old level part edit.stamp edit.area edit.cells.items) }
 {
-    if !cells.is_empty() {
-        let drawn = draw_anew(store, kept, level, part, stamp, area, cells)?;
+    if !edit.cells.is_empty() {
+        let drawn = draw_anew(store, kept, level, part, edit)?;
         return Ok(drawn);
     }
+    let stamp = edit.stamp;
+    let area = edit.area;
     if area.is_empty() {
         return Ok(part);
     }
@@ -89,11 +98,12 @@ pub(crate) fn draw(
         let blank = store.add_blank(stamp)?;
         return Ok(blank);
     }
-    if let Some(drawn) = filled(kept, store, level, part, stamp, *area) {
+    let key = AreaKey { level, part, area };
+    if let Some(drawn) = filled(kept, store, stamp, &key) {
         return Ok(drawn);
     }
-    let drawn = draw_anew(store, kept, level, part, stamp, area, cells)?;
-    keep(kept, store, level, part, stamp, *area, drawn)?;
+    let drawn = draw_anew(store, kept, level, part, edit)?;
+    keep(kept, store, stamp, key, drawn)?;
     Ok(drawn)
 }
 
@@ -104,65 +114,52 @@ fn draw_anew(
     kept: &mut IndexMap<AreaKey, Part, HashKey>,
     level: u32,
     part: Part,
-    stamp: u64,
-    area: &Area,
-    cells: Vec<ListedCell>,
+    edit: SquareEdit,
 ) -> Result<Part, StoreFault>
     requires level { level ≤ 28 }
     requires part { IsAt store.old level part }
-    requires stamp { IsTrue (is_stamp stamp) }
-    requires kept { AreFilled store.old stamp kept.old }
-    ensures draws { IfOk result (Draws plane_grid 8 store.new level (drawn_grid store.old level part stamp area.now cells.items)) }
+    requires stamp { IsTrue (is_stamp edit.stamp) }
+    requires kept { AreFilled store.old edit.stamp kept.old }
+    ensures draws { IfOk result (Draws plane_grid 8 store.new level (drawn_grid store.old level part edit.stamp edit.area edit.cells.items)) }
     ensures grows { IsGrown plane_grid 8 store.old store.new }
     ensures writes { HoldPlaneWrites store.old → HoldPlaneWrites store.new }
-    ensures kept { AreFilled store.new stamp kept.new }
-    ensures pieces { AddsPiecesOfGrid plane_grid 8 store.old store.new level (drawn_grid store.old level part stamp area.now cells.items) }
-    ensures full { result ≡ Err StoreFault.StoreFull → IsFullStoreFor store.new level (drawn_grid store.old level part stamp area.now cells.items) }
+    ensures kept { AreFilled store.new edit.stamp kept.new }
+    ensures pieces { AddsPiecesOfGrid plane_grid 8 store.old store.new level (drawn_grid store.old level part edit.stamp edit.area edit.cells.items) }
+    ensures full { result ≡ Err StoreFault.StoreFull → IsFullStoreFor store.new level (drawn_grid store.old level part edit.stamp edit.area edit.cells.items) }
 {
+    let SquareEdit { stamp, area, cells } = edit;
     if level == 0 {
-        let drawn = draw_leaf(store, part, stamp, *area, &cells)?;
+        let drawn = draw_leaf(store, part, stamp, area, &cells)?;
         return Ok(drawn);
     }
     let half = side_of(level - 1);
     let parts = store.quarters(level, part);
     let quarters = quartered_cells(cells, half)?;
     let CellQuarters { nw, ne, sw, se } = quarters;
-    let nw = draw(
-        store,
-        kept,
-        level - 1,
-        parts[0],
+    let nw = SquareEdit {
         stamp,
-        &area.of_part(0, 0, half),
-        nw,
-    )?;
-    let ne = draw(
-        store,
-        kept,
-        level - 1,
-        parts[1],
+        area: area.of_part(0, 0, half),
+        cells: nw,
+    };
+    let nw = draw(store, kept, level - 1, parts[0], nw)?;
+    let ne = SquareEdit {
         stamp,
-        &area.of_part(half, 0, half),
-        ne,
-    )?;
-    let sw = draw(
-        store,
-        kept,
-        level - 1,
-        parts[2],
+        area: area.of_part(half, 0, half),
+        cells: ne,
+    };
+    let ne = draw(store, kept, level - 1, parts[1], ne)?;
+    let sw = SquareEdit {
         stamp,
-        &area.of_part(0, half, half),
-        sw,
-    )?;
-    let se = draw(
-        store,
-        kept,
-        level - 1,
-        parts[3],
+        area: area.of_part(0, half, half),
+        cells: sw,
+    };
+    let sw = draw(store, kept, level - 1, parts[2], sw)?;
+    let se = SquareEdit {
         stamp,
-        &area.of_part(half, half, half),
-        se,
-    )?;
+        area: area.of_part(half, half, half),
+        cells: se,
+    };
+    let se = draw(store, kept, level - 1, parts[3], se)?;
     // For the proof alone, as above.
     store.store_laws();
     let drawn = store.add_four(level, [nw, ne, sw, se])?;

@@ -8,6 +8,7 @@
 mod area;
 mod cells;
 mod copy;
+mod corner;
 mod draw;
 mod filled;
 mod leaf_draw;
@@ -19,6 +20,7 @@ mod square;
 mod walk;
 
 pub use cells::ListedCell;
+pub use corner::Corner;
 pub use leaf_kind::{PlaneLeaf, StampBounds};
 pub use plane::Plane;
 pub use square::{Square, View};

@@ -10,6 +10,7 @@ ghost use Rattle.stamped_tree.specs.Walk.{AreNonzeroCells, IsNonzeroCell, Gather
 
 use crate::area::side_of;
 use crate::cells::ListedCell;
+use crate::corner::Corner;
 use crate::leaf_kind::PlaneLeaf;
 use multistate_rle::Cell;
 use square_store::{Part, Square, Store};
@@ -29,39 +30,47 @@ pub(crate) fn nonzero_cells(
     ensures { IfOk result (λ cells. AreNonzeroCells (map_of (record { store = store.now; root = root })) cells.items) }
 {
     let mut found = Vec::new(alloc);
-    gather(store, 28, root, 0, 0, &mut found)?;
+    gather(store, 28, root, Corner { left: 0, top: 0 }, &mut found)?;
     let sorted = sorted_by_rows(found)?;
     let cells = plane_cells(alloc, &sorted)?;
     Ok(cells)
 }
 
-/// Puts the cells of a square, whose corner is in a column and a row, last.
+/// Puts the cells of a square last.
 fn gather(
     store: &Store<PlaneLeaf>,
     level: u32,
     part: Part,
-    left: u32,
-    top: u32,
+    corner: Corner,
     found: &mut Vec<ListedCell>,
 ) -> Result<(), AllocError>
     requires level { level ≤ 28 }
     requires stands { IsAt store.now level part }
-    requires left { left + side_at 8 level ≤ 2147483648 }
-    requires top { top + side_at 8 level ≤ 2147483648 }
-    ensures { OnOk result (Gathers (IsNonzeroCell (side_at 8 level) (grid_at plane_grid 8 store.now level part) left top) found.old.items found.new.items) }
+    requires left { corner.left + side_at 8 level ≤ 2147483648 }
+    requires top { corner.top + side_at 8 level ≤ 2147483648 }
+    ensures { OnOk result (Gathers (IsNonzeroCell (side_at 8 level) (grid_at plane_grid 8 store.now level part) corner.left corner.top) found.old.items found.new.items) }
 {
     match store.square(part) {
         Square::Blank(_) => Ok(()),
         Square::Leaf(leaf) => {
-            gather_leaf(leaf, left, top, found)?;
+            gather_leaf(leaf, corner, found)?;
             Ok(())
         }
         Square::Four { parts, .. } => {
             let half = side_of(level - 1);
-            gather(store, level - 1, parts[0], left, top, found)?;
-            gather(store, level - 1, parts[1], left + half, top, found)?;
-            gather(store, level - 1, parts[2], left, top + half, found)?;
-            gather(store, level - 1, parts[3], left + half, top + half, found)?;
+            let Corner { left, top } = corner;
+            let east = left + half;
+            let south = top + half;
+            let ne = Corner { left: east, top };
+            let sw = Corner { left, top: south };
+            let se = Corner {
+                left: east,
+                top: south,
+            };
+            gather(store, level - 1, parts[0], corner, found)?;
+            gather(store, level - 1, parts[1], ne, found)?;
+            gather(store, level - 1, parts[2], sw, found)?;
+            gather(store, level - 1, parts[3], se, found)?;
             Ok(())
         }
     }
@@ -69,18 +78,17 @@ fn gather(
 
 fn gather_leaf(
     leaf: &PlaneLeaf,
-    left: u32,
-    top: u32,
+    corner: Corner,
     found: &mut Vec<ListedCell>,
 ) -> Result<(), AllocError>
-    requires left { left + 8 ≤ 2147483648 }
-    requires top { top + 8 ≤ 2147483648 }
-    ensures { OnOk result (Gathers (IsNonzeroCell 8 (plane_grid leaf.now) left top) found.old.items found.new.items) }
+    requires left { corner.left + 8 ≤ 2147483648 }
+    requires top { corner.top + 8 ≤ 2147483648 }
+    ensures { OnOk result (Gathers (IsNonzeroCell 8 (plane_grid leaf.now) corner.left corner.top) found.old.items found.new.items) }
 {
     for place in 0..64u32 {
         let cell = ListedCell {
-            column: left + place % 8,
-            row: top + place / 8,
+            column: corner.left + place % 8,
+            row: corner.top + place / 8,
             state: leaf.leaf.get(place as usize).state,
         };
         push_nonzero(cell, found)?;

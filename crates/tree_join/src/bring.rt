@@ -41,7 +41,8 @@ pub(crate) fn bring(
         View::Leaf(leaf) => bring_leaf(plane, other, there, leaf),
         View::Four { nw, ne, sw, se } => {
             let parts = [nw.part(), ne.part(), sw.part(), se.part()];
-            bring_four(plane, other, copies, above, there, &parts)
+            let four = FourParts { there, parts };
+            bring_four(plane, other, copies, above, &four)
         }
     }
 }
@@ -80,32 +81,38 @@ fn bring_leaf(
     Ok(copy)
 }
 
+/// A square of the other plane, and its quarters.
+#[derive(Clone, Copy)]
+struct FourParts {
+    there: Part,
+    parts: [Part; 4],
+}
+
 #[cycle(bring)]
 fn bring_four(
     plane: &mut Plane,
     other: &Plane,
     copies: &mut IndexMap<Part, Part>,
     above: u32,
-    there: Part,
-    parts: &[Part; 4],
+    four: &FourParts,
 ) -> Result<Part, StoreFault>
     requires most { above ≤ 28 }
-    requires four { IsFourAt plane_grid 8 other.now.store above parts.now there }
+    requires four { IsFourAt plane_grid 8 other.now.store above four.now.parts four.now.there }
     requires copies { RemembersCopies plane.old.store other.now.store copies.old }
-    ensures copy { IfOk result (IsCopy other.now.store plane.new.store there) }
+    ensures copy { IfOk result (IsCopy other.now.store plane.new.store four.now.there) }
     ensures grows { HasGrown plane.old plane.new }
     ensures copies { RemembersCopies plane.new.store other.now.store copies.new }
-    ensures pieces { AddsPiecesOfGrid plane_grid 8 plane.old.store plane.new.store above (grid_at plane_grid 8 other.now.store above there) }
-    ensures full { result ≡ Err StoreFault.StoreFull → IsFullStoreFor plane.new.store above (grid_at plane_grid 8 other.now.store above there) }
+    ensures pieces { AddsPiecesOfGrid plane_grid 8 plane.old.store plane.new.store above (grid_at plane_grid 8 other.now.store above four.now.there) }
+    ensures full { result ≡ Err StoreFault.StoreFull → IsFullStoreFor plane.new.store above (grid_at plane_grid 8 other.now.store above four.now.there) }
 {
-    if let Some(copy) = copy_made(copies, plane, other, there) {
+    if let Some(copy) = copy_made(copies, plane, other, four.there) {
         return Ok(copy);
     }
-    let nw = bring(plane, other, copies, above - 1, parts[0])?;
-    let ne = bring(plane, other, copies, above - 1, parts[1])?;
-    let sw = bring(plane, other, copies, above - 1, parts[2])?;
-    let se = bring(plane, other, copies, above - 1, parts[3])?;
+    let nw = bring(plane, other, copies, above - 1, four.parts[0])?;
+    let ne = bring(plane, other, copies, above - 1, four.parts[1])?;
+    let sw = bring(plane, other, copies, above - 1, four.parts[2])?;
+    let se = bring(plane, other, copies, above - 1, four.parts[3])?;
     let copy = add_four(plane, above, [nw, ne, sw, se])?;
-    keep_copy(copies, plane, other, there, copy)?;
+    keep_copy(copies, plane, other, four.there, copy)?;
     Ok(copy)
 }

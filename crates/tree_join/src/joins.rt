@@ -86,15 +86,12 @@ fn join_roots(
 {
     let mut joins = IndexMap::with_hasher(alloc, plane.key());
     let mut copies = IndexMap::new(alloc);
-    join_squares(
-        plane,
-        other,
-        &mut joins,
-        &mut copies,
-        ROOT_ABOVE_LEAF,
+    let roots = PartPair {
+        above: ROOT_ABOVE_LEAF,
         here,
         there,
-    )
+    };
+    join_squares(plane, other, &mut joins, &mut copies, roots)
 }
 
 /// The join of two squares, so many levels above a leaf. Nothing is added where the first stays.
@@ -104,22 +101,21 @@ fn join_squares(
     other: &Plane,
     joins: &mut IndexMap<PartPair, Part, HashKey>,
     copies: &mut IndexMap<Part, Part>,
-    above: u32,
-    here: Part,
-    there: Part,
+    pair: PartPair,
 ) -> Result<Part, StoreFault>
-    requires most { above ≤ 28 }
-    requires here { IsAt plane.old.store above here }
-    requires there { IsAt other.now.store above there }
+    requires most { pair.above ≤ 28 }
+    requires here { IsAt plane.old.store pair.above pair.here }
+    requires there { IsAt other.now.store pair.above pair.there }
     requires joins { RemembersJoins plane.old.store other.now.store joins.old }
     requires copies { RemembersCopies plane.old.store other.now.store copies.old }
-    ensures join { IfOk result (IsSquareJoin plane.new.store other.now.store above here there) }
+    ensures join { IfOk result (IsSquareJoin plane.new.store other.now.store pair.above pair.here pair.there) }
     ensures grows { HasGrown plane.old plane.new }
     ensures joins { RemembersJoins plane.new.store other.now.store joins.new }
     ensures copies { RemembersCopies plane.new.store other.now.store copies.new }
-    ensures pieces { AddsPiecesOfGrid plane_grid 8 plane.old.store plane.new.store above (join_grid plane.old.store other.now.store above here there) }
-    ensures full { result ≡ Err StoreFault.StoreFull → IsFullStoreFor plane.new.store above (join_grid plane.old.store other.now.store above here there) }
+    ensures pieces { AddsPiecesOfGrid plane_grid 8 plane.old.store plane.new.store pair.above (join_grid plane.old.store other.now.store pair.above pair.here pair.there) }
+    ensures full { result ≡ Err StoreFault.StoreFull → IsFullStoreFor plane.new.store pair.above (join_grid plane.old.store other.now.store pair.above pair.here pair.there) }
 {
+    let PartPair { above, here, there } = pair;
     if stays(plane, other, above, here, there) {
         return Ok(here);
     }
@@ -131,11 +127,11 @@ fn join_squares(
         let part = join_leaves(plane, other, here, there)?;
         return Ok(part);
     }
-    if let Some(part) = join_made(joins, plane, other, above, here, there) {
+    if let Some(part) = join_made(joins, plane, other, &pair) {
         return Ok(part);
     }
-    let part = join_quarters(plane, other, joins, copies, above, here, there)?;
-    keep_join(joins, plane, other, above, here, there, part)?;
+    let part = join_quarters(plane, other, joins, copies, pair)?;
+    keep_join(joins, plane, other, pair, part)?;
     Ok(part)
 }
 
@@ -145,29 +141,48 @@ fn join_quarters(
     other: &Plane,
     joins: &mut IndexMap<PartPair, Part, HashKey>,
     copies: &mut IndexMap<Part, Part>,
-    above: u32,
-    here: Part,
-    there: Part,
+    pair: PartPair,
 ) -> Result<Part, StoreFault>
-    requires least { 0 < above }
-    requires most { above ≤ 28 }
-    requires here { IsAt plane.old.store above here }
-    requires there { IsAt other.now.store above there }
+    requires least { 0 < pair.above }
+    requires most { pair.above ≤ 28 }
+    requires here { IsAt plane.old.store pair.above pair.here }
+    requires there { IsAt other.now.store pair.above pair.there }
     requires joins { RemembersJoins plane.old.store other.now.store joins.old }
     requires copies { RemembersCopies plane.old.store other.now.store copies.old }
-    ensures join { IfOk result (IsSquareJoin plane.new.store other.now.store above here there) }
+    ensures join { IfOk result (IsSquareJoin plane.new.store other.now.store pair.above pair.here pair.there) }
     ensures grows { HasGrown plane.old plane.new }
     ensures joins { RemembersJoins plane.new.store other.now.store joins.new }
     ensures copies { RemembersCopies plane.new.store other.now.store copies.new }
-    ensures pieces { AddsPiecesOfGrid plane_grid 8 plane.old.store plane.new.store above (join_grid plane.old.store other.now.store above here there) }
-    ensures full { result ≡ Err StoreFault.StoreFull → IsFullStoreFor plane.new.store above (join_grid plane.old.store other.now.store above here there) }
+    ensures pieces { AddsPiecesOfGrid plane_grid 8 plane.old.store plane.new.store pair.above (join_grid plane.old.store other.now.store pair.above pair.here pair.there) }
+    ensures full { result ≡ Err StoreFault.StoreFull → IsFullStoreFor plane.new.store pair.above (join_grid plane.old.store other.now.store pair.above pair.here pair.there) }
 {
+    let PartPair { above, here, there } = pair;
     let a = quarter_parts(above, &plane.square(here));
     let b = quarter_parts(above, &other.square(there));
-    let nw = join_squares(plane, other, joins, copies, above - 1, a[0], b[0])?;
-    let ne = join_squares(plane, other, joins, copies, above - 1, a[1], b[1])?;
-    let sw = join_squares(plane, other, joins, copies, above - 1, a[2], b[2])?;
-    let se = join_squares(plane, other, joins, copies, above - 1, a[3], b[3])?;
+    let nw = PartPair {
+        above: above - 1,
+        here: a[0],
+        there: b[0],
+    };
+    let nw = join_squares(plane, other, joins, copies, nw)?;
+    let ne = PartPair {
+        above: above - 1,
+        here: a[1],
+        there: b[1],
+    };
+    let ne = join_squares(plane, other, joins, copies, ne)?;
+    let sw = PartPair {
+        above: above - 1,
+        here: a[2],
+        there: b[2],
+    };
+    let sw = join_squares(plane, other, joins, copies, sw)?;
+    let se = PartPair {
+        above: above - 1,
+        here: a[3],
+        there: b[3],
+    };
+    let se = join_squares(plane, other, joins, copies, se)?;
     let part = add_four_over(plane, above, here, &a, [nw, ne, sw, se])?;
     Ok(part)
 }

@@ -23,14 +23,12 @@ pub(crate) fn join_made(
     joins: &IndexMap<PartPair, Part, HashKey>,
     plane: &Plane,
     other: &Plane,
-    above: u32,
-    here: Part,
-    there: Part,
+    pair: &PartPair,
 ) -> Option<Part>
     requires { RemembersJoins plane.now.store other.now.store joins.now }
-    ensures { IfSome result (IsSquareJoin plane.now.store other.now.store above here there) }
+    ensures { IfSome result (IsSquareJoin plane.now.store other.now.store pair.now.above pair.now.here pair.now.there) }
 {
-    joins.get(&PartPair { above, here, there }).copied()
+    joins.get(pair).copied()
 }
 
 /// Keeps the join of two squares.
@@ -38,17 +36,15 @@ pub(crate) fn keep_join(
     joins: &mut IndexMap<PartPair, Part, HashKey>,
     plane: &Plane,
     other: &Plane,
-    above: u32,
-    here: Part,
-    there: Part,
+    pair: PartPair,
     part: Part,
 ) -> Result<(), StoreFault>
     requires joins { RemembersJoins plane.now.store other.now.store joins.old }
-    requires joined { IsSquareJoin plane.now.store other.now.store above here there part }
+    requires joined { IsSquareJoin plane.now.store other.now.store pair.above pair.here pair.there part }
     ensures joins { RemembersJoins plane.now.store other.now.store joins.new }
     ensures err { IfErr result (λ fault. fault ≡ StoreFault.Memory) }
 {
-    match joins.insert(PartPair { above, here, there }, part) {
+    match joins.insert(pair, part) {
         Ok(_) => Ok(()),
         Err(_) => Err(StoreFault::Memory),
     }
@@ -91,14 +87,12 @@ pub(crate) fn is_pair_kept(
     kept: &IndexSet<PartPair, HashKey>,
     plane: &Plane,
     other: &Plane,
-    above: u32,
-    here: Part,
-    there: Part,
+    pair: &PartPair,
 ) -> bool
     requires { RemembersSame plane.now.store other.now.store kept.now }
-    ensures { IsTrue result → AreSameSquares plane.now.store other.now.store above here there }
+    ensures { IsTrue result → AreSameSquares plane.now.store other.now.store pair.now.above pair.now.here pair.now.there }
 {
-    kept.contains(&PartPair { above, here, there })
+    kept.contains(pair)
 }
 
 /// Keeps a pair of squares with the same writes.
@@ -106,15 +100,13 @@ pub(crate) fn keep_pair(
     kept: &mut IndexSet<PartPair, HashKey>,
     plane: &Plane,
     other: &Plane,
-    above: u32,
-    here: Part,
-    there: Part,
+    pair: PartPair,
 ) -> Result<(), AllocError>
     requires kept { RemembersSame plane.now.store other.now.store kept.old }
-    requires same { AreSameSquares plane.now.store other.now.store above here there }
+    requires same { AreSameSquares plane.now.store other.now.store pair.above pair.here pair.there }
     ensures { RemembersSame plane.now.store other.now.store kept.new }
 {
-    match kept.insert(PartPair { above, here, there }) {
+    match kept.insert(pair) {
         Ok(_) => Ok(()),
         Err(_) => Err(AllocError),
     }

@@ -34,7 +34,12 @@ pub fn same_remembered(alloc: Global, plane: &Plane, other: &Plane) -> Result<bo
     let mut kept = IndexSet::with_hasher(alloc, plane.key());
     let root = plane.root().part();
     let others_root = other.root().part();
-    let answer = are_same_remembered(plane, other, &mut kept, ROOT_ABOVE_LEAF, root, others_root)?;
+    let roots = PartPair {
+        above: ROOT_ABOVE_LEAF,
+        here: root,
+        there: others_root,
+    };
+    let answer = are_same_remembered(plane, other, &mut kept, roots)?;
     Ok(answer)
 }
 
@@ -72,30 +77,28 @@ fn are_same_remembered(
     plane: &Plane,
     other: &Plane,
     kept: &mut IndexSet<PartPair, HashKey>,
-    above: u32,
-    part: Part,
-    others: Part,
+    pair: PartPair,
 ) -> Result<bool, AllocError>
-    requires part { IsAt plane.now.store above part }
-    requires others { IsAt other.now.store above others }
+    requires here { IsAt plane.now.store pair.above pair.here }
+    requires there { IsAt other.now.store pair.above pair.there }
     requires kept { RemembersSame plane.now.store other.now.store kept.old }
-    ensures answer { IfOk result (λ answer. IsTrue answer ↔ AreSameSquares plane.now.store other.now.store above part others) }
+    ensures answer { IfOk result (λ answer. IsTrue answer ↔ AreSameSquares plane.now.store other.now.store pair.above pair.here pair.there) }
     ensures kept { RemembersSame plane.now.store other.now.store kept.new }
 {
-    let square = plane.square(part);
-    let counterpart = other.square(others);
+    let square = plane.square(pair.here);
+    let counterpart = other.square(pair.there);
     if let Some(answer) = same_at_a_look(&square, &counterpart) {
         return Ok(answer);
     }
-    if above == 0 {
+    if pair.above == 0 {
         return Ok(are_same_leaves(&square, &counterpart));
     }
-    if is_pair_kept(kept, plane, other, above, part, others) {
+    if is_pair_kept(kept, plane, other, &pair) {
         return Ok(true);
     }
-    let answer = are_same_quarters(plane, other, kept, above, part, others)?;
+    let answer = are_same_quarters(plane, other, kept, pair)?;
     if answer {
-        keep_pair(kept, plane, other, above, part, others)?;
+        keep_pair(kept, plane, other, pair)?;
     }
     Ok(answer)
 }
@@ -106,28 +109,47 @@ fn are_same_quarters(
     plane: &Plane,
     other: &Plane,
     kept: &mut IndexSet<PartPair, HashKey>,
-    above: u32,
-    part: Part,
-    others: Part,
+    pair: PartPair,
 ) -> Result<bool, AllocError>
-    requires above { 0 < above }
-    requires part { IsAt plane.now.store above part }
-    requires others { IsAt other.now.store above others }
+    requires above { 0 < pair.above }
+    requires here { IsAt plane.now.store pair.above pair.here }
+    requires there { IsAt other.now.store pair.above pair.there }
     requires kept { RemembersSame plane.now.store other.now.store kept.old }
-    ensures answer { IfOk result (λ answer. IsTrue answer ↔ AreSameSquares plane.now.store other.now.store above part others) }
+    ensures answer { IfOk result (λ answer. IsTrue answer ↔ AreSameSquares plane.now.store other.now.store pair.above pair.here pair.there) }
     ensures kept { RemembersSame plane.now.store other.now.store kept.new }
 {
-    let a = quarter_parts(above, &plane.square(part));
-    let b = quarter_parts(above, &other.square(others));
-    if !are_same_remembered(plane, other, kept, above - 1, a[0], b[0])? {
+    let PartPair { above, here, there } = pair;
+    let a = quarter_parts(above, &plane.square(here));
+    let b = quarter_parts(above, &other.square(there));
+    let nw = PartPair {
+        above: above - 1,
+        here: a[0],
+        there: b[0],
+    };
+    if !are_same_remembered(plane, other, kept, nw)? {
         return Ok(false);
     }
-    if !are_same_remembered(plane, other, kept, above - 1, a[1], b[1])? {
+    let ne = PartPair {
+        above: above - 1,
+        here: a[1],
+        there: b[1],
+    };
+    if !are_same_remembered(plane, other, kept, ne)? {
         return Ok(false);
     }
-    if !are_same_remembered(plane, other, kept, above - 1, a[2], b[2])? {
+    let sw = PartPair {
+        above: above - 1,
+        here: a[2],
+        there: b[2],
+    };
+    if !are_same_remembered(plane, other, kept, sw)? {
         return Ok(false);
     }
-    let last = are_same_remembered(plane, other, kept, above - 1, a[3], b[3])?;
+    let se = PartPair {
+        above: above - 1,
+        here: a[3],
+        there: b[3],
+    };
+    let last = are_same_remembered(plane, other, kept, se)?;
     Ok(last)
 }

@@ -5,30 +5,30 @@ use Rattle.cell_changes.proofs.area_walk.+push_square.Goals as goal
 
 pub returns-then-is_empty : goal.returns-then-is_empty
 returns-then-is_empty t c = λ map part.
-    none_near map c.args.areas.now c.as_slice-near.result.now (side_at 8 c.args.above) c.args.left c.args.top c.args.cells.now.items
-    (have_near c.args.left c.args.top c.side_of.result (side_at 8 c.args.above) c.args.areas.now c.in_ok-listed.listed.items c.as_slice-near.result.now c.side_of.ensures c.as_slice-near.ensures.value c.in_ok-listed.ensures)
+    none_near map c.args.areas.now c.as_slice-near.result.now (side_at 8 c.args.above) c.args.corner.left c.args.corner.top c.args.cells.now.items
+    (have_near c.args.corner.left c.args.corner.top c.side_of.result (side_at 8 c.args.above) c.args.areas.now c.in_ok-listed.listed.items c.as_slice-near.result.now c.side_of.ensures c.as_slice-near.ensures.value c.in_ok-listed.ensures)
     (no_items c.as_slice-near.result.now c.if-is_empty.ensures)
 
 pub returns-in-Blank : goal.returns-in-Blank
 returns-in-Blank t c = λ map part.
-    near_put map c.args.areas.now c.as_slice-near.result.now (side_at 8 c.args.above) c.args.left c.args.top c.args.cells.now.items c.args.cells.now.items
-    (have_near c.args.left c.args.top c.side_of.result (side_at 8 c.args.above) c.args.areas.now c.in_ok-listed.listed.items c.as_slice-near.result.now c.side_of.ensures c.as_slice-near.ensures.value c.in_ok-listed.ensures)
-    (blank_put map c.as_slice-near.result.now c.args.left c.args.top c.args.cells.now.items c.args.square.now.store c.args.above c.args.square.now.part c.in-Blank.field-0 c.in-Blank.ensures part)
+    near_put map c.args.areas.now c.as_slice-near.result.now (side_at 8 c.args.above) c.args.corner.left c.args.corner.top c.args.cells.now.items c.args.cells.now.items
+    (have_near c.args.corner.left c.args.corner.top c.side_of.result (side_at 8 c.args.above) c.args.areas.now c.in_ok-listed.listed.items c.as_slice-near.result.now c.side_of.ensures c.as_slice-near.ensures.value c.in_ok-listed.ensures)
+    (blank_put map c.as_slice-near.result.now c.args.corner.left c.args.corner.top c.args.cells.now.items c.args.square.now.store c.args.above c.args.square.now.part c.in-Blank.field-0 c.in-Blank.ensures part)
 
 pub returns-in-Leaf : goal.returns-in-Leaf
 returns-in-Leaf t c =
     on_ok c.push_leaf.result
-    (λ put map part. near_put map c.args.areas.now c.as_slice-near.result.now (side_at 8 c.args.above) c.args.left c.args.top c.args.cells.now.items c.push_leaf.new.cells.items
-    (have_near c.args.left c.args.top c.side_of.result (side_at 8 c.args.above) c.args.areas.now c.in_ok-listed.listed.items c.as_slice-near.result.now c.side_of.ensures c.as_slice-near.ensures.value c.in_ok-listed.ensures)
-    (leaf_put map c.as_slice-near.result.now c.args.left c.args.top c.args.square.now.store c.args.above c.args.square.now.part c.in-Leaf.leaf.now c.args.cells.now.items c.push_leaf.new.cells.items c.in-Leaf.ensures.1 c.requires.stands put part))
+    (λ put map part. near_put map c.args.areas.now c.as_slice-near.result.now (side_at 8 c.args.above) c.args.corner.left c.args.corner.top c.args.cells.now.items c.push_leaf.new.cells.items
+    (have_near c.args.corner.left c.args.corner.top c.side_of.result (side_at 8 c.args.above) c.args.areas.now c.in_ok-listed.listed.items c.as_slice-near.result.now c.side_of.ensures c.as_slice-near.ensures.value c.in_ok-listed.ensures)
+    (leaf_put map c.as_slice-near.result.now c.args.corner.left c.args.corner.top c.args.square.now.store c.args.above c.args.square.now.part c.in-Leaf.leaf.now c.args.cells.now.items c.push_leaf.new.cells.items c.in-Leaf.ensures.1 c.requires.stands put part))
     c.push_leaf.ensures
 
 pub returns : goal.returns
 returns t c =
     on_ok c.push_square-in-Four-3.result
-    (λ last map part. near_put map c.args.areas.now c.as_slice-near.result.now (side_at 8 c.args.above) c.args.left c.args.top c.args.cells.now.items c.push_square-in-Four-3.new.cells.items
-    (have_near c.args.left c.args.top c.side_of.result (side_at 8 c.args.above) c.args.areas.now c.in_ok-listed.listed.items c.as_slice-near.result.now c.side_of.ensures c.as_slice-near.ensures.value c.in_ok-listed.ensures)
-    (squares_put c.args.square.now c.in-Four.nw c.in-Four.ne c.in-Four.sw c.in-Four.se c.in-Four.ensures c.args.above c.requires.stands c.as_slice-near.result.now c.args.left c.args.top c.side_of-half.result
+    (λ last map part. near_put map c.args.areas.now c.as_slice-near.result.now (side_at 8 c.args.above) c.args.corner.left c.args.corner.top c.args.cells.now.items c.push_square-in-Four-3.new.cells.items
+    (have_near c.args.corner.left c.args.corner.top c.side_of.result (side_at 8 c.args.above) c.args.areas.now c.in_ok-listed.listed.items c.as_slice-near.result.now c.side_of.ensures c.as_slice-near.ensures.value c.in_ok-listed.ensures)
+    (squares_put c.args.square.now c.in-Four.nw c.in-Four.ne c.in-Four.sw c.in-Four.se c.in-Four.ensures c.args.above c.requires.stands c.as_slice-near.result.now c.args.corner.left c.args.corner.top c.side_of-half.result
     c.args.cells.now.items c.push_square.new.cells.items c.push_square-in-Four.new.cells.items c.push_square-in-Four-2.new.cells.items c.push_square-in-Four-3.new.cells.items c.side_of-half.ensures
     c.in_ok-push_square-in-Four.ensures c.in_ok-push_square-in-Four-2.ensures c.in_ok-push_square-in-Four-3.ensures last map part))
     c.push_square-in-Four-3.ensures

@@ -6,4 +6,4 @@ use Rattle.cell_changes.proofs.area_walk.push_leaf.Given as goal
 
 abbrev pub invariant-loop-place : goal.invariant-loop-place
 invariant-loop-place l =
-    (map : Writes) → IsPartOfMap map 8 (grid_of_leaf l.leaf) l.left l.top → PutsSquare map (IsSoughtBefore map l.areas l.left l.top l.place) l.fn.cells.items l.cells.items
+    (map : Writes) → IsPartOfMap map 8 (grid_of_leaf l.leaf) l.corner.left l.corner.top → PutsSquare map (IsSoughtBefore map l.areas l.corner.left l.corner.top l.place) l.fn.cells.items l.cells.items

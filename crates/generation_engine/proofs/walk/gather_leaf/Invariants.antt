@@ -6,4 +6,4 @@ use Rattle.generation_engine.specs.EngineLeaf.{leaf_grid}
 use Rattle.generation_engine.proofs.walk.gather_leaf.Given as goal
 
 abbrev pub invariant-loop-place : goal.invariant-loop-place
-invariant-loop-place l = Gathers (IsNonzeroBefore (leaf_grid l.leaf) l.left l.top l.place) l.fn.found l.found × (length l.found ≡ length l.fn.found + first_count l.leaf l.place)
+invariant-loop-place l = Gathers (IsNonzeroBefore (leaf_grid l.leaf) l.corner.left l.corner.top l.place) l.fn.found l.found × (length l.found ≡ length l.fn.found + first_count l.leaf l.place)

@@ -22,16 +22,16 @@ use Rattle.stamped_tree.proofs.draw.+draw.Goals as goal
 pub draw-returns-then-is_whole-clause-writes : goal.draw-returns-then-is_whole-clause-writes
 draw-returns-then-is_whole-clause-writes t c =
     let r = c.in_ok-blank in
-    λ holds. holds_added c.args.store.now c.add_blank.new.self 0 (blank_grid c.args.stamp) r.blank holds r.ensures.grows (r.ensures.draws 0) (blank_has c.args.stamp (stamped_write c.args.stamp 0 c.requires.stamp) (side_at 8 0)) (r.ensures.added 0)
+    λ holds. holds_added c.args.store.now c.add_blank.new.self 0 (blank_grid c.args.edit.stamp) r.blank holds r.ensures.grows (r.ensures.draws 0) (blank_has c.args.edit.stamp (stamped_write c.args.edit.stamp 0 c.requires.stamp) (side_at 8 0)) (r.ensures.added 0)
 
 pub draw-returns-then-is_whole-clause-kept : goal.draw-returns-then-is_whole-clause-kept
-draw-returns-then-is_whole-clause-kept t c = filled_later c.args.store.now c.add_blank.new.self c.args.stamp c.args.kept.now c.in_ok-blank.ensures.grows c.requires.kept
+draw-returns-then-is_whole-clause-kept t c = filled_later c.args.store.now c.add_blank.new.self c.args.edit.stamp c.args.kept.now c.in_ok-blank.ensures.grows c.requires.kept
 
 pub draw_anew-returns-in_err-drawn-clause-kept : goal.draw_anew-returns-in_err-drawn-clause-kept
-draw_anew-returns-in_err-drawn-clause-kept t c = filled_later c.args.store.now c.draw_leaf.new.store c.args.stamp c.args.kept.now c.in_err-drawn.ensures.grows c.requires.kept
+draw_anew-returns-in_err-drawn-clause-kept t c = filled_later c.args.store.now c.draw_leaf.new.store c.args.edit.stamp c.args.kept.now c.in_err-drawn.ensures.grows c.requires.kept
 
 pub draw_anew-returns-then-level-eq0-clause-kept : goal.draw_anew-returns-then-level-eq0-clause-kept
-draw_anew-returns-then-level-eq0-clause-kept t c = filled_later c.args.store.now c.draw_leaf.new.store c.args.stamp c.args.kept.now c.in_ok-drawn.ensures.grows c.requires.kept
+draw_anew-returns-then-level-eq0-clause-kept t c = filled_later c.args.store.now c.draw_leaf.new.store c.args.edit.stamp c.args.kept.now c.in_ok-drawn.ensures.grows c.requires.kept
 
 pub draw_anew-returns-in_err-sw-clause-writes : goal.draw_anew-returns-in_err-sw-clause-writes
 draw_anew-returns-in_err-sw-clause-writes t c = λ holds. c.in_err-sw.ensures.writes (c.in_ok-ne.ensures.writes (c.in_ok-nw.ensures.writes holds))
@@ -53,7 +53,7 @@ pub draw_anew-returns-in_err-drawn-2-clause-writes : goal.draw_anew-returns-in_e
 draw_anew-returns-in_err-drawn-2-clause-writes t c = λ holds. subst HoldPlaneWrites (sym c.in_err-drawn-2.ensures.err) (c.in_ok-se.ensures.writes (c.in_ok-sw.ensures.writes (c.in_ok-ne.ensures.writes (c.in_ok-nw.ensures.writes holds))))
 
 pub draw_anew-returns-clause-kept : goal.draw_anew-returns-clause-kept
-draw_anew-returns-clause-kept t c = filled_later c.draw-4.new.store c.add_four.new.self c.args.stamp c.draw-4.new.kept c.in_ok-drawn-2.ensures.grows c.in_ok-se.ensures.kept
+draw_anew-returns-clause-kept t c = filled_later c.draw-4.new.store c.add_four.new.self c.args.edit.stamp c.draw-4.new.kept c.in_ok-drawn-2.ensures.grows c.in_ok-se.ensures.kept
 
 pub draw_anew-returns-clause-grows : goal.draw_anew-returns-clause-grows
 draw_anew-returns-clause-grows t c =
@@ -109,21 +109,21 @@ draw_anew-returns-clause-draws t c =
     let parts = c.quarters-parts.result in
     let cut = c.quarters-parts.ensures in
     let is = c.side_of-half.ensures in
-    let w = overwritten_grid (grid_at plane_grid 8 s0 a.level a.part) (edit_grid a.stamp a.area.now a.cells.items) in
-    let fa = overwritten_grid (grid_at plane_grid 8 s0 k (slice_index_or parts 0 c.index-parts-0.result)) (edit_grid a.stamp c.of_part.result q.nw.items) in
-    let fb = overwritten_grid (grid_at plane_grid 8 s1 k (slice_index_or parts 1 c.index-parts-1.result)) (edit_grid a.stamp c.of_part-2.result q.ne.items) in
-    let fc = overwritten_grid (grid_at plane_grid 8 s2 k (slice_index_or parts 2 c.index-parts-2.result)) (edit_grid a.stamp c.of_part-3.result q.sw.items) in
-    let fd = overwritten_grid (grid_at plane_grid 8 s3 k (slice_index_or parts 3 c.index-parts-3.result)) (edit_grid a.stamp c.of_part-4.result q.se.items) in
+    let w = overwritten_grid (grid_at plane_grid 8 s0 a.level a.part) (edit_grid a.edit.stamp a.edit.area a.edit.cells.items) in
+    let fa = overwritten_grid (grid_at plane_grid 8 s0 k (slice_index_or parts 0 c.index-parts-0.result)) (edit_grid a.edit.stamp c.of_part.result q.nw.items) in
+    let fb = overwritten_grid (grid_at plane_grid 8 s1 k (slice_index_or parts 1 c.index-parts-1.result)) (edit_grid a.edit.stamp c.of_part-2.result q.ne.items) in
+    let fc = overwritten_grid (grid_at plane_grid 8 s2 k (slice_index_or parts 2 c.index-parts-2.result)) (edit_grid a.edit.stamp c.of_part-3.result q.sw.items) in
+    let fd = overwritten_grid (grid_at plane_grid 8 s3 k (slice_index_or parts 3 c.index-parts-3.result)) (edit_grid a.edit.stamp c.of_part-4.result q.se.items) in
     draws_four plane_grid 8 s4 c.add_four.new.self a.level c.in_ok-drawn-2.drawn c.in_ok-nw.nw c.in_ok-ne.ne c.in_ok-sw.sw c.in_ok-se.se w fa fb fc fd some c.in_ok-drawn-2.ensures.draws
     (draws_later plane_grid 8 s1 s4 k fa c.in_ok-nw.nw from_1 c.in_ok-nw.ensures.draws)
     (draws_later plane_grid 8 s2 s4 k fb c.in_ok-ne.ne from_2 c.in_ok-ne.ensures.draws)
     (draws_later plane_grid 8 s3 s4 k fc c.in_ok-sw.sw g4 c.in_ok-sw.ensures.draws)
     c.in_ok-se.ensures.draws
     n is
-    (rw c.in_ok-quarters.ensures.nw (over_nw s0 a.level a.part parts some cut n is s0 same a.stamp a.area.now c.of_part.result a.cells.items c.index-parts-0.result c.of_part.ensures.part))
-    (rw c.in_ok-quarters.ensures.ne (over_ne s0 a.level a.part parts some cut n is s1 g1 a.stamp a.area.now c.of_part-2.result a.cells.items c.index-parts-1.result c.of_part-2.ensures.part))
-    (rw c.in_ok-quarters.ensures.sw (over_sw s0 a.level a.part parts some cut n is s2 to_2 a.stamp a.area.now c.of_part-3.result a.cells.items c.index-parts-2.result c.of_part-3.ensures.part))
-    (rw c.in_ok-quarters.ensures.se (over_se s0 a.level a.part parts some cut n is s3 to_3 a.stamp a.area.now c.of_part-4.result a.cells.items c.index-parts-3.result c.of_part-4.ensures.part))
+    (rw c.in_ok-quarters.ensures.nw (over_nw s0 a.level a.part parts some cut n is s0 same a.edit.stamp a.edit.area c.of_part.result a.edit.cells.items c.index-parts-0.result c.of_part.ensures.part))
+    (rw c.in_ok-quarters.ensures.ne (over_ne s0 a.level a.part parts some cut n is s1 g1 a.edit.stamp a.edit.area c.of_part-2.result a.edit.cells.items c.index-parts-1.result c.of_part-2.ensures.part))
+    (rw c.in_ok-quarters.ensures.sw (over_sw s0 a.level a.part parts some cut n is s2 to_2 a.edit.stamp a.edit.area c.of_part-3.result a.edit.cells.items c.index-parts-2.result c.of_part-3.ensures.part))
+    (rw c.in_ok-quarters.ensures.se (over_se s0 a.level a.part parts some cut n is s3 to_3 a.edit.stamp a.edit.area c.of_part-4.result a.edit.cells.items c.index-parts-3.result c.of_part-4.ensures.part))
 
 pub draw-draw_anew-requires : goal.draw-draw_anew-requires
 draw-draw_anew-requires t c = (anew_falls c.args.level t c.decreases, (c.requires.level, (c.requires.part, (c.requires.stamp, c.requires.kept))))
@@ -132,16 +132,16 @@ pub draw-draw_anew-requires-2 : goal.draw-draw_anew-requires-2
 draw-draw_anew-requires-2 t c = (anew_falls c.args.level t c.decreases, (c.requires.level, (c.requires.part, (c.requires.stamp, c.requires.kept))))
 
 pub draw-returns-then-is_empty-clause-draws : goal.draw-returns-then-is_empty-clause-draws
-draw-returns-then-is_empty-clause-draws t c = stays c.args.store.now c.args.level c.args.part c.args.stamp c.args.area.now c.args.cells.items c.requires.part (sym c.args.cells.ok.0 ∙ no_length c.args.cells.len c.if-not-is_empty.ensures) (c.if-is_empty.ensures.0 refl)
+draw-returns-then-is_empty-clause-draws t c = stays c.args.store.now c.args.level c.args.part c.args.edit.stamp c.args.edit.area c.args.edit.cells.items c.requires.part (sym c.args.edit.cells.ok.0 ∙ no_length c.args.edit.cells.len c.if-not-is_empty.ensures) (c.if-is_empty.ensures.0 refl)
 
 pub draw-returns-then-is_whole-clause-draws : goal.draw-returns-then-is_whole-clause-draws
-draw-returns-then-is_whole-clause-draws t c = blank_over c.args.store.now c.add_blank.new.self c.args.level c.args.part c.args.stamp c.side_of.result c.in_ok-blank.blank c.args.area.now c.args.cells.items c.requires.stamp c.side_of.ensures (sym c.args.cells.ok.0 ∙ no_length c.args.cells.len c.if-not-is_empty.ensures) (c.if-is_whole.ensures.0 refl) (c.in_ok-blank.ensures.draws c.args.level)
+draw-returns-then-is_whole-clause-draws t c = blank_over c.args.store.now c.add_blank.new.self c.args.level c.args.part c.args.edit.stamp c.side_of.result c.in_ok-blank.blank c.args.edit.area c.args.edit.cells.items c.requires.stamp c.side_of.ensures (sym c.args.edit.cells.ok.0 ∙ no_length c.args.edit.cells.len c.if-not-is_empty.ensures) (c.if-is_whole.ensures.0 refl) (c.in_ok-blank.ensures.draws c.args.level)
 
 pub draw-returns-in-Some-clause-draws : goal.draw-returns-in-Some-clause-draws
-draw-returns-in-Some-clause-draws t c = area_over c.args.store.now c.args.level c.args.part c.args.stamp c.in-Some.drawn c.args.area.now c.args.cells.items (sym c.args.cells.ok.0 ∙ no_length c.args.cells.len c.if-not-is_empty.ensures) c.in-Some.ensures.draws
+draw-returns-in-Some-clause-draws t c = area_over c.args.store.now c.args.level c.args.part c.args.edit.stamp c.in-Some.drawn c.args.edit.area c.args.edit.cells.items (sym c.args.edit.cells.ok.0 ∙ no_length c.args.edit.cells.len c.if-not-is_empty.ensures) c.in-Some.ensures.draws
 
 pub draw-keep-requires-clause-filled : goal.draw-keep-requires-clause-filled
-draw-keep-requires-clause-filled t c = filled_drawn c.args.store.now c.draw_anew-2.new.store c.args.level c.args.part c.args.stamp c.in_ok-drawn-2.drawn c.args.area.now c.args.cells.items c.in_ok-drawn-2.ensures.grows c.requires.part (sym c.args.cells.ok.0 ∙ no_length c.args.cells.len c.if-not-is_empty.ensures) c.in_ok-drawn-2.ensures.draws
+draw-keep-requires-clause-filled t c = filled_drawn c.args.store.now c.draw_anew-2.new.store c.args.level c.args.part c.args.edit.stamp c.in_ok-drawn-2.drawn c.args.edit.area c.args.edit.cells.items c.in_ok-drawn-2.ensures.grows c.requires.part (sym c.args.edit.cells.ok.0 ∙ no_length c.args.edit.cells.len c.if-not-is_empty.ensures) c.in_ok-drawn-2.ensures.draws
 
 pub draw-keep-requires-clause-kept : goal.draw-keep-requires-clause-kept
 draw-keep-requires-clause-kept t c = c.in_ok-drawn-2.ensures.kept
@@ -213,7 +213,7 @@ pub draw_anew-draw_leaf-requires-clause-part : goal.draw_anew-draw_leaf-requires
 draw_anew-draw_leaf-requires-clause-part t c = subst (λ k. IsAt c.args.store.now k c.args.part) c.if-level-eq0.true c.requires.part
 
 pub draw_anew-returns-in_err-drawn-clause-full : goal.draw_anew-returns-in_err-drawn-clause-full
-draw_anew-returns-in_err-drawn-clause-full t c = λ e. subst (λ k. IsFullStoreFor c.draw_leaf.new.store k (drawn_grid c.args.store.now k c.args.part c.args.stamp c.args.area.now c.args.cells.items)) (sym c.if-level-eq0.true) (rw c.deref.ensures.value at (c.in_err-drawn.ensures.full (ap (λ e. Err e) (told _ _ _ c.from_residual.ensures.1 e))))
+draw_anew-returns-in_err-drawn-clause-full t c = λ e. subst (λ k. IsFullStoreFor c.draw_leaf.new.store k (drawn_grid c.args.store.now k c.args.part c.args.edit.stamp c.args.edit.area c.args.edit.cells.items)) (sym c.if-level-eq0.true) (rw c.deref.ensures.value at (c.in_err-drawn.ensures.full (ap (λ e. Err e) (told _ _ _ c.from_residual.ensures.1 e))))
 
 pub draw_anew-returns-in_err-drawn-clause-grows : goal.draw_anew-returns-in_err-drawn-clause-grows
 draw_anew-returns-in_err-drawn-clause-grows t c = c.in_err-drawn.ensures.grows
@@ -274,7 +274,7 @@ pub draw_anew-returns-in_err-ne-clause-writes : goal.draw_anew-returns-in_err-ne
 draw_anew-returns-in_err-ne-clause-writes t c = λ holds. c.in_err-ne.ensures.writes (c.in_ok-nw.ensures.writes holds)
 
 pub draw_anew-returns-in_err-drawn-2-clause-kept : goal.draw_anew-returns-in_err-drawn-2-clause-kept
-draw_anew-returns-in_err-drawn-2-clause-kept t c = filled_later c.draw-4.new.store c.add_four.new.self c.args.stamp c.draw-4.new.kept c.in_err-drawn-2.ensures.grows c.in_ok-se.ensures.kept
+draw_anew-returns-in_err-drawn-2-clause-kept t c = filled_later c.draw-4.new.store c.add_four.new.self c.args.edit.stamp c.draw-4.new.kept c.in_err-drawn-2.ensures.grows c.in_ok-se.ensures.kept
 
 pub draw_anew-add_four-requires-clause-parts : goal.draw_anew-add_four-requires-clause-parts
 draw_anew-add_four-requires-clause-parts t c =
@@ -302,8 +302,8 @@ draw_anew-returns-in_err-nw-clause-pieces t c =
     let some = some_level a.level c.if-level-eq0.false in
     let s0 = a.store.now in
     let s1 = c.draw.new.store in
-    let w = drawn_grid s0 a.level a.part a.stamp a.area.now a.cells.items in
-    adds_nw s0 a.level a.part parts some cut n is s0 (grown_none plane_grid 8 s0) a.stamp a.area.now c.of_part.result a.cells.items its.nw.items c.index-parts-0.result cells.nw c.of_part.ensures.part s1 c.in_err-nw.ensures.pieces
+    let w = drawn_grid s0 a.level a.part a.edit.stamp a.edit.area a.edit.cells.items in
+    adds_nw s0 a.level a.part parts some cut n is s0 (grown_none plane_grid 8 s0) a.edit.stamp a.edit.area c.of_part.result a.edit.cells.items its.nw.items c.index-parts-0.result cells.nw c.of_part.ensures.part s1 c.in_err-nw.ensures.pieces
 
 pub draw_anew-returns-in_err-ne-clause-pieces : goal.draw_anew-returns-in_err-ne-clause-pieces
 draw_anew-returns-in_err-ne-clause-pieces t c =
@@ -319,10 +319,10 @@ draw_anew-returns-in_err-ne-clause-pieces t c =
     let s1 = c.draw.new.store in
     let s2 = c.draw-2.new.store in
     let g1 = c.in_ok-nw.ensures.grows in
-    let w = drawn_grid s0 a.level a.part a.stamp a.area.now a.cells.items in
+    let w = drawn_grid s0 a.level a.part a.edit.stamp a.edit.area a.edit.cells.items in
     adds_more plane_grid 8 s0 s1 s2 a.level w c.in_err-ne.ensures.grows
-    (adds_nw s0 a.level a.part parts some cut n is s0 (grown_none plane_grid 8 s0) a.stamp a.area.now c.of_part.result a.cells.items its.nw.items c.index-parts-0.result cells.nw c.of_part.ensures.part s1 c.in_ok-nw.ensures.pieces)
-    (adds_ne s0 a.level a.part parts some cut n is s1 g1 a.stamp a.area.now c.of_part-2.result a.cells.items its.ne.items c.index-parts-1.result cells.ne c.of_part-2.ensures.part s2 c.in_err-ne.ensures.pieces)
+    (adds_nw s0 a.level a.part parts some cut n is s0 (grown_none plane_grid 8 s0) a.edit.stamp a.edit.area c.of_part.result a.edit.cells.items its.nw.items c.index-parts-0.result cells.nw c.of_part.ensures.part s1 c.in_ok-nw.ensures.pieces)
+    (adds_ne s0 a.level a.part parts some cut n is s1 g1 a.edit.stamp a.edit.area c.of_part-2.result a.edit.cells.items its.ne.items c.index-parts-1.result cells.ne c.of_part-2.ensures.part s2 c.in_err-ne.ensures.pieces)
 
 pub draw_anew-returns-in_err-sw-clause-pieces : goal.draw_anew-returns-in_err-sw-clause-pieces
 draw_anew-returns-in_err-sw-clause-pieces t c =
@@ -340,12 +340,12 @@ draw_anew-returns-in_err-sw-clause-pieces t c =
     let s3 = c.draw-3.new.store in
     let g1 = c.in_ok-nw.ensures.grows in
     let g2 = grown_more plane_grid 8 s0 s1 s2 g1 c.in_ok-ne.ensures.grows in
-    let w = drawn_grid s0 a.level a.part a.stamp a.area.now a.cells.items in
+    let w = drawn_grid s0 a.level a.part a.edit.stamp a.edit.area a.edit.cells.items in
     adds_more plane_grid 8 s0 s2 s3 a.level w c.in_err-sw.ensures.grows
     (adds_more plane_grid 8 s0 s1 s2 a.level w c.in_ok-ne.ensures.grows
-    (adds_nw s0 a.level a.part parts some cut n is s0 (grown_none plane_grid 8 s0) a.stamp a.area.now c.of_part.result a.cells.items its.nw.items c.index-parts-0.result cells.nw c.of_part.ensures.part s1 c.in_ok-nw.ensures.pieces)
-    (adds_ne s0 a.level a.part parts some cut n is s1 g1 a.stamp a.area.now c.of_part-2.result a.cells.items its.ne.items c.index-parts-1.result cells.ne c.of_part-2.ensures.part s2 c.in_ok-ne.ensures.pieces))
-    (adds_sw s0 a.level a.part parts some cut n is s2 g2 a.stamp a.area.now c.of_part-3.result a.cells.items its.sw.items c.index-parts-2.result cells.sw c.of_part-3.ensures.part s3 c.in_err-sw.ensures.pieces)
+    (adds_nw s0 a.level a.part parts some cut n is s0 (grown_none plane_grid 8 s0) a.edit.stamp a.edit.area c.of_part.result a.edit.cells.items its.nw.items c.index-parts-0.result cells.nw c.of_part.ensures.part s1 c.in_ok-nw.ensures.pieces)
+    (adds_ne s0 a.level a.part parts some cut n is s1 g1 a.edit.stamp a.edit.area c.of_part-2.result a.edit.cells.items its.ne.items c.index-parts-1.result cells.ne c.of_part-2.ensures.part s2 c.in_ok-ne.ensures.pieces))
+    (adds_sw s0 a.level a.part parts some cut n is s2 g2 a.edit.stamp a.edit.area c.of_part-3.result a.edit.cells.items its.sw.items c.index-parts-2.result cells.sw c.of_part-3.ensures.part s3 c.in_err-sw.ensures.pieces)
 
 pub draw_anew-returns-in_err-se-clause-pieces : goal.draw_anew-returns-in_err-se-clause-pieces
 draw_anew-returns-in_err-se-clause-pieces t c =
@@ -365,14 +365,14 @@ draw_anew-returns-in_err-se-clause-pieces t c =
     let g1 = c.in_ok-nw.ensures.grows in
     let g2 = grown_more plane_grid 8 s0 s1 s2 g1 c.in_ok-ne.ensures.grows in
     let g3 = grown_more plane_grid 8 s0 s2 s3 g2 c.in_ok-sw.ensures.grows in
-    let w = drawn_grid s0 a.level a.part a.stamp a.area.now a.cells.items in
+    let w = drawn_grid s0 a.level a.part a.edit.stamp a.edit.area a.edit.cells.items in
     adds_more plane_grid 8 s0 s3 s4 a.level w c.in_err-se.ensures.grows
     (adds_more plane_grid 8 s0 s2 s3 a.level w c.in_ok-sw.ensures.grows
     (adds_more plane_grid 8 s0 s1 s2 a.level w c.in_ok-ne.ensures.grows
-    (adds_nw s0 a.level a.part parts some cut n is s0 (grown_none plane_grid 8 s0) a.stamp a.area.now c.of_part.result a.cells.items its.nw.items c.index-parts-0.result cells.nw c.of_part.ensures.part s1 c.in_ok-nw.ensures.pieces)
-    (adds_ne s0 a.level a.part parts some cut n is s1 g1 a.stamp a.area.now c.of_part-2.result a.cells.items its.ne.items c.index-parts-1.result cells.ne c.of_part-2.ensures.part s2 c.in_ok-ne.ensures.pieces))
-    (adds_sw s0 a.level a.part parts some cut n is s2 g2 a.stamp a.area.now c.of_part-3.result a.cells.items its.sw.items c.index-parts-2.result cells.sw c.of_part-3.ensures.part s3 c.in_ok-sw.ensures.pieces))
-    (adds_se s0 a.level a.part parts some cut n is s3 g3 a.stamp a.area.now c.of_part-4.result a.cells.items its.se.items c.index-parts-3.result cells.se c.of_part-4.ensures.part s4 c.in_err-se.ensures.pieces)
+    (adds_nw s0 a.level a.part parts some cut n is s0 (grown_none plane_grid 8 s0) a.edit.stamp a.edit.area c.of_part.result a.edit.cells.items its.nw.items c.index-parts-0.result cells.nw c.of_part.ensures.part s1 c.in_ok-nw.ensures.pieces)
+    (adds_ne s0 a.level a.part parts some cut n is s1 g1 a.edit.stamp a.edit.area c.of_part-2.result a.edit.cells.items its.ne.items c.index-parts-1.result cells.ne c.of_part-2.ensures.part s2 c.in_ok-ne.ensures.pieces))
+    (adds_sw s0 a.level a.part parts some cut n is s2 g2 a.edit.stamp a.edit.area c.of_part-3.result a.edit.cells.items its.sw.items c.index-parts-2.result cells.sw c.of_part-3.ensures.part s3 c.in_ok-sw.ensures.pieces))
+    (adds_se s0 a.level a.part parts some cut n is s3 g3 a.edit.stamp a.edit.area c.of_part-4.result a.edit.cells.items its.se.items c.index-parts-3.result cells.se c.of_part-4.ensures.part s4 c.in_err-se.ensures.pieces)
 
 pub draw_anew-returns-in_err-nw-clause-full : goal.draw_anew-returns-in_err-nw-clause-full
 draw_anew-returns-in_err-nw-clause-full t c =
@@ -386,7 +386,7 @@ draw_anew-returns-in_err-nw-clause-full t c =
     let some = some_level a.level c.if-level-eq0.false in
     let s0 = a.store.now in
     let s1 = c.draw.new.store in
-    λ e. full_nw s0 a.level a.part parts some cut n is s0 (grown_none plane_grid 8 s0) a.stamp a.area.now c.of_part.result a.cells.items its.nw.items c.index-parts-0.result cells.nw c.of_part.ensures.part s1 (c.in_err-nw.ensures.full (ap (λ e. Err e) (told _ _ _ c.from_residual-in_err-nw.ensures.1 e)))
+    λ e. full_nw s0 a.level a.part parts some cut n is s0 (grown_none plane_grid 8 s0) a.edit.stamp a.edit.area c.of_part.result a.edit.cells.items its.nw.items c.index-parts-0.result cells.nw c.of_part.ensures.part s1 (c.in_err-nw.ensures.full (ap (λ e. Err e) (told _ _ _ c.from_residual-in_err-nw.ensures.1 e)))
 
 pub draw_anew-returns-in_err-ne-clause-full : goal.draw_anew-returns-in_err-ne-clause-full
 draw_anew-returns-in_err-ne-clause-full t c =
@@ -402,7 +402,7 @@ draw_anew-returns-in_err-ne-clause-full t c =
     let s1 = c.draw.new.store in
     let s2 = c.draw-2.new.store in
     let g1 = c.in_ok-nw.ensures.grows in
-    λ e. full_ne s0 a.level a.part parts some cut n is s1 g1 a.stamp a.area.now c.of_part-2.result a.cells.items its.ne.items c.index-parts-1.result cells.ne c.of_part-2.ensures.part s2 (c.in_err-ne.ensures.full (ap (λ e. Err e) (told _ _ _ c.from_residual-in_err-ne.ensures.1 e)))
+    λ e. full_ne s0 a.level a.part parts some cut n is s1 g1 a.edit.stamp a.edit.area c.of_part-2.result a.edit.cells.items its.ne.items c.index-parts-1.result cells.ne c.of_part-2.ensures.part s2 (c.in_err-ne.ensures.full (ap (λ e. Err e) (told _ _ _ c.from_residual-in_err-ne.ensures.1 e)))
 
 pub draw_anew-returns-in_err-sw-clause-full : goal.draw_anew-returns-in_err-sw-clause-full
 draw_anew-returns-in_err-sw-clause-full t c =
@@ -420,7 +420,7 @@ draw_anew-returns-in_err-sw-clause-full t c =
     let s3 = c.draw-3.new.store in
     let g1 = c.in_ok-nw.ensures.grows in
     let g2 = grown_more plane_grid 8 s0 s1 s2 g1 c.in_ok-ne.ensures.grows in
-    λ e. full_sw s0 a.level a.part parts some cut n is s2 g2 a.stamp a.area.now c.of_part-3.result a.cells.items its.sw.items c.index-parts-2.result cells.sw c.of_part-3.ensures.part s3 (c.in_err-sw.ensures.full (ap (λ e. Err e) (told _ _ _ c.from_residual-in_err-sw.ensures.1 e)))
+    λ e. full_sw s0 a.level a.part parts some cut n is s2 g2 a.edit.stamp a.edit.area c.of_part-3.result a.edit.cells.items its.sw.items c.index-parts-2.result cells.sw c.of_part-3.ensures.part s3 (c.in_err-sw.ensures.full (ap (λ e. Err e) (told _ _ _ c.from_residual-in_err-sw.ensures.1 e)))
 
 pub draw_anew-returns-in_err-se-clause-full : goal.draw_anew-returns-in_err-se-clause-full
 draw_anew-returns-in_err-se-clause-full t c =
@@ -440,7 +440,7 @@ draw_anew-returns-in_err-se-clause-full t c =
     let g1 = c.in_ok-nw.ensures.grows in
     let g2 = grown_more plane_grid 8 s0 s1 s2 g1 c.in_ok-ne.ensures.grows in
     let g3 = grown_more plane_grid 8 s0 s2 s3 g2 c.in_ok-sw.ensures.grows in
-    λ e. full_se s0 a.level a.part parts some cut n is s3 g3 a.stamp a.area.now c.of_part-4.result a.cells.items its.se.items c.index-parts-3.result cells.se c.of_part-4.ensures.part s4 (c.in_err-se.ensures.full (ap (λ e. Err e) (told _ _ _ c.from_residual-in_err-se.ensures.1 e)))
+    λ e. full_se s0 a.level a.part parts some cut n is s3 g3 a.edit.stamp a.edit.area c.of_part-4.result a.edit.cells.items its.se.items c.index-parts-3.result cells.se c.of_part-4.ensures.part s4 (c.in_err-se.ensures.full (ap (λ e. Err e) (told _ _ _ c.from_residual-in_err-se.ensures.1 e)))
 
 pub draw_anew-returns-in_err-drawn-2-clause-pieces : goal.draw_anew-returns-in_err-drawn-2-clause-pieces
 draw_anew-returns-in_err-drawn-2-clause-pieces t c =
@@ -461,15 +461,15 @@ draw_anew-returns-in_err-drawn-2-clause-pieces t c =
     let g1 = c.in_ok-nw.ensures.grows in
     let g2 = grown_more plane_grid 8 s0 s1 s2 g1 c.in_ok-ne.ensures.grows in
     let g3 = grown_more plane_grid 8 s0 s2 s3 g2 c.in_ok-sw.ensures.grows in
-    let w = drawn_grid s0 a.level a.part a.stamp a.area.now a.cells.items in
+    let w = drawn_grid s0 a.level a.part a.edit.stamp a.edit.area a.edit.cells.items in
     adds_more plane_grid 8 s0 s4 s5 a.level w c.in_err-drawn-2.ensures.grows
     (adds_more plane_grid 8 s0 s3 s4 a.level w c.in_ok-se.ensures.grows
     (adds_more plane_grid 8 s0 s2 s3 a.level w c.in_ok-sw.ensures.grows
     (adds_more plane_grid 8 s0 s1 s2 a.level w c.in_ok-ne.ensures.grows
-    (adds_nw s0 a.level a.part parts some cut n is s0 (grown_none plane_grid 8 s0) a.stamp a.area.now c.of_part.result a.cells.items its.nw.items c.index-parts-0.result cells.nw c.of_part.ensures.part s1 c.in_ok-nw.ensures.pieces)
-    (adds_ne s0 a.level a.part parts some cut n is s1 g1 a.stamp a.area.now c.of_part-2.result a.cells.items its.ne.items c.index-parts-1.result cells.ne c.of_part-2.ensures.part s2 c.in_ok-ne.ensures.pieces))
-    (adds_sw s0 a.level a.part parts some cut n is s2 g2 a.stamp a.area.now c.of_part-3.result a.cells.items its.sw.items c.index-parts-2.result cells.sw c.of_part-3.ensures.part s3 c.in_ok-sw.ensures.pieces))
-    (adds_se s0 a.level a.part parts some cut n is s3 g3 a.stamp a.area.now c.of_part-4.result a.cells.items its.se.items c.index-parts-3.result cells.se c.of_part-4.ensures.part s4 c.in_ok-se.ensures.pieces))
+    (adds_nw s0 a.level a.part parts some cut n is s0 (grown_none plane_grid 8 s0) a.edit.stamp a.edit.area c.of_part.result a.edit.cells.items its.nw.items c.index-parts-0.result cells.nw c.of_part.ensures.part s1 c.in_ok-nw.ensures.pieces)
+    (adds_ne s0 a.level a.part parts some cut n is s1 g1 a.edit.stamp a.edit.area c.of_part-2.result a.edit.cells.items its.ne.items c.index-parts-1.result cells.ne c.of_part-2.ensures.part s2 c.in_ok-ne.ensures.pieces))
+    (adds_sw s0 a.level a.part parts some cut n is s2 g2 a.edit.stamp a.edit.area c.of_part-3.result a.edit.cells.items its.sw.items c.index-parts-2.result cells.sw c.of_part-3.ensures.part s3 c.in_ok-sw.ensures.pieces))
+    (adds_se s0 a.level a.part parts some cut n is s3 g3 a.edit.stamp a.edit.area c.of_part-4.result a.edit.cells.items its.se.items c.index-parts-3.result cells.se c.of_part-4.ensures.part s4 c.in_ok-se.ensures.pieces))
     (adds_unchanged plane_grid 8 s4 s5 c.in_err-drawn-2.ensures.err a.level w)
 
 pub draw_anew-returns-clause-pieces : goal.draw_anew-returns-clause-pieces
@@ -491,24 +491,24 @@ draw_anew-returns-clause-pieces t c =
     let g1 = c.in_ok-nw.ensures.grows in
     let g2 = grown_more plane_grid 8 s0 s1 s2 g1 c.in_ok-ne.ensures.grows in
     let g3 = grown_more plane_grid 8 s0 s2 s3 g2 c.in_ok-sw.ensures.grows in
-    let w = drawn_grid s0 a.level a.part a.stamp a.area.now a.cells.items in
+    let w = drawn_grid s0 a.level a.part a.edit.stamp a.edit.area a.edit.cells.items in
     let four = four_grid plane_grid 8 s4 (a.level - 1) (c.in_ok-nw.nw ∷ c.in_ok-ne.ne ∷ c.in_ok-sw.sw ∷ c.in_ok-se.se ∷ []) in
     let h3 = c.in_ok-se.ensures.grows in
     let h2 = grown_more plane_grid 8 s2 s3 s4 c.in_ok-sw.ensures.grows h3 in
     let h1 = grown_more plane_grid 8 s1 s2 s4 c.in_ok-ne.ensures.grows h2 in
     let same = four_as plane_grid 8 s4 a.level c.in_ok-nw.nw c.in_ok-ne.ne c.in_ok-sw.sw c.in_ok-se.se w some n is
-    (made_nw s0 a.level a.part parts some cut n is s0 (grown_none plane_grid 8 s0) a.stamp a.area.now c.of_part.result a.cells.items its.nw.items c.index-parts-0.result cells.nw c.of_part.ensures.part s1 s4 h1 c.in_ok-nw.nw c.in_ok-nw.ensures.draws)
-    (made_ne s0 a.level a.part parts some cut n is s1 g1 a.stamp a.area.now c.of_part-2.result a.cells.items its.ne.items c.index-parts-1.result cells.ne c.of_part-2.ensures.part s2 s4 h2 c.in_ok-ne.ne c.in_ok-ne.ensures.draws)
-    (made_sw s0 a.level a.part parts some cut n is s2 g2 a.stamp a.area.now c.of_part-3.result a.cells.items its.sw.items c.index-parts-2.result cells.sw c.of_part-3.ensures.part s3 s4 h3 c.in_ok-sw.sw c.in_ok-sw.ensures.draws)
-    (made_se s0 a.level a.part parts some cut n is s3 g3 a.stamp a.area.now c.of_part-4.result a.cells.items its.se.items c.index-parts-3.result cells.se c.of_part-4.ensures.part s4 s4 (grown_none plane_grid 8 s4) c.in_ok-se.se c.in_ok-se.ensures.draws) in
+    (made_nw s0 a.level a.part parts some cut n is s0 (grown_none plane_grid 8 s0) a.edit.stamp a.edit.area c.of_part.result a.edit.cells.items its.nw.items c.index-parts-0.result cells.nw c.of_part.ensures.part s1 s4 h1 c.in_ok-nw.nw c.in_ok-nw.ensures.draws)
+    (made_ne s0 a.level a.part parts some cut n is s1 g1 a.edit.stamp a.edit.area c.of_part-2.result a.edit.cells.items its.ne.items c.index-parts-1.result cells.ne c.of_part-2.ensures.part s2 s4 h2 c.in_ok-ne.ne c.in_ok-ne.ensures.draws)
+    (made_sw s0 a.level a.part parts some cut n is s2 g2 a.edit.stamp a.edit.area c.of_part-3.result a.edit.cells.items its.sw.items c.index-parts-2.result cells.sw c.of_part-3.ensures.part s3 s4 h3 c.in_ok-sw.sw c.in_ok-sw.ensures.draws)
+    (made_se s0 a.level a.part parts some cut n is s3 g3 a.edit.stamp a.edit.area c.of_part-4.result a.edit.cells.items its.se.items c.index-parts-3.result cells.se c.of_part-4.ensures.part s4 s4 (grown_none plane_grid 8 s4) c.in_ok-se.se c.in_ok-se.ensures.draws) in
     adds_more plane_grid 8 s0 s4 s5 a.level w c.in_ok-drawn-2.ensures.grows
     (adds_more plane_grid 8 s0 s3 s4 a.level w c.in_ok-se.ensures.grows
     (adds_more plane_grid 8 s0 s2 s3 a.level w c.in_ok-sw.ensures.grows
     (adds_more plane_grid 8 s0 s1 s2 a.level w c.in_ok-ne.ensures.grows
-    (adds_nw s0 a.level a.part parts some cut n is s0 (grown_none plane_grid 8 s0) a.stamp a.area.now c.of_part.result a.cells.items its.nw.items c.index-parts-0.result cells.nw c.of_part.ensures.part s1 c.in_ok-nw.ensures.pieces)
-    (adds_ne s0 a.level a.part parts some cut n is s1 g1 a.stamp a.area.now c.of_part-2.result a.cells.items its.ne.items c.index-parts-1.result cells.ne c.of_part-2.ensures.part s2 c.in_ok-ne.ensures.pieces))
-    (adds_sw s0 a.level a.part parts some cut n is s2 g2 a.stamp a.area.now c.of_part-3.result a.cells.items its.sw.items c.index-parts-2.result cells.sw c.of_part-3.ensures.part s3 c.in_ok-sw.ensures.pieces))
-    (adds_se s0 a.level a.part parts some cut n is s3 g3 a.stamp a.area.now c.of_part-4.result a.cells.items its.se.items c.index-parts-3.result cells.se c.of_part-4.ensures.part s4 c.in_ok-se.ensures.pieces))
+    (adds_nw s0 a.level a.part parts some cut n is s0 (grown_none plane_grid 8 s0) a.edit.stamp a.edit.area c.of_part.result a.edit.cells.items its.nw.items c.index-parts-0.result cells.nw c.of_part.ensures.part s1 c.in_ok-nw.ensures.pieces)
+    (adds_ne s0 a.level a.part parts some cut n is s1 g1 a.edit.stamp a.edit.area c.of_part-2.result a.edit.cells.items its.ne.items c.index-parts-1.result cells.ne c.of_part-2.ensures.part s2 c.in_ok-ne.ensures.pieces))
+    (adds_sw s0 a.level a.part parts some cut n is s2 g2 a.edit.stamp a.edit.area c.of_part-3.result a.edit.cells.items its.sw.items c.index-parts-2.result cells.sw c.of_part-3.ensures.part s3 c.in_ok-sw.ensures.pieces))
+    (adds_se s0 a.level a.part parts some cut n is s3 g3 a.edit.stamp a.edit.area c.of_part-4.result a.edit.cells.items its.se.items c.index-parts-3.result cells.se c.of_part-4.ensures.part s4 c.in_ok-se.ensures.pieces))
     (adds_itself plane_grid 8 s4 s5 a.level four w c.in_ok-drawn-2.drawn (draws_as plane_grid 8 s5 a.level four w c.in_ok-drawn-2.drawn same c.in_ok-drawn-2.ensures.draws) c.in_ok-drawn-2.ensures.added)
 
 pub draw_anew-returns-in_err-drawn-2-clause-full : goal.draw_anew-returns-in_err-drawn-2-clause-full
@@ -530,33 +530,33 @@ draw_anew-returns-in_err-drawn-2-clause-full t c =
     let g1 = c.in_ok-nw.ensures.grows in
     let g2 = grown_more plane_grid 8 s0 s1 s2 g1 c.in_ok-ne.ensures.grows in
     let g3 = grown_more plane_grid 8 s0 s2 s3 g2 c.in_ok-sw.ensures.grows in
-    let w = drawn_grid s0 a.level a.part a.stamp a.area.now a.cells.items in
+    let w = drawn_grid s0 a.level a.part a.edit.stamp a.edit.area a.edit.cells.items in
     let four = four_grid plane_grid 8 s4 (a.level - 1) (c.in_ok-nw.nw ∷ c.in_ok-ne.ne ∷ c.in_ok-sw.sw ∷ c.in_ok-se.se ∷ []) in
     let h3 = c.in_ok-se.ensures.grows in
     let h2 = grown_more plane_grid 8 s2 s3 s4 c.in_ok-sw.ensures.grows h3 in
     let h1 = grown_more plane_grid 8 s1 s2 s4 c.in_ok-ne.ensures.grows h2 in
     let same = four_as plane_grid 8 s4 a.level c.in_ok-nw.nw c.in_ok-ne.ne c.in_ok-sw.sw c.in_ok-se.se w some n is
-    (made_nw s0 a.level a.part parts some cut n is s0 (grown_none plane_grid 8 s0) a.stamp a.area.now c.of_part.result a.cells.items its.nw.items c.index-parts-0.result cells.nw c.of_part.ensures.part s1 s4 h1 c.in_ok-nw.nw c.in_ok-nw.ensures.draws)
-    (made_ne s0 a.level a.part parts some cut n is s1 g1 a.stamp a.area.now c.of_part-2.result a.cells.items its.ne.items c.index-parts-1.result cells.ne c.of_part-2.ensures.part s2 s4 h2 c.in_ok-ne.ne c.in_ok-ne.ensures.draws)
-    (made_sw s0 a.level a.part parts some cut n is s2 g2 a.stamp a.area.now c.of_part-3.result a.cells.items its.sw.items c.index-parts-2.result cells.sw c.of_part-3.ensures.part s3 s4 h3 c.in_ok-sw.sw c.in_ok-sw.ensures.draws)
-    (made_se s0 a.level a.part parts some cut n is s3 g3 a.stamp a.area.now c.of_part-4.result a.cells.items its.se.items c.index-parts-3.result cells.se c.of_part-4.ensures.part s4 s4 (grown_none plane_grid 8 s4) c.in_ok-se.se c.in_ok-se.ensures.draws) in
+    (made_nw s0 a.level a.part parts some cut n is s0 (grown_none plane_grid 8 s0) a.edit.stamp a.edit.area c.of_part.result a.edit.cells.items its.nw.items c.index-parts-0.result cells.nw c.of_part.ensures.part s1 s4 h1 c.in_ok-nw.nw c.in_ok-nw.ensures.draws)
+    (made_ne s0 a.level a.part parts some cut n is s1 g1 a.edit.stamp a.edit.area c.of_part-2.result a.edit.cells.items its.ne.items c.index-parts-1.result cells.ne c.of_part-2.ensures.part s2 s4 h2 c.in_ok-ne.ne c.in_ok-ne.ensures.draws)
+    (made_sw s0 a.level a.part parts some cut n is s2 g2 a.edit.stamp a.edit.area c.of_part-3.result a.edit.cells.items its.sw.items c.index-parts-2.result cells.sw c.of_part-3.ensures.part s3 s4 h3 c.in_ok-sw.sw c.in_ok-sw.ensures.draws)
+    (made_se s0 a.level a.part parts some cut n is s3 g3 a.edit.stamp a.edit.area c.of_part-4.result a.edit.cells.items its.se.items c.index-parts-3.result cells.se c.of_part-4.ensures.part s4 s4 (grown_none plane_grid 8 s4) c.in_ok-se.se c.in_ok-se.ensures.draws) in
     λ e. subst (λ s. IsFullStoreFor s a.level w) (sym c.in_err-drawn-2.ensures.err) (same_full s4 a.level four w same (record {
       full = c.in_err-drawn-2.ensures.full (ap (λ e. Err e) (told _ _ _ c.from_residual-in_err-drawn-2.ensures.1 e));
       store = c.store_laws.ensures.store;
     }))
 
 pub draw_anew-returns-in_err-drawn-clause-pieces : goal.draw_anew-returns-in_err-drawn-clause-pieces
-draw_anew-returns-in_err-drawn-clause-pieces t c = subst (λ k. AddsPiecesOfGrid plane_grid 8 c.args.store.now c.draw_leaf.new.store k (drawn_grid c.args.store.now k c.args.part c.args.stamp c.args.area.now c.args.cells.items)) (sym c.if-level-eq0.true) (rw c.deref.ensures.value at c.in_err-drawn.ensures.pieces)
+draw_anew-returns-in_err-drawn-clause-pieces t c = subst (λ k. AddsPiecesOfGrid plane_grid 8 c.args.store.now c.draw_leaf.new.store k (drawn_grid c.args.store.now k c.args.part c.args.edit.stamp c.args.edit.area c.args.edit.cells.items)) (sym c.if-level-eq0.true) (rw c.deref.ensures.value at c.in_err-drawn.ensures.pieces)
 
 pub draw_anew-returns-then-level-eq0-clause-pieces : goal.draw_anew-returns-then-level-eq0-clause-pieces
-draw_anew-returns-then-level-eq0-clause-pieces t c = subst (λ k. AddsPiecesOfGrid plane_grid 8 c.args.store.now c.draw_leaf.new.store k (drawn_grid c.args.store.now k c.args.part c.args.stamp c.args.area.now c.args.cells.items)) (sym c.if-level-eq0.true) (rw c.deref.ensures.value at c.in_ok-drawn.ensures.pieces)
+draw_anew-returns-then-level-eq0-clause-pieces t c = subst (λ k. AddsPiecesOfGrid plane_grid 8 c.args.store.now c.draw_leaf.new.store k (drawn_grid c.args.store.now k c.args.part c.args.edit.stamp c.args.edit.area c.args.edit.cells.items)) (sym c.if-level-eq0.true) (rw c.deref.ensures.value at c.in_ok-drawn.ensures.pieces)
 
 pub draw-returns-in_err-blank-clause-full : goal.draw-returns-in_err-blank-clause-full
 draw-returns-in_err-blank-clause-full t c =
     let a = c.args in
-    let w = drawn_grid a.store.now a.level a.part a.stamp a.area.now a.cells.items in
-    let same = covered_whole a.store.now a.level a.part a.stamp c.side_of.result a.area.now a.cells.items c.requires.stamp c.side_of.ensures (sym a.cells.ok.0 ∙ no_length a.cells.len c.if-not-is_empty.ensures) (c.if-is_whole.ensures.0 refl) in
-    λ e. subst (λ s. IsFullStoreFor s a.level w) (sym c.in_err-blank.ensures.err) (same_full a.store.now a.level (blank_grid a.stamp) w same (record {
+    let w = drawn_grid a.store.now a.level a.part a.edit.stamp a.edit.area a.edit.cells.items in
+    let same = covered_whole a.store.now a.level a.part a.edit.stamp c.side_of.result a.edit.area a.edit.cells.items c.requires.stamp c.side_of.ensures (sym a.edit.cells.ok.0 ∙ no_length a.edit.cells.len c.if-not-is_empty.ensures) (c.if-is_whole.ensures.0 refl) in
+    λ e. subst (λ s. IsFullStoreFor s a.level w) (sym c.in_err-blank.ensures.err) (same_full a.store.now a.level (blank_grid a.edit.stamp) w same (record {
       full = c.in_err-blank.ensures.full (ap (λ e. Err e) (told _ _ _ c.from_residual-in_err-blank.ensures.1 e)) a.level;
       store = c.store_laws.ensures.store;
     }))
@@ -568,10 +568,10 @@ pub draw-returns-then-not-is_empty-clause-pieces : goal.draw-returns-then-not-is
 draw-returns-then-not-is_empty-clause-pieces t c = c.in_ok-drawn.ensures.pieces
 
 pub draw-returns-then-is_empty-clause-pieces : goal.draw-returns-then-is_empty-clause-pieces
-draw-returns-then-is_empty-clause-pieces t c = adds_none plane_grid 8 c.args.store.now c.args.level (drawn_grid c.args.store.now c.args.level c.args.part c.args.stamp c.args.area.now c.args.cells.items)
+draw-returns-then-is_empty-clause-pieces t c = adds_none plane_grid 8 c.args.store.now c.args.level (drawn_grid c.args.store.now c.args.level c.args.part c.args.edit.stamp c.args.edit.area c.args.edit.cells.items)
 
 pub draw-returns-in-Some-clause-pieces : goal.draw-returns-in-Some-clause-pieces
-draw-returns-in-Some-clause-pieces t c = adds_none plane_grid 8 c.args.store.now c.args.level (drawn_grid c.args.store.now c.args.level c.args.part c.args.stamp c.args.area.now c.args.cells.items)
+draw-returns-in-Some-clause-pieces t c = adds_none plane_grid 8 c.args.store.now c.args.level (drawn_grid c.args.store.now c.args.level c.args.part c.args.edit.stamp c.args.edit.area c.args.edit.cells.items)
 
 pub draw-returns-in_err-drawn-2-clause-pieces : goal.draw-returns-in_err-drawn-2-clause-pieces
 draw-returns-in_err-drawn-2-clause-pieces t c = c.in_err-drawn-2.ensures.pieces
@@ -585,12 +585,12 @@ draw-returns-clause-pieces t c = c.in_ok-drawn-2.ensures.pieces
 pub draw-returns-in_err-blank-clause-pieces : goal.draw-returns-in_err-blank-clause-pieces
 draw-returns-in_err-blank-clause-pieces t c =
     let a = c.args in
-    let w = drawn_grid a.store.now a.level a.part a.stamp a.area.now a.cells.items in
+    let w = drawn_grid a.store.now a.level a.part a.edit.stamp a.edit.area a.edit.cells.items in
     adds_unchanged plane_grid 8 a.store.now c.add_blank.new.self c.in_err-blank.ensures.err a.level w
 
 pub draw-returns-then-is_whole-clause-pieces : goal.draw-returns-then-is_whole-clause-pieces
 draw-returns-then-is_whole-clause-pieces t c =
     let a = c.args in
-    let w = drawn_grid a.store.now a.level a.part a.stamp a.area.now a.cells.items in
-    adds_itself plane_grid 8 a.store.now c.add_blank.new.self a.level (blank_grid a.stamp) w c.in_ok-blank.blank
-    (draws_as plane_grid 8 c.add_blank.new.self a.level (blank_grid a.stamp) w c.in_ok-blank.blank (covered_whole a.store.now a.level a.part a.stamp c.side_of.result a.area.now a.cells.items c.requires.stamp c.side_of.ensures (sym a.cells.ok.0 ∙ no_length a.cells.len c.if-not-is_empty.ensures) (c.if-is_whole.ensures.0 refl)) (c.in_ok-blank.ensures.draws a.level)) (c.in_ok-blank.ensures.added a.level)
+    let w = drawn_grid a.store.now a.level a.part a.edit.stamp a.edit.area a.edit.cells.items in
+    adds_itself plane_grid 8 a.store.now c.add_blank.new.self a.level (blank_grid a.edit.stamp) w c.in_ok-blank.blank
+    (draws_as plane_grid 8 c.add_blank.new.self a.level (blank_grid a.edit.stamp) w c.in_ok-blank.blank (covered_whole a.store.now a.level a.part a.edit.stamp c.side_of.result a.edit.area a.edit.cells.items c.requires.stamp c.side_of.ensures (sym a.edit.cells.ok.0 ∙ no_length a.edit.cells.len c.if-not-is_empty.ensures) (c.if-is_whole.ensures.0 refl)) (c.in_ok-blank.ensures.draws a.level)) (c.in_ok-blank.ensures.added a.level)

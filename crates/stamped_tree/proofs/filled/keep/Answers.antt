@@ -5,7 +5,7 @@ use Rattle.stamped_tree.proofs.filled.keep.Goals as goal
 
 pub returns-in-Ok-clause-kept : goal.returns-in-Ok-clause-kept
 returns-in-Ok-clause-kept c =
-    let key : AreaKey = record { level = c.args.level; part = c.args.part; area = c.args.area } in
+    let key : AreaKey = c.args.key in
     record {
       each = λ q p e. kept_more (λ k w. IsFilled c.args.store.now c.args.stamp k.level k.area k.part w) key q c.args.drawn p _ _ (c.in-Ok.ensures.updates.0 q) e c.requires.filled (c.requires.kept.each q p);
     }

@@ -10,13 +10,13 @@ square-requires t c = at_within c.args.store.now c.args.level c.args.part c.requ
 pub returns-in_ok-gather-in-Four-4 : goal.returns-in_ok-gather-in-Four-4
 returns-in_ok-gather-in-Four-4 t c =
     let a = c.args in
-    gathers_parts plane_grid a.store.now a.level c.in-Four.level a.part a.left a.top c.side_of-half.result c.in-Four.parts c.index-parts-0.result c.index-parts-1.result c.index-parts-2.result c.index-parts-3.result
+    gathers_parts plane_grid a.store.now a.level c.in-Four.level a.part a.corner.left a.corner.top c.side_of-half.result c.in-Four.parts c.index-parts-0.result c.index-parts-1.result c.index-parts-2.result c.index-parts-3.result
     a.found.now.items c.gather.new.found.items c.gather-in-Four.new.found.items c.gather-in-Four-2.new.found.items c.gather-in-Four-3.new.found.items
     c.in-Four.ensures c.requires.stands c.side_of-half.ensures
     c.in_ok-gather-in-Four.ensures c.in_ok-gather-in-Four-2.ensures c.in_ok-gather-in-Four-3.ensures c.in_ok-gather-in-Four-4.ensures
 
 pub returns-in_ok-gather_leaf-in-Leaf : goal.returns-in_ok-gather_leaf-in-Leaf
-returns-in_ok-gather_leaf-in-Leaf t c = gathers_leaf_at plane_grid c.args.store.now c.args.level c.args.part c.args.left c.args.top c.in-Leaf.leaf.now c.args.found.now.items c.gather_leaf.new.found.items c.in-Leaf.ensures c.requires.stands c.in_ok-gather_leaf-in-Leaf.ensures
+returns-in_ok-gather_leaf-in-Leaf t c = gathers_leaf_at plane_grid c.args.store.now c.args.level c.args.part c.args.corner.left c.args.corner.top c.in-Leaf.leaf.now c.args.found.now.items c.gather_leaf.new.found.items c.in-Leaf.ensures c.requires.stands c.in_ok-gather_leaf-in-Leaf.ensures
 
 pub overflow_sub-level : goal.overflow_sub-level
 overflow_sub-level t c = above_leaves c.args.store.now c.args.level c.in-Four.level c.args.part c.in-Four.parts c.in-Four.ensures c.requires.stands
@@ -33,42 +33,32 @@ overflow_sub-level-in-Four-3 t c = above_leaves c.args.store.now c.args.level c.
 pub overflow_sub-level-in-Four-4 : goal.overflow_sub-level-in-Four-4
 overflow_sub-level-in-Four-4 t c = above_leaves c.args.store.now c.args.level c.in-Four.level c.args.part c.in-Four.parts c.in-Four.ensures c.requires.stands
 
-pub overflow_add-left : goal.overflow_add-left
-overflow_add-left t c =
+pub overflow_add-east : goal.overflow_add-east
+overflow_add-east t c =
     let some = above_leaves c.args.store.now c.args.level c.in-Four.level c.args.part c.in-Four.parts c.in-Four.ensures c.requires.stands in
-    far_start c.args.level c.args.left c.side_of-half.result some c.side_of-half.ensures c.requires.left
+    far_start c.args.level c.args.corner.left c.side_of-half.result some c.side_of-half.ensures c.requires.left
 
-pub overflow_add-top : goal.overflow_add-top
-overflow_add-top t c =
+pub overflow_add-south : goal.overflow_add-south
+overflow_add-south t c =
     let some = above_leaves c.args.store.now c.args.level c.in-Four.level c.args.part c.in-Four.parts c.in-Four.ensures c.requires.stands in
-    far_start c.args.level c.args.top c.side_of-half.result some c.side_of-half.ensures c.requires.top
-
-pub overflow_add-left-in-Four : goal.overflow_add-left-in-Four
-overflow_add-left-in-Four t c =
-    let some = above_leaves c.args.store.now c.args.level c.in-Four.level c.args.part c.in-Four.parts c.in-Four.ensures c.requires.stands in
-    far_start c.args.level c.args.left c.side_of-half.result some c.side_of-half.ensures c.requires.left
-
-pub overflow_add-top-in-Four : goal.overflow_add-top-in-Four
-overflow_add-top-in-Four t c =
-    let some = above_leaves c.args.store.now c.args.level c.in-Four.level c.args.part c.in-Four.parts c.in-Four.ensures c.requires.stands in
-    far_start c.args.level c.args.top c.side_of-half.result some c.side_of-half.ensures c.requires.top
+    far_start c.args.level c.args.corner.top c.side_of-half.result some c.side_of-half.ensures c.requires.top
 
 pub gather-requires : goal.gather-requires
 gather-requires t c =
     let some = above_leaves c.args.store.now c.args.level c.in-Four.level c.args.part c.in-Four.parts c.in-Four.ensures c.requires.stands in
-    (part_falls c.args.level t some c.decreases, (level_below c.args.level c.requires.level, (nw_stands c.args.store.now c.args.level c.in-Four.level c.args.part c.in-Four.parts c.in-Four.ensures c.requires.stands c.index-parts-0.result, (near_half c.args.level c.args.left some c.requires.left, near_half c.args.level c.args.top some c.requires.top))))
+    (part_falls c.args.level t some c.decreases, (level_below c.args.level c.requires.level, (nw_stands c.args.store.now c.args.level c.in-Four.level c.args.part c.in-Four.parts c.in-Four.ensures c.requires.stands c.index-parts-0.result, (near_half c.args.level c.args.corner.left some c.requires.left, near_half c.args.level c.args.corner.top some c.requires.top))))
 
 pub gather-requires-in-Four : goal.gather-requires-in-Four
 gather-requires-in-Four t c =
     let some = above_leaves c.args.store.now c.args.level c.in-Four.level c.args.part c.in-Four.parts c.in-Four.ensures c.requires.stands in
-    (part_falls c.args.level t some c.decreases, (level_below c.args.level c.requires.level, (ne_stands c.args.store.now c.args.level c.in-Four.level c.args.part c.in-Four.parts c.in-Four.ensures c.requires.stands c.index-parts-1.result, (far_half c.args.level c.args.left c.side_of-half.result some c.side_of-half.ensures c.requires.left, near_half c.args.level c.args.top some c.requires.top))))
+    (part_falls c.args.level t some c.decreases, (level_below c.args.level c.requires.level, (ne_stands c.args.store.now c.args.level c.in-Four.level c.args.part c.in-Four.parts c.in-Four.ensures c.requires.stands c.index-parts-1.result, (far_half c.args.level c.args.corner.left c.side_of-half.result some c.side_of-half.ensures c.requires.left, near_half c.args.level c.args.corner.top some c.requires.top))))
 
 pub gather-requires-in-Four-2 : goal.gather-requires-in-Four-2
 gather-requires-in-Four-2 t c =
     let some = above_leaves c.args.store.now c.args.level c.in-Four.level c.args.part c.in-Four.parts c.in-Four.ensures c.requires.stands in
-    (part_falls c.args.level t some c.decreases, (level_below c.args.level c.requires.level, (sw_stands c.args.store.now c.args.level c.in-Four.level c.args.part c.in-Four.parts c.in-Four.ensures c.requires.stands c.index-parts-2.result, (near_half c.args.level c.args.left some c.requires.left, far_half c.args.level c.args.top c.side_of-half.result some c.side_of-half.ensures c.requires.top))))
+    (part_falls c.args.level t some c.decreases, (level_below c.args.level c.requires.level, (sw_stands c.args.store.now c.args.level c.in-Four.level c.args.part c.in-Four.parts c.in-Four.ensures c.requires.stands c.index-parts-2.result, (near_half c.args.level c.args.corner.left some c.requires.left, far_half c.args.level c.args.corner.top c.side_of-half.result some c.side_of-half.ensures c.requires.top))))
 
 pub gather-requires-in-Four-3 : goal.gather-requires-in-Four-3
 gather-requires-in-Four-3 t c =
     let some = above_leaves c.args.store.now c.args.level c.in-Four.level c.args.part c.in-Four.parts c.in-Four.ensures c.requires.stands in
-    (part_falls c.args.level t some c.decreases, (level_below c.args.level c.requires.level, (se_stands c.args.store.now c.args.level c.in-Four.level c.args.part c.in-Four.parts c.in-Four.ensures c.requires.stands c.index-parts-3.result, (far_half c.args.level c.args.left c.side_of-half.result some c.side_of-half.ensures c.requires.left, far_half c.args.level c.args.top c.side_of-half.result some c.side_of-half.ensures c.requires.top))))
+    (part_falls c.args.level t some c.decreases, (level_below c.args.level c.requires.level, (se_stands c.args.store.now c.args.level c.in-Four.level c.args.part c.in-Four.parts c.in-Four.ensures c.requires.stands c.index-parts-3.result, (far_half c.args.level c.args.corner.left c.side_of-half.result some c.side_of-half.ensures c.requires.left, far_half c.args.level c.args.corner.top c.side_of-half.result some c.side_of-half.ensures c.requires.top))))

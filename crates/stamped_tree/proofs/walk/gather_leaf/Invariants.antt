@@ -4,4 +4,4 @@ use Rattle.stamped_tree.proofs.Gathering.{IsNonzeroBefore}
 use Rattle.stamped_tree.proofs.walk.gather_leaf.Given as goal
 
 abbrev pub invariant-loop-place : goal.invariant-loop-place
-invariant-loop-place l = Gathers (IsNonzeroBefore (plane_grid l.leaf) l.left l.top l.place) l.fn.found.items l.found.items
+invariant-loop-place l = Gathers (IsNonzeroBefore (plane_grid l.leaf) l.corner.left l.corner.top l.place) l.fn.found.items l.found.items

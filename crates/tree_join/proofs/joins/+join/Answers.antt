@@ -18,10 +18,10 @@ use Rattle.tree_join.proofs.Joining.{right_wins, joins_as_before, joins_later, c
 use Rattle.tree_join.proofs.joins.+join.Goals as goal
 
 pub join_quarters-square-requires : goal.join_quarters-square-requires
-join_quarters-square-requires t c = at_within c.args.plane.now.store c.args.above c.args.here c.requires.here
+join_quarters-square-requires t c = at_within c.args.plane.now.store c.args.pair.above c.args.pair.here c.requires.here
 
 pub join_quarters-square-requires-2 : goal.join_quarters-square-requires-2
-join_quarters-square-requires-2 t c = at_within c.args.other.now.store c.args.above c.args.there c.requires.there
+join_quarters-square-requires-2 t c = at_within c.args.other.now.store c.args.pair.above c.args.pair.there c.requires.there
 
 pub join_quarters-returns-in_err-part-clause-joins : goal.join_quarters-returns-in_err-part-clause-joins
 join_quarters-returns-in_err-part-clause-joins t c = joins_later c.join_squares-4.new.plane.store c.add_four_over.new.plane.store c.args.other.now.store c.join_squares-4.new.joins c.in_err-part.ensures.grows.store c.in_ok-se.ensures.joins
@@ -31,10 +31,10 @@ join_quarters-returns-clause-joins t c = joins_later c.join_squares-4.new.plane.
 
 pub join_quarters-returns-clause-join : goal.join_quarters-returns-clause-join
 join_quarters-returns-clause-join t c =
-    let qa : AreQuarters c.args.plane.now.store c.args.above c.args.here c.quarter_parts-a.result = rw c.square.ensures at c.quarter_parts-a.ensures in
-    let qb : AreQuarters c.args.other.now.store c.args.above c.args.there c.quarter_parts-b.result = rw c.square-2.ensures at c.quarter_parts-b.ensures in
+    let qa : AreQuarters c.args.plane.now.store c.args.pair.above c.args.pair.here c.quarter_parts-a.result = rw c.square.ensures at c.quarter_parts-a.ensures in
+    let qb : AreQuarters c.args.other.now.store c.args.pair.above c.args.pair.there c.quarter_parts-b.result = rw c.square-2.ensures at c.quarter_parts-b.ensures in
     joined_four c.args.other.now.store c.args.plane.now.store c.join_squares.new.plane.store c.join_squares-2.new.plane.store c.join_squares-3.new.plane.store c.join_squares-4.new.plane.store c.add_four_over.new.plane.store
-    c.args.above c.args.here c.args.there c.quarter_parts-a.result c.quarter_parts-b.result _ _ _ _ _ _ _ _ c.in_ok-nw.nw c.in_ok-ne.ne c.in_ok-sw.sw c.in_ok-se.se c.in_ok-part.part
+    c.args.pair.above c.args.pair.here c.args.pair.there c.quarter_parts-a.result c.quarter_parts-b.result _ _ _ _ _ _ _ _ c.in_ok-nw.nw c.in_ok-ne.ne c.in_ok-sw.sw c.in_ok-se.se c.in_ok-part.part
     c.requires.least c.requires.here qa qb
     c.in_ok-nw.ensures.grows.store c.in_ok-ne.ensures.grows.store c.in_ok-sw.ensures.grows.store c.in_ok-se.ensures.grows.store c.in_ok-part.ensures.grows.store
     c.in_ok-nw.ensures.join c.in_ok-ne.ensures.join c.in_ok-sw.ensures.join c.in_ok-se.ensures.join c.in_ok-part.ensures.draws
@@ -62,14 +62,14 @@ pub join_quarters-returns-in_err-part-clause-grows : goal.join_quarters-returns-
 join_quarters-returns-in_err-part-clause-grows t c =
     grown_on _ _ _ c.in_ok-nw.ensures.grows (grown_on _ _ _ c.in_ok-ne.ensures.grows (grown_on _ _ _ c.in_ok-sw.ensures.grows (grown_on _ _ _ c.in_ok-se.ensures.grows c.in_err-part.ensures.grows)))
 
-pub join_quarters-overflow_sub-above : goal.join_quarters-overflow_sub-above
-join_quarters-overflow_sub-above t c = some_above c.args.above c.requires.least
+pub join_quarters-overflow_sub-nw : goal.join_quarters-overflow_sub-nw
+join_quarters-overflow_sub-nw t c = some_above c.args.pair.above c.requires.least
 
 pub join_quarters-join_squares-requires : goal.join_quarters-join_squares-requires
 join_quarters-join_squares-requires t c =
-    let qa : AreQuarters c.args.plane.now.store c.args.above c.args.here c.quarter_parts-a.result = rw c.square.ensures at c.quarter_parts-a.ensures in
-    let qb : AreQuarters c.args.other.now.store c.args.above c.args.there c.quarter_parts-b.result = rw c.square-2.ensures at c.quarter_parts-b.ensures in
-    (part_falls c.args.above t c.requires.least c.decreases, (level_below c.args.above c.requires.most, (nw_quarter c.args.plane.now.store c.args.above c.args.here c.quarter_parts-a.result qa c.index-a-0.result, (nw_quarter c.args.other.now.store c.args.above c.args.there c.quarter_parts-b.result qb c.index-b-0.result, (c.requires.joins, c.requires.copies)))))
+    let qa : AreQuarters c.args.plane.now.store c.args.pair.above c.args.pair.here c.quarter_parts-a.result = rw c.square.ensures at c.quarter_parts-a.ensures in
+    let qb : AreQuarters c.args.other.now.store c.args.pair.above c.args.pair.there c.quarter_parts-b.result = rw c.square-2.ensures at c.quarter_parts-b.ensures in
+    (part_falls c.args.pair.above t c.requires.least c.decreases, (level_below c.args.pair.above c.requires.most, (nw_quarter c.args.plane.now.store c.args.pair.above c.args.pair.here c.quarter_parts-a.result qa c.index-a-0.result, (nw_quarter c.args.other.now.store c.args.pair.above c.args.pair.there c.quarter_parts-b.result qb c.index-b-0.result, (c.requires.joins, c.requires.copies)))))
 
 pub join_quarters-returns-in_err-nw-clause-grows : goal.join_quarters-returns-in_err-nw-clause-grows
 join_quarters-returns-in_err-nw-clause-grows t c = c.in_err-nw.ensures.grows
@@ -82,11 +82,11 @@ join_quarters-returns-in_err-nw-clause-copies t c = c.in_err-nw.ensures.copies
 
 pub join_quarters-returns-in_err-nw-clause-full : goal.join_quarters-returns-in_err-nw-clause-full
 join_quarters-returns-in_err-nw-clause-full t c =
-    let k = c.args.above in
+    let k = c.args.pair.above in
     let n = side_at 8 (k - 1) in
     let some = c.requires.least in
-    let a = c.args.here in
-    let b = c.args.there in
+    let a = c.args.pair.here in
+    let b = c.args.pair.there in
     let pa = c.quarter_parts-a.result in
     let pb = c.quarter_parts-b.result in
     let s0 = c.args.plane.now.store in
@@ -98,14 +98,14 @@ join_quarters-returns-in_err-nw-clause-full t c =
     let g0 = grown_none plane_grid 8 s0 in
     λ e. quarter_full s1 k 0 0 (join_grid s0 there (k - 1) (slice_index_or pa 0 c.index-a-0.result) (slice_index_or pb 0 c.index-b-0.result)) f some (corner_nw n) (join_nw s0 there k a b pa pb some qa qb s0 g0 c.index-a-0.result c.index-b-0.result) (c.in_err-nw.ensures.full (ap (λ e. Err e) (told _ _ _ c.from_residual.ensures.1 e)))
 
-pub join_quarters-overflow_sub-above-2 : goal.join_quarters-overflow_sub-above-2
-join_quarters-overflow_sub-above-2 t c = some_above c.args.above c.requires.least
+pub join_quarters-overflow_sub-ne : goal.join_quarters-overflow_sub-ne
+join_quarters-overflow_sub-ne t c = some_above c.args.pair.above c.requires.least
 
 pub join_quarters-join_squares-requires-2 : goal.join_quarters-join_squares-requires-2
 join_quarters-join_squares-requires-2 t c =
-    let qa : AreQuarters c.args.plane.now.store c.args.above c.args.here c.quarter_parts-a.result = rw c.square.ensures at c.quarter_parts-a.ensures in
-    let qb : AreQuarters c.args.other.now.store c.args.above c.args.there c.quarter_parts-b.result = rw c.square-2.ensures at c.quarter_parts-b.ensures in
-    (part_falls c.args.above t c.requires.least c.decreases, (level_below c.args.above c.requires.most, (c.in_ok-nw.ensures.grows.store.stands (c.args.above - 1) _ (ne_quarter c.args.plane.now.store c.args.above c.args.here c.quarter_parts-a.result qa c.index-a-1.result), (ne_quarter c.args.other.now.store c.args.above c.args.there c.quarter_parts-b.result qb c.index-b-1.result, (c.in_ok-nw.ensures.joins, c.in_ok-nw.ensures.copies)))))
+    let qa : AreQuarters c.args.plane.now.store c.args.pair.above c.args.pair.here c.quarter_parts-a.result = rw c.square.ensures at c.quarter_parts-a.ensures in
+    let qb : AreQuarters c.args.other.now.store c.args.pair.above c.args.pair.there c.quarter_parts-b.result = rw c.square-2.ensures at c.quarter_parts-b.ensures in
+    (part_falls c.args.pair.above t c.requires.least c.decreases, (level_below c.args.pair.above c.requires.most, (c.in_ok-nw.ensures.grows.store.stands (c.args.pair.above - 1) _ (ne_quarter c.args.plane.now.store c.args.pair.above c.args.pair.here c.quarter_parts-a.result qa c.index-a-1.result), (ne_quarter c.args.other.now.store c.args.pair.above c.args.pair.there c.quarter_parts-b.result qb c.index-b-1.result, (c.in_ok-nw.ensures.joins, c.in_ok-nw.ensures.copies)))))
 
 pub join_quarters-returns-in_err-ne-clause-grows : goal.join_quarters-returns-in_err-ne-clause-grows
 join_quarters-returns-in_err-ne-clause-grows t c = grown_on c.args.plane.now c.join_squares.new.plane c.join_squares-2.new.plane c.in_ok-nw.ensures.grows c.in_err-ne.ensures.grows
@@ -118,11 +118,11 @@ join_quarters-returns-in_err-ne-clause-copies t c = c.in_err-ne.ensures.copies
 
 pub join_quarters-returns-in_err-ne-clause-full : goal.join_quarters-returns-in_err-ne-clause-full
 join_quarters-returns-in_err-ne-clause-full t c =
-    let k = c.args.above in
+    let k = c.args.pair.above in
     let n = side_at 8 (k - 1) in
     let some = c.requires.least in
-    let a = c.args.here in
-    let b = c.args.there in
+    let a = c.args.pair.here in
+    let b = c.args.pair.there in
     let pa = c.quarter_parts-a.result in
     let pb = c.quarter_parts-b.result in
     let s0 = c.args.plane.now.store in
@@ -136,14 +136,14 @@ join_quarters-returns-in_err-ne-clause-full t c =
     let g1 = c.in_ok-nw.ensures.grows.store in
     λ e. quarter_full s2 k n 0 (join_grid s1 there (k - 1) (slice_index_or pa 1 c.index-a-1.result) (slice_index_or pb 1 c.index-b-1.result)) f some (corner_ne n) (join_ne s0 there k a b pa pb some qa qb s1 g1 c.index-a-1.result c.index-b-1.result) (c.in_err-ne.ensures.full (ap (λ e. Err e) (told _ _ _ c.from_residual-in_err-ne.ensures.1 e)))
 
-pub join_quarters-overflow_sub-above-3 : goal.join_quarters-overflow_sub-above-3
-join_quarters-overflow_sub-above-3 t c = some_above c.args.above c.requires.least
+pub join_quarters-overflow_sub-sw : goal.join_quarters-overflow_sub-sw
+join_quarters-overflow_sub-sw t c = some_above c.args.pair.above c.requires.least
 
 pub join_quarters-join_squares-requires-3 : goal.join_quarters-join_squares-requires-3
 join_quarters-join_squares-requires-3 t c =
-    let qa : AreQuarters c.args.plane.now.store c.args.above c.args.here c.quarter_parts-a.result = rw c.square.ensures at c.quarter_parts-a.ensures in
-    let qb : AreQuarters c.args.other.now.store c.args.above c.args.there c.quarter_parts-b.result = rw c.square-2.ensures at c.quarter_parts-b.ensures in
-    (part_falls c.args.above t c.requires.least c.decreases, (level_below c.args.above c.requires.most, ((grown_on c.args.plane.now c.join_squares.new.plane c.join_squares-2.new.plane c.in_ok-nw.ensures.grows c.in_ok-ne.ensures.grows).store.stands (c.args.above - 1) _ (sw_quarter c.args.plane.now.store c.args.above c.args.here c.quarter_parts-a.result qa c.index-a-2.result), (sw_quarter c.args.other.now.store c.args.above c.args.there c.quarter_parts-b.result qb c.index-b-2.result, (c.in_ok-ne.ensures.joins, c.in_ok-ne.ensures.copies)))))
+    let qa : AreQuarters c.args.plane.now.store c.args.pair.above c.args.pair.here c.quarter_parts-a.result = rw c.square.ensures at c.quarter_parts-a.ensures in
+    let qb : AreQuarters c.args.other.now.store c.args.pair.above c.args.pair.there c.quarter_parts-b.result = rw c.square-2.ensures at c.quarter_parts-b.ensures in
+    (part_falls c.args.pair.above t c.requires.least c.decreases, (level_below c.args.pair.above c.requires.most, ((grown_on c.args.plane.now c.join_squares.new.plane c.join_squares-2.new.plane c.in_ok-nw.ensures.grows c.in_ok-ne.ensures.grows).store.stands (c.args.pair.above - 1) _ (sw_quarter c.args.plane.now.store c.args.pair.above c.args.pair.here c.quarter_parts-a.result qa c.index-a-2.result), (sw_quarter c.args.other.now.store c.args.pair.above c.args.pair.there c.quarter_parts-b.result qb c.index-b-2.result, (c.in_ok-ne.ensures.joins, c.in_ok-ne.ensures.copies)))))
 
 pub join_quarters-returns-in_err-sw-clause-grows : goal.join_quarters-returns-in_err-sw-clause-grows
 join_quarters-returns-in_err-sw-clause-grows t c = grown_on c.args.plane.now c.join_squares.new.plane c.join_squares-3.new.plane c.in_ok-nw.ensures.grows (grown_on c.join_squares.new.plane c.join_squares-2.new.plane c.join_squares-3.new.plane c.in_ok-ne.ensures.grows c.in_err-sw.ensures.grows)
@@ -156,11 +156,11 @@ join_quarters-returns-in_err-sw-clause-copies t c = c.in_err-sw.ensures.copies
 
 pub join_quarters-returns-in_err-sw-clause-full : goal.join_quarters-returns-in_err-sw-clause-full
 join_quarters-returns-in_err-sw-clause-full t c =
-    let k = c.args.above in
+    let k = c.args.pair.above in
     let n = side_at 8 (k - 1) in
     let some = c.requires.least in
-    let a = c.args.here in
-    let b = c.args.there in
+    let a = c.args.pair.here in
+    let b = c.args.pair.there in
     let pa = c.quarter_parts-a.result in
     let pb = c.quarter_parts-b.result in
     let s0 = c.args.plane.now.store in
@@ -176,14 +176,14 @@ join_quarters-returns-in_err-sw-clause-full t c =
     let g2 = grown_more plane_grid 8 s0 s1 s2 g1 c.in_ok-ne.ensures.grows.store in
     λ e. quarter_full s3 k 0 n (join_grid s2 there (k - 1) (slice_index_or pa 2 c.index-a-2.result) (slice_index_or pb 2 c.index-b-2.result)) f some (corner_sw n) (join_sw s0 there k a b pa pb some qa qb s2 g2 c.index-a-2.result c.index-b-2.result) (c.in_err-sw.ensures.full (ap (λ e. Err e) (told _ _ _ c.from_residual-in_err-sw.ensures.1 e)))
 
-pub join_quarters-overflow_sub-above-4 : goal.join_quarters-overflow_sub-above-4
-join_quarters-overflow_sub-above-4 t c = some_above c.args.above c.requires.least
+pub join_quarters-overflow_sub-se : goal.join_quarters-overflow_sub-se
+join_quarters-overflow_sub-se t c = some_above c.args.pair.above c.requires.least
 
 pub join_quarters-join_squares-requires-4 : goal.join_quarters-join_squares-requires-4
 join_quarters-join_squares-requires-4 t c =
-    let qa : AreQuarters c.args.plane.now.store c.args.above c.args.here c.quarter_parts-a.result = rw c.square.ensures at c.quarter_parts-a.ensures in
-    let qb : AreQuarters c.args.other.now.store c.args.above c.args.there c.quarter_parts-b.result = rw c.square-2.ensures at c.quarter_parts-b.ensures in
-    (part_falls c.args.above t c.requires.least c.decreases, (level_below c.args.above c.requires.most, ((grown_on c.args.plane.now c.join_squares.new.plane c.join_squares-3.new.plane c.in_ok-nw.ensures.grows (grown_on c.join_squares.new.plane c.join_squares-2.new.plane c.join_squares-3.new.plane c.in_ok-ne.ensures.grows c.in_ok-sw.ensures.grows)).store.stands (c.args.above - 1) _ (se_quarter c.args.plane.now.store c.args.above c.args.here c.quarter_parts-a.result qa c.index-a-3.result), (se_quarter c.args.other.now.store c.args.above c.args.there c.quarter_parts-b.result qb c.index-b-3.result, (c.in_ok-sw.ensures.joins, c.in_ok-sw.ensures.copies)))))
+    let qa : AreQuarters c.args.plane.now.store c.args.pair.above c.args.pair.here c.quarter_parts-a.result = rw c.square.ensures at c.quarter_parts-a.ensures in
+    let qb : AreQuarters c.args.other.now.store c.args.pair.above c.args.pair.there c.quarter_parts-b.result = rw c.square-2.ensures at c.quarter_parts-b.ensures in
+    (part_falls c.args.pair.above t c.requires.least c.decreases, (level_below c.args.pair.above c.requires.most, ((grown_on c.args.plane.now c.join_squares.new.plane c.join_squares-3.new.plane c.in_ok-nw.ensures.grows (grown_on c.join_squares.new.plane c.join_squares-2.new.plane c.join_squares-3.new.plane c.in_ok-ne.ensures.grows c.in_ok-sw.ensures.grows)).store.stands (c.args.pair.above - 1) _ (se_quarter c.args.plane.now.store c.args.pair.above c.args.pair.here c.quarter_parts-a.result qa c.index-a-3.result), (se_quarter c.args.other.now.store c.args.pair.above c.args.pair.there c.quarter_parts-b.result qb c.index-b-3.result, (c.in_ok-sw.ensures.joins, c.in_ok-sw.ensures.copies)))))
 
 pub join_quarters-returns-in_err-se-clause-grows : goal.join_quarters-returns-in_err-se-clause-grows
 join_quarters-returns-in_err-se-clause-grows t c = grown_on c.args.plane.now c.join_squares.new.plane c.join_squares-4.new.plane c.in_ok-nw.ensures.grows (grown_on c.join_squares.new.plane c.join_squares-2.new.plane c.join_squares-4.new.plane c.in_ok-ne.ensures.grows (grown_on c.join_squares-2.new.plane c.join_squares-3.new.plane c.join_squares-4.new.plane c.in_ok-sw.ensures.grows c.in_err-se.ensures.grows))
@@ -196,11 +196,11 @@ join_quarters-returns-in_err-se-clause-copies t c = c.in_err-se.ensures.copies
 
 pub join_quarters-returns-in_err-se-clause-full : goal.join_quarters-returns-in_err-se-clause-full
 join_quarters-returns-in_err-se-clause-full t c =
-    let k = c.args.above in
+    let k = c.args.pair.above in
     let n = side_at 8 (k - 1) in
     let some = c.requires.least in
-    let a = c.args.here in
-    let b = c.args.there in
+    let a = c.args.pair.here in
+    let b = c.args.pair.there in
     let pa = c.quarter_parts-a.result in
     let pb = c.quarter_parts-b.result in
     let s0 = c.args.plane.now.store in
@@ -220,11 +220,11 @@ join_quarters-returns-in_err-se-clause-full t c =
 
 pub join_quarters-returns-in_err-part-clause-full : goal.join_quarters-returns-in_err-part-clause-full
 join_quarters-returns-in_err-part-clause-full t c =
-    let k = c.args.above in
+    let k = c.args.pair.above in
     let n = side_at 8 (k - 1) in
     let some = c.requires.least in
-    let a = c.args.here in
-    let b = c.args.there in
+    let a = c.args.pair.here in
+    let b = c.args.pair.there in
     let pa = c.quarter_parts-a.result in
     let pb = c.quarter_parts-b.result in
     let s0 = c.args.plane.now.store in
@@ -250,7 +250,7 @@ join_quarters-returns-in_err-part-clause-full t c =
     λ e. same_full s5 k whole f same (c.in_err-part.ensures.full (ap (λ e. Err e) (told _ _ _ c.from_residual-in_err-part.ensures.1 e)))
 
 pub join_quarters-add_four_over-requires-clause-here : goal.join_quarters-add_four_over-requires-clause-here
-join_quarters-add_four_over-requires-clause-here t c = (grown_on c.args.plane.now c.join_squares.new.plane c.join_squares-4.new.plane c.in_ok-nw.ensures.grows (grown_on c.join_squares.new.plane c.join_squares-2.new.plane c.join_squares-4.new.plane c.in_ok-ne.ensures.grows (grown_on c.join_squares-2.new.plane c.join_squares-3.new.plane c.join_squares-4.new.plane c.in_ok-sw.ensures.grows c.in_ok-se.ensures.grows))).store.stands c.args.above c.args.here c.requires.here
+join_quarters-add_four_over-requires-clause-here t c = (grown_on c.args.plane.now c.join_squares.new.plane c.join_squares-4.new.plane c.in_ok-nw.ensures.grows (grown_on c.join_squares.new.plane c.join_squares-2.new.plane c.join_squares-4.new.plane c.in_ok-ne.ensures.grows (grown_on c.join_squares-2.new.plane c.join_squares-3.new.plane c.join_squares-4.new.plane c.in_ok-sw.ensures.grows c.in_ok-se.ensures.grows))).store.stands c.args.pair.above c.args.pair.here c.requires.here
 
 pub join_quarters-returns-in_err-part-clause-copies : goal.join_quarters-returns-in_err-part-clause-copies
 join_quarters-returns-in_err-part-clause-copies t c = copies_later c.join_squares-4.new.plane.store c.add_four_over.new.plane.store c.args.other.now.store c.join_squares-4.new.copies c.in_err-part.ensures.grows.store c.in_ok-se.ensures.copies
@@ -260,11 +260,11 @@ join_quarters-returns-clause-copies t c = copies_later c.join_squares-4.new.plan
 
 pub join_quarters-returns-in_err-nw-clause-pieces : goal.join_quarters-returns-in_err-nw-clause-pieces
 join_quarters-returns-in_err-nw-clause-pieces t c =
-    let k = c.args.above in
+    let k = c.args.pair.above in
     let n = side_at 8 (k - 1) in
     let some = c.requires.least in
-    let a = c.args.here in
-    let b = c.args.there in
+    let a = c.args.pair.here in
+    let b = c.args.pair.there in
     let pa = c.quarter_parts-a.result in
     let pb = c.quarter_parts-b.result in
     let s0 = c.args.plane.now.store in
@@ -278,11 +278,11 @@ join_quarters-returns-in_err-nw-clause-pieces t c =
 
 pub join_quarters-returns-in_err-ne-clause-pieces : goal.join_quarters-returns-in_err-ne-clause-pieces
 join_quarters-returns-in_err-ne-clause-pieces t c =
-    let k = c.args.above in
+    let k = c.args.pair.above in
     let n = side_at 8 (k - 1) in
     let some = c.requires.least in
-    let a = c.args.here in
-    let b = c.args.there in
+    let a = c.args.pair.here in
+    let b = c.args.pair.there in
     let pa = c.quarter_parts-a.result in
     let pb = c.quarter_parts-b.result in
     let s0 = c.args.plane.now.store in
@@ -300,11 +300,11 @@ join_quarters-returns-in_err-ne-clause-pieces t c =
 
 pub join_quarters-returns-in_err-sw-clause-pieces : goal.join_quarters-returns-in_err-sw-clause-pieces
 join_quarters-returns-in_err-sw-clause-pieces t c =
-    let k = c.args.above in
+    let k = c.args.pair.above in
     let n = side_at 8 (k - 1) in
     let some = c.requires.least in
-    let a = c.args.here in
-    let b = c.args.there in
+    let a = c.args.pair.here in
+    let b = c.args.pair.there in
     let pa = c.quarter_parts-a.result in
     let pb = c.quarter_parts-b.result in
     let s0 = c.args.plane.now.store in
@@ -326,11 +326,11 @@ join_quarters-returns-in_err-sw-clause-pieces t c =
 
 pub join_quarters-returns-in_err-se-clause-pieces : goal.join_quarters-returns-in_err-se-clause-pieces
 join_quarters-returns-in_err-se-clause-pieces t c =
-    let k = c.args.above in
+    let k = c.args.pair.above in
     let n = side_at 8 (k - 1) in
     let some = c.requires.least in
-    let a = c.args.here in
-    let b = c.args.there in
+    let a = c.args.pair.here in
+    let b = c.args.pair.there in
     let pa = c.quarter_parts-a.result in
     let pb = c.quarter_parts-b.result in
     let s0 = c.args.plane.now.store in
@@ -356,11 +356,11 @@ join_quarters-returns-in_err-se-clause-pieces t c =
 
 pub join_quarters-returns-in_err-part-clause-pieces : goal.join_quarters-returns-in_err-part-clause-pieces
 join_quarters-returns-in_err-part-clause-pieces t c =
-    let k = c.args.above in
+    let k = c.args.pair.above in
     let n = side_at 8 (k - 1) in
     let some = c.requires.least in
-    let a = c.args.here in
-    let b = c.args.there in
+    let a = c.args.pair.here in
+    let b = c.args.pair.there in
     let pa = c.quarter_parts-a.result in
     let pb = c.quarter_parts-b.result in
     let s0 = c.args.plane.now.store in
@@ -395,11 +395,11 @@ join_quarters-returns-in_err-part-clause-pieces t c =
 
 pub join_quarters-returns-clause-pieces : goal.join_quarters-returns-clause-pieces
 join_quarters-returns-clause-pieces t c =
-    let k = c.args.above in
+    let k = c.args.pair.above in
     let n = side_at 8 (k - 1) in
     let some = c.requires.least in
-    let a = c.args.here in
-    let b = c.args.there in
+    let a = c.args.pair.here in
+    let b = c.args.pair.there in
     let pa = c.quarter_parts-a.result in
     let pb = c.quarter_parts-b.result in
     let s0 = c.args.plane.now.store in
@@ -433,46 +433,46 @@ join_quarters-returns-clause-pieces t c =
     (adds_as plane_grid 8 s4 s5 k whole f same c.in_ok-part.ensures.pieces)
 
 pub join_squares-returns-then-stays-clause-pieces : goal.join_squares-returns-then-stays-clause-pieces
-join_squares-returns-then-stays-clause-pieces t c = adds_none plane_grid 8 c.args.plane.now.store c.args.above (join_grid c.args.plane.now.store c.args.other.now.store c.args.above c.args.here c.args.there)
+join_squares-returns-then-stays-clause-pieces t c = adds_none plane_grid 8 c.args.plane.now.store c.args.pair.above (join_grid c.args.plane.now.store c.args.other.now.store c.args.pair.above c.args.pair.here c.args.pair.there)
 
 pub join_squares-returns-in-Some-clause-pieces : goal.join_squares-returns-in-Some-clause-pieces
-join_squares-returns-in-Some-clause-pieces t c = adds_none plane_grid 8 c.args.plane.now.store c.args.above (join_grid c.args.plane.now.store c.args.other.now.store c.args.above c.args.here c.args.there)
+join_squares-returns-in-Some-clause-pieces t c = adds_none plane_grid 8 c.args.plane.now.store c.args.pair.above (join_grid c.args.plane.now.store c.args.other.now.store c.args.pair.above c.args.pair.here c.args.pair.there)
 
 pub join_squares-returns-in_err-part-clause-pieces : goal.join_squares-returns-in_err-part-clause-pieces
 join_squares-returns-in_err-part-clause-pieces t c =
     let there = c.args.other.now.store in
     let s0 = c.args.plane.now.store in
-    let f = join_grid s0 there c.args.above c.args.here c.args.there in
-    let brought = grid_at plane_grid 8 there c.args.above c.args.there in
-    let same : AreSameWithin (side_at 8 c.args.above) brought f = λ u v hu hv. sym (right_wins _ _ (c.if-loses.ensures refl u v hu hv)) in
-    adds_as plane_grid 8 s0 c.bring.new.plane.store c.args.above brought f same c.in_err-part.ensures.pieces
+    let f = join_grid s0 there c.args.pair.above c.args.pair.here c.args.pair.there in
+    let brought = grid_at plane_grid 8 there c.args.pair.above c.args.pair.there in
+    let same : AreSameWithin (side_at 8 c.args.pair.above) brought f = λ u v hu hv. sym (right_wins _ _ (c.if-loses.ensures refl u v hu hv)) in
+    adds_as plane_grid 8 s0 c.bring.new.plane.store c.args.pair.above brought f same c.in_err-part.ensures.pieces
 
 pub join_squares-returns-then-loses-clause-pieces : goal.join_squares-returns-then-loses-clause-pieces
 join_squares-returns-then-loses-clause-pieces t c =
     let there = c.args.other.now.store in
     let s0 = c.args.plane.now.store in
-    let f = join_grid s0 there c.args.above c.args.here c.args.there in
-    let brought = grid_at plane_grid 8 there c.args.above c.args.there in
-    let same : AreSameWithin (side_at 8 c.args.above) brought f = λ u v hu hv. sym (right_wins _ _ (c.if-loses.ensures refl u v hu hv)) in
-    adds_as plane_grid 8 s0 c.bring.new.plane.store c.args.above brought f same c.in_ok-part.ensures.pieces
+    let f = join_grid s0 there c.args.pair.above c.args.pair.here c.args.pair.there in
+    let brought = grid_at plane_grid 8 there c.args.pair.above c.args.pair.there in
+    let same : AreSameWithin (side_at 8 c.args.pair.above) brought f = λ u v hu hv. sym (right_wins _ _ (c.if-loses.ensures refl u v hu hv)) in
+    adds_as plane_grid 8 s0 c.bring.new.plane.store c.args.pair.above brought f same c.in_ok-part.ensures.pieces
 
 pub join_squares-returns-in_err-part-clause-full : goal.join_squares-returns-in_err-part-clause-full
 join_squares-returns-in_err-part-clause-full t c =
     let there = c.args.other.now.store in
     let s0 = c.args.plane.now.store in
-    let f = join_grid s0 there c.args.above c.args.here c.args.there in
-    let brought = grid_at plane_grid 8 there c.args.above c.args.there in
-    let same : AreSameWithin (side_at 8 c.args.above) brought f = λ u v hu hv. sym (right_wins _ _ (c.if-loses.ensures refl u v hu hv)) in
-    λ e. same_full c.bring.new.plane.store c.args.above brought f same (c.in_err-part.ensures.full (ap (λ e. Err e) (told _ _ _ c.from_residual.ensures.1 e)))
+    let f = join_grid s0 there c.args.pair.above c.args.pair.here c.args.pair.there in
+    let brought = grid_at plane_grid 8 there c.args.pair.above c.args.pair.there in
+    let same : AreSameWithin (side_at 8 c.args.pair.above) brought f = λ u v hu hv. sym (right_wins _ _ (c.if-loses.ensures refl u v hu hv)) in
+    λ e. same_full c.bring.new.plane.store c.args.pair.above brought f same (c.in_err-part.ensures.full (ap (λ e. Err e) (told _ _ _ c.from_residual.ensures.1 e)))
 
 pub join_squares-returns-in_err-part-2-clause-pieces : goal.join_squares-returns-in_err-part-2-clause-pieces
-join_squares-returns-in_err-part-2-clause-pieces t c = subst (λ k. AddsPiecesOfGrid plane_grid 8 c.args.plane.now.store c.join_leaves.new.plane.store k (join_grid c.args.plane.now.store c.args.other.now.store k c.args.here c.args.there)) (sym c.if-above-eq0.true) c.in_err-part-2.ensures.pieces
+join_squares-returns-in_err-part-2-clause-pieces t c = subst (λ k. AddsPiecesOfGrid plane_grid 8 c.args.plane.now.store c.join_leaves.new.plane.store k (join_grid c.args.plane.now.store c.args.other.now.store k c.args.pair.here c.args.pair.there)) (sym c.if-above-eq0.true) c.in_err-part-2.ensures.pieces
 
 pub join_squares-returns-then-above-eq0-clause-pieces : goal.join_squares-returns-then-above-eq0-clause-pieces
-join_squares-returns-then-above-eq0-clause-pieces t c = subst (λ k. AddsPiecesOfGrid plane_grid 8 c.args.plane.now.store c.join_leaves.new.plane.store k (join_grid c.args.plane.now.store c.args.other.now.store k c.args.here c.args.there)) (sym c.if-above-eq0.true) c.in_ok-part-2.ensures.pieces
+join_squares-returns-then-above-eq0-clause-pieces t c = subst (λ k. AddsPiecesOfGrid plane_grid 8 c.args.plane.now.store c.join_leaves.new.plane.store k (join_grid c.args.plane.now.store c.args.other.now.store k c.args.pair.here c.args.pair.there)) (sym c.if-above-eq0.true) c.in_ok-part-2.ensures.pieces
 
 pub join_squares-returns-in_err-part-2-clause-full : goal.join_squares-returns-in_err-part-2-clause-full
-join_squares-returns-in_err-part-2-clause-full t c = λ e. subst (λ k. IsFullStoreFor c.join_leaves.new.plane.store k (join_grid c.args.plane.now.store c.args.other.now.store k c.args.here c.args.there)) (sym c.if-above-eq0.true) (c.in_err-part-2.ensures.full (ap (λ e. Err e) (told _ _ _ c.from_residual-in_err-part-2.ensures.1 e)))
+join_squares-returns-in_err-part-2-clause-full t c = λ e. subst (λ k. IsFullStoreFor c.join_leaves.new.plane.store k (join_grid c.args.plane.now.store c.args.other.now.store k c.args.pair.here c.args.pair.there)) (sym c.if-above-eq0.true) (c.in_err-part-2.ensures.full (ap (λ e. Err e) (told _ _ _ c.from_residual-in_err-part-2.ensures.1 e)))
 
 pub join_squares-returns-in_err-part-3-clause-pieces : goal.join_squares-returns-in_err-part-3-clause-pieces
 join_squares-returns-in_err-part-3-clause-pieces t c = c.in_err-part-3.ensures.pieces

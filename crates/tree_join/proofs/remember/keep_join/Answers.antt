@@ -5,7 +5,7 @@ use Rattle.tree_join.proofs.remember.keep_join.Goals as goal
 
 pub returns-in-Ok-clause-joins : goal.returns-in-Ok-clause-joins
 returns-in-Ok-clause-joins c = record {
-  each = λ q p e. kept_more is_part_pair pair_is (λ k w. IsSquareJoin c.args.plane.now.store c.args.other.now.store k.above k.here k.there w) (record { above = c.args.above; here = c.args.here; there = c.args.there }) q c.args.part p _ _ (c.in-Ok.ensures.updates.0 q) e c.requires.joined (c.requires.joins.each q p);
+  each = λ q p e. kept_more is_part_pair pair_is (λ k w. IsSquareJoin c.args.plane.now.store c.args.other.now.store k.above k.here k.there w) c.args.pair q c.args.part p _ _ (c.in-Ok.ensures.updates.0 q) e c.requires.joined (c.requires.joins.each q p);
 }
 
 pub returns-in-Err-clause-joins : goal.returns-in-Err-clause-joins
