@@ -1,6 +1,6 @@
 //! Patterns by their names.
 
-ghost use Rattle.std.specs.Prelude.{◌≡◌, List, ℕ, OnOk, IfErr, IfOk, IsSome, option_copied};
+ghost use Rattle.std.specs.Prelude.{◌≡◌, List, ℕ, OnOk, OnErr, IfErr, IfOk, IsSome, option_copied};
 ghost use Rattle.genedit_lib.specs.Output.{no_patterns, with_pattern};
 ghost use Rattle.genedit_lib.specs.Patterns.{pattern_in};
 
@@ -16,7 +16,7 @@ pub struct Patterns {
 }
 
 impl Patterns {
-    ghost use Rattle.std.specs.Prelude.{◌≡◌, List, ℕ, OnOk, IfErr, IfOk, IsSome, option_copied};
+    ghost use Rattle.std.specs.Prelude.{◌≡◌, List, ℕ, OnOk, OnErr, IfErr, IfOk, IsSome, option_copied};
     ghost use Rattle.genedit_lib.specs.Output.{no_patterns, with_pattern};
     ghost use Rattle.genedit_lib.specs.Patterns.{pattern_in};
 
@@ -45,7 +45,8 @@ impl Patterns {
 
     /// From here on the name stands for the pattern.
     pub fn insert(&mut self, name: PatternName, pattern: Pattern) -> Result<(), AllocError>
-        ensures { OnOk result ((other : List ℕ) → pattern_in self.new other ≡ with_pattern (pattern_in self.old) name pattern other) }
+        ensures named { OnOk result ((other : List ℕ) → pattern_in self.new other ≡ with_pattern (pattern_in self.old) name pattern other) }
+        ensures err { OnErr result ((other : List ℕ) → pattern_in self.new other ≡ pattern_in self.old other) }
     {
         self.by_name.insert(name, pattern)?;
         Ok(())

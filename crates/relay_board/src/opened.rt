@@ -5,6 +5,7 @@ ghost use Rattle.std.specs.Prelude.{◌≡◌, ◌≢◌, ◌<◌, ◌≤◌, �
 ghost use Rattle.std.specs.Arc.{arc_value};
 ghost use Rattle.crossbeam_queue.specs.Passes.{view, ruled_capacity};
 ghost use Rattle.board.specs.Sights.{label_of};
+ghost use Rattle.relay_core.specs.Chairs.{IsSameDrain};
 ghost use Rattle.relay_board.specs.Seating.{Numbered, AllFresh};
 ghost use Rattle.relay_board.specs.Starting.{fits, Starts};
 
@@ -83,7 +84,7 @@ fn seats<J: Naming>(
     requires rule { rule.states ≡ publisher.old.origin.states }
     requires named { (publisher.old.origin ≡ J.origin) × ((arc_value drain.old.queue).table.shared.table_id ≡ J.inbox) × ((view drain.old.pass).label ≡ label_of J.origin) }
     ensures publisher { publisher.new ≡ publisher.old }
-    ensures drain { (drain.new.queue ≡ drain.old.queue) × (drain.new.empties ≡ drain.old.empties) × ((view drain.new.pass).label ≡ (view drain.old.pass).label) × ((view drain.new.pass).out ≡ (view drain.old.pass).out) × ((view drain.new.pass).known ≡ (view drain.old.pass).known) }
+    ensures drain { IsSameDrain drain.old drain.new }
     ensures seats { IfOk result (λ v. AllFresh rule (ruled_capacity (arc_value drain.old.queue)) 0 v.items × (length v.items ≡ count) × ((view drain.new.pass).made ≡ count)) }
     ensures err { IfErr result (λ f. f ≢ StartFault.Size) }
 {

@@ -16,5 +16,6 @@ invariant_of-self-2 c =
       own = c.if-not-add.ensures.book ∙ c.self.invariant.own;
       plane = subst (λ (l : List Entry). AreSame (map_of c.set_root.new.self) (greatest (edits_of l))) (sym new)
           (greatest_more old e (map_of c.self.inside.plane) (map_of c.set_root.new.self) c.self.invariant.plane (λ at. c.set_root.ensures.map at ∙ (rw c.from_ref.ensures.value at c.in-Ok.ensures.joins.joins at)));
+      room = c.set_root.ensures.room ∙ (c.in-Ok.ensures.before.room ∙ c.self.invariant.room);
       last = c.push.ensures ∙ ((λ i. keep_last 1024 (c.self.invariant.last i ++ c.in_ok-edit.ensures i ∷ [])) ∙ (last_more old e ∙ ap (λ (l : List Entry). last_of (edits_of l)) (sym new)));
     }
