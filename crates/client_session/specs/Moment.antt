@@ -4,6 +4,7 @@ use Rattle.devices.specs.Source.{KnownSource}
 use Rattle.devices.specs.Sink.{KnownSink}
 use Rattle.message_frames.specs.Frames.{FrameStream}
 use Rattle.edit_stamps.specs.Edit.{PlaneEdit}
+use Rattle.frame_line.specs.declared.line.Line.{Line}
 use Rattle.board_client.specs.Client.{LineState, line_at}
 use Rattle.client_session.specs.declared.fault.SeatFault.{SeatFault}
 use Rattle.client_session.specs.declared.fault.SeatFault.TheVariants.{Client, Refused, Memory, StoreFull}
@@ -18,6 +19,10 @@ pub record Moment : Type 0 where
 
 abbrev pub moment_at : FrameStream → KnownSource → KnownSink → Seat → List ℕ → Moment
 moment_at frames source sink seat out = record { line = line_at frames source sink; seat = seat; out = out }
+
+-- the same, of a line and what is known of its ends
+abbrev pub moment : {S K : Type 0} → (S → KnownSource) → (K → KnownSink) → Line S K → Seat → List ℕ → Moment
+moment source sink line seat out = moment_at line.frames (source line.source) (sink line.sink) seat out
 
 -- how many edits of others came since a number of edits, or a whole plane, was last told
 abbrev pub others : Seat → ℕ

@@ -4,7 +4,7 @@ ghost use Rattle.std.specs.Prelude.{◌≡◌, IfErr, IfOk, IsSome, OnOk, option
 ghost use Rattle.replica_events.specs.declared.edit_spec.EditSpec.TheVariants.{Copy, Or};
 ghost use Rattle.genedit_lib.specs.Patterns.{pattern_in};
 ghost use Rattle.client_session.specs.Drawing.{DrawsAs, IsDrawCommand, IsPaste, TellsDrawing, TellsDrawn, outcome_of};
-ghost use Rattle.client_session.specs.Moment.{IsWant, moment_at};
+ghost use Rattle.client_session.specs.Moment.{IsWant, moment};
 
 use crate::fault::SeatFault;
 use crate::lines::{push_drawn, push_nameless, push_refusal};
@@ -56,7 +56,7 @@ impl Seat {
         after: u64,
         spec: &EditSpec,
     ) -> Result<Outcome, SeatFault>
-        ensures { IsDrawCommand after spec.now (moment_at line.old.frames (S.known line.old.source) (K.known line.old.sink) self.old out.old.items) (moment_at line.new.frames (S.known line.new.source) (K.known line.new.sink) self.new out.new.items) result }
+        ensures { IsDrawCommand after spec.now (moment S.known K.known line.old self.old out.old.items) (moment S.known K.known line.new self.new out.new.items) result }
     {
         match self.news(clock, alloc, line, out) {
             Ok(News::Refused) => Ok(Outcome::Refused),
@@ -76,7 +76,7 @@ impl Seat {
         name: &PatternName,
         corner: Corner,
     ) -> Result<Outcome, SeatFault>
-        ensures { IsPaste (option_map (λ pattern. Copy pattern corner.x corner.y) (pattern_in self.old.patterns name.now)) (moment_at line.old.frames (S.known line.old.source) (K.known line.old.sink) self.old out.old.items) (moment_at line.new.frames (S.known line.new.source) (K.known line.new.sink) self.new out.new.items) result }
+        ensures { IsPaste (option_map (λ pattern. Copy pattern corner.x corner.y) (pattern_in self.old.patterns name.now)) (moment S.known K.known line.old self.old out.old.items) (moment S.known K.known line.new self.new out.new.items) result }
     {
         let spec = match copied(&self.patterns, name, corner) {
             Ok(spec) => spec,
@@ -95,7 +95,7 @@ impl Seat {
         name: &PatternName,
         corner: Corner,
     ) -> Result<Outcome, SeatFault>
-        ensures { IsPaste (option_map (λ pattern. Or pattern corner.x corner.y) (pattern_in self.old.patterns name.now)) (moment_at line.old.frames (S.known line.old.source) (K.known line.old.sink) self.old out.old.items) (moment_at line.new.frames (S.known line.new.source) (K.known line.new.sink) self.new out.new.items) result }
+        ensures { IsPaste (option_map (λ pattern. Or pattern corner.x corner.y) (pattern_in self.old.patterns name.now)) (moment S.known K.known line.old self.old out.old.items) (moment S.known K.known line.new self.new out.new.items) result }
     {
         let spec = match ored(&self.patterns, name, corner) {
             Ok(spec) => spec,
@@ -113,7 +113,7 @@ impl Seat {
         out: &mut Vec<u8>,
         spec: Option<EditSpec>,
     ) -> Result<Outcome, SeatFault>
-        ensures { IsPaste spec (moment_at line.old.frames (S.known line.old.source) (K.known line.old.sink) self.old out.old.items) (moment_at line.new.frames (S.known line.new.source) (K.known line.new.sink) self.new out.new.items) result }
+        ensures { IsPaste spec (moment S.known K.known line.old self.old out.old.items) (moment S.known K.known line.new self.new out.new.items) result }
     {
         match spec {
             Some(spec) => self.draw(clock, alloc, line, out, 0, &spec),
@@ -134,7 +134,7 @@ impl Seat {
         after: u64,
         spec: &EditSpec,
     ) -> Result<Outcome, SeatFault>
-        ensures { DrawsAs self.old.closed after spec.now (moment_at line.old.frames (S.known line.old.source) (K.known line.old.sink) self.old out.old.items) (moment_at line.new.frames (S.known line.new.source) (K.known line.new.sink) self.new out.new.items) result }
+        ensures { DrawsAs self.old.closed after spec.now (moment S.known K.known line.old self.old out.old.items) (moment S.known K.known line.new self.new out.new.items) result }
     {
         if self.closed {
             return match push_refusal(alloc, out, CLOSED) {

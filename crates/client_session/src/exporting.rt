@@ -2,7 +2,7 @@
 
 ghost use Rattle.std.specs.Prelude.{◌≡◌};
 ghost use Rattle.client_session.specs.Exporting.{IsExportAnswer, IsExportCommand, IsExportPrint, IsExportTextCommand, IsSaveCommand, IsStateAnswer};
-ghost use Rattle.client_session.specs.Moment.{moment_at};
+ghost use Rattle.client_session.specs.Moment.{moment};
 
 use crate::fault::SeatFault;
 use crate::polling::News;
@@ -25,7 +25,7 @@ impl Seat {
         out: &mut Vec<u8>,
         generation: u32,
     ) -> Result<(), SeatFault>
-        ensures { IsExportCommand generation (moment_at line.old.frames (S.known line.old.source) (K.known line.old.sink) self.old out.old.items) (moment_at line.new.frames (S.known line.new.source) (K.known line.new.sink) self.new out.new.items) result }
+        ensures { IsExportCommand generation (moment S.known K.known line.old self.old out.old.items) (moment S.known K.known line.new self.new out.new.items) result }
     {
         match self.news(clock, alloc, line, out) {
             Ok(News::Refused) => Ok(()),
@@ -44,7 +44,7 @@ impl Seat {
         out: &mut Vec<u8>,
         generation: u32,
     ) -> Result<Option<Vec<u8>>, SeatFault>
-        ensures { IsExportTextCommand (λ text. text.items) generation (moment_at line.old.frames (S.known line.old.source) (K.known line.old.sink) self.old out.old.items) (moment_at line.new.frames (S.known line.new.source) (K.known line.new.sink) self.new out.new.items) result }
+        ensures { IsExportTextCommand (λ text. text.items) generation (moment S.known K.known line.old self.old out.old.items) (moment S.known K.known line.new self.new out.new.items) result }
     {
         match self.news(clock, alloc, line, out) {
             Ok(News::Refused) => Ok(None),
@@ -62,7 +62,7 @@ impl Seat {
         line: &mut Line<S, K>,
         out: &mut Vec<u8>,
     ) -> Result<Option<Vec<u8>>, SeatFault>
-        ensures { IsSaveCommand (λ text. text.items) (moment_at line.old.frames (S.known line.old.source) (K.known line.old.sink) self.old out.old.items) (moment_at line.new.frames (S.known line.new.source) (K.known line.new.sink) self.new out.new.items) result }
+        ensures { IsSaveCommand (λ text. text.items) (moment S.known K.known line.old self.old out.old.items) (moment S.known K.known line.new self.new out.new.items) result }
     {
         match self.news(clock, alloc, line, out) {
             Ok(News::Refused) => Ok(None),

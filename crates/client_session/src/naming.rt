@@ -1,6 +1,6 @@
 //! Patterns that are given names.
 
-ghost use Rattle.std.specs.Prelude.{◌≡◌, ◌++◌, codes, List, ℕ, OnOk};
+ghost use Rattle.std.specs.Prelude.{◌≡◌, ◌++◌, codes, List, ℕ, OnErr, OnOk};
 ghost use Rattle.multistate_rle.specs.Reading.{parsed};
 ghost use Rattle.genedit_lib.specs.Output.{naming_text, with_text};
 ghost use Rattle.genedit_lib.specs.Patterns.{pattern_in};
@@ -23,6 +23,7 @@ impl Seat {
     ) -> Result<(), AllocError>
         ensures told { OnOk result (out.new.items ≡ out.old.items ++ (naming_text name (parsed text.now) ++ codes "\n")) }
         ensures named { OnOk result ((other : List ℕ) → pattern_in self.new.patterns other ≡ with_text (pattern_in self.old.patterns) name (parsed text.now) other) }
+        ensures err { OnErr result ((other : List ℕ) → pattern_in self.new.patterns other ≡ pattern_in self.old.patterns other) }
         ensures kept { self.new ≡ record self.old { patterns = self.new.patterns } }
     {
         give_name(alloc, &mut self.patterns, out, name, text)
@@ -38,6 +39,7 @@ fn give_name(
 ) -> Result<(), AllocError>
     ensures told { OnOk result (out.new.items ≡ out.old.items ++ (naming_text name (parsed text.now) ++ codes "\n")) }
     ensures named { OnOk result ((other : List ℕ) → pattern_in patterns.new other ≡ with_text (pattern_in patterns.old) name (parsed text.now) other) }
+    ensures err { OnErr result ((other : List ℕ) → pattern_in patterns.new other ≡ pattern_in patterns.old other) }
 {
     match parse(alloc, text.as_slice()) {
         Ok(pattern) => {

@@ -3,7 +3,7 @@
 ghost use Rattle.std.specs.Prelude.{◌≡◌, IfErr, OnOk};
 ghost use Rattle.client_session.specs.Waiting.{IsCount};
 ghost use Rattle.client_session.specs.Lines.{edits_line, late_line};
-ghost use Rattle.client_session.specs.Moment.{IsNumberTold, IsWant, moment_at};
+ghost use Rattle.client_session.specs.Moment.{IsNumberTold, IsWant, moment};
 ghost use Rattle.client_session.specs.News.{IsFollowing, IsNews, IsPollTold};
 ghost use Rattle.client_session.specs.Telling.{IsPollingTold, TellsBehind, TellsWhole};
 
@@ -38,7 +38,7 @@ impl Seat {
         line: &mut Line<S, K>,
         out: &mut Vec<u8>,
     ) -> Result<(), SeatFault>
-        ensures { IsFollowing (moment_at line.old.frames (S.known line.old.source) (K.known line.old.sink) self.old out.old.items) (moment_at line.new.frames (S.known line.new.source) (K.known line.new.sink) self.new out.new.items) result }
+        ensures { IsFollowing (moment S.known K.known line.old self.old out.old.items) (moment S.known K.known line.new self.new out.new.items) result }
     {
         match self.told_poll(clock, alloc, line, out) {
             Ok(_) => Ok(()),
@@ -56,7 +56,7 @@ impl Seat {
         line: &mut Line<S, K>,
         out: &mut Vec<u8>,
     ) -> Result<(), SeatFault>
-        ensures { IsCount (moment_at line.old.frames (S.known line.old.source) (K.known line.old.sink) self.old out.old.items) (moment_at line.new.frames (S.known line.new.source) (K.known line.new.sink) self.new out.new.items) result }
+        ensures { IsCount (moment S.known K.known line.old self.old out.old.items) (moment S.known K.known line.new self.new out.new.items) result }
     {
         match self.news(clock, alloc, line, out) {
             Ok(News::Edits) => self.tell_count(out),
@@ -73,7 +73,7 @@ impl Seat {
         line: &mut Line<S, K>,
         out: &mut Vec<u8>,
     ) -> Result<News, SeatFault>
-        ensures { IsNews (moment_at line.old.frames (S.known line.old.source) (K.known line.old.sink) self.old out.old.items) (moment_at line.new.frames (S.known line.new.source) (K.known line.new.sink) self.new out.new.items) result }
+        ensures { IsNews (moment S.known K.known line.old self.old out.old.items) (moment S.known K.known line.new self.new out.new.items) result }
     {
         match self.told_poll(clock, alloc, line, out) {
             Ok(Polling::Edits(_)) => Ok(News::Edits),
@@ -94,7 +94,7 @@ impl Seat {
         line: &mut Line<S, K>,
         out: &mut Vec<u8>,
     ) -> Result<Polling, SeatFault>
-        ensures { IsPollTold (moment_at line.old.frames (S.known line.old.source) (K.known line.old.sink) self.old out.old.items) (moment_at line.new.frames (S.known line.new.source) (K.known line.new.sink) self.new out.new.items) result }
+        ensures { IsPollTold (moment S.known K.known line.old self.old out.old.items) (moment S.known K.known line.new self.new out.new.items) result }
     {
         let known = self.replica.journal().len();
         let polling = match poll(clock, alloc, line, &mut self.replica) {

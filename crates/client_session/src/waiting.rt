@@ -1,6 +1,6 @@
 //! Waiting for edits of others.
 
-ghost use Rattle.client_session.specs.Moment.{moment_at};
+ghost use Rattle.client_session.specs.Moment.{moment};
 ghost use Rattle.client_session.specs.Waiting.{IsWait};
 
 use crate::fault::SeatFault;
@@ -36,7 +36,7 @@ impl Seat {
         awaited: u32,
         patience: Patience,
     ) -> Result<(), SeatFault>
-        ensures { IsWait awaited (moment_at line.old.frames (S.known line.old.source) (K.known line.old.sink) self.old out.old.items) (moment_at line.new.frames (S.known line.new.source) (K.known line.new.sink) self.new out.new.items) result }
+        ensures { IsWait awaited (moment S.known K.known line.old self.old out.old.items) (moment S.known K.known line.new self.new out.new.items) result }
     {
         let end = end_of(clock, patience.milliseconds);
         for _turn in 0..TURNS {

@@ -3,6 +3,7 @@ use Rattle.std.specs.Prelude.{◌≡◌, ◌⊎◌, ⊤, ℕ, ◌+◌, ◌/◌, 
 use Rattle.generations_rule.specs.Rule.{GenerationsRule}
 use Rattle.multistate_rle.specs.declared.cell.Cell.{Cell}
 use Rattle.multistate_rle.specs.declared.fault.RleFault.{RleFault}
+use Rattle.multistate_rle.specs.HeaderLine.{HasNoHeader}
 use Rattle.multistate_rle.specs.Pattern.{RlePattern}
 use Rattle.multistate_rle.specs.Reading.{parsed}
 use Rattle.multistate_rle.specs.RleFault.{text_fault_number, text_fault_text}
@@ -115,15 +116,16 @@ abbrev pub OpensAs : Result RlePattern RleFault → Moment → Moment → Result
 OpensAs (Ok pattern) m n result = IsDrawCommand 0 (Or pattern pattern.pos.0 pattern.pos.1) m n result
 OpensAs (Err fault) m n result = IsPrinted Refused (refused_text (text_fault_number fault) (text_fault_text fault) ++ codes "\n") m n result
 
-abbrev pub OpensPattern : Result RlePattern RleFault → Moment → Moment → Result Outcome SeatFault → Type 0
-OpensPattern read m n result = LacksMemory m n result ⊎ OpensAs read m n result
+-- or memory is wanting, though not of a text without a header: that is refused for it
+abbrev pub OpensPattern : List ℕ → Moment → Moment → Result Outcome SeatFault → Type 0
+OpensPattern text m n result = (LacksMemory m n result × (HasNoHeader text → ⊥)) ⊎ OpensAs (parsed text) m n result
 
 -- ---- both
 
 abbrev pub OpensBy : Result Bool ReadFault → List ℕ → Moment → Moment → Result Outcome SeatFault → Type 0
 OpensBy (Ok false) text m n result = OpensBoard text m n result
-OpensBy (Ok true) text m n result = OpensPattern (parsed text) m n result
-OpensBy (Err fault) text m n result = OpensPattern (parsed text) m n result
+OpensBy (Ok true) text m n result = OpensPattern text m n result
+OpensBy (Err fault) text m n result = OpensPattern text m n result
 
 -- a text is drawn as a board that was saved where it begins as one, and else as a pattern
 abbrev pub IsOpened : List ℕ → Moment → Moment → Result Outcome SeatFault → Type 0

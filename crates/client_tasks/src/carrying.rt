@@ -1,7 +1,7 @@
 //! Commands.
 
 ghost use Rattle.std.specs.Prelude.{◌≡◌};
-ghost use Rattle.client_session.specs.Moment.{moment_at};
+ghost use Rattle.client_session.specs.Moment.{moment};
 ghost use Rattle.client_tasks.specs.Carrying.{IsCarriedOut, IsNaming, IsShowing};
 
 use crate::done::{Done, drawn, told, written};
@@ -24,7 +24,7 @@ pub fn carry_out<C: Clock, S: Source + Drop, K: Sink + Drop>(
     command: ClientCommand,
     interval: u32,
 ) -> Result<Done, SeatFault>
-    ensures { IsCarriedOut command (moment_at line.old.frames (S.known line.old.source) (K.known line.old.sink) seat.old out.old.items) (moment_at line.new.frames (S.known line.new.source) (K.known line.new.sink) seat.new out.new.items) result }
+    ensures { IsCarriedOut command (moment S.known K.known line.old seat.old out.old.items) (moment S.known K.known line.new seat.new out.new.items) result }
 {
     match command {
         ClientCommand::Draw(spec) => drawn(seat.draw(clock, alloc, line, out, 0, &spec)),

@@ -2,7 +2,7 @@
 
 ghost use Rattle.std.specs.Prelude.{◌≡◌, IfOk};
 ghost use Rattle.replica_events.specs.declared.edit_spec.EditSpec.TheVariants.{Cells};
-ghost use Rattle.client_session.specs.Moment.{moment_at};
+ghost use Rattle.client_session.specs.Moment.{moment};
 ghost use Rattle.client_tasks.specs.Opening.{DrawsAll, DrawsSome};
 
 use client_session::{Outcome, Seat, SeatFault};
@@ -25,7 +25,7 @@ pub(crate) fn draw_all<C: Clock, S: Source + Drop, K: Sink + Drop>(
     after: u64,
     cells: &[Cell],
 ) -> Result<Outcome, SeatFault>
-    ensures { DrawsAll after cells.now (moment_at line.old.frames (S.known line.old.source) (K.known line.old.sink) seat.old out.old.items) (moment_at line.new.frames (S.known line.new.source) (K.known line.new.sink) seat.new out.new.items) result }
+    ensures { DrawsAll after cells.now (moment S.known K.known line.old seat.old out.old.items) (moment S.known K.known line.new seat.new out.new.items) result }
 {
     let mut rest = cells;
     while rest.len() > MOST_CELLS {
@@ -50,7 +50,7 @@ fn draw_some<C: Clock, S: Source + Drop, K: Sink + Drop>(
     after: u64,
     cells: &[Cell],
 ) -> Result<Outcome, SeatFault>
-    ensures { DrawsSome after cells.now (moment_at line.old.frames (S.known line.old.source) (K.known line.old.sink) seat.old out.old.items) (moment_at line.new.frames (S.known line.new.source) (K.known line.new.sink) seat.new out.new.items) result }
+    ensures { DrawsSome after cells.now (moment S.known K.known line.old seat.old out.old.items) (moment S.known K.known line.new seat.new out.new.items) result }
 {
     match spec_of(alloc, cells) {
         Ok(spec) => seat.draw(clock, alloc, line, out, after, &spec),

@@ -1,9 +1,8 @@
 //! Files that are opened.
 
 ghost use Rattle.std.specs.Prelude.{◌≡◌, ◌<◌, ◌^◌, Ok, false};
-ghost use Rattle.multistate_rle.specs.Reading.{parsed};
 ghost use Rattle.delta_exchange.specs.MessageReading.{begins_as_delta};
-ghost use Rattle.client_session.specs.Moment.{moment_at};
+ghost use Rattle.client_session.specs.Moment.{moment};
 ghost use Rattle.client_tasks.specs.Opening.{IsOpened, OpensBoard, OpensPattern, OpensSaved, want_of};
 
 use crate::drawing::draw_all;
@@ -32,7 +31,7 @@ pub fn open<C: Clock, S: Source + Drop, K: Sink + Drop>(
     out: &mut Vec<u8>,
     text: &[u8],
 ) -> Result<Outcome, SeatFault>
-    ensures { IsOpened text.now (moment_at line.old.frames (S.known line.old.source) (K.known line.old.sink) seat.old out.old.items) (moment_at line.new.frames (S.known line.new.source) (K.known line.new.sink) seat.new out.new.items) result }
+    ensures { IsOpened text.now (moment S.known K.known line.old seat.old out.old.items) (moment S.known K.known line.new seat.new out.new.items) result }
 {
     match is_delta(text) {
         Ok(false) => open_board(clock, alloc, line, seat, out, text),
@@ -49,7 +48,7 @@ fn open_board<C: Clock, S: Source + Drop, K: Sink + Drop>(
     text: &[u8],
 ) -> Result<Outcome, SeatFault>
     requires { begins_as_delta text.now ≡ Ok false }
-    ensures { OpensBoard text.now (moment_at line.old.frames (S.known line.old.source) (K.known line.old.sink) seat.old out.old.items) (moment_at line.new.frames (S.known line.new.source) (K.known line.new.sink) seat.new out.new.items) result }
+    ensures { OpensBoard text.now (moment S.known K.known line.old seat.old out.old.items) (moment S.known K.known line.new seat.new out.new.items) result }
 {
     let key = seat.replica.plane().key();
     match saved_in(alloc, &seat.replica.rule(), key, text) {
@@ -82,7 +81,7 @@ fn open_saved<C: Clock, S: Source + Drop, K: Sink + Drop>(
     saved: &Saved,
 ) -> Result<Outcome, SeatFault>
     requires { saved.now.counter < 2 ^ 48 }
-    ensures { OpensSaved saved.now.cells.items saved.now.counter (moment_at line.old.frames (S.known line.old.source) (K.known line.old.sink) seat.old out.old.items) (moment_at line.new.frames (S.known line.new.source) (K.known line.new.sink) seat.new out.new.items) result }
+    ensures { OpensSaved saved.now.cells.items saved.now.counter (moment S.known K.known line.old seat.old out.old.items) (moment S.known K.known line.new seat.new out.new.items) result }
 {
     if !suffice(seat.replica.plane(), saved.counter, &saved.cells) {
         return refuse(alloc, out, Fault::ClockFull);
@@ -98,7 +97,7 @@ fn open_pattern<C: Clock, S: Source + Drop, K: Sink + Drop>(
     out: &mut Vec<u8>,
     text: &[u8],
 ) -> Result<Outcome, SeatFault>
-    ensures { OpensPattern (parsed text.now) (moment_at line.old.frames (S.known line.old.source) (K.known line.old.sink) seat.old out.old.items) (moment_at line.new.frames (S.known line.new.source) (K.known line.new.sink) seat.new out.new.items) result }
+    ensures { OpensPattern text.now (moment S.known K.known line.old seat.old out.old.items) (moment S.known K.known line.new seat.new out.new.items) result }
 {
     match parse(alloc, text) {
         Ok(pattern) => {

@@ -13,7 +13,7 @@ ghost use Rattle.inbox.specs.Counts.{counted, WasFull};
 ghost use Rattle.inbox.specs.Hands.{entry};
 ghost use Rattle.receipts.specs.About.{known_by, told_by};
 ghost use Rattle.receipts.specs.Topics.{topic};
-ghost use Rattle.relay_core.specs.Refusals.{Passes, Refuses};
+ghost use Rattle.relay_core.specs.Refusals.{Passes};
 
 use crate::door::Door;
 use crate::fault::{Gone, SubmitFault};
@@ -61,16 +61,18 @@ fn is_under(edit: &Edit, rule: &Rule) -> bool
 }
 
 impl Chair {
+    ghost use Rattle.relay_core.specs.Chairs.{IsSameSeat, RefusesEdit};
+
     /// Submits an edit: its stamp's replica is to be the seat's number, its states are to be the rule's, and the
     /// relay has to take submissions; then it is put. The first that fails is told, and the edit handed back.
     pub fn submit<R: Wait>(&mut self, rt: &R, edit: Edit) -> Result<Pending, (Edit, SubmitFault)>
         requires label { label_of (origin self.old.reader.window.front) ≡ (view self.old.post.pass).label }
-        ensures same { (self.new.reader ≡ self.old.reader) × (self.new.rule ≡ self.old.rule) × (self.new.post.seat ≡ self.old.post.seat) × (self.new.post.queue ≡ self.old.post.queue) × ((view self.new.post.pass).label ≡ (view self.old.post.pass).label) }
+        ensures same { IsSameSeat self.old self.new }
         ensures pending { IfOk result (λ p. known_by (claim p.pass) ≡ topic (entry self.old.post.seat (counted (length (view self.old.post.pass).put + 1)) edit) (origin self.old.reader.window.front)) }
         ensures put { IfOk result (λ p. (view self.new.post.pass).put ≡ (view self.old.post.pass).put ++ (claim p.pass).entry ∷ []) }
         ensures passes { IfOk result (λ _. Passes (replica_in edit.stamp == self.old.number) (has_states_below self.old.rule.states edit)) }
         ensures denied { IfErr result (λ r. (r.0 ≡ edit) × (view self.new.post.pass ≡ view self.old.post.pass)) }
-        ensures refused { IfErr result (λ r. Refuses r.1 (replica_in edit.stamp == self.old.number) (has_states_below self.old.rule.states edit) self.old.post.full self.new.post.full (WasFull (ruled_capacity (arc_value self.old.post.queue)) (view self.old.post.pass))) }
+        ensures refused { IfErr result (λ r. RefusesEdit edit self.old self.new r.1) }
         ensures full { IfOk result (λ _. self.new.post.full ≡ self.old.post.full) }
     {
         if !is_of(&edit, self.number) {

@@ -4,7 +4,7 @@ ghost use Rattle.std.specs.Prelude.{◌≡◌, ◌≢◌, IfErr, ◌≤◌, ◌<
 ghost use Rattle.std.specs.Arc.{arc_value};
 ghost use Rattle.crossbeam_queue.specs.Passes.{view, ruled_capacity};
 ghost use Rattle.board.specs.Origins.{origin, list_of};
-ghost use Rattle.relay_core.specs.Chairs.{IsFresh};
+ghost use Rattle.relay_core.specs.Chairs.{IsFresh, IsSameDrain, IsSeated};
 
 use crate::chair::Chair;
 use crate::door::Door;
@@ -28,9 +28,9 @@ pub fn seated(
     requires empty { (publisher.old.list ≡ []) × (publisher.old.announced ≡ []) }
     requires rule { rule.states ≡ publisher.old.origin.states }
     ensures publisher { publisher.new ≡ publisher.old }
-    ensures drain { (drain.new.queue ≡ drain.old.queue) × (drain.new.empties ≡ drain.old.empties) × ((view drain.new.pass).label ≡ (view drain.old.pass).label) × ((view drain.new.pass).out ≡ (view drain.old.pass).out) × ((view drain.new.pass).known ≡ (view drain.old.pass).known) }
+    ensures drain { IsSameDrain drain.old drain.new }
     ensures made { IfOk result (λ s. (view drain.new.pass).made ≡ place + 1) }
-    ensures seat { IfOk result (λ s. (s.post.seat ≡ place) × (s.rule ≡ rule) × ((arc_value s.post.queue).table.shared.table_id ≡ (arc_value drain.old.queue).table.shared.table_id) × (origin s.reader.window.front ≡ publisher.old.origin) × ((view s.post.pass).label ≡ (view drain.old.pass).label)) }
+    ensures seat { IfOk result (IsSeated place rule publisher.old.origin drain.old) }
     ensures fresh { IfOk result IsFresh }
     ensures room { IfOk result (λ s. ruled_capacity (arc_value s.post.queue) ≡ ruled_capacity (arc_value drain.old.queue)) }
     ensures err { IfErr result (λ f. f ≢ StartFault.Size) }

@@ -204,7 +204,7 @@ impl Replica {
         ensures { (n : ℕ) × IsGreatestStamp n (map_of self.old.plane)
             × IsDraw self.old self.new (edit_drawn self.old.rule (counter_in n) self.old.number spec.now) result }
     {
-        let stamp = next_stamp(&self.plane, self.number)?;
+        let stamp = next_stamp(&self.plane, self.number, 0)?;
         let edit = make(self.alloc, &self.rule, stamp, spec)?;
         draw_into(&mut self.plane, &mut self.journal, &edit)?;
         Ok(edit)
@@ -218,7 +218,7 @@ impl Replica {
             × IsMadeAs (edit_drawn self.now.rule (max after (counter_in n)) self.now.number spec.now) result }
         ensures states { IfOk result (λ edit. IsTrue (has_states_below self.now.rule.states edit)) }
     {
-        let stamp = next_stamp_after(&self.plane, self.number, after)?;
+        let stamp = next_stamp(&self.plane, self.number, after)?;
         make(self.alloc, &self.rule, stamp, spec)
     }
 
@@ -347,17 +347,8 @@ impl Replica {
     }
 }
 
-/// Lamport's rule: one more than the greatest counter held.
-fn next_stamp(plane: &HeldPlane, number: u16) -> Result<Stamp, Fault>
-    requires { 1 ≤ number }
-    ensures { (n : ℕ) × IsGreatestStamp n (map_of plane.now) × (result ≡ stamp_after (counter_in n) number) }
-{
-    let counter = counter_of(plane.plane().greatest_stamp());
-    Stamp::new(counter + 1, number).ok_or(Fault::ClockFull)
-}
-
-/// The same, one more than a given counter where that is greater.
-fn next_stamp_after(plane: &HeldPlane, number: u16, after: u64) -> Result<Stamp, Fault>
+/// Lamport's rule: one more than the greatest counter held, or than a given one where that is greater.
+fn next_stamp(plane: &HeldPlane, number: u16, after: u64) -> Result<Stamp, Fault>
     requires { 1 ≤ number }
     ensures { (n : ℕ) × IsGreatestStamp n (map_of plane.now) × (result ≡ stamp_after (max after (counter_in n)) number) }
 {

@@ -1,4 +1,5 @@
 use Rattle.std.proofs.Common.{ℕ, sym, ◌∙◌, subst, ap, refl, Ok, Err}
+use Rattle.std.proofs.Math.Nat.{zero-max}
 use Rattle.std.proofs.lemmas.Result.{err_from_is_err_and}
 use Rattle.edit_stamps.specs.Stamp.{counter_in}
 use Rattle.edit_stamps.specs.Edit.{HaveStatesBelow, IsEdit}
@@ -14,6 +15,7 @@ use Rattle.replica_core.proofs.replica.Replica.draw_as.Goals as goal
 pub returns-in_err-edit : goal.returns-in_err-edit
 returns-in_err-edit c =
     let told = c.next_stamp.ensures in
+    let stamped = rw (zero-max (counter_in told.0)) at told.2 in
     let is = err_from_is_err_and c.from_residual-in_err-edit.result c.from_residual-in_err-edit.ensures.1 in
     let old : ReplicaState = record { rule = c.self.inside.rule; number = c.self.inside.number; plane = c.self.inside.plane; journal = c.self.inside.journal } in
     subst (λ r. (n : ℕ) × IsGreatestStamp n (map_of r.plane) × IsDraw r r (edit_drawn r.rule (counter_in n) r.number c.args.spec.now) c.from_residual-in_err-edit.result)
@@ -21,28 +23,30 @@ returns-in_err-edit c =
       told.0,
       told.1,
       subst (IsDraw old old (edit_drawn old.rule (counter_in told.0) old.number c.args.spec.now)) (sym (is.1 ∙ ap Err is.2))
-          (refuses_made old told.0 c.in_ok-stamp.stamp c.args.spec.now c.in_err-edit.field-0.0 (sym told.2 ∙ c.in_ok-stamp.was) c.in_err-edit.ensures.edit c.in_err-edit.ensures.want c.in_err-edit.ensures.room),
+          (refuses_made old told.0 c.in_ok-stamp.stamp c.args.spec.now c.in_err-edit.field-0.0 (sym stamped ∙ c.in_ok-stamp.was) c.in_err-edit.ensures.edit c.in_err-edit.ensures.want c.in_err-edit.ensures.room),
     )
 
 pub returns : goal.returns
 returns c =
     let told = c.next_stamp.ensures in
+    let stamped = rw (zero-max (counter_in told.0)) at told.2 in
     let old : ReplicaState = record { rule = c.self.inside.rule; number = c.self.inside.number; plane = c.self.inside.plane; journal = c.self.inside.journal } in
     let new : ReplicaState = record { rule = c.self.inside.rule; number = c.self.inside.number; plane = c.draw_into.new.plane; journal = c.draw_into.new.journal } in
     subst (λ r. (n : ℕ) × IsGreatestStamp n (map_of r.plane) × IsDraw r new (edit_drawn r.rule (counter_in n) r.number c.args.spec.now) (Ok c.in_ok-edit.edit))
     c.self.view_is (
       told.0,
       told.1,
-      draws old new told.0 c.in_ok-stamp.stamp c.args.spec.now c.in_ok-edit.edit told.1 (sym told.2 ∙ c.in_ok-stamp.was) c.in_ok-edit.ensures.edit
+      draws old new told.0 c.in_ok-stamp.stamp c.args.spec.now c.in_ok-edit.edit told.1 (sym stamped ∙ c.in_ok-stamp.was) c.in_ok-edit.ensures.edit
           c.in_ok-edit.ensures.states (record { rule = refl; number = refl; room = c.draw_into.ensures.room }) c.in_ok-draw_into.ensures.map
           (drawn_behind told.0 (map_of old.plane) old.journal new.journal c.in_ok-edit.edit told.1
-          (next_above told.0 old.number c.in_ok-stamp.stamp old.rule c.args.spec.now c.in_ok-edit.edit (sym told.2 ∙ c.in_ok-stamp.was) c.in_ok-edit.ensures.edit)
+          (next_above told.0 old.number c.in_ok-stamp.stamp old.rule c.args.spec.now c.in_ok-edit.edit (sym stamped ∙ c.in_ok-stamp.was) c.in_ok-edit.ensures.edit)
           c.self.invariant.journal c.in_ok-draw_into.ensures.noted),
     )
 
 pub returns-in_err-draw_into : goal.returns-in_err-draw_into
 returns-in_err-draw_into c =
     let told = c.next_stamp.ensures in
+    let stamped = rw (zero-max (counter_in told.0)) at told.2 in
     let is = err_from_is_err_and c.from_residual-in_err-draw_into.result c.from_residual-in_err-draw_into.ensures.1 in
     let old : ReplicaState = record { rule = c.self.inside.rule; number = c.self.inside.number; plane = c.self.inside.plane; journal = c.self.inside.journal } in
     let new : ReplicaState = record { rule = c.self.inside.rule; number = c.self.inside.number; plane = c.draw_into.new.plane; journal = c.draw_into.new.journal } in
@@ -51,7 +55,7 @@ returns-in_err-draw_into c =
       told.0,
       told.1,
       subst (IsDraw old new (edit_drawn old.rule (counter_in told.0) old.number c.args.spec.now)) (sym (is.1 ∙ ap Err is.2))
-          (stops old new told.0 c.in_ok-stamp.stamp c.args.spec.now c.in_ok-edit.edit c.in_err-draw_into.field-0.0 (sym told.2 ∙ c.in_ok-stamp.was) c.in_ok-edit.ensures.edit
+          (stops old new told.0 c.in_ok-stamp.stamp c.args.spec.now c.in_ok-edit.edit c.in_err-draw_into.field-0.0 (sym stamped ∙ c.in_ok-stamp.was) c.in_ok-edit.ensures.edit
           (record {
             want = c.in_err-draw_into.ensures.err;
             unchanged = record { one = record { rule = refl; number = refl; room = c.draw_into.ensures.room }; map = c.in_err-draw_into.ensures.before.map; journal = c.in_err-draw_into.ensures.unnoted };
@@ -75,7 +79,8 @@ invariant_of-self c =
 pub invariant_of-self-2 : goal.invariant_of-self-2
 invariant_of-self-2 c =
     let told = c.next_stamp.ensures in
-    let next = sym told.2 ∙ c.in_ok-stamp.was in
+    let stamped = rw (zero-max (counter_in told.0)) at told.2 in
+    let next = sym stamped ∙ c.in_ok-stamp.was in
     let before = map_of c.self.inside.plane in
     let behind = map_of c.draw_into.new.plane in
     let above = next_above told.0 c.self.inside.number c.in_ok-stamp.stamp c.self.inside.rule c.args.spec.now c.in_ok-edit.edit next c.in_ok-edit.ensures.edit in
