@@ -39,9 +39,10 @@ $(PROGRAM): $(SOURCES) crates.txt HANDLES
 	@examples/build $(JOBS)
 	@touch $@
 
-# Measures; asserts nothing: scripts through the program, and what no script reaches.
+# Measures; asserts nothing: scripts through the program, how costs grow, and what no script reaches.
 bench:
 	@examples/measure
+	@examples/growth $(PROGRAM)
 	@cd crates/bench && rt run -- --time
 	@cd crates/board_bench && rt run -- --time
 	@cd crates/serve_bench && rt run -- --time
