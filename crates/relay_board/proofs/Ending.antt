@@ -1,5 +1,6 @@
 -- Seats at the start, and how they are taken in at the end, one by one.
-use Rattle.std.proofs.Common.{◌≡◌, ℕ, zero, suc, ◌+◌, ◌-◌, ◌<◌, ◌≤◌, ◌≢◌, ◌^◌, map, List, [], ◌∷◌, ◌++◌, length, Some, slice_get, slice_index_or, ◌∙◌, sym, ap, refl, subst, append_assoc, length-append, drop, arith}
+use Rattle.std.proofs.Common.{◌≡◌, ℕ, zero, suc, ◌+◌, ◌-◌, ◌<◌, ◌≤◌, ◌≢◌, ◌^◌, map, List, [], ◌∷◌, ◌++◌, length, Some, slice_get, slice_index_or, ◌∙◌, sym, ap, refl, subst, append_assoc, length-append, drop, replicate, arith}
+use Rattle.std.proofs.lemmas.List.{get_or-replicate, length-replicate}
 use Rattle.std.specs.Arc.{arc_value}
 use Rattle.atomic_table.specs.Seated.{TableId}
 use Rattle.crossbeam_queue.specs.Passes.{view}
@@ -7,9 +8,10 @@ use Rattle.board.specs.declared.entry.Entry.{Entry}
 use Rattle.inbox.specs.Counts.{counted}
 use Rattle.inbox.specs.declared.rule.Hand.{Hand}
 use Rattle.relay_board.specs.Closing.{AreCountable}
-use Rattle.inbox.specs.Hands.{after_retire}
+use Rattle.inbox.specs.Hands.{after_retire, of}
 use Rattle.inbox.specs.declared.ends.Drain.{Drain}
 use Rattle.generations_rule.specs.Rule.{GenerationsRule}
+use Rattle.relay_core.specs.Tallies.{Tallies}
 use Rattle.relay_board.specs.Seating.{Seating, fresh, mines_of, Numbered, AllFresh}
 
 -- of the seats `all`, those of `left` are still to be taken in
@@ -86,3 +88,9 @@ counted_all (s ∷ ss) h =
     let one : counted (length s.mine) ≡ length s.mine = let lt = h 0 (omega arith) in omega (arith, lt) in
     let rest = counted_all ss (λ k lt. h (suc k) (omega arith)) in
     λ i. one i ∷ rest i
+
+-- counts that are all 0 are those of no entries
+pub none_counted : (n : ℕ) (counts : List ℕ) (list : List Entry) → counts ≡ replicate n 0 → list ≡ [] → Tallies counts list
+none_counted n counts list zeros empty k lt =
+    let within : k < n = omega (arith, ap length zeros, length-replicate {A = ℕ} n 0) in
+    ap (λ (ns : List ℕ). slice_index_or ns k 0) zeros ∙ (get_or-replicate n k 0 0 within ∙ ap (λ (es : List Entry). counted (length (of k es))) (sym empty))

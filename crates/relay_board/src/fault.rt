@@ -1,6 +1,6 @@
 //! Why a relay does not finish.
 
-ghost use Rattle.std.specs.Prelude.{◌≡◌};
+ghost use Rattle.std.specs.Prelude.{◌≡◌, ◌≢◌};
 ghost use Rattle.relay_board.specs.FinishRefusals.{finish_fault_of};
 
 use relay_core::TurnFault;
@@ -61,7 +61,8 @@ impl Error for FinishFault {}
 
 /// The refusal of a turn, as a finish's.
 pub(crate) fn finish_fault(fault: TurnFault) -> FinishFault
-    ensures { result ≡ finish_fault_of fault }
+    ensures value { result ≡ finish_fault_of fault }
+    ensures not_closed { result ≢ FinishFault.Closed }
 {
     match fault {
         TurnFault::StoreFull => FinishFault::StoreFull,

@@ -97,7 +97,7 @@ fn has_all<J: Naming>(core: &RelayCore, seats: &[Seat<J>]) -> bool
 /// Whether the front begins with what each seat has seen.
 fn begins_with_all<J: Naming>(front: &Front, seats: &[Seat<J>]) -> bool
     requires { origin front.now ≡ J.origin }
-    ensures { IsTrue result → BeginsWithAll (list_of front.now) seats.now }
+    ensures { IsTrue result ↔ BeginsWithAll (list_of front.now) seats.now }
 {
     for k in 0..seats.len() {
         if !seats[k].begins(front) {
@@ -167,7 +167,7 @@ fn drained<J: Naming, R: Wait>(
     ensures grows { IsPrefix core.list result.0.list }
     ensures done { MatchOption result.1
         (HasAsMany result.0.list (mines_of seats.now) × AreCountable (mines_of seats.now) × (result.0.kept ≡ []) × (result.0.out ≡ result.0.list))
-        (λ f. f ≡ FinishFault.StoreFull → result.0.stored ≡ result.0.room) }
+        (λ f. (f ≡ FinishFault.StoreFull → result.0.stored ≡ result.0.room) × (f ≢ FinishFault.Closed)) }
 {
     for _ in rt.forever() {
         if core.is_settled() && has_all(&core, seats) {
@@ -194,6 +194,7 @@ fn closing<J: Naming>(
     ensures account { IfOk result (λ a. IsAccount (list_of a.front) a) }
     ensures accepted { IfOk result (λ a. a.accepted ≡ map (λ s. length s.mine) seats.now) }
     ensures err { IfErr result (λ f. f ≢ FinishFault.StoreFull) }
+    ensures closed { IfErr result (λ f. f ≡ FinishFault.Closed → ¬ (BeginsWithAll core.now.list seats.now)) }
 {
     let front = core.front();
     if !begins_with_all(&front, seats) {
@@ -231,7 +232,8 @@ fn retired<J: Naming, R: Wait>(rt: &R, core: RelayCore, seats: Vec<Seat<J>>)
 impl<J: Naming, R: Wait + Drop> Relay<J, R> {
     /// Publishes what is left, makes the account, and ends the board. Where it does not finish, relay and seats
     /// come back, what was published stays published, the rest is still queued or kept, and it may be called
-    /// again; after `StoreFull` it will be refused again.
+    /// again; after `StoreFull` it will be refused again. `Closed` only where a seat had seen more than was
+    /// published.
     pub fn finish(
         self,
         alloc: Global,
@@ -241,7 +243,7 @@ impl<J: Naming, R: Wait + Drop> Relay<J, R> {
         requires all { self.made ≡ length seats.items }
         requires order { Numbered 0 seats.items }
         ensures whole { IfOk result (λ a. IsWhole self.list (list_of a.front) seats.items a) }
-        ensures err { IfErr result (λ r. (r.1.items ≡ seats.items) × Same self r.0 × IsPrefix self.list r.0.list × (r.2 ≡ FinishFault.StoreFull → r.0.stored ≡ r.0.room)) }
+        ensures err { IfErr result (λ r. (r.1.items ≡ seats.items) × Same self r.0 × IsPrefix self.list r.0.list × (r.2 ≡ FinishFault.StoreFull → r.0.stored ≡ r.0.room) × (r.2 ≡ FinishFault.Closed → ¬ (BeginsWithAll r.0.list r.1.items))) }
     {
         let (core, rt) = self.into_parts();
         let (core, fault) = drained(&rt, core, seats.as_slice());

@@ -4,6 +4,8 @@
 ghost use Rattle.std.specs.Prelude.{◌≡◌, ◌≢◌, ◌<◌, ◌≤◌, ◌^◌, [], true, false, length, IfOk, IfErr};
 ghost use Rattle.std.specs.Arc.{arc_value};
 ghost use Rattle.crossbeam_queue.specs.Passes.{view, ruled_capacity};
+ghost use Rattle.stamped_writes.specs.Write.{unwritten, AreSame};
+ghost use Rattle.stamped_tree.specs.Plane.{map_of};
 ghost use Rattle.board.specs.Sights.{label_of};
 ghost use Rattle.relay_core.specs.Chairs.{IsSameDrain};
 ghost use Rattle.relay_board.specs.Seating.{Numbered, AllFresh};
@@ -45,6 +47,7 @@ pub struct Opened<R: Wait + Drop> {
     pub ghost same: { (view drain.pass).label ≡ label_of publisher.origin },
     pub ghost ruled: { rule.states ≡ publisher.origin.states },
     pub ghost few: { count ≤ 64 },
+    pub ghost untried: { AreSame (map_of tried) (λ _. unwritten) },
 }
 
 impl<R: Wait + Drop> Drop for Opened<R> {

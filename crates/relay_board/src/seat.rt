@@ -1,6 +1,6 @@
 //! A seat of the board and the inbox that its type names.
 
-ghost use Rattle.std.specs.Prelude.{◌≡◌, ◌+◌, ◌++◌, ◌∷◌, ◌≤◌, ◌<◌, ◌==◌, [], length, take, List, IsTrue, IfOk, IfErr, IfSome, OnErr};
+ghost use Rattle.std.specs.Prelude.{◌≡◌, ◌+◌, ◌++◌, ◌∷◌, ◌≤◌, ◌<◌, ◌==◌, ◌↔◌, [], length, take, List, IsTrue, IfOk, IfErr, IfSome, OnErr};
 ghost use mathlib.Core.List.{IsPrefix};
 ghost use Rattle.std.specs.Arc.{arc_value};
 ghost use Rattle.crossbeam_queue.specs.Passes.{view};
@@ -193,7 +193,7 @@ impl<J: Naming> Seat<J> {
     /// Whether the front begins with what this seat has seen.
     pub(crate) fn begins(&self, front: &Front) -> bool
         requires { origin front.now ≡ J.origin }
-        ensures { IsTrue result → IsPrefix self.now.seen (list_of front.now) }
+        ensures { IsTrue result ↔ IsPrefix self.now.seen (list_of front.now) }
     {
         self.chair.reader.window.front.begins(front)
     }

@@ -32,6 +32,6 @@ IsSeated place rule board drain s = (s.post.seat ≡ place) × (s.rule ≡ rule)
 abbrev pub IsSameSeat : Chair → Chair → Type 0
 IsSameSeat old new = (new.reader ≡ old.reader) × (new.rule ≡ old.rule) × (new.post.seat ≡ old.post.seat) × (new.post.queue ≡ old.post.queue) × ((view new.post.pass).label ≡ (view old.post.pass).label)
 
--- a seat's edit is refused by the first refusal that holds of it
+-- a seat's edit is refused: it is not the seat's, or else its states are not the rule's, or else the relay did not take it
 abbrev pub RefusesEdit : PlaneEdit → Chair → Chair → SubmitFault → Type 0
 RefusesEdit edit old new fault = Refuses fault (replica_in edit.stamp == old.number) (has_states_below old.rule.states edit) old.post.full new.post.full (WasFull (ruled_capacity (arc_value old.post.queue)) (view old.post.pass))

@@ -1,8 +1,12 @@
 -- The entry that a relay keeps, and which relays there are.
-use Rattle.std.specs.Prelude.{◌≡◌, Bool, true, false, List, [], ◌∷◌, ◌++◌, length, Option, Some, None}
+use Rattle.std.specs.Prelude.{◌≡◌, ◌⊎◌, Bool, true, false, List, [], ◌∷◌, ◌++◌, length, Option, Some, None}
 use Rattle.std.specs.Arc.{arc_value}
 use Rattle.crossbeam_queue.specs.Passes.{view}
+use Rattle.edit_stamps.specs.Edit.{greatest}
+use Rattle.stamped_writes.specs.Write.{Writes, AreSame}
+use Rattle.stamped_tree.specs.Plane.{map_of}
 use Rattle.board.specs.declared.entry.Entry.{Entry}
+use Rattle.board.specs.Entries.{edits_of}
 use Rattle.board.specs.declared.rule.Label.{Label}
 use Rattle.board.specs.Sights.{label_of}
 use Rattle.inbox.specs.declared.submission.Submission.{Submission}
@@ -24,6 +28,11 @@ kept_of (Some s) = s.entry ∷ []
 abbrev pub IsTold : Bool → Option Submission → List Entry → List Entry → Type 0
 IsTold false kept announced list = announced ≡ list
 IsTold true kept announced list = announced ≡ list ++ kept_of kept
+
+-- what a map has by whether the kept entry was announced: the published list, and then that entry too; where it was not announced, it may have been tried
+abbrev pub IsTried : Bool → Writes → List Entry → List Entry → Type 0
+IsTried false map kept list = AreSame map (greatest (edits_of list)) ⊎ AreSame map (greatest (edits_of (list ++ kept)))
+IsTried true map kept list = AreSame map (greatest (edits_of (list ++ kept)))
 
 -- what is kept is for this board
 abbrev pub IsFor : Option Submission → Label → Type 0
@@ -47,10 +56,11 @@ relaying_of r = record {
   room = r.tried.store.room;
 }
 
--- what was taken is the published list and then what is kept; only that may be announced; board, inbox and kept entry are of one origin; of each seat the published entries are counted
+-- what was taken is the published list and then what is kept; only that may be announced; the relay's own plane has what was published; board, inbox and kept entry are of one origin; of each seat the published entries are counted
 pub record IsRelay (r : Inside) : Type 0 where
   pub out : (view r.drain.pass).out ≡ r.publisher.list ++ kept_of r.kept
   pub told : IsTold r.told r.kept r.publisher.announced r.publisher.list
+  pub tried : IsTried r.told (map_of r.tried) (kept_of r.kept) r.publisher.list
   pub label : (view r.drain.pass).label ≡ label_of r.publisher.origin
   pub kept : IsFor r.kept (label_of r.publisher.origin)
   pub tallies : Tallies r.counts.items r.publisher.list

@@ -8,7 +8,7 @@ use Rattle.relay_core.specs.declared.fault.SubmitFault.TheVariants.{NotYours, St
 abbrev pub Passes : Bool → Bool → Type 0
 Passes mine below = (mine ≡ true) × (below ≡ true)
 
--- the first refusal that holds; where the inbox was full, its count has risen from a to b, and a fact is held of it
+-- the first two come exactly where they hold, in this order, and the others only behind both; where the inbox was full, its count has risen from a to b, and a fact is held of it
 abbrev pub Refuses : SubmitFault → Bool → Bool → ℕ → ℕ → Type 0 → Type 0
 Refuses NotYours mine below a b held = (mine ≡ false) × (b ≡ a)
 Refuses StateRange mine below a b held = (mine ≡ true) × (below ≡ false) × (b ≡ a)
