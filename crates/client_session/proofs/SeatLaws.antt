@@ -73,7 +73,7 @@ all_shown : (before after : Option StampedPlane) (p : StampedPlane) → ShowsAll
 all_shown None None p shows = tt
 all_shown None (Some after) p shows = absurd shows
 all_shown (Some before) None p shows = absurd shows
-all_shown (Some before) (Some after) p shows = shows
+all_shown (Some before) (Some after) p shows = shows.shows
 
 still_shown : (s t : Seat) → t.shown ≡ s.shown → t.replica ≡ s.replica → IsShown s → IsShown t
 still_shown s t shown replica is = record { shown = subst (λ (x : Option StampedPlane). IsShownAs t.replica.plane x) (sym shown) (subst (λ (r : ReplicaState). IsShownAs r.plane s.shown) (sym replica) is.shown) }
@@ -82,7 +82,7 @@ blank_shown : (telling : Telling) (shown : Option StampedPlane) (p : StampedPlan
 blank_shown Edits None p new blank = tt
 blank_shown Edits (Some plane) p new blank = absurd blank
 blank_shown Changes None p new blank = absurd blank
-blank_shown Changes (Some plane) p new blank = λ c. blank c ∙ sym (new c)
+blank_shown Changes (Some plane) p new blank = λ c. blank.shows c ∙ sym (new c)
 
 -- behind a drawing, by what came of it
 drawn_shown : (drawing : Drawing) (after : ℕ) (spec : EditSpec) (m n : Moment) → IsReplica m.seat.replica → IsShown m.seat → IsDrawing after spec m.line n.line m.seat.replica n.seat.replica (Ok drawing)

@@ -62,6 +62,11 @@ pub record LacksTelling (after : ℕ) (spec : EditSpec) (m n : Moment) : Type 0 
   pub drawing : Drawing
   pub drawn : IsDrawing after spec m.line n.line m.seat.replica n.seat.replica (Ok drawing)
 
+-- the same for want of room, of a seat that tells a map
+pub record LacksRoom (after : ℕ) (spec : EditSpec) (m n : Moment) : Type 0 where
+  pub lacks : LacksTelling after spec m n
+  pub shown : IsSome m.seat.shown
+
 -- a drawing behind its poll, of a seat to which the board is closed, or is not
 abbrev pub DrawsAs : Bool → ℕ → EditSpec → Moment → Moment → Result Outcome SeatFault → Type 0
 DrawsAs true after spec m n result = IsPrinted outcome.Refused (refusal_line 30) m n result
@@ -69,7 +74,7 @@ DrawsAs false after spec m n (Ok came) = DrawsAndTells after spec m n came
 DrawsAs false after spec m n (Err (faults.Client fault)) = FailsDrawing after spec fault m n
 DrawsAs false after spec m n (Err (faults.Refused number)) = ⊥
 DrawsAs false after spec m n (Err faults.Memory) = LacksTelling after spec m n
-DrawsAs false after spec m n (Err faults.StoreFull) = LacksTelling after spec m n
+DrawsAs false after spec m n (Err faults.StoreFull) = LacksRoom after spec m n
 
 -- the same by what the poll brought
 abbrev pub DrawsBehind : ℕ → EditSpec → News → Moment → Moment → Result Outcome SeatFault → Type 0

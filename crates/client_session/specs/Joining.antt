@@ -1,8 +1,8 @@
 -- What joining a board does.
 use Rattle.std.specs.Prelude.{◌≡◌, ◌⊎◌, ⊤, ℕ, ◌≤◌, ◌^◌, false, List, ◌++◌, Option, Some, None, Result, Ok, Err}
 use Rattle.generations_rule.specs.Rule.{GenerationsRule}
-use Rattle.stamped_writes.specs.Write.{AreSame, unwritten}
-use Rattle.stamped_tree.specs.Plane.{StampedPlane, map_of}
+use Rattle.stamped_writes.specs.Write.{unwritten}
+use Rattle.stamped_tree.specs.Plane.{StampedPlane}
 use Rattle.replica_core.specs.Replica.{IsNew}
 use Rattle.genedit_lib.specs.Output.{no_patterns}
 use Rattle.genedit_lib.specs.Patterns.{pattern_in}
@@ -19,11 +19,12 @@ use Rattle.client_session.specs.declared.joining.Telling.TheVariants.{Edits, Cha
 use Rattle.client_session.specs.declared.seat.Seat.{Seat}
 use Rattle.client_session.specs.Lines.{joined_line}
 use Rattle.client_session.specs.News.{IsFollowing}
+use Rattle.client_session.specs.Telling.{ShowsMap}
 
 -- no map is told; or one is where nothing was written
 abbrev pub IsBlank : Telling → Option StampedPlane → Type 0
 IsBlank Edits None = ⊤
-IsBlank Changes (Some plane) = AreSame (map_of plane) (λ _. unwritten)
+IsBlank Changes (Some plane) = ShowsMap (λ _. unwritten) plane
 IsBlank _ _ = ⊥
 
 -- a seat that was handed nothing, and drew nothing

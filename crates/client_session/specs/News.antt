@@ -1,5 +1,5 @@
 -- Polls, and what they bring.
-use Rattle.std.specs.Prelude.{◌≡◌, ◌≢◌, ◌⊎◌, ℕ, length, Result, Ok, Err}
+use Rattle.std.specs.Prelude.{◌≡◌, ◌≢◌, ◌⊎◌, ℕ, length, IsSome, Result, Ok, Err}
 use Rattle.board_client.specs.declared.polling.Polling.{Polling}
 use Rattle.board_client.specs.declared.polling.Polling.TheVariants as polling
 use Rattle.board_client.specs.declared.fault.ClientFault.{ClientFault}
@@ -27,12 +27,17 @@ pub record LacksTelling (m n : Moment) : Type 0 where
   pub heard : Polling
   pub polled : IsPoll m.line n.line m.seat.replica n.seat.replica (Ok heard)
 
+-- the same for want of room, of a seat that tells a map
+pub record LacksRoom (m n : Moment) : Type 0 where
+  pub lacks : LacksTelling m n
+  pub shown : IsSome m.seat.shown
+
 -- how a client ends at a poll: a refusal by 21 is one
 abbrev pub EndsPolling : SeatFault → Moment → Moment → Type 0
 EndsPolling (Client fault) m n = FailsPolling fault m n
 EndsPolling (Refused number) m n = (number ≡ 21) × Polls (polling.Refused 21) m n
 EndsPolling Memory m n = LacksTelling m n
-EndsPolling StoreFull m n = LacksTelling m n
+EndsPolling StoreFull m n = LacksRoom m n
 
 -- one poll, which tells what it brought; by a refusal nothing is told
 abbrev pub IsPollTold : Moment → Moment → Result Polling SeatFault → Type 0

@@ -1,21 +1,21 @@
 -- What is told of edits and planes that came.
-use Rattle.std.specs.Prelude.{◌≡◌, ◌≢◌, ⊤, ℕ, List, ◌++◌, length, drop, Option, Some, None, Result, Ok, Err}
+use Rattle.std.specs.Prelude.{◌≡◌, ◌≢◌, ⊤, ℕ, ◌^◌, List, ◌++◌, length, drop, Option, Some, None, IsSome, Result, Ok, Err}
 use Rattle.multistate_rle.specs.declared.cell.Cell.{Cell}
-use Rattle.stamped_writes.specs.Write.{AreSame, joined}
+use Rattle.stamped_writes.specs.Write.{Writes, AreSame, joined}
 use Rattle.edit_stamps.specs.Edit.{PlaneEdit, greatest}
 use Rattle.stamped_tree.specs.Plane.{StampedPlane, map_of}
 use Rattle.cell_changes.specs.Changes.{AreChanges}
 use Rattle.client_session.specs.Lines.{edit_lines, now_line, whole_line}
-use Rattle.client_session.specs.Moment.{IsWant}
 use Rattle.client_session.specs.declared.fault.SeatFault.{SeatFault}
 use Rattle.client_session.specs.declared.fault.SeatFault.TheVariants as faults
 use Rattle.client_session.specs.declared.seat.Seat.{Seat}
 use Rattle.board_client.specs.declared.polling.Polling.{Polling}
 use Rattle.board_client.specs.declared.polling.Polling.TheVariants.{Edits, Whole, Refused}
 
--- edits are joined into the map that was told, and these are the cells whose state is another one then
+-- edits are joined into the map that was told, whose room stays, and these are the cells whose state is another one then
 pub record ShowsEdits (edits : List PlaneEdit) (before after : StampedPlane) (cells : List Cell) : Type 0 where
   pub joins : AreSame (map_of after) (joined (map_of before) (greatest edits))
+  pub room : after.store.room ≡ before.store.room
   pub changes : AreChanges (map_of before) (map_of after) cells
 
 -- those cells are told, in at most one line
@@ -30,10 +30,15 @@ TellsCame lines edits None None out out' = out' ≡ out ++ lines
 TellsCame lines edits (Some before) (Some after) out out' = TellsChanges edits before after out out'
 TellsCame lines edits _ _ out out' = ⊥
 
+-- a plane shows this map, and has room for 2^26 squares
+pub record ShowsMap (map : Writes) (shown : StampedPlane) : Type 0 where
+  pub shows : AreSame (map_of shown) map
+  pub room : shown.store.room ≡ 2 ^ 26
+
 -- where a map is told, it is a plane's from now on
 abbrev pub ShowsAll : StampedPlane → Option StampedPlane → Option StampedPlane → Type 0
 ShowsAll plane None None = ⊤
-ShowsAll plane (Some before) (Some after) = AreSame (map_of after) (map_of plane)
+ShowsAll plane (Some before) (Some after) = ShowsMap (map_of plane) after
 ShowsAll plane _ _ = ⊥
 
 -- edits behind so many of the journal are told, each in a line, or what they change; those of the seat's own are told only where a push was refused by 30
@@ -53,8 +58,15 @@ TellsPoll (Edits count) known old new out out' = TellsBehind known old new out o
 TellsPoll Whole known old new out out' = TellsWhole old new out out'
 TellsPoll (Refused number) known old new out out' = (new ≡ old) × (out' ≡ out)
 
--- it is told; a refusal by 21 ends the client, as does a want of memory or room
+-- memory is wanting, or room for the map that is told, where one is
+abbrev pub IsTellingWant : Option StampedPlane → SeatFault → Type 0
+IsTellingWant shown faults.Memory = ⊤
+IsTellingWant shown faults.StoreFull = IsSome shown
+IsTellingWant shown (faults.Client fault) = ⊥
+IsTellingWant shown (faults.Refused number) = ⊥
+
+-- it is told; a refusal by 21 ends the client, as does a want of memory, or of room where a map is told
 abbrev pub IsPollingTold : {A : Type 0} → Polling → ℕ → Seat → Seat → List ℕ → List ℕ → Result A SeatFault → Type 0
 IsPollingTold polling known old new out out' (Ok done) = (polling ≢ Refused 21) × TellsPoll polling known old new out out'
 IsPollingTold polling known old new out out' (Err (faults.Refused number)) = (number ≡ 21) × (polling ≡ Refused 21) × (new ≡ old) × (out' ≡ out)
-IsPollingTold polling known old new out out' (Err fault) = IsWant fault × (new.replica ≡ old.replica)
+IsPollingTold polling known old new out out' (Err fault) = IsTellingWant old.shown fault × (new.replica ≡ old.replica)

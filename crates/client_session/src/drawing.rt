@@ -4,7 +4,8 @@ ghost use Rattle.std.specs.Prelude.{◌≡◌, IfErr, IfOk, IsSome, OnOk, option
 ghost use Rattle.replica_events.specs.declared.edit_spec.EditSpec.TheVariants.{Copy, Or};
 ghost use Rattle.genedit_lib.specs.Patterns.{pattern_in};
 ghost use Rattle.client_session.specs.Drawing.{DrawsAs, IsDrawCommand, IsPaste, TellsDrawing, TellsDrawn, outcome_of};
-ghost use Rattle.client_session.specs.Moment.{IsWant, moment};
+ghost use Rattle.client_session.specs.Moment.{moment};
+ghost use Rattle.client_session.specs.Telling.{IsTellingWant};
 
 use crate::fault::SeatFault;
 use crate::lines::{push_drawn, push_nameless, push_refusal};
@@ -162,7 +163,7 @@ impl Seat {
         out: &mut Vec<u8>,
     ) -> Result<(), SeatFault>
         ensures told { OnOk result (TellsDrawing drawing known self.old self.new out.old.items out.new.items) }
-        ensures want { IfErr result IsWant }
+        ensures want { IfErr result (IsTellingWant self.old.shown) }
         ensures replica { self.new.replica ≡ self.old.replica }
     {
         match drawing {
@@ -188,7 +189,7 @@ impl Seat {
         out: &mut Vec<u8>,
     ) -> Result<(), SeatFault>
         ensures told { OnOk result (TellsDrawn counter known self.old self.new out.old.items out.new.items) }
-        ensures want { IfErr result IsWant }
+        ensures want { IfErr result (IsTellingWant self.old.shown) }
         ensures replica { self.new.replica ≡ self.old.replica }
     {
         push_drawn(out, counter, self.replica.number())?;

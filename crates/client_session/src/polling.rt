@@ -3,9 +3,9 @@
 ghost use Rattle.std.specs.Prelude.{◌≡◌, IfErr, OnOk};
 ghost use Rattle.client_session.specs.Waiting.{IsCount};
 ghost use Rattle.client_session.specs.Lines.{edits_line, late_line};
-ghost use Rattle.client_session.specs.Moment.{IsNumberTold, IsWant, moment};
+ghost use Rattle.client_session.specs.Moment.{IsNumberTold, moment};
 ghost use Rattle.client_session.specs.News.{IsFollowing, IsNews, IsPollTold};
-ghost use Rattle.client_session.specs.Telling.{IsPollingTold, TellsBehind, TellsWhole};
+ghost use Rattle.client_session.specs.Telling.{IsPollingTold, IsTellingWant, TellsBehind, TellsWhole};
 
 use crate::fault::SeatFault;
 use crate::lines::{push_edits_line, push_late_line, push_refusal, push_whole};
@@ -133,7 +133,7 @@ impl Seat {
         out: &mut Vec<u8>,
     ) -> Result<(), SeatFault>
         ensures told { OnOk result (TellsBehind known self.old self.new out.old.items out.new.items) }
-        ensures want { IfErr result IsWant }
+        ensures want { IfErr result (IsTellingWant self.old.shown) }
         ensures replica { self.new.replica ≡ self.old.replica }
     {
         let number = self.replica.number();
@@ -144,7 +144,7 @@ impl Seat {
     /// Tells that a whole plane came, and counts edits anew.
     fn tell_whole(&mut self, alloc: Global, out: &mut Vec<u8>) -> Result<(), SeatFault>
         ensures told { OnOk result (TellsWhole self.old self.new out.old.items out.new.items) }
-        ensures want { IfErr result IsWant }
+        ensures want { IfErr result (IsTellingWant self.old.shown) }
         ensures replica { self.new.replica ≡ self.old.replica }
     {
         show_all(alloc, &mut self.shown, self.replica.plane())?;

@@ -2,9 +2,9 @@
 
 ghost use Rattle.std.specs.Prelude.{[], IfErr, IfOk, OnOk};
 ghost use Rattle.stamped_tree.specs.Plane.{map_of};
-ghost use Rattle.stamped_writes.specs.Write.{AreSame, unwritten};
+ghost use Rattle.stamped_writes.specs.Write.{unwritten};
 ghost use Rattle.client_session.specs.Moment.{IsWant};
-ghost use Rattle.client_session.specs.Telling.{ShowsAll, ShowsEdits, TellsCame, TellsChanges};
+ghost use Rattle.client_session.specs.Telling.{IsTellingWant, ShowsAll, ShowsEdits, ShowsMap, TellsCame, TellsChanges};
 ghost use Rattle.client_session.specs.Lines.{edit_lines};
 
 use crate::fault::SeatFault;
@@ -30,7 +30,7 @@ pub(crate) fn tell_came(
     closed: bool,
 ) -> Result<(), SeatFault>
     ensures told { OnOk result (TellsCame (edit_lines closed number edits.now) edits.now shown.old shown.new out.old.items out.new.items) }
-    ensures want { IfErr result IsWant }
+    ensures want { IfErr result (IsTellingWant shown.old) }
 {
     match shown {
         Some(shown) => tell_changes(alloc, shown, out, edits),
@@ -49,7 +49,7 @@ pub(crate) fn tell_own(
     edits: &[Edit],
 ) -> Result<(), SeatFault>
     ensures told { OnOk result (TellsCame [] edits.now shown.old shown.new out.old.items out.new.items) }
-    ensures want { IfErr result IsWant }
+    ensures want { IfErr result (IsTellingWant shown.old) }
 {
     match shown {
         Some(shown) => tell_changes(alloc, shown, out, edits),
@@ -97,7 +97,7 @@ pub(crate) fn show_all(
     plane: &Plane,
 ) -> Result<(), SeatFault>
     ensures shown { OnOk result (ShowsAll plane.now shown.old shown.new) }
-    ensures want { IfErr result IsWant }
+    ensures want { IfErr result (IsTellingWant shown.old) }
 {
     if shown.is_some() {
         *shown = Some(held(alloc, plane)?);
@@ -107,7 +107,7 @@ pub(crate) fn show_all(
 
 /// A plane with the same map.
 fn held(alloc: Global, plane: &Plane) -> Result<HeldPlane, SeatFault>
-    ensures map { IfOk result (λ copy. AreSame (map_of copy) (map_of plane.now)) }
+    ensures shows { IfOk result (ShowsMap (map_of plane.now)) }
     ensures want { IfErr result IsWant }
 {
     let mut copy = blank(alloc, plane.key())?;
@@ -119,7 +119,7 @@ fn held(alloc: Global, plane: &Plane) -> Result<HeldPlane, SeatFault>
 
 /// A plane where nothing was written.
 pub(crate) fn blank(alloc: Global, key: HashKey) -> Result<HeldPlane, AllocError>
-    ensures { IfOk result (λ plane. AreSame (map_of plane) (λ _. unwritten)) }
+    ensures { IfOk result (ShowsMap (λ _. unwritten)) }
 {
     HeldPlane::with_room_and_key(alloc, ROOM, key)
 }

@@ -1,6 +1,7 @@
 //! What is printed.
 
-ghost use Rattle.std.specs.Prelude.{◌≡◌, ◌++◌, OnOk, IfOk, codes, decimal, map};
+ghost use Rattle.std.specs.Prelude.{◌≡◌, ◌++◌, OnErr, OnOk, IfOk, codes, decimal, map};
+ghost use mathlib.Core.List.{IsPrefix};
 ghost use Rattle.hex.specs.Hex.{encode_lower};
 ghost use Rattle.multistate_rle.specs.RleFault.{text_fault_number, text_fault_text};
 ghost use Rattle.genedit_lib.specs.Output.{no_pattern_line, filled, pattern_line, refused_text, reply_line, stamp_text, write_text};
@@ -84,7 +85,8 @@ pub fn no_pattern_text(alloc: Global) -> Result<Text, AllocError>
 
 /// A line of output, with its end.
 pub fn push_text(out: &mut Vec<u8>, text: &Text) -> Result<(), AllocError>
-    ensures { OnOk result (out.new.items ≡ out.old.items ++ (text.now ++ codes "\n")) }
+    ensures told { OnOk result (out.new.items ≡ out.old.items ++ (text.now ++ codes "\n")) }
+    ensures kept { OnErr result (IsPrefix out.old.items out.new.items) }
 {
     out.extend_from_slice(text.as_slice())?;
     out.push(b'\n')?;
@@ -93,7 +95,8 @@ pub fn push_text(out: &mut Vec<u8>, text: &Text) -> Result<(), AllocError>
 
 /// What is printed of a reply, with the end of its line.
 pub fn push_line(alloc: Global, out: &mut Vec<u8>, reply: &Reply) -> Result<(), AllocError>
-    ensures { OnOk result (out.new.items ≡ out.old.items ++ reply_line reply.now) }
+    ensures told { OnOk result (out.new.items ≡ out.old.items ++ reply_line reply.now) }
+    ensures kept { OnErr result (IsPrefix out.old.items out.new.items) }
 {
     match reply {
         Reply::Drawn(stamp) => {
@@ -128,14 +131,16 @@ pub fn push_line(alloc: Global, out: &mut Vec<u8>, reply: &Reply) -> Result<(), 
 
 /// Two digits for each byte, in lower case.
 fn push_hex(alloc: Global, out: &mut Vec<u8>, bytes: &[u8]) -> Result<(), AllocError>
-    ensures { OnOk result (out.new.items ≡ out.old.items ++ encode_lower bytes.now) }
+    ensures told { OnOk result (out.new.items ≡ out.old.items ++ encode_lower bytes.now) }
+    ensures kept { OnErr result (IsPrefix out.old.items out.new.items) }
 {
     let digits = hex::encode(alloc, bytes)?;
     out.extend_from_slice(digits.as_bytes())
 }
 
 fn push_write(out: &mut Vec<u8>, write: Write) -> Result<(), AllocError>
-    ensures { OnOk result (out.new.items ≡ out.old.items ++ write_text write) }
+    ensures told { OnOk result (out.new.items ≡ out.old.items ++ write_text write) }
+    ensures kept { OnErr result (IsPrefix out.old.items out.new.items) }
 {
     out.extend_from_slice(b"cell ")?;
     push_number(out, u64::from(write.state))?;
@@ -145,7 +150,8 @@ fn push_write(out: &mut Vec<u8>, write: Write) -> Result<(), AllocError>
 
 /// Number and name of a refusal.
 fn push_refusal(out: &mut Vec<u8>, number: u8, name: &[u8]) -> Result<(), AllocError>
-    ensures { OnOk result (out.new.items ≡ out.old.items ++ refused_text number name.now) }
+    ensures told { OnOk result (out.new.items ≡ out.old.items ++ refused_text number name.now) }
+    ensures kept { OnErr result (IsPrefix out.old.items out.new.items) }
 {
     out.extend_from_slice(b"refused ")?;
     push_number(out, u64::from(number))?;
@@ -155,7 +161,8 @@ fn push_refusal(out: &mut Vec<u8>, number: u8, name: &[u8]) -> Result<(), AllocE
 
 /// Counter and replica of a stamp's number; 0 and 0 of 0.
 fn push_stamp(out: &mut Vec<u8>, stamp: u64) -> Result<(), AllocError>
-    ensures { OnOk result (out.new.items ≡ out.old.items ++ stamp_text stamp) }
+    ensures told { OnOk result (out.new.items ≡ out.old.items ++ stamp_text stamp) }
+    ensures kept { OnErr result (IsPrefix out.old.items out.new.items) }
 {
     push_number(out, counter_of(stamp))?;
     out.push(b' ')?;
@@ -163,7 +170,8 @@ fn push_stamp(out: &mut Vec<u8>, stamp: u64) -> Result<(), AllocError>
 }
 
 fn push_number(out: &mut Vec<u8>, number: u64) -> Result<(), AllocError>
-    ensures { OnOk result (out.new.items ≡ out.old.items ++ decimal number) }
+    ensures told { OnOk result (out.new.items ≡ out.old.items ++ decimal number) }
+    ensures kept { OnErr result (IsPrefix out.old.items out.new.items) }
 {
     out.extend_from_slice(Buffer::new().format(number).as_bytes())
 }
