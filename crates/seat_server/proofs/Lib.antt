@@ -1,2 +1,3 @@
 mod SeatLaws
 mod ListLaws
+mod TurningLaws

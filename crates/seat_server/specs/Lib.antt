@@ -1,3 +1,4 @@
 pub mod Faults
 pub mod Sessions
 pub mod Serving
+pub mod Turning

@@ -1,12 +1,14 @@
 //! A server of seats.
 
-ghost use Rattle.std.specs.Prelude.{◌≡◌, length, map, true, IfOk};
+ghost use Rattle.std.specs.Prelude.{◌≡◌, length, map, true, IfOk, IfErr};
 ghost use denote.Param.Send.{IsSend, IsSync};
 ghost use Rattle.board.specs.Origins.{list_of};
 ghost use Rattle.relay_board.specs.Closing.{IsWhole};
 ghost use Rattle.relay_board.specs.Seating.{Numbered};
 ghost use Rattle.seat_server.specs.Sessions.{AreAttended};
 ghost use Rattle.seat_server.specs.Serving.{IsServed};
+ghost use Rattle.seat_server.specs.Faults.{IsAttendFault, IsCloseFault};
+ghost use Rattle.seat_server.specs.Turning.{IsReason};
 
 use crate::accept::{Accept, Wake};
 use crate::fault::ServerFault;
@@ -37,10 +39,11 @@ struct AttendingAll<J: Naming> {
 }
 
 impl<J: Naming> Promise<Result<Vec<Attended<J>>, ServerFault>> for AttendingAll<J> {
-    ghost use Rattle.std.specs.Prelude.{map, IfOk};
+    ghost use Rattle.std.specs.Prelude.{map, IfOk, IfErr};
+    ghost use Rattle.seat_server.specs.Faults.{IsAttendFault};
     ghost use Rattle.seat_server.specs.Sessions.{AreAttended};
 
-    ghost kept_by = { λ p r. IfOk r (λ v. AreAttended p.seats.value.items (map (λ a. a.seat) v.items) (map (λ a. a.end) v.items)) };
+    ghost kept_by = { λ p r. IfOk r (λ v. AreAttended p.seats.value.items (map (λ a. a.seat) v.items) (map (λ a. a.end) v.items)) × IfErr r IsAttendFault };
 }
 
 /// The seats, and how their sessions ended.
@@ -72,6 +75,7 @@ fn closed<J: Naming, R: Wait + Drop>(
     requires order { Numbered 0 (map (λ a. a.seat) attended.items) }
     ensures ends { IfOk result (λ f. f.ends.items ≡ map (λ a. a.end) attended.items) }
     ensures whole { IfOk result (λ f. IsWhole relay.list (list_of f.account.front) (map (λ a. a.seat) attended.items) f.account) }
+    ensures fault { IfErr result IsCloseFault }
 {
     let (seats, ends) = parted(alloc, attended)?;
     match relay.finish(alloc, seats) {
@@ -104,7 +108,8 @@ pub fn serve_seats<
 ) -> Result<Finished, ServerFault>
     requires all { relay.made ≡ length seats.items }
     requires order { Numbered 0 seats.items }
-    ensures { IfOk result (λ f. IsServed seats.items f) }
+    ensures served { IfOk result (λ f. IsServed seats.items f) }
+    ensures reason { IfErr result (IsReason 1000 relay) }
 {
     let bell = relay.bell()?;
     let progress = Arc::new(alloc, Progress::new(bell))?;
@@ -117,7 +122,7 @@ pub fn serve_seats<
         promise,
         move || -> Result<Vec<Attended<J>>, ServerFault>
             requires { IsSend J.row × IsSend R.row × IsSync R.row × IsSend S.row × IsSend K.row }
-            ensures { IfOk result (λ v. AreAttended seats.items (map (λ a. a.seat) v.items) (map (λ a. a.end) v.items)) }
+            ensures { IfOk result (λ v. AreAttended seats.items (map (λ a. a.seat) v.items) (map (λ a. a.end) v.items)) × IfErr result IsAttendFault }
         { all_attended(rt, alloc, &theirs, acceptor, seats) },
     );
     let Ok(accepting) = begun else {

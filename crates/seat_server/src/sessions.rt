@@ -1,6 +1,8 @@
 //! Sessions on threads of their own.
 
-ghost use Rattle.std.specs.Prelude.{◌≡◌, map, true, IfOk};
+ghost use Rattle.std.specs.Prelude.{◌≡◌, map, true, IfOk, IfErr};
+ghost use Rattle.seat_server.specs.Faults.{IsAttendFault};
+ghost use Rattle.seat_server.specs.declared.fault.ServerFault.TheVariants.{Memory};
 ghost use Rattle.seat_server.specs.Sessions.{IsAttended, AreAttended};
 
 use crate::accept::Accept;
@@ -113,7 +115,8 @@ fn ended<J: Naming, R: Threads>(
     rt: &R,
     threads: Vec<Thread<J>>,
 ) -> Result<Vec<Attended<J>>, ServerFault>
-    ensures { IfOk result (λ v. AreAttended (map (λ h. h.promise.seat.value) threads.items) (map (λ a. a.seat) v.items) (map (λ a. a.end) v.items)) }
+    ensures served { IfOk result (λ v. AreAttended (map (λ h. h.promise.seat.value) threads.items) (map (λ a. a.seat) v.items) (map (λ a. a.end) v.items)) }
+    ensures want { IfErr result (λ fault. fault ≡ Memory) }
 {
     match thread::join_promised(rt, threads) {
         Ok(all) => Ok(all),
@@ -140,7 +143,8 @@ fn attend_all<
     acceptor: A,
     seats: Vec<Seat<J>>,
 ) -> Result<Vec<Attended<J>>, ServerFault>
-    ensures { IfOk result (λ v. AreAttended seats.items (map (λ a. a.seat) v.items) (map (λ a. a.end) v.items)) }
+    ensures served { IfOk result (λ v. AreAttended seats.items (map (λ a. a.seat) v.items) (map (λ a. a.end) v.items)) }
+    ensures fault { IfErr result IsAttendFault }
 {
     let (threads, is_whole) = begin_all(rt, alloc, progress, acceptor, seats);
     if !is_whole {
@@ -167,7 +171,8 @@ pub fn all_attended<
     acceptor: A,
     seats: Vec<Seat<J>>,
 ) -> Result<Vec<Attended<J>>, ServerFault>
-    ensures { IfOk result (λ v. AreAttended seats.items (map (λ a. a.seat) v.items) (map (λ a. a.end) v.items)) }
+    ensures served { IfOk result (λ v. AreAttended seats.items (map (λ a. a.seat) v.items) (map (λ a. a.end) v.items)) }
+    ensures fault { IfErr result IsAttendFault }
 {
     let all = attend_all(rt, alloc, progress, acceptor, seats);
     progress.end();

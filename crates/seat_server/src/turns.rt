@@ -2,6 +2,7 @@
 
 ghost use Rattle.std.specs.Prelude.{◌≡◌, IfSome};
 ghost use Rattle.relay_core.specs.declared.fault.TurnFault.TheVariants.{StoreFull};
+ghost use Rattle.seat_server.specs.Turning.{IsTurned};
 
 use crate::progress::Progress;
 use relay_board::{Naming, Relay, Turn, TurnFault};
@@ -26,6 +27,7 @@ pub fn take_turns<J: Naming, R: Wait + Drop, H: Wait>(
     progress: &Progress,
 ) -> Option<TurnFault>
     ensures made { relay.new.made ≡ relay.old.made }
+    ensures turned { IsTurned 1000 relay.old result relay.new }
     ensures full { IfSome result (λ fault. fault ≡ StoreFull → relay.new.stored ≡ relay.new.room) }
 {
     let mut failed: u16 = 0;

@@ -23,5 +23,5 @@ returns g c =
     ends _ _ c.args.port c.deref.result.now c.in_ok-push_output.field-0 (c.deref.ensures.value ∙ c.in_ok-line.ensures) c.in_ok-push_output.ensures.pushed
     c.args.opened.rule (ruled_capacity (arc_value c.args.opened.drain.queue)) c.args.opened.count c.in-Ok.named.1.items c.in-Ok-serve_seats.finished _
     c.push_output-in-Ok-serve_seats.result c.deref-in-Ok-serve_seats.result.now
-    c.in-Ok.ensures.seats.0 c.in-Ok.ensures.seats.1 c.in-Ok-serve_seats.ensures
+    c.in-Ok.ensures.seats.0 c.in-Ok.ensures.seats.1 c.in-Ok-serve_seats.ensures.served
     (c.deref-in-Ok-serve_seats.ensures.value ∙ c.in_ok-text-in-Ok-serve_seats.ensures) c.push_output-in-Ok-serve_seats.ensures.pushed c.push_output-in-Ok-serve_seats.ensures.fault

@@ -1,7 +1,7 @@
 use Rattle.std.proofs.Common.{◌∙◌, ap, map, subst, sym}
-use Rattle.relay_core.specs.Relaying.{Relaying}
 use Rattle.seat_server.specs.Sessions.{AreAttended}
 use Rattle.seat_server.proofs.ListLaws.{as_many, in_order}
+use Rattle.seat_server.proofs.TurningLaws.{makes_none}
 use Rattle.seat_server.proofs.server.serve_seats.Goals as goal
 
 pub closed-requires-clause-all : goal.closed-requires-clause-all
@@ -9,13 +9,13 @@ closed-requires-clause-all g c =
     let after = map (λ a. a.seat) c.in_ok-attended.attended.items in
     let ends = map (λ a. a.end) c.in_ok-attended.attended.items in
     let seats = ap (λ p. p.seats.value.items) c.in-Ok.ensures.ok ∙ ap (λ v. v.items) c.of.ensures in
-    let attended : AreAttended c.args.seats.items after ends = subst (λ l. AreAttended l after ends) seats c.in_ok-attended.ensures in
-    ap (λ (r : Relaying). r.made) c.close.ensures.closed ∙ (c.take_turns.ensures.made ∙ (c.requires.all ∙ sym (as_many c.args.seats.items after ends attended)))
+    let attended : AreAttended c.args.seats.items after ends = subst (λ l. AreAttended l after ends) seats c.in_ok-attended.ensures.0 in
+    makes_none c.take_turns.new.relay c.close.new.self c.close.ensures.closed ∙ (c.take_turns.ensures.made ∙ (c.requires.all ∙ sym (as_many c.args.seats.items after ends attended)))
 
 pub closed-requires-clause-order : goal.closed-requires-clause-order
 closed-requires-clause-order g c =
     let after = map (λ a. a.seat) c.in_ok-attended.attended.items in
     let ends = map (λ a. a.end) c.in_ok-attended.attended.items in
     let seats = ap (λ p. p.seats.value.items) c.in-Ok.ensures.ok ∙ ap (λ v. v.items) c.of.ensures in
-    let attended : AreAttended c.args.seats.items after ends = subst (λ l. AreAttended l after ends) seats c.in_ok-attended.ensures in
+    let attended : AreAttended c.args.seats.items after ends = subst (λ l. AreAttended l after ends) seats c.in_ok-attended.ensures.0 in
     in_order 0 c.args.seats.items after ends attended c.requires.order

@@ -3,8 +3,8 @@ use Rattle.std.specs.Vec.{vec_len}
 use Rattle.seat_server.proofs.ListLaws.{each_ended}
 use Rattle.seat_server.proofs.sessions.ended.Goals as goal
 
-pub returns-in-Ok : goal.returns-in-Ok
-returns-in-Ok g c =
+pub returns-in-Ok-clause-served : goal.returns-in-Ok-clause-served
+returns-in-Ok-clause-served g c =
     let many : vec_len c.args.threads ≡ length c.args.threads.items = search rules in
     let all : vec_len c.in-Ok.all ≡ length c.in-Ok.all.items = search rules in
     each_ended _ (λ p. p.seat.value) (λ a. a.seat) (λ a. a.end) (λ p r kept. kept) (vec_len c.args.threads) c.args.threads.items c.in-Ok.all.items
