@@ -7,10 +7,13 @@ use client_commands::FileName;
 use genedit_io::RunFault;
 use itoa::Buffer;
 use std::alloc::{AllocError, Global};
-use std::io::{ErrorKind, Read};
+use std::io::{ErrorKind, Read, Write};
 use std::rt::Files;
 use std::str::from_utf8;
 use std::{fs, io};
+
+/// How many names are tried for a new file beside one.
+const NEW_NAMES: u32 = 1000;
 
 /// How a file was not written or read.
 #[derive(Clone, Copy, Debug, PartialEq, Eq)]
@@ -35,18 +38,38 @@ pub(crate) fn write_whole<R: Files>(
     if is_something_else(rt, path) {
         return Err(FileFault::Refused);
     }
-    let Ok(new) = new_name(alloc, path) else {
-        return Err(FileFault::Memory);
-    };
-    if write_and_rename(rt, new.as_str(), path, text).is_ok() {
+    let (new, file) = new_file(rt, alloc, path)?;
+    if write_and_rename(rt, file, new.as_str(), path, text).is_ok() {
         return Ok(());
     }
     let _ = fs::remove_file(rt, new.as_str());
     Err(FileFault::Refused)
 }
 
-fn write_and_rename<R: Files>(rt: &R, new: &str, path: &str, text: &[u8]) -> io::Result<()> {
-    fs::write(rt, new, text)?;
+/// A file that was not there, beside one, and its name: clients that write one file at the same time each
+/// have a new file of their own.
+fn new_file<R: Files>(rt: &R, alloc: Global, path: &str) -> Result<(String, R::File), FileFault> {
+    for number in 0..NEW_NAMES {
+        let Ok(name) = new_name(alloc, path, number) else {
+            return Err(FileFault::Memory);
+        };
+        match fs::File::create_new(rt, name.as_str()) {
+            Ok(file) => return Ok((name, file)),
+            Err(error) if error.kind() == ErrorKind::AlreadyExists => {}
+            Err(_) => return Err(FileFault::Refused),
+        }
+    }
+    Err(FileFault::Refused)
+}
+
+fn write_and_rename<R: Files>(
+    rt: &R,
+    mut file: R::File,
+    new: &str,
+    path: &str,
+    text: &[u8],
+) -> io::Result<()> {
+    file.write_all(text)?;
     fs::rename(rt, new, path)
 }
 
@@ -58,10 +81,13 @@ fn is_something_else<R: Files>(rt: &R, path: &str) -> bool {
     }
 }
 
-/// The name of the new file beside one.
-fn new_name(alloc: Global, path: &str) -> Result<String, AllocError> {
+/// The name of a new file beside one, by its number.
+fn new_name(alloc: Global, path: &str, number: u32) -> Result<String, AllocError> {
     let mut new = String::from_str(alloc, path)?;
     new.push_str(".new")?;
+    if number > 0 {
+        new.push_str(Buffer::new().format(number))?;
+    }
     Ok(new)
 }
 
