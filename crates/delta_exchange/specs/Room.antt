@@ -1,5 +1,5 @@
 -- What the reading of a square makes of a store, and when a store has no room for one.
-use Rattle.std.specs.Prelude.{◌≡◌, ℕ, zero, suc, pos, Result, Err, IfOk}
+use Rattle.std.specs.Prelude.{◌≡◌, ◌+◌, ◌≤◌, ℕ, zero, suc, pos, length, Result, Err, IfOk, OnOk}
 use Rattle.generations_rule.specs.Place.{Place, moved}
 use Rattle.stamped_writes.specs.Write.{Writes}
 use Rattle.square_store.specs.Seen.{IsBlankAt}
@@ -36,6 +36,11 @@ pub record IsFilledFor (old new : Held PlaneLeaf) (k : ℕ) (f : Grid) : Type 0 
   pub grown : IsGrown plane_grid 8 old new
   pub pieces : AddsPiecesOfGrid plane_grid 8 old new k f
   pub full : IsStore plane_grid 8 IsPlaneLeaf new → IsFullFor plane_grid 8 new k f
+
+-- What is read adds few squares: where so many bytes were left before and are left now, at most as many as the bytes that were read; and where room is wanted, no more than that had been left.
+pub record AddsFew {A : Type 0} (result : Result A ReadFault) (old new : Held PlaneLeaf) (before now : ℕ) : Type 0 where
+  pub few : OnOk result (length new.squares + now ≤ length old.squares + before)
+  pub full : result ≡ Err StoreFull → old.room ≤ length old.squares + before
 
 -- the square of a map from a corner, by column and row
 abbrev pub square_of : Writes → Place → Grid

@@ -16,7 +16,7 @@ use Rattle.delta_exchange.specs.Fault.{IsWantOrFull}
 use Rattle.delta_exchange.specs.Message.{Shared}
 use Rattle.delta_exchange.specs.Room.{IsMapTooLargeFor}
 use Rattle.delta_exchange.specs.Spelling.{delta_text}
-use Rattle.delta_exchange.specs.MessageReading.{HasContentTold, HasMap, StandsForMap, StandsForTold, Told, ToldEdits, begins_as_delta}
+use Rattle.delta_exchange.specs.MessageReading.{HasContentTold, HasMap, MayWantRoom, StandsForMap, StandsForTold, Told, ToldEdits, begins_as_delta}
 use Rattle.delta_exchange.proofs.MessageLaws.{both_kinds, delta_begins}
 use Rattle.replica_core.specs.declared.fault.Fault.{Fault}
 use Rattle.replica_core.specs.declared.fault.Fault.TheVariants as faults
@@ -80,7 +80,7 @@ entries_tellable states from count journal few edits below = record {
 -- ---- what is taken
 
 -- a want of the reader is one of the replica
-want_read : (r : ReplicaState) (text : List ℕ) (fault : ReadFault) → (fault ≡ read_faults.StoreFull → begins_as_delta text ≡ Ok false) → IsWantOrFull fault
+want_read : (r : ReplicaState) (text : List ℕ) (fault : ReadFault) → (fault ≡ read_faults.StoreFull → MayWantRoom (2 ^ 26) text) → IsWantOrFull fault
     → MeetsWantReading r r text (fault_of_read fault)
 want_read r text fault room (inl memory) =
     subst (λ f. MeetsWantReading r r text (fault_of_read f)) (sym memory) (record { want = tt; same = refl; full = λ is. absurd (cc) })
@@ -93,7 +93,7 @@ memory_read r fault memory =
 
 -- a text that is refused, or whose reading meets a want
 pub refuses_text : (r : ReplicaState) (rule : GenerationsRule) (text : List ℕ) (meant : Result Told ReadFault) (refusal : ReadFault)
-    → (refusal ≡ read_faults.StoreFull → begins_as_delta text ≡ Ok false)
+    → (refusal ≡ read_faults.StoreFull → MayWantRoom (2 ^ 26) text)
     → AnswersAs (StandsForTold rule) IsWantOrFull (Err refusal) meant → IsTakingText {A = Bool} r r text meant (Err (fault_of_read refusal))
 refuses_text r rule text (Ok told) refusal room want = inl (want_read r text refusal room want)
 refuses_text r rule text (Err fault) refusal room (inl want) = inl (want_read r text refusal room want)

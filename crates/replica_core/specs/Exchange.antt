@@ -1,12 +1,12 @@
 -- What a replica does to the bytes of messages, and they to it.
-use Rattle.std.specs.Prelude.{◌≡◌, ◌⊎◌, ◌^◌, ℕ, ◌+◌, nat_lt, false, List, length, take, drop, Result, Ok, Err}
+use Rattle.std.specs.Prelude.{◌≡◌, ◌⊎◌, ◌^◌, ℕ, ◌+◌, nat_lt, List, length, take, drop, Result, Ok, Err}
 use Rattle.std.specs.Result.{IsOk}
 use Rattle.generations_rule.specs.Refusal.{when, unless, ◌>>=◌}
 use Rattle.edit_stamps.specs.Edit.{PlaneEdit}
 use Rattle.stamped_writes.specs.Write.{Writes}
 use Rattle.delta_exchange.specs.declared.fault.ReadFault.{ReadFault}
 use Rattle.delta_exchange.specs.declared.message.Content.{Content}
-use Rattle.delta_exchange.specs.MessageReading.{Told, HasContentTold, HasMap, begins_as_delta}
+use Rattle.delta_exchange.specs.MessageReading.{Told, HasContentTold, HasMap, MayWantRoom}
 use Rattle.delta_exchange.specs.Room.{IsMapTooLargeFor}
 use Rattle.delta_exchange.specs.Spelling.{delta_text}
 use Rattle.replica_core.specs.declared.fault.Fault.{Fault}
@@ -20,11 +20,11 @@ use Rattle.replica_core.specs.Replica.{ReplicaState, MeetsWant, Takes}
 abbrev pub TakesSome : ReplicaState → ReplicaState → (Content → Type 0) → Type 0
 TakesSome old new P = (content : Content) × P content × Takes old new content
 
--- a want met as a text is read, which leaves all as it was; room is wanted for the map of a state alone
+-- a want met as a text is read, which leaves all as it was; room is wanted of a state alone, and not of a short one
 pub record MeetsWantReading (old new : ReplicaState) (text : List ℕ) (fault : Fault) : Type 0 where
   pub want : IsWant fault
   pub same : new ≡ old
-  pub full : fault ≡ faults.StoreFull → begins_as_delta text ≡ Ok false
+  pub full : fault ≡ faults.StoreFull → MayWantRoom (2 ^ 26) text
 
 -- A text is taken as what it means, whole; or a want is met, as it is read, or as what it means is joined; or it is
 -- refused by its first fault, which leaves all as it was.

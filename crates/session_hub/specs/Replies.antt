@@ -12,7 +12,7 @@ use Rattle.export_workers.specs.Exports.{AreExportAnswers, IsExportAnswer}
 use Rattle.delta_exchange.specs.declared.fault.ReadFault.{ReadFault}
 use Rattle.delta_exchange.specs.Fault.{read_fault_number}
 use Rattle.message_frames.specs.Frames.{most_body}
-use Rattle.delta_exchange.specs.MessageReading.{Told, ToldEdits, ToldMap, message_of, begins_as_delta}
+use Rattle.delta_exchange.specs.MessageReading.{Told, ToldEdits, ToldMap, message_of, MayWantRoom}
 use Rattle.delta_exchange.specs.Spelling.{delta_text}
 use Rattle.delta_exchange.specs.Room.{IsMapTooLargeFor}
 use Rattle.delta_exchange.specs.State.{IsTellableMap}
@@ -200,9 +200,9 @@ KeepsAll kept (Many gs) None left = left ≡ kept
 KeepsAll kept (Many gs) (Some (Shows (Ok p))) left = left ≡ kept
 KeepsAll kept _ _ left = ⊥
 
--- a pushed text that begins as a state, of no map that fits into 2^26 squares
+-- a pushed text that begins as a state, is not short, and is of no map that fits into 2^26 squares
 pub record IsTooLargePush (r : GenerationsRule) (text : List ℕ) : Type 0 where
-  pub state : begins_as_delta text ≡ Ok false
+  pub room : MayWantRoom (2 ^ 26) text
   pub large : (meant : Writes) → IsTellableMap r.states meant → IsReadableStateText r meant text → IsMapTooLargeFor (2 ^ 26) meant
 
 -- the want itself: of memory; or of room, for a pushed state

@@ -6,5 +6,5 @@ use Rattle.replica_sessions.proofs.pushes.pushed.Goals as goal
 pub returns-in-Err : goal.returns-in-Err
 returns-in-Err c =
     unread c.args.rule.now c.args.text.now c.in-Err.fault (message_of c.args.rule.now c.args.text.now)
-    (λ same. record { state = c.read.ensures.full (c.in-Err.is ∙ ap Err same); large = λ meant tellable spelt. c.read.ensures.too_large meant tellable spelt (c.in-Err.is ∙ ap Err same) })
+    (λ same. record { room = c.read.ensures.full (c.in-Err.is ∙ ap Err same); large = λ meant tellable spelt. c.read.ensures.too_large meant tellable spelt (c.in-Err.is ∙ ap Err same) })
     (rw c.in-Err.is at c.read.ensures.exact)

@@ -56,4 +56,4 @@ returns-in_err-message-clause-edits c =
     → IsTakingOf r r (λ content. content ≡ Edits meant) c.from_residual.result) c.self.view_is
     (λ meant tellable spelt. subst (IsTakingOf old old (λ content. content ≡ Edits meant)) (sym (is.1 ∙ ap Err is.2))
     (refuses_edits old old.rule meant c.in_err-message.field-0.0 (λ content. content ≡ Edits meant)
-    (λ full. ap begins_as_delta (sym spelt) ∙ c.in_err-message.ensures.full (ap Err full)) (c.in_err-message.ensures.only_edits meant tellable spelt)))
+    (λ full. ap begins_as_delta (sym spelt) ∙ (let wants = c.in_err-message.ensures.full (ap Err full) in wants.state)) (c.in_err-message.ensures.only_edits meant tellable spelt)))
