@@ -1,3 +1,4 @@
 mod SeatLaws
 mod ListLaws
 mod TurningLaws
+mod EndingLaws

@@ -1,6 +1,6 @@
 -- Seats and their sessions, one after another.
-use Rattle.std.proofs.Common.{◌≡◌, ℕ, ◌+◌, ◌++◌, suc, List, [], ◌∷◌, ap, sym, ◌∙◌, refl, subst, length, arith}
-use Rattle.std.proofs.lemmas.List.{append-nil}
+use Rattle.std.proofs.Common.{◌≡◌, ℕ, ◌+◌, ◌<◌, ◌++◌, suc, List, [], ◌∷◌, ap, sym, ◌∙◌, refl, subst, length, length-append, arith}
+use Rattle.std.proofs.lemmas.List.{append-nil, length-map}
 use Rattle.std.specs.Prelude.{Result, Ok, Err, IfOk, map, drop}
 use Rattle.std.specs.PromisedHandle.{KeepsAt, KeepsEach}
 use Rattle.core.specs.declared.thread.PromisedHandle.{PromisedHandle}
@@ -56,6 +56,14 @@ pub all_begun : {A B : Type 0} (f : A → B) (begun : List A) (left left' all : 
 all_begun {A} {B} f begun left left' all same rest so_far =
     let none : left ≡ [] = drop_self left (same ∙ rest) in
     sym (append-nil (map f begun)) ∙ (ap (λ (l : List B). map f begun ++ l) (sym none) ∙ so_far)
+
+-- where one is left, fewer than all have begun
+pub some_lack : {A B : Type 0} (f : A → B) (begun : List A) (seat : B) (left left' all : List B) → left ≡ seat ∷ left' → map f begun ++ left ≡ all
+    → length begun < length all
+some_lack f begun seat left left' all first so_far =
+    let many : length left ≡ suc (length left') = ap length first in
+    let both : length (map f begun) + length left ≡ length all = sym (length-append (map f begun) left) ∙ ap length so_far in
+    omega (arith, length-map begun f, many, both)
 
 -- ---- threads that are joined
 

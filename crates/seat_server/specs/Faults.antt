@@ -1,7 +1,17 @@
--- Why a server ends without an account, as it is told.
-use Rattle.std.specs.Prelude.{⊤, ℕ, List, codes}
+-- Why a server ends without an account.
+use Rattle.std.specs.Prelude.{◌≡◌, ⊤, ℕ, true, List, None, Some, Result, codes}
+use mathlib.Core.List.{IsPrefix}
+use Rattle.frame_service.specs.declared.fault.ServeFault.{ServeFault}
+use Rattle.frame_service.specs.declared.served.Served.{Served}
 use Rattle.relay_core.specs.Faults.{turn_fault_text}
+use Rattle.relay_core.specs.Relaying.{Relaying}
+use Rattle.relay_core.specs.Same.{Same}
 use Rattle.relay_board.specs.Faults.{finish_fault_text}
+use Rattle.relay_board.specs.Seating.{BeginsWithAll, Seating}
+use Rattle.relay_board.specs.declared.fault.FinishFault.{FinishFault}
+use Rattle.relay_board.specs.declared.fault.FinishFault.TheVariants as finish
+use Rattle.seat_server.specs.Sessions.{AreAttended}
+use Rattle.seat_server.specs.Turning.{IsTurned}
 use Rattle.seat_server.specs.declared.fault.ServerFault.{ServerFault}
 use Rattle.seat_server.specs.declared.fault.ServerFault.TheVariants.{Read, Turn, Finish, Memory}
 
@@ -19,9 +29,42 @@ IsAttendFault (Turn fault) = ⊥
 IsAttendFault (Finish fault) = ⊥
 IsAttendFault Memory = ⊤
 
+-- what keeps a relay from an account of these seats: a seat has seen more than is published, or the relay's store is
+-- full; of want of memory nothing is told
+abbrev pub Hinders : FinishFault → Relaying → List Seating → Type 0
+Hinders finish.Closed relay seats = ¬ (BeginsWithAll relay.list seats)
+Hinders finish.StoreFull relay seats = relay.stored ≡ relay.room
+Hinders finish.Memory relay seats = ⊤
+
+-- A closed relay was to finish with these seats, and was refused so. It is the same relay still; its list goes on from
+-- what was published before.
+pub record IsUnfinished (relay : Relaying) (seats : List Seating) (fault : FinishFault) : Type 0 where
+  pub left : Relaying
+  pub same : Same relay left
+  pub goes_on : IsPrefix relay.list left.list
+  pub hinders : Hinders fault left seats
+
 -- why there is no account of seats that were served
-abbrev pub IsCloseFault : ServerFault → Type 0
-IsCloseFault Read = ⊥
-IsCloseFault (Turn fault) = ⊥
-IsCloseFault (Finish fault) = ⊤
-IsCloseFault Memory = ⊤
+abbrev pub IsCloseFault : Relaying → List Seating → ServerFault → Type 0
+IsCloseFault relay seats Read = ⊥
+IsCloseFault relay seats (Turn fault) = ⊥
+IsCloseFault relay seats (Finish fault) = IsUnfinished relay seats fault
+IsCloseFault relay seats Memory = ⊤
+
+-- The relay took its turns up to an idle one, and was closed. Each of these seats was served, and with the seats as
+-- their sessions left them it was refused so.
+pub record IsServedInVain (most : ℕ) (relay : Relaying) (before : List Seating) (fault : FinishFault) : Type 0 where
+  pub turned : Relaying
+  pub turns : IsTurned most relay None turned
+  pub after : List Seating
+  pub ends : List (Result Served ServeFault)
+  pub attended : AreAttended before after ends
+  pub unfinished : IsUnfinished (record turned { closed = true }) after fault
+
+-- Why the server of a relay and these seats gives no account. The fault of a turn is told only where too many failed,
+-- the last of them so; that of a finish only where the finish was refused so.
+abbrev pub IsReason : ℕ → Relaying → List Seating → ServerFault → Type 0
+IsReason most relay seats Read = ⊤
+IsReason most relay seats (Turn fault) = (b : Relaying) × IsTurned most relay (Some fault) b
+IsReason most relay seats (Finish fault) = IsServedInVain most relay seats fault
+IsReason most relay seats Memory = ⊤

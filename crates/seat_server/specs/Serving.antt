@@ -1,10 +1,14 @@
 -- What a server of seats does.
-use Rattle.std.specs.Prelude.{List, []}
+use Rattle.std.specs.Prelude.{ℕ, List, [], None}
+use mathlib.Core.List.{IsPrefix}
 use Rattle.board.specs.Origins.{list_of}
+use Rattle.board.specs.declared.entry.Entry.{Entry}
+use Rattle.relay_core.specs.Relaying.{Relaying}
 use Rattle.relay_board.specs.Closing.{IsWhole}
 use Rattle.relay_board.specs.Seating.{Seating}
 use Rattle.seat_server.specs.declared.server.Finished.{Finished}
 use Rattle.seat_server.specs.Sessions.{AreAttended}
+use Rattle.seat_server.specs.Turning.{IsTurned}
 
 -- Each of these seats was served over a stream of its own, and the account is that of the seats as their sessions left
 -- them: the published list has of each seat exactly what was pushed at it and accepted, in order, each once.
@@ -12,3 +16,9 @@ pub record IsServed (before : List Seating) (f : Finished) : Type 0 where
   pub after : List Seating
   pub attended : AreAttended before after f.ends.items
   pub whole : IsWhole [] (list_of f.account.front) after f.account
+
+-- The relay took its turns up to an idle one, and the list goes on from what was published by then.
+pub record GoesOnFrom (most : ℕ) (relay : Relaying) (list : List Entry) : Type 0 where
+  pub turned : Relaying
+  pub turns : IsTurned most relay None turned
+  pub goes_on : IsPrefix turned.list list

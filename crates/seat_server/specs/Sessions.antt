@@ -22,15 +22,19 @@ number_of s = s.place + 1
 abbrev pub session_at : Seating → Kept → SessionState Seating
 session_at s kept = record { hub = s; kept = kept }
 
--- A seat was served over one stream: the requests in the bytes that were pulled were answered one after another, each
--- by one call of the seat at most, and their replies pushed, up to the end.
-pub record IsAttended (before after : Seating) (end : Result Served ServeFault) : Type 0 where
+-- A seat was served over a stream whose ends were so: the requests in the bytes that were pulled were answered one after
+-- another, each by one call of the seat at most, and their replies pushed, up to the end.
+pub record IsAttendedOver (source : KnownSource) (from : KnownSink) (before after : Seating) (end : Result Served ServeFault) : Type 0 where
   pub kept : Kept
-  pub source : KnownSource
   pub source' : KnownSource
-  pub from : KnownSink
   pub to : KnownSink
   pub service : IsService (AnswersAs IsSeatCall rule_of number_of) (2 ^ 32) end (session_at before nothing_kept) (session_at after kept) source source' from to
+
+-- a seat was served over one stream
+pub record IsAttended (before after : Seating) (end : Result Served ServeFault) : Type 0 where
+  pub source : KnownSource
+  pub from : KnownSink
+  pub over : IsAttendedOver source from before after end
 
 -- each of these seats was served, and its session ended as it stands at its place
 abbrev pub AreAttended : List Seating → List Seating → List (Result Served ServeFault) → Type 0

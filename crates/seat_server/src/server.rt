@@ -1,14 +1,14 @@
 //! A server of seats.
 
 ghost use Rattle.std.specs.Prelude.{◌≡◌, length, map, true, IfOk, IfErr};
+ghost use mathlib.Core.List.{IsPrefix};
 ghost use denote.Param.Send.{IsSend, IsSync};
 ghost use Rattle.board.specs.Origins.{list_of};
 ghost use Rattle.relay_board.specs.Closing.{IsWhole};
 ghost use Rattle.relay_board.specs.Seating.{Numbered};
 ghost use Rattle.seat_server.specs.Sessions.{AreAttended};
-ghost use Rattle.seat_server.specs.Serving.{IsServed};
-ghost use Rattle.seat_server.specs.Faults.{IsAttendFault, IsCloseFault};
-ghost use Rattle.seat_server.specs.Turning.{IsReason};
+ghost use Rattle.seat_server.specs.Serving.{GoesOnFrom, IsServed};
+ghost use Rattle.seat_server.specs.Faults.{IsAttendFault, IsCloseFault, IsReason};
 
 use crate::accept::{Accept, Wake};
 use crate::fault::ServerFault;
@@ -75,7 +75,7 @@ fn closed<J: Naming, R: Wait + Drop>(
     requires order { Numbered 0 (map (λ a. a.seat) attended.items) }
     ensures ends { IfOk result (λ f. f.ends.items ≡ map (λ a. a.end) attended.items) }
     ensures whole { IfOk result (λ f. IsWhole relay.list (list_of f.account.front) (map (λ a. a.seat) attended.items) f.account) }
-    ensures fault { IfErr result IsCloseFault }
+    ensures fault { IfErr result (IsCloseFault relay (map (λ a. a.seat) attended.items)) }
 {
     let (seats, ends) = parted(alloc, attended)?;
     match relay.finish(alloc, seats) {
@@ -88,9 +88,10 @@ fn closed<J: Naming, R: Wait + Drop>(
 /// end how the sessions ended, and the account.
 ///
 /// `Read` where a stream did not come or a thread could not be started: the relay is closed then, and the
-/// sessions that had begun are served to their end. `Turn` where 1,000 turns in a row failed: the relay is
-/// dropped, `wake` is called so that nobody waits for a further stream, and the sessions are served to
-/// their end.
+/// sessions that had begun are served to their end. No clause tells of that, nor of want of memory. `Turn`
+/// where 1,000 turns in a row failed: the relay is dropped, `wake` is called so that nobody waits for a
+/// further stream, and the sessions are served to their end. `Finish` where all seats were served, and the
+/// closed relay did not finish with them.
 pub fn serve_seats<
     J: Naming + Send + 'static,
     R: Threads + Wait + Copy + Drop + Send + Sync + 'static,
@@ -109,7 +110,9 @@ pub fn serve_seats<
     requires all { relay.made ≡ length seats.items }
     requires order { Numbered 0 seats.items }
     ensures served { IfOk result (λ f. IsServed seats.items f) }
-    ensures reason { IfErr result (IsReason 1000 relay) }
+    ensures stays { IfOk result (λ f. IsPrefix relay.list (list_of f.account.front)) }
+    ensures goes_on { IfOk result (λ f. GoesOnFrom 1000 relay (list_of f.account.front)) }
+    ensures reason { IfErr result (IsReason 1000 relay seats.items) }
 {
     let bell = relay.bell()?;
     let progress = Arc::new(alloc, Progress::new(bell))?;

@@ -1,9 +1,10 @@
 //! Sessions on threads of their own.
 
-ghost use Rattle.std.specs.Prelude.{◌≡◌, map, true, IfOk, IfErr};
+ghost use Rattle.std.specs.Prelude.{◌≡◌, ◌<◌, length, map, true, false, IfOk, IfErr};
+ghost use mathlib.Core.List.{IsPrefix};
 ghost use Rattle.seat_server.specs.Faults.{IsAttendFault};
 ghost use Rattle.seat_server.specs.declared.fault.ServerFault.TheVariants.{Memory};
-ghost use Rattle.seat_server.specs.Sessions.{IsAttended, AreAttended};
+ghost use Rattle.seat_server.specs.Sessions.{IsAttended, IsAttendedOver, AreAttended};
 
 use crate::accept::Accept;
 use crate::fault::ServerFault;
@@ -51,7 +52,8 @@ fn serve_one<J: Naming, R: Threads + Wait + Sync + Copy + Drop, S: Source + Drop
     mut source: S,
     mut sink: K,
 ) -> Attended<J>
-    ensures { IsAttended seat result.seat result.end }
+    ensures attended { IsAttended seat result.seat result.end }
+    ensures over { IsAttendedOver (S.known source) (K.known sink) seat result.seat result.end }
 {
     let mut session = Session::new(rt, alloc, SeatHub::new(seat, rt));
     let end = serve(alloc, &mut source, &mut sink, &mut session);
@@ -76,7 +78,9 @@ fn begin_all<
     mut acceptor: A,
     seats: Vec<Seat<J>>,
 ) -> (Vec<Thread<J>>, bool)
-    ensures { result.1 ≡ true → map (λ h. h.promise.seat.value) result.0.items ≡ seats.items }
+    ensures begun { IsPrefix (map (λ h. h.promise.seat.value) result.0.items) seats.items }
+    ensures all { result.1 ≡ true → map (λ h. h.promise.seat.value) result.0.items ≡ seats.items }
+    ensures lacks { result.1 ≡ false → length result.0.items < length seats.items }
 {
     let mut threads = Vec::new(alloc);
     let mut left = VecDeque::from(seats);

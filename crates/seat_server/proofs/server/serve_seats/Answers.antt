@@ -1,5 +1,6 @@
 use Rattle.std.proofs.Common.{◌∙◌, ap, map, subst, sym}
 use Rattle.seat_server.specs.Sessions.{AreAttended}
+use Rattle.seat_server.proofs.EndingLaws.{goes_on_from, stays}
 use Rattle.seat_server.proofs.ListLaws.{as_many, in_order}
 use Rattle.seat_server.proofs.TurningLaws.{makes_none}
 use Rattle.seat_server.proofs.server.serve_seats.Goals as goal
@@ -19,3 +20,13 @@ closed-requires-clause-order g c =
     let seats = ap (λ p. p.seats.value.items) c.in-Ok.ensures.ok ∙ ap (λ v. v.items) c.of.ensures in
     let attended : AreAttended c.args.seats.items after ends = subst (λ l. AreAttended l after ends) seats c.in_ok-attended.ensures.0 in
     in_order 0 c.args.seats.items after ends attended c.requires.order
+
+pub returns-clause-stays : goal.returns-clause-stays
+returns-clause-stays g c =
+    stays 1000 c.args.relay c.take_turns.new.relay c.close.new.self c.in_default-take_turns.ensures.turned c.close.ensures.closed c.closed.result
+    (map (λ a. a.seat) c.in_ok-attended.attended.items) c.closed.ensures.whole
+
+pub returns-clause-goes_on : goal.returns-clause-goes_on
+returns-clause-goes_on g c =
+    goes_on_from 1000 c.args.relay c.take_turns.new.relay c.close.new.self c.in_default-take_turns.ensures.turned c.close.ensures.closed c.closed.result
+    (map (λ a. a.seat) c.in_ok-attended.attended.items) c.closed.ensures.whole
