@@ -15,9 +15,9 @@ use Rattle.client_session.specs.declared.polling.News.{News}
 use Rattle.client_session.specs.declared.polling.News.TheVariants as news
 use Rattle.client_session.specs.declared.seat.Seat.{Seat}
 use Rattle.client_session.specs.Lines.{drawn_line, nameless_line, refusal_line}
-use Rattle.client_session.specs.Moment.{IsPrinted, Moment}
+use Rattle.client_session.specs.Moment.{IsPrinted, KeepsRest, LacksTelling, Moment, taken}
 use Rattle.client_session.specs.News.{BehindPoll, Leaves}
-use Rattle.client_session.specs.Telling.{TellsCame}
+use Rattle.client_session.specs.Telling.{CameFindsNoRoom, TellsCame}
 
 -- ---- what is told
 
@@ -43,29 +43,31 @@ TellsDrawing (Drawn counter) known old new out out' = TellsDrawn counter known o
 TellsDrawing (Refused fault) known old new out out' = (out' ≡ out ++ reply_line (reply.Refused fault)) × (new ≡ old)
 TellsDrawing (Unpublished number) known old new out out' = TellsRefusedPush number old new out out'
 
+-- room is wanting for what an edit changes, behind the line that it was drawn; of a refusal none is wanted
+abbrev pub DrawingFindsNoRoom : Drawing → ℕ → Seat → Seat → List ℕ → List ℕ → Type 0
+DrawingFindsNoRoom (Drawn counter) known old new out out' = CameFindsNoRoom (drop known old.replica.journal) old.shown new.shown (out ++ drawn_line counter old.replica.number) out'
+DrawingFindsNoRoom (Refused fault) known old new out out' = ⊥
+DrawingFindsNoRoom (Unpublished number) known old new out out' = ⊥
+
 -- ---- what is done
 
 -- a drawing was made, and told
 pub record DrawsAndTells (after : ℕ) (spec : EditSpec) (m n : Moment) (came : Outcome) : Type 0 where
   pub drawing : Drawing
   pub drawn : IsDrawing after spec m.line n.line m.seat.replica n.seat.replica (Ok drawing)
-  pub told : TellsDrawing drawing (length m.seat.replica.journal) (record m.seat { replica = n.seat.replica }) n.seat m.out n.out
+  pub told : TellsDrawing drawing (length m.seat.replica.journal) (taken m n) n.seat m.out n.out
   pub outcome_is : came ≡ outcome_of drawing
 
 -- a drawing failed, and nothing is told of it
 pub record FailsDrawing (after : ℕ) (spec : EditSpec) (fault : ClientFault) (m n : Moment) : Type 0 where
   pub drawn : IsDrawing after spec m.line n.line m.seat.replica n.seat.replica (Err fault)
+  pub kept : KeepsRest m.seat n.seat
   pub told : n.out ≡ m.out
 
--- a drawing was made, but for what is told of it memory or room is wanting
-pub record LacksTelling (after : ℕ) (spec : EditSpec) (m n : Moment) : Type 0 where
-  pub drawing : Drawing
-  pub drawn : IsDrawing after spec m.line n.line m.seat.replica n.seat.replica (Ok drawing)
-
--- the same for want of room, of a seat that tells a map
-pub record LacksRoom (after : ℕ) (spec : EditSpec) (m n : Moment) : Type 0 where
-  pub lacks : LacksTelling after spec m n
-  pub shown : IsSome m.seat.shown
+-- a drawing was made, but what came of it is not all told
+abbrev pub IsDrawnUntold : ℕ → EditSpec → SeatFault → Moment → Moment → Type 0
+IsDrawnUntold after spec fault m n = LacksTelling (λ drawing. IsDrawing after spec m.line n.line m.seat.replica n.seat.replica (Ok drawing))
+    (λ drawing. DrawingFindsNoRoom drawing (length m.seat.replica.journal) (taken m n) n.seat m.out n.out) fault m n
 
 -- a drawing behind its poll, of a seat to which the board is closed, or is not
 abbrev pub DrawsAs : Bool → ℕ → EditSpec → Moment → Moment → Result Outcome SeatFault → Type 0
@@ -73,8 +75,8 @@ DrawsAs true after spec m n result = IsPrinted outcome.Refused (refusal_line 30)
 DrawsAs false after spec m n (Ok came) = DrawsAndTells after spec m n came
 DrawsAs false after spec m n (Err (faults.Client fault)) = FailsDrawing after spec fault m n
 DrawsAs false after spec m n (Err (faults.Refused number)) = ⊥
-DrawsAs false after spec m n (Err faults.Memory) = LacksTelling after spec m n
-DrawsAs false after spec m n (Err faults.StoreFull) = LacksRoom after spec m n
+DrawsAs false after spec m n (Err faults.Memory) = IsDrawnUntold after spec faults.Memory m n
+DrawsAs false after spec m n (Err faults.StoreFull) = IsDrawnUntold after spec faults.StoreFull m n
 
 -- the same by what the poll brought
 abbrev pub DrawsBehind : ℕ → EditSpec → News → Moment → Moment → Result Outcome SeatFault → Type 0

@@ -1,5 +1,6 @@
 -- What is exported and saved.
-use Rattle.std.specs.Prelude.{◌≡◌, ◌⊎◌, ⊤, ◌^◌, ℕ, List, ◌++◌, Option, Some, None, Result, Ok, Err}
+use Rattle.std.specs.Prelude.{◌≡◌, ◌⊎◌, ◌^◌, ℕ, List, ◌++◌, Option, Some, None, Result, Ok, Err}
+use mathlib.Core.List.{IsPrefix}
 use Rattle.delta_exchange.specs.StateText.{IsStateText}
 use Rattle.export.specs.declared.fault.ExportFault.{ExportFault}
 use Rattle.export.specs.Export.{IsRoomWanted}
@@ -27,16 +28,16 @@ abbrev pub IsTextGiven : {B : Type 0} → (B → List ℕ) → ℕ → Seat → 
 IsTextGiven bytes_of generation s out out' (Some text) = IsExportOf s.replica generation (Ok (bytes_of text)) × (out' ≡ out)
 IsTextGiven bytes_of generation s out out' None = PrintsExportRefusal generation s out out'
 
--- memory is wanting, or room for the run of a universe
-abbrev pub IsExportWant : ℕ → Seat → SeatFault → Type 0
-IsExportWant generation s Memory = ⊤
-IsExportWant generation s StoreFull = IsRoomWanted s.replica.rule s.replica.plane generation (2 ^ 26)
-IsExportWant generation s fault = ⊥
+-- memory is wanting, and what was printed before stands; or room for the run of a universe, and nothing is printed
+abbrev pub IsExportWant : ℕ → Seat → List ℕ → List ℕ → SeatFault → Type 0
+IsExportWant generation s out out' Memory = IsPrefix out out'
+IsExportWant generation s out out' StoreFull = IsRoomWanted s.replica.rule s.replica.plane generation (2 ^ 26) × (out' ≡ out)
+IsExportWant generation s out out' fault = ⊥
 
 -- an export's text, or its refusal, which is printed; or memory or room is wanting
 abbrev pub IsExportAnswer : {B : Type 0} → (B → List ℕ) → ℕ → Seat → List ℕ → List ℕ → Result (Option B) SeatFault → Type 0
 IsExportAnswer bytes_of generation s out out' (Ok text) = IsTextGiven bytes_of generation s out out' text
-IsExportAnswer bytes_of generation s out out' (Err fault) = IsExportWant generation s fault
+IsExportAnswer bytes_of generation s out out' (Err fault) = IsExportWant generation s out out' fault
 
 -- an export's text is printed
 pub record PrintsExport (generation : ℕ) (s : Seat) (out out' : List ℕ) : Type 0 where
@@ -47,7 +48,7 @@ pub record PrintsExport (generation : ℕ) (s : Seat) (out out' : List ℕ) : Ty
 -- the text is printed, or the refusal
 abbrev pub IsExportPrint : {A : Type 0} → ℕ → Seat → List ℕ → List ℕ → Result A SeatFault → Type 0
 IsExportPrint generation s out out' (Ok done) = PrintsExport generation s out out' ⊎ PrintsExportRefusal generation s out out'
-IsExportPrint generation s out out' (Err fault) = IsExportWant generation s fault
+IsExportPrint generation s out out' (Err fault) = IsExportWant generation s out out' fault
 
 -- the text of a message of the replica's map, or memory is wanting
 abbrev pub IsStateAnswer : {B : Type 0} → (B → List ℕ) → Seat → Result (Option B) SeatFault → Type 0

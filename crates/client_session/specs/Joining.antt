@@ -1,5 +1,6 @@
 -- What joining a board does.
 use Rattle.std.specs.Prelude.{◌≡◌, ◌⊎◌, ⊤, ℕ, ◌≤◌, ◌^◌, false, List, ◌++◌, Option, Some, None, Result, Ok, Err}
+use mathlib.Core.List.{IsPrefix}
 use Rattle.generations_rule.specs.Rule.{GenerationsRule}
 use Rattle.stamped_writes.specs.Write.{unwritten}
 use Rattle.stamped_tree.specs.Plane.{StampedPlane}
@@ -46,10 +47,10 @@ HasNumber (greeting.Seat number rule) = 1 ≤ number
 HasNumber (greeting.Refused number) = ⊤
 HasNumber greeting.Faulty = ⊤
 
--- by what was greeted a seat was made and printed, or memory is wanting for it; or there is none
+-- by what was greeted a seat was made and printed, or memory is wanting for it, and what was printed before stands; or there is none
 abbrev pub SeatsAs : Telling → Greeting → List ℕ → List ℕ → Result Seat SeatFault → Type 0
 SeatsAs telling (greeting.Seat number rule) out out' (Ok seat) = IsJoined telling number rule seat out out'
-SeatsAs telling (greeting.Seat number rule) out out' (Err fault) = fault ≡ Memory
+SeatsAs telling (greeting.Seat number rule) out out' (Err fault) = (fault ≡ Memory) × IsPrefix out out'
 SeatsAs telling (greeting.Refused number) out out' result = (result ≡ Err (Refused number)) × (out' ≡ out)
 SeatsAs telling greeting.Faulty out out' result = (result ≡ Err (Client NoReply)) × (out' ≡ out)
 

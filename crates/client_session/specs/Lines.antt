@@ -28,9 +28,13 @@ cell_text cell = place_text cell.x cell.y ++ codes " " ++ decimal cell.state
 abbrev pub cells_text : List Cell → List ℕ
 cells_text cells = flat_map cell_text cells
 
+-- width and height of an area, each behind a blank
+abbrev pub size_text : Rect → List ℕ
+size_text area = codes " " ++ decimal area.width ++ codes " " ++ decimal area.height
+
 -- corner, width and height of an area
 abbrev pub rect_text : Rect → List ℕ
-rect_text area = codes " area" ++ place_text area.x area.y ++ codes " " ++ decimal area.width ++ codes " " ++ decimal area.height
+rect_text area = codes " area" ++ place_text area.x area.y ++ size_text area
 
 -- of an edit, where it has one
 abbrev pub area_text : Option Rect → List ℕ

@@ -1,5 +1,6 @@
 -- A client between two commands.
 use Rattle.std.specs.Prelude.{◌≡◌, ⊤, ℕ, List, ◌++◌, length, drop, filter, Result, Ok, Err}
+use mathlib.Core.List.{IsPrefix}
 use Rattle.devices.specs.Source.{KnownSource}
 use Rattle.devices.specs.Sink.{KnownSink}
 use Rattle.message_frames.specs.Frames.{FrameStream}
@@ -36,18 +37,44 @@ came old new = drop (length old.replica.journal) new.replica.journal
 abbrev pub KeepsRest : Seat → Seat → Type 0
 KeepsRest old new = new ≡ record old { replica = new.replica }
 
+-- the seat as it was, but that its replica took what came
+abbrev pub taken : Moment → Moment → Seat
+taken m n = record m.seat { replica = n.seat.replica }
+
 -- a text was printed, and nothing else done
 pub record Prints (text : List ℕ) (m n : Moment) : Type 0 where
   pub line : n.line ≡ m.line
   pub seat : n.seat ≡ m.seat
   pub out : n.out ≡ m.out ++ text
 
--- memory or room is wanting
-abbrev pub IsWant : SeatFault → Type 0
-IsWant Memory = ⊤
-IsWant StoreFull = ⊤
-IsWant (Client fault) = ⊥
-IsWant (Refused number) = ⊥
+-- ---- what is wanting
+
+-- memory is wanting; or room is, where Full holds
+abbrev pub IsWant : Type 0 → SeatFault → Type 0
+IsWant Full Memory = ⊤
+IsWant Full StoreFull = Full
+IsWant Full (Client fault) = ⊥
+IsWant Full (Refused number) = ⊥
+
+-- a text is not printed whole: what was printed before stands, and nothing else is done
+pub record BreaksOff (m n : Moment) : Type 0 where
+  pub line : n.line ≡ m.line
+  pub seat : n.seat ≡ m.seat
+  pub out : IsPrefix m.out n.out
+
+-- not all is told: what was printed before stands, and of the seat the map that is told alone may be another
+pub record IsCutShort (old new : Seat) (out out' : List ℕ) : Type 0 where
+  pub printed : IsPrefix out out'
+  pub kept : new ≡ record old { shown = new.shown }
+
+-- something was done at the board, and came to an answer, as Done says, but not all of that is told: memory is wanting, or room, where Full holds
+pub record LacksTelling {A : Type 0} (Done Full : A → Type 0) (fault : SeatFault) (m n : Moment) : Type 0 where
+  pub answer : A
+  pub done : Done answer
+  pub want : IsWant (Full answer) fault
+  pub cut : IsCutShort (taken m n) n.seat m.out n.out
+
+-- ---- lines
 
 -- how many edits of others came is told in a line, and the count starts anew
 pub record TellsNumber (line_of : ℕ → List ℕ) (old new : Seat) (out out' : List ℕ) : Type 0 where
@@ -57,7 +84,7 @@ pub record TellsNumber (line_of : ℕ → List ℕ) (old new : Seat) (out out' :
 -- it is told, or memory is wanting
 abbrev pub IsNumberTold : {A : Type 0} → (ℕ → List ℕ) → Seat → Seat → List ℕ → List ℕ → Result A SeatFault → Type 0
 IsNumberTold line_of old new out out' (Ok done) = TellsNumber line_of old new out out'
-IsNumberTold line_of old new out out' (Err fault) = (fault ≡ Memory) × (new ≡ old)
+IsNumberTold line_of old new out out' (Err fault) = (fault ≡ Memory) × (new ≡ old) × IsPrefix out out'
 
 -- nothing was said on the line meanwhile
 abbrev pub TellsCount : {A : Type 0} → (ℕ → List ℕ) → Moment → Moment → Result A SeatFault → Type 0
@@ -66,4 +93,4 @@ TellsCount line_of m n result = (n.line ≡ m.line) × IsNumberTold line_of m.se
 -- a text is printed, or memory is wanting for it
 abbrev pub IsPrinted : {A : Type 0} → A → List ℕ → Moment → Moment → Result A SeatFault → Type 0
 IsPrinted answer text m n (Ok given) = (given ≡ answer) × Prints text m n
-IsPrinted answer text m n (Err fault) = (fault ≡ Memory) × (n.line ≡ m.line) × (n.seat ≡ m.seat)
+IsPrinted answer text m n (Err fault) = (fault ≡ Memory) × BreaksOff m n

@@ -1,5 +1,5 @@
 -- Polls, and what they bring.
-use Rattle.std.specs.Prelude.{◌≡◌, ◌≢◌, ◌⊎◌, ℕ, length, IsSome, Result, Ok, Err}
+use Rattle.std.specs.Prelude.{◌≡◌, ◌≢◌, ◌⊎◌, ℕ, length, Result, Ok, Err}
 use Rattle.board_client.specs.declared.polling.Polling.{Polling}
 use Rattle.board_client.specs.declared.polling.Polling.TheVariants as polling
 use Rattle.board_client.specs.declared.fault.ClientFault.{ClientFault}
@@ -9,35 +9,31 @@ use Rattle.client_session.specs.declared.fault.SeatFault.TheVariants.{Client, Re
 use Rattle.client_session.specs.declared.polling.News.{News}
 use Rattle.client_session.specs.declared.polling.News.TheVariants as news
 use Rattle.client_session.specs.Lines.{refusal_line}
-use Rattle.client_session.specs.Moment.{Moment, Prints}
-use Rattle.client_session.specs.Telling.{TellsPoll}
+use Rattle.client_session.specs.Moment.{KeepsRest, LacksTelling, Moment, Prints, taken}
+use Rattle.client_session.specs.Telling.{PollFindsNoRoom, TellsPoll}
 
 -- the board was polled, the replica took what came, and what stands behind its journal's old end was told
 pub record Polls (heard : Polling) (m n : Moment) : Type 0 where
   pub polled : IsPoll m.line n.line m.seat.replica n.seat.replica (Ok heard)
-  pub told : TellsPoll heard (length m.seat.replica.journal) (record m.seat { replica = n.seat.replica }) n.seat m.out n.out
+  pub told : TellsPoll heard (length m.seat.replica.journal) (taken m n) n.seat m.out n.out
 
 -- a poll failed, and nothing is told of it
 pub record FailsPolling (fault : ClientFault) (m n : Moment) : Type 0 where
   pub polled : IsPoll m.line n.line m.seat.replica n.seat.replica (Err fault)
+  pub kept : KeepsRest m.seat n.seat
   pub told : n.out ≡ m.out
 
--- a poll ended well, but for what is told of it memory or room is wanting
-pub record LacksTelling (m n : Moment) : Type 0 where
-  pub heard : Polling
-  pub polled : IsPoll m.line n.line m.seat.replica n.seat.replica (Ok heard)
-
--- the same for want of room, of a seat that tells a map
-pub record LacksRoom (m n : Moment) : Type 0 where
-  pub lacks : LacksTelling m n
-  pub shown : IsSome m.seat.shown
+-- a poll ended well, but what it brought is not all told
+abbrev pub IsUntold : SeatFault → Moment → Moment → Type 0
+IsUntold fault m n = LacksTelling (λ heard. IsPoll m.line n.line m.seat.replica n.seat.replica (Ok heard))
+    (λ heard. PollFindsNoRoom heard (length m.seat.replica.journal) (taken m n) n.seat m.out n.out) fault m n
 
 -- how a client ends at a poll: a refusal by 21 is one
 abbrev pub EndsPolling : SeatFault → Moment → Moment → Type 0
 EndsPolling (Client fault) m n = FailsPolling fault m n
 EndsPolling (Refused number) m n = (number ≡ 21) × Polls (polling.Refused 21) m n
-EndsPolling Memory m n = LacksTelling m n
-EndsPolling StoreFull m n = LacksRoom m n
+EndsPolling Memory m n = IsUntold Memory m n
+EndsPolling StoreFull m n = IsUntold StoreFull m n
 
 -- one poll, which tells what it brought; by a refusal nothing is told
 abbrev pub IsPollTold : Moment → Moment → Result Polling SeatFault → Type 0

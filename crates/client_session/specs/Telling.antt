@@ -1,14 +1,21 @@
 -- What is told of edits and planes that came.
-use Rattle.std.specs.Prelude.{◌≡◌, ◌≢◌, ⊤, ℕ, ◌^◌, List, ◌++◌, length, drop, Option, Some, None, IsSome, Result, Ok, Err}
+use Rattle.std.specs.Prelude.{◌≡◌, ◌≢◌, ⊤, ℕ, ◌^◌, List, ◌++◌, length, drop, Option, Some, None, Result, Ok, Err}
 use Rattle.multistate_rle.specs.declared.cell.Cell.{Cell}
-use Rattle.stamped_writes.specs.Write.{Writes, AreSame, joined}
+use Rattle.stamped_writes.specs.Write.{Writes, AreSame, joined, unwritten}
 use Rattle.edit_stamps.specs.Edit.{PlaneEdit, greatest}
+use Rattle.square_store.specs.declared.fault.StoreFault.{StoreFault}
+use Rattle.square_store.specs.declared.fault.StoreFault.TheVariants as stores
 use Rattle.stamped_tree.specs.Plane.{StampedPlane, map_of}
+use Rattle.held_plane.specs.declared.added.Added.{Added}
+use Rattle.held_plane.specs.declared.added.Added.TheVariants as added
+use Rattle.held_plane.specs.Held.{IsAsBefore}
+use Rattle.held_plane.specs.Wanted.{IsFullOfNeeds}
 use Rattle.cell_changes.specs.Changes.{AreChanges}
 use Rattle.client_session.specs.Lines.{edit_lines, now_line, whole_line}
 use Rattle.client_session.specs.declared.fault.SeatFault.{SeatFault}
 use Rattle.client_session.specs.declared.fault.SeatFault.TheVariants as faults
 use Rattle.client_session.specs.declared.seat.Seat.{Seat}
+use Rattle.client_session.specs.Moment.{IsCutShort, IsWant}
 use Rattle.board_client.specs.declared.polling.Polling.{Polling}
 use Rattle.board_client.specs.declared.polling.Polling.TheVariants.{Edits, Whole, Refused}
 
@@ -58,15 +65,68 @@ TellsPoll (Edits count) known old new out out' = TellsBehind known old new out o
 TellsPoll Whole known old new out out' = TellsWhole old new out out'
 TellsPoll (Refused number) known old new out out' = (new ≡ old) × (out' ≡ out)
 
--- memory is wanting, or room for the map that is told, where one is
-abbrev pub IsTellingWant : Option StampedPlane → SeatFault → Type 0
-IsTellingWant shown faults.Memory = ⊤
-IsTellingWant shown faults.StoreFull = IsSome shown
-IsTellingWant shown (faults.Client fault) = ⊥
-IsTellingWant shown (faults.Refused number) = ⊥
+-- ---- where room is wanting for that
 
--- it is told; a refusal by 21 ends the client, as does a want of memory, or of room where a map is told
+-- a plane's want, as the client's
+abbrev pub want_of : StoreFault → SeatFault
+want_of stores.Memory = faults.Memory
+want_of stores.StoreFull = faults.StoreFull
+
+-- these edits are what is joined into a plane
+abbrev pub AreAdded : List PlaneEdit → Added → Type 0
+AreAdded edits (added.Edits joining) = joining.now ≡ edits
+AreAdded edits (added.Map joining) = ⊥
+
+-- the map of a plane is
+abbrev pub IsAdded : StampedPlane → Added → Type 0
+IsAdded plane (added.Edits joining) = ⊥
+IsAdded plane (added.Map joining) = joining.now ≡ plane
+
+-- what is joined into a plane finds no room there: its map stays, and it is full of what it needs for that
+pub record FindsNoRoom (IsJoining : Added → Type 0) (before after : StampedPlane) : Type 0 where
+  pub joining : Added
+  pub is : IsJoining joining
+  pub kept : IsAsBefore before after
+  pub full : IsFullOfNeeds before after joining
+
+-- edits find none in the map that is told, and nothing is printed
+pub record ChangesFindNoRoom (edits : List PlaneEdit) (before after : StampedPlane) (out out' : List ℕ) : Type 0 where
+  pub full : FindsNoRoom (AreAdded edits) before after
+  pub told : out' ≡ out
+
+-- the same, where a map is told; else no room is wanted
+abbrev pub CameFindsNoRoom : List PlaneEdit → Option StampedPlane → Option StampedPlane → List ℕ → List ℕ → Type 0
+CameFindsNoRoom edits (Some before) (Some after) out out' = ChangesFindNoRoom edits before after out out'
+CameFindsNoRoom edits _ _ out out' = ⊥
+
+-- a map finds none in a plane where nothing was written, with room for 2^26 squares
+pub record MapFindsNoRoom (plane : StampedPlane) : Type 0 where
+  pub before : StampedPlane
+  pub after : StampedPlane
+  pub blank : ShowsMap (λ _. unwritten) before
+  pub full : FindsNoRoom (IsAdded plane) before after
+
+-- the same, where a map is told; else no room is wanted
+abbrev pub AllFindsNoRoom : StampedPlane → Option StampedPlane → Type 0
+AllFindsNoRoom plane None = ⊥
+AllFindsNoRoom plane (Some shown) = MapFindsNoRoom plane
+
+-- a whole plane came whose map finds none, and nothing is told
+pub record WholeFindsNoRoom (old new : Seat) (out out' : List ℕ) : Type 0 where
+  pub full : AllFindsNoRoom old.replica.plane old.shown
+  pub kept : new ≡ old
+  pub told : out' ≡ out
+
+-- what a poll brought finds none, by a seat whose replica took what came behind so many edits of its journal
+abbrev pub PollFindsNoRoom : Polling → ℕ → Seat → Seat → List ℕ → List ℕ → Type 0
+PollFindsNoRoom (Edits count) known old new out out' = CameFindsNoRoom (drop known old.replica.journal) old.shown new.shown out out'
+PollFindsNoRoom Whole known old new out out' = WholeFindsNoRoom old new out out'
+PollFindsNoRoom (Refused number) known old new out out' = ⊥
+
+-- ---- all of it
+
+-- it is told; a refusal by 21 ends the client, as does a want of memory, or of room for the map that is told
 abbrev pub IsPollingTold : {A : Type 0} → Polling → ℕ → Seat → Seat → List ℕ → List ℕ → Result A SeatFault → Type 0
 IsPollingTold polling known old new out out' (Ok done) = (polling ≢ Refused 21) × TellsPoll polling known old new out out'
 IsPollingTold polling known old new out out' (Err (faults.Refused number)) = (number ≡ 21) × (polling ≡ Refused 21) × (new ≡ old) × (out' ≡ out)
-IsPollingTold polling known old new out out' (Err fault) = IsTellingWant old.shown fault × (new.replica ≡ old.replica)
+IsPollingTold polling known old new out out' (Err fault) = IsWant (PollFindsNoRoom polling known old new out out') fault × IsCutShort old new out out'

@@ -1,11 +1,12 @@
 //! Drawings.
 
-ghost use Rattle.std.specs.Prelude.{◌≡◌, IfErr, IfOk, IsSome, OnOk, option_map};
+ghost use Rattle.std.specs.Prelude.{◌≡◌, ◌++◌, drop, IfErr, IfOk, IsSome, OnErr, OnOk, option_map};
 ghost use Rattle.replica_events.specs.declared.edit_spec.EditSpec.TheVariants.{Copy, Or};
 ghost use Rattle.genedit_lib.specs.Patterns.{pattern_in};
-ghost use Rattle.client_session.specs.Drawing.{DrawsAs, IsDrawCommand, IsPaste, TellsDrawing, TellsDrawn, outcome_of};
-ghost use Rattle.client_session.specs.Moment.{moment};
-ghost use Rattle.client_session.specs.Telling.{IsTellingWant};
+ghost use Rattle.client_session.specs.Drawing.{DrawingFindsNoRoom, DrawsAs, IsDrawCommand, IsPaste, TellsDrawing, TellsDrawn, outcome_of};
+ghost use Rattle.client_session.specs.Lines.{drawn_line};
+ghost use Rattle.client_session.specs.Moment.{IsCutShort, IsWant, moment};
+ghost use Rattle.client_session.specs.Telling.{CameFindsNoRoom};
 
 use crate::fault::SeatFault;
 use crate::lines::{push_drawn, push_nameless, push_refusal};
@@ -163,7 +164,8 @@ impl Seat {
         out: &mut Vec<u8>,
     ) -> Result<(), SeatFault>
         ensures told { OnOk result (TellsDrawing drawing known self.old self.new out.old.items out.new.items) }
-        ensures want { IfErr result (IsTellingWant self.old.shown) }
+        ensures want { IfErr result (IsWant (DrawingFindsNoRoom drawing known self.old self.new out.old.items out.new.items)) }
+        ensures cut { OnErr result (IsCutShort self.old self.new out.old.items out.new.items) }
         ensures replica { self.new.replica ≡ self.old.replica }
     {
         match drawing {
@@ -189,7 +191,8 @@ impl Seat {
         out: &mut Vec<u8>,
     ) -> Result<(), SeatFault>
         ensures told { OnOk result (TellsDrawn counter known self.old self.new out.old.items out.new.items) }
-        ensures want { IfErr result (IsTellingWant self.old.shown) }
+        ensures want { IfErr result (IsWant (CameFindsNoRoom (drop known self.old.replica.journal) self.old.shown self.new.shown (out.old.items ++ drawn_line counter self.old.replica.number) out.new.items)) }
+        ensures cut { OnErr result (IsCutShort self.old self.new out.old.items out.new.items) }
         ensures replica { self.new.replica ≡ self.old.replica }
     {
         push_drawn(out, counter, self.replica.number())?;

@@ -1,6 +1,7 @@
 //! Joining a board.
 
-ghost use Rattle.std.specs.Prelude.{◌≤◌, IfOk};
+ghost use Rattle.std.specs.Prelude.{◌≤◌, IfOk, OnErr};
+ghost use mathlib.Core.List.{IsPrefix};
 ghost use Rattle.client_session.specs.Joining.{HasNumber, IsFresh, IsJoined, IsJoining, SeatsAs};
 ghost use Rattle.board_client.specs.Client.{line_at};
 
@@ -87,7 +88,8 @@ fn joined(
     key: HashKey,
 ) -> Result<Seat, AllocError>
     requires { 1 ≤ number }
-    ensures { IfOk result (λ seat. IsJoined telling number rule.now seat out.old.items out.new.items) }
+    ensures joined { IfOk result (λ seat. IsJoined telling number rule.now seat out.old.items out.new.items) }
+    ensures kept { OnErr result (IsPrefix out.old.items out.new.items) }
 {
     let seat = fresh(alloc, number, *rule, telling, key)?;
     push_joined(alloc, out, number, rule)?;

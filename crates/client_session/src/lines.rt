@@ -1,9 +1,10 @@
 //! The lines that a client prints.
 
-ghost use Rattle.std.specs.Prelude.{◌≡◌, ◌++◌, codes, decimal, OnOk};
+ghost use Rattle.std.specs.Prelude.{◌≡◌, ◌++◌, codes, decimal, OnErr, OnOk};
+ghost use mathlib.Core.List.{IsPrefix};
 ghost use Rattle.std.specs.Fmt.{signed_decimal};
 ghost use Rattle.genedit_lib.specs.Output.{stamp_text};
-ghost use Rattle.client_session.specs.Lines.{area_text, cell_text, cells_text, drawn_line, edit_line, edit_lines, edits_line, is_of_another, is_told, joined_line, late_line, nameless_line, now_line, place_text, rect_text, refusal_line, whole_line};
+ghost use Rattle.client_session.specs.Lines.{area_text, cell_text, cells_text, drawn_line, edit_line, edit_lines, edits_line, is_of_another, is_told, joined_line, late_line, nameless_line, now_line, place_text, rect_text, refusal_line, size_text, whole_line};
 
 use edit_stamps::{Edit, Rect, Stamp};
 use genedit_io::RunFault;
@@ -20,7 +21,8 @@ pub(crate) fn push_joined(
     number: u16,
     rule: &Rule,
 ) -> Result<(), AllocError>
-    ensures { OnOk result (out.new.items ≡ out.old.items ++ joined_line number rule.now) }
+    ensures told { OnOk result (out.new.items ≡ out.old.items ++ joined_line number rule.now) }
+    ensures kept { OnErr result (IsPrefix out.old.items out.new.items) }
 {
     let rule = rule.write_text(alloc)?;
     out.extend_from_slice(b"joined ")?;
@@ -38,7 +40,8 @@ pub(crate) fn push_edits(
     number: u16,
     closed: bool,
 ) -> Result<(), AllocError>
-    ensures { OnOk result (out.new.items ≡ out.old.items ++ edit_lines closed number edits.now) }
+    ensures told { OnOk result (out.new.items ≡ out.old.items ++ edit_lines closed number edits.now) }
+    ensures kept { OnErr result (IsPrefix out.old.items out.new.items) }
 {
     for edit in edits {
         if closed || is_of_another(edit, number) {
@@ -56,7 +59,8 @@ pub(crate) fn is_of_another(edit: &Edit, number: u16) -> bool
 }
 
 fn push_edit(out: &mut Vec<u8>, edit: &Edit) -> Result<(), AllocError>
-    ensures { OnOk result (out.new.items ≡ out.old.items ++ edit_line edit.now) }
+    ensures told { OnOk result (out.new.items ≡ out.old.items ++ edit_line edit.now) }
+    ensures kept { OnErr result (IsPrefix out.old.items out.new.items) }
 {
     out.extend_from_slice(b"edit ")?;
     push_stamp(out, edit.stamp())?;
@@ -69,7 +73,8 @@ fn push_edit(out: &mut Vec<u8>, edit: &Edit) -> Result<(), AllocError>
 
 /// Counter and replica.
 fn push_stamp(out: &mut Vec<u8>, stamp: Stamp) -> Result<(), AllocError>
-    ensures { OnOk result (out.new.items ≡ out.old.items ++ stamp_text stamp) }
+    ensures told { OnOk result (out.new.items ≡ out.old.items ++ stamp_text stamp) }
+    ensures kept { OnErr result (IsPrefix out.old.items out.new.items) }
 {
     push_number(out, stamp.counter())?;
     out.push(b' ')?;
@@ -78,7 +83,8 @@ fn push_stamp(out: &mut Vec<u8>, stamp: Stamp) -> Result<(), AllocError>
 
 /// The area of an edit, where it has one.
 fn push_area(out: &mut Vec<u8>, area: Option<Rect>) -> Result<(), AllocError>
-    ensures { OnOk result (out.new.items ≡ out.old.items ++ area_text area) }
+    ensures told { OnOk result (out.new.items ≡ out.old.items ++ area_text area) }
+    ensures kept { OnErr result (IsPrefix out.old.items out.new.items) }
 {
     match area {
         Some(area) => push_rect(out, area),
@@ -87,10 +93,19 @@ fn push_area(out: &mut Vec<u8>, area: Option<Rect>) -> Result<(), AllocError>
 }
 
 fn push_rect(out: &mut Vec<u8>, area: Rect) -> Result<(), AllocError>
-    ensures { OnOk result (out.new.items ≡ out.old.items ++ rect_text area) }
+    ensures told { OnOk result (out.new.items ≡ out.old.items ++ rect_text area) }
+    ensures kept { OnErr result (IsPrefix out.old.items out.new.items) }
 {
     out.extend_from_slice(b" area")?;
     push_place(out, area.x, area.y)?;
+    push_size(out, area)
+}
+
+/// Width and height, each behind a blank.
+fn push_size(out: &mut Vec<u8>, area: Rect) -> Result<(), AllocError>
+    ensures told { OnOk result (out.new.items ≡ out.old.items ++ size_text area) }
+    ensures kept { OnErr result (IsPrefix out.old.items out.new.items) }
+{
     out.push(b' ')?;
     push_number(out, u64::from(area.width))?;
     out.push(b' ')?;
@@ -98,7 +113,8 @@ fn push_rect(out: &mut Vec<u8>, area: Rect) -> Result<(), AllocError>
 }
 
 fn push_cells(out: &mut Vec<u8>, cells: &[Cell]) -> Result<(), AllocError>
-    ensures { OnOk result (out.new.items ≡ out.old.items ++ cells_text cells.now) }
+    ensures told { OnOk result (out.new.items ≡ out.old.items ++ cells_text cells.now) }
+    ensures kept { OnErr result (IsPrefix out.old.items out.new.items) }
 {
     for cell in cells {
         push_cell(out, *cell)?;
@@ -107,7 +123,8 @@ fn push_cells(out: &mut Vec<u8>, cells: &[Cell]) -> Result<(), AllocError>
 }
 
 fn push_cell(out: &mut Vec<u8>, cell: Cell) -> Result<(), AllocError>
-    ensures { OnOk result (out.new.items ≡ out.old.items ++ cell_text cell) }
+    ensures told { OnOk result (out.new.items ≡ out.old.items ++ cell_text cell) }
+    ensures kept { OnErr result (IsPrefix out.old.items out.new.items) }
 {
     push_place(out, cell.x, cell.y)?;
     out.push(b' ')?;
@@ -116,7 +133,8 @@ fn push_cell(out: &mut Vec<u8>, cell: Cell) -> Result<(), AllocError>
 
 /// A column and a row, each behind a blank.
 fn push_place(out: &mut Vec<u8>, x: i32, y: i32) -> Result<(), AllocError>
-    ensures { OnOk result (out.new.items ≡ out.old.items ++ place_text x y) }
+    ensures told { OnOk result (out.new.items ≡ out.old.items ++ place_text x y) }
+    ensures kept { OnErr result (IsPrefix out.old.items out.new.items) }
 {
     out.push(b' ')?;
     push_coordinate(out, x)?;
@@ -126,7 +144,8 @@ fn push_place(out: &mut Vec<u8>, x: i32, y: i32) -> Result<(), AllocError>
 
 /// The cells that look different, as they are now. No line where there is none.
 pub(crate) fn push_now(out: &mut Vec<u8>, cells: &[Cell]) -> Result<(), AllocError>
-    ensures { OnOk result (out.new.items ≡ out.old.items ++ now_line cells.now) }
+    ensures told { OnOk result (out.new.items ≡ out.old.items ++ now_line cells.now) }
+    ensures kept { OnErr result (IsPrefix out.old.items out.new.items) }
 {
     if cells.is_empty() {
         return Ok(());
@@ -139,14 +158,16 @@ pub(crate) fn push_now(out: &mut Vec<u8>, cells: &[Cell]) -> Result<(), AllocErr
 
 /// That the server sent its plane.
 pub(crate) fn push_whole(out: &mut Vec<u8>) -> Result<(), AllocError>
-    ensures { OnOk result (out.new.items ≡ out.old.items ++ whole_line) }
+    ensures told { OnOk result (out.new.items ≡ out.old.items ++ whole_line) }
+    ensures kept { OnErr result (IsPrefix out.old.items out.new.items) }
 {
     out.extend_from_slice(b"whole\n")
 }
 
 /// A number of edits that came.
 pub(crate) fn push_edits_line(out: &mut Vec<u8>, number: u64) -> Result<(), AllocError>
-    ensures { OnOk result (out.new.items ≡ out.old.items ++ edits_line number) }
+    ensures told { OnOk result (out.new.items ≡ out.old.items ++ edits_line number) }
+    ensures kept { OnErr result (IsPrefix out.old.items out.new.items) }
 {
     out.extend_from_slice(b"edits ")?;
     push_number(out, number)?;
@@ -156,7 +177,8 @@ pub(crate) fn push_edits_line(out: &mut Vec<u8>, number: u64) -> Result<(), Allo
 
 /// The same, where fewer came than were awaited.
 pub(crate) fn push_late_line(out: &mut Vec<u8>, number: u64) -> Result<(), AllocError>
-    ensures { OnOk result (out.new.items ≡ out.old.items ++ late_line number) }
+    ensures told { OnOk result (out.new.items ≡ out.old.items ++ late_line number) }
+    ensures kept { OnErr result (IsPrefix out.old.items out.new.items) }
 {
     out.extend_from_slice(b"late ")?;
     push_number(out, number)?;
@@ -166,7 +188,8 @@ pub(crate) fn push_late_line(out: &mut Vec<u8>, number: u64) -> Result<(), Alloc
 
 /// That an edit was drawn, by its counter and the seat's number.
 pub(crate) fn push_drawn(out: &mut Vec<u8>, counter: u64, number: u16) -> Result<(), AllocError>
-    ensures { OnOk result (out.new.items ≡ out.old.items ++ drawn_line counter number) }
+    ensures told { OnOk result (out.new.items ≡ out.old.items ++ drawn_line counter number) }
+    ensures kept { OnErr result (IsPrefix out.old.items out.new.items) }
 {
     out.extend_from_slice(b"drawn ")?;
     push_number(out, counter)?;
@@ -178,7 +201,8 @@ pub(crate) fn push_drawn(out: &mut Vec<u8>, counter: u64, number: u16) -> Result
 
 /// A refusal, by its number.
 pub(crate) fn push_refusal(alloc: Global, out: &mut Vec<u8>, number: u8) -> Result<(), AllocError>
-    ensures { OnOk result (out.new.items ≡ out.old.items ++ refusal_line number) }
+    ensures told { OnOk result (out.new.items ≡ out.old.items ++ refusal_line number) }
+    ensures kept { OnErr result (IsPrefix out.old.items out.new.items) }
 {
     let text = RunFault::Refused(number, None).to_string(alloc)?;
     out.extend_from_slice(text.as_bytes())?;
@@ -188,20 +212,23 @@ pub(crate) fn push_refusal(alloc: Global, out: &mut Vec<u8>, number: u8) -> Resu
 
 /// That the name of a paste stands for no pattern.
 pub(crate) fn push_nameless(alloc: Global, out: &mut Vec<u8>) -> Result<(), AllocError>
-    ensures { OnOk result (out.new.items ≡ out.old.items ++ nameless_line) }
+    ensures told { OnOk result (out.new.items ≡ out.old.items ++ nameless_line) }
+    ensures kept { OnErr result (IsPrefix out.old.items out.new.items) }
 {
     let text = no_pattern_text(alloc)?;
     push_text(out, &text)
 }
 
 fn push_number(out: &mut Vec<u8>, number: u64) -> Result<(), AllocError>
-    ensures { OnOk result (out.new.items ≡ out.old.items ++ decimal number) }
+    ensures told { OnOk result (out.new.items ≡ out.old.items ++ decimal number) }
+    ensures kept { OnErr result (IsPrefix out.old.items out.new.items) }
 {
     out.extend_from_slice(Buffer::new().format(number).as_bytes())
 }
 
 fn push_coordinate(out: &mut Vec<u8>, coordinate: i32) -> Result<(), AllocError>
-    ensures { OnOk result (out.new.items ≡ out.old.items ++ signed_decimal coordinate) }
+    ensures told { OnOk result (out.new.items ≡ out.old.items ++ signed_decimal coordinate) }
+    ensures kept { OnErr result (IsPrefix out.old.items out.new.items) }
 {
     out.extend_from_slice(Buffer::new().format(coordinate).as_bytes())
 }

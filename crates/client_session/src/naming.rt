@@ -1,6 +1,7 @@
 //! Patterns that are given names.
 
 ghost use Rattle.std.specs.Prelude.{◌≡◌, ◌++◌, codes, List, ℕ, OnErr, OnOk};
+ghost use mathlib.Core.List.{IsPrefix};
 ghost use Rattle.multistate_rle.specs.Reading.{parsed};
 ghost use Rattle.genedit_lib.specs.Output.{naming_text, with_text};
 ghost use Rattle.genedit_lib.specs.Patterns.{pattern_in};
@@ -24,6 +25,7 @@ impl Seat {
         ensures told { OnOk result (out.new.items ≡ out.old.items ++ (naming_text name (parsed text.now) ++ codes "\n")) }
         ensures named { OnOk result ((other : List ℕ) → pattern_in self.new.patterns other ≡ with_text (pattern_in self.old.patterns) name (parsed text.now) other) }
         ensures err { OnErr result ((other : List ℕ) → pattern_in self.new.patterns other ≡ pattern_in self.old.patterns other) }
+        ensures printed { OnErr result (IsPrefix out.old.items out.new.items) }
         ensures kept { self.new ≡ record self.old { patterns = self.new.patterns } }
     {
         give_name(alloc, &mut self.patterns, out, name, text)
@@ -40,6 +42,7 @@ fn give_name(
     ensures told { OnOk result (out.new.items ≡ out.old.items ++ (naming_text name (parsed text.now) ++ codes "\n")) }
     ensures named { OnOk result ((other : List ℕ) → pattern_in patterns.new other ≡ with_text (pattern_in patterns.old) name (parsed text.now) other) }
     ensures err { OnErr result ((other : List ℕ) → pattern_in patterns.new other ≡ pattern_in patterns.old other) }
+    ensures printed { OnErr result (IsPrefix out.old.items out.new.items) }
 {
     match parse(alloc, text.as_slice()) {
         Ok(pattern) => {

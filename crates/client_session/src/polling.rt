@@ -1,11 +1,11 @@
 //! Polls.
 
-ghost use Rattle.std.specs.Prelude.{◌≡◌, IfErr, OnOk};
+ghost use Rattle.std.specs.Prelude.{◌≡◌, drop, IfErr, OnErr, OnOk};
 ghost use Rattle.client_session.specs.Waiting.{IsCount};
 ghost use Rattle.client_session.specs.Lines.{edits_line, late_line};
-ghost use Rattle.client_session.specs.Moment.{IsNumberTold, moment};
+ghost use Rattle.client_session.specs.Moment.{IsCutShort, IsNumberTold, IsWant, moment};
 ghost use Rattle.client_session.specs.News.{IsFollowing, IsNews, IsPollTold};
-ghost use Rattle.client_session.specs.Telling.{IsPollingTold, IsTellingWant, TellsBehind, TellsWhole};
+ghost use Rattle.client_session.specs.Telling.{CameFindsNoRoom, IsPollingTold, TellsBehind, TellsWhole, WholeFindsNoRoom};
 
 use crate::fault::SeatFault;
 use crate::lines::{push_edits_line, push_late_line, push_refusal, push_whole};
@@ -133,7 +133,8 @@ impl Seat {
         out: &mut Vec<u8>,
     ) -> Result<(), SeatFault>
         ensures told { OnOk result (TellsBehind known self.old self.new out.old.items out.new.items) }
-        ensures want { IfErr result (IsTellingWant self.old.shown) }
+        ensures want { IfErr result (IsWant (CameFindsNoRoom (drop known self.old.replica.journal) self.old.shown self.new.shown out.old.items out.new.items)) }
+        ensures cut { OnErr result (IsCutShort self.old self.new out.old.items out.new.items) }
         ensures replica { self.new.replica ≡ self.old.replica }
     {
         let number = self.replica.number();
@@ -144,7 +145,8 @@ impl Seat {
     /// Tells that a whole plane came, and counts edits anew.
     fn tell_whole(&mut self, alloc: Global, out: &mut Vec<u8>) -> Result<(), SeatFault>
         ensures told { OnOk result (TellsWhole self.old self.new out.old.items out.new.items) }
-        ensures want { IfErr result (IsTellingWant self.old.shown) }
+        ensures want { IfErr result (IsWant (WholeFindsNoRoom self.old self.new out.old.items out.new.items)) }
+        ensures cut { OnErr result (IsCutShort self.old self.new out.old.items out.new.items) }
         ensures replica { self.new.replica ≡ self.old.replica }
     {
         show_all(alloc, &mut self.shown, self.replica.plane())?;

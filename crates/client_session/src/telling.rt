@@ -1,10 +1,11 @@
 //! What is told of edits and planes that came.
 
-ghost use Rattle.std.specs.Prelude.{[], IfErr, IfOk, OnOk};
+ghost use Rattle.std.specs.Prelude.{[], ◌≡◌, IfErr, IfOk, OnErr, OnOk};
+ghost use mathlib.Core.List.{IsPrefix};
 ghost use Rattle.stamped_tree.specs.Plane.{map_of};
 ghost use Rattle.stamped_writes.specs.Write.{unwritten};
 ghost use Rattle.client_session.specs.Moment.{IsWant};
-ghost use Rattle.client_session.specs.Telling.{IsTellingWant, ShowsAll, ShowsEdits, ShowsMap, TellsCame, TellsChanges};
+ghost use Rattle.client_session.specs.Telling.{AllFindsNoRoom, AreAdded, CameFindsNoRoom, ChangesFindNoRoom, FindsNoRoom, MapFindsNoRoom, ShowsAll, ShowsEdits, ShowsMap, TellsCame, TellsChanges, want_of};
 ghost use Rattle.client_session.specs.Lines.{edit_lines};
 
 use crate::fault::SeatFault;
@@ -30,7 +31,8 @@ pub(crate) fn tell_came(
     closed: bool,
 ) -> Result<(), SeatFault>
     ensures told { OnOk result (TellsCame (edit_lines closed number edits.now) edits.now shown.old shown.new out.old.items out.new.items) }
-    ensures want { IfErr result (IsTellingWant shown.old) }
+    ensures want { IfErr result (IsWant (CameFindsNoRoom edits.now shown.old shown.new out.old.items out.new.items)) }
+    ensures kept { OnErr result (IsPrefix out.old.items out.new.items) }
 {
     match shown {
         Some(shown) => tell_changes(alloc, shown, out, edits),
@@ -49,7 +51,8 @@ pub(crate) fn tell_own(
     edits: &[Edit],
 ) -> Result<(), SeatFault>
     ensures told { OnOk result (TellsCame [] edits.now shown.old shown.new out.old.items out.new.items) }
-    ensures want { IfErr result (IsTellingWant shown.old) }
+    ensures want { IfErr result (IsWant (CameFindsNoRoom edits.now shown.old shown.new out.old.items out.new.items)) }
+    ensures kept { OnErr result (IsPrefix out.old.items out.new.items) }
 {
     match shown {
         Some(shown) => tell_changes(alloc, shown, out, edits),
@@ -65,7 +68,8 @@ fn tell_changes(
     edits: &[Edit],
 ) -> Result<(), SeatFault>
     ensures told { OnOk result (TellsChanges edits.now shown.old shown.new out.old.items out.new.items) }
-    ensures want { IfErr result IsWant }
+    ensures want { IfErr result (IsWant (ChangesFindNoRoom edits.now shown.old shown.new out.old.items out.new.items)) }
+    ensures kept { OnErr result (IsPrefix out.old.items out.new.items) }
 {
     let cells = changed_cells(alloc, shown, edits)?;
     push_now(out, &cells)?;
@@ -79,12 +83,12 @@ fn changed_cells(
     edits: &[Edit],
 ) -> Result<Vec<Cell>, SeatFault>
     ensures shows { IfOk result (λ cells. ShowsEdits edits.now shown.old shown.new cells.items) }
-    ensures want { IfErr result IsWant }
+    ensures want { IfErr result (IsWant (FindsNoRoom (AreAdded edits.now) shown.old shown.new)) }
 {
     let watched = Watched::of_edits(alloc, shown.plane(), edits)?;
     match shown.join(Added::Edits(edits)) {
         Ok(()) => {}
-        Err(fault) => return Err(want(fault)),
+        Err(fault) => return Err(want_of(fault)),
     }
     let cells = watched.changes(alloc, shown.plane())?;
     Ok(cells)
@@ -97,7 +101,8 @@ pub(crate) fn show_all(
     plane: &Plane,
 ) -> Result<(), SeatFault>
     ensures shown { OnOk result (ShowsAll plane.now shown.old shown.new) }
-    ensures want { IfErr result (IsTellingWant shown.old) }
+    ensures want { IfErr result (IsWant (AllFindsNoRoom plane.now shown.old)) }
+    ensures err { OnErr result (shown.new ≡ shown.old) }
 {
     if shown.is_some() {
         *shown = Some(held(alloc, plane)?);
@@ -108,12 +113,12 @@ pub(crate) fn show_all(
 /// A plane with the same map.
 fn held(alloc: Global, plane: &Plane) -> Result<HeldPlane, SeatFault>
     ensures shows { IfOk result (ShowsMap (map_of plane.now)) }
-    ensures want { IfErr result IsWant }
+    ensures want { IfErr result (IsWant (MapFindsNoRoom plane.now)) }
 {
     let mut copy = blank(alloc, plane.key())?;
     match copy.join(Added::Map(plane)) {
         Ok(()) => Ok(copy),
-        Err(fault) => Err(want(fault)),
+        Err(fault) => Err(want_of(fault)),
     }
 }
 
@@ -124,8 +129,9 @@ pub(crate) fn blank(alloc: Global, key: HashKey) -> Result<HeldPlane, AllocError
     HeldPlane::with_room_and_key(alloc, ROOM, key)
 }
 
-fn want(fault: StoreFault) -> SeatFault
-    ensures { IsWant result }
+/// A plane's want, as the client's.
+fn want_of(fault: StoreFault) -> SeatFault
+    ensures { result ≡ want_of fault }
 {
     match fault {
         StoreFault::Memory => SeatFault::Memory,

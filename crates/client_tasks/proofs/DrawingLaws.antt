@@ -1,5 +1,5 @@
 -- Cells that are drawn edit by edit.
-use Rattle.std.proofs.Common.{◌≡◌, ℕ, ◌<◌, ◌≤◌, List, length, take, drop, Result, Ok, sym, subst}
+use Rattle.std.proofs.Common.{◌≡◌, ℕ, ◌<◌, ◌≤◌, List, length, take, drop, Result, Ok, subst}
 use Rattle.multistate_rle.specs.declared.cell.Cell.{Cell}
 use Rattle.edit_stamps.specs.Edit.{most_cells}
 use Rattle.client_session.specs.declared.drawing.Outcome.{Outcome}

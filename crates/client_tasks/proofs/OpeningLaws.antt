@@ -1,5 +1,5 @@
 -- Texts that are opened as boards.
-use Rattle.std.proofs.Common.{◌≡◌, ◌∙◌, ℕ, Bool, false, List, Option, Some, None, Result, Ok, Err, refl, sym, ap, subst, inl, inr}
+use Rattle.std.proofs.Common.{◌≡◌, ◌∙◌, ℕ, Bool, false, List, Some, None, Result, Ok, Err, refl, sym, ap, subst, inl, inr}
 use Rattle.std.specs.Prelude.{◌⊎◌, ◌^◌}
 use Rattle.generations_rule.specs.Rule.{GenerationsRule}
 use Rattle.multistate_rle.specs.declared.cell.Cell.{Cell}
@@ -7,7 +7,7 @@ use Rattle.stamped_writes.specs.Write.{Writes}
 use Rattle.delta_exchange.specs.declared.fault.ReadFault.{ReadFault}
 use Rattle.delta_exchange.specs.declared.fault.ReadFault.TheVariants as reads
 use Rattle.delta_exchange.specs.Fault.{IsWantOrFull}
-use Rattle.delta_exchange.specs.MessageReading.{begins_as_delta, message_of}
+use Rattle.delta_exchange.specs.MessageReading.{MayWantRoom, begins_as_delta, message_of}
 use Rattle.delta_exchange.specs.Room.{IsMapTooLargeFor}
 use Rattle.delta_exchange.specs.State.{IsTellableMap}
 use Rattle.delta_exchange.specs.Versions.{IsReadableStateText}
@@ -28,7 +28,7 @@ use Rattle.client_tasks.specs.Opening.OpensBoard.{draws, lacks_memory, lacks_roo
 pub printed : (text : List ℕ) (line : LineState) (seat : Seat) (out out' : List ℕ) (result : Result Outcome SeatFault) → IsRefusalTold text out out' result
     → IsPrinted Refused text (record { line = line; seat = seat; out = out }) (record { line = line; seat = seat; out = out' }) result
 printed text line seat out out' (Ok came) told = (told.0, record { line = refl; seat = refl; out = told.1 })
-printed text line seat out out' (Err fault) told = (told, refl, refl)
+printed text line seat out out' (Err fault) told = (told.0, record { line = refl; seat = refl; out = told.1 })
 
 pub opens_saved : (text : List ℕ) (r : GenerationsRule) (m n : Moment) (result : Result Outcome SeatFault) (cells : List Cell) (counter : ℕ) → r ≡ m.seat.replica.rule
     → IsSaved r text cells counter → OpensSaved cells counter m n result → OpensBoard text m n result
@@ -50,16 +50,17 @@ opens_not text r m n result fault own none (inl want) told = absurd (never_wante
 opens_not text r m n result fault own none (inr refused) told = refuses fault (subst (λ (g : GenerationsRule). message_of g text ≡ Err fault) own refused) told
 
 pub opens_wanting : (text : List ℕ) (r : GenerationsRule) (m : Moment) (fault : ReadFault) (want : SeatFault) → r ≡ m.seat.replica.rule → want_of fault ≡ Some want
-    → ((meant : Writes) → IsTellableMap r.states meant → IsReadableStateText r meant text → fault ≡ reads.StoreFull → IsMapTooLargeFor (2 ^ 26) meant) → OpensBoard text m m (Err want)
-opens_wanting text r m reads.Memory want own is large = let same : want ≡ Memory = cc in lacks_memory (ap (λ w. Err w) same, refl)
-opens_wanting text r m reads.StoreFull want own is large =
+    → ((meant : Writes) → IsTellableMap r.states meant → IsReadableStateText r meant text → fault ≡ reads.StoreFull → IsMapTooLargeFor (2 ^ 26) meant) → (fault ≡ reads.StoreFull → MayWantRoom (2 ^ 26) text) → OpensBoard text m m (Err want)
+opens_wanting text r m reads.Memory want own is large long = let same : want ≡ Memory = cc in lacks_memory (ap (λ w. Err w) same, refl)
+opens_wanting text r m reads.StoreFull want own is large long =
     let same : want ≡ StoreFull = cc in
     lacks_room (record {
       full = ap (λ w. Err w) same;
       nothing = refl;
+      long = long refl;
       large = λ meant tellable spelt. large meant (subst (λ (g : GenerationsRule). IsTellableMap g.states meant) (sym own) tellable) (subst (λ (g : GenerationsRule). IsReadableStateText g meant text) (sym own) spelt) refl;
     })
-opens_wanting text r m _ want own is large = absurd (cc)
+opens_wanting text r m _ want own is large long = absurd (cc)
 
 -- a text that begins as a state is opened as a board
 pub opened : (text : List ℕ) (m n : Moment) (result : Result Outcome SeatFault) (read : Result Bool ReadFault) (delta : Bool) → read ≡ begins_as_delta text → read ≡ Ok delta → delta ≡ false

@@ -1,5 +1,6 @@
 -- What each command of a client does at a board, and what is left to its caller.
 use Rattle.std.specs.Prelude.{◌≡◌, ℕ, ℤ, List, ◌++◌, codes, option_map, Option, Some, None, Result, Ok, Err}
+use mathlib.Core.List.{IsPrefix}
 use Rattle.std.specs.Global.{Vec}
 use Rattle.generations_rule.specs.Place.{at_place}
 use Rattle.multistate_rle.specs.Reading.{parsed}
@@ -50,17 +51,23 @@ Leaves done m n result = (result ≡ Ok done) × (n ≡ m)
 
 -- ---- names and cells
 
+-- memory is wanting for a name: each name stands for what it did, and what was printed before stands
+pub record LacksNaming (old new : Seat) (out out' : List ℕ) : Type 0 where
+  pub names : (other : List ℕ) → pattern_in new.patterns other ≡ pattern_in old.patterns other
+  pub kept : new ≡ record old { patterns = new.patterns }
+  pub printed : IsPrefix out out'
+
 -- a text was given a name, if it is a pattern's, and its line printed; or memory is wanting
 abbrev pub IsNaming : List ℕ → List ℕ → Seat → Seat → List ℕ → List ℕ → Result Done SeatFault → Type 0
 IsNaming name text old new out out' (Ok done) =
     (done ≡ Told) × (out' ≡ out ++ (naming_text name (parsed text) ++ codes "\n"))
     × ((other : List ℕ) → pattern_in new.patterns other ≡ with_text (pattern_in old.patterns) name (parsed text) other) × (new ≡ record old { patterns = new.patterns })
-IsNaming name text old new out out' (Err fault) = (fault ≡ Memory) × (new ≡ record old { patterns = new.patterns })
+IsNaming name text old new out out' (Err fault) = (fault ≡ Memory) × LacksNaming old new out out'
 
--- the write at a coordinate was printed; or memory is wanting
+-- the write at a coordinate was printed; or memory is wanting, and what was printed before stands
 abbrev pub IsShowing : ℤ → ℤ → Seat → List ℕ → List ℕ → Result Done SeatFault → Type 0
 IsShowing x y seat out out' (Ok done) = (done ≡ Told) × (out' ≡ out ++ reply_line (reply.Shown (map_of seat.replica.plane (at_place x y))))
-IsShowing x y seat out out' (Err fault) = fault ≡ Memory
+IsShowing x y seat out out' (Err fault) = (fault ≡ Memory) × IsPrefix out out'
 
 -- ---- commands
 

@@ -1,5 +1,6 @@
 -- What the opening of a text draws.
 use Rattle.std.specs.Prelude.{◌≡◌, ◌⊎◌, ⊤, ℕ, ◌+◌, ◌/◌, ◌%◌, ◌==◌, ◌<◌, ◌≤◌, ◌^◌, max, nat_le, if◌then◌else◌, Bool, true, false, List, ◌++◌, codes, length, take, drop, Option, Some, None, Result, Ok, Err}
+use mathlib.Core.List.{IsPrefix}
 use Rattle.generations_rule.specs.Rule.{GenerationsRule}
 use Rattle.multistate_rle.specs.declared.cell.Cell.{Cell}
 use Rattle.multistate_rle.specs.declared.fault.RleFault.{RleFault}
@@ -15,7 +16,7 @@ use Rattle.stamped_tree.specs.Plane.{map_of}
 use Rattle.stamped_tree.specs.Walk.{AreNonzeroCells}
 use Rattle.delta_exchange.specs.declared.fault.ReadFault.{ReadFault}
 use Rattle.delta_exchange.specs.declared.fault.ReadFault.TheVariants as reads
-use Rattle.delta_exchange.specs.MessageReading.{begins_as_delta, message_of}
+use Rattle.delta_exchange.specs.MessageReading.{MayWantRoom, begins_as_delta, message_of}
 use Rattle.delta_exchange.specs.Room.{IsMapTooLargeFor}
 use Rattle.delta_exchange.specs.State.{IsTellableMap}
 use Rattle.delta_exchange.specs.Versions.{IsReadableStateText}
@@ -30,10 +31,10 @@ use Rattle.client_session.specs.declared.fault.SeatFault.TheVariants.{Memory, St
 use Rattle.client_session.specs.Drawing.{IsDrawCommand}
 use Rattle.client_session.specs.Moment.{IsPrinted, Moment}
 
--- a refusal is printed, or memory is wanting for that
+-- a refusal is printed; or memory is wanting for that, and what was printed before stands
 abbrev pub IsRefusalTold : List ℕ → List ℕ → List ℕ → Result Outcome SeatFault → Type 0
 IsRefusalTold line out out' (Ok came) = (came ≡ Refused) × (out' ≡ out ++ line)
-IsRefusalTold line out out' (Err fault) = fault ≡ Memory
+IsRefusalTold line out out' (Err fault) = (fault ≡ Memory) × IsPrefix out out'
 
 -- memory is wanting before anything is done
 abbrev pub LacksMemory : Moment → Moment → Result Outcome SeatFault → Type 0
@@ -89,10 +90,11 @@ DrawsIf false cells counter m n result = IsPrinted Refused (reply_line (reply.Re
 abbrev pub OpensSaved : List Cell → ℕ → Moment → Moment → Result Outcome SeatFault → Type 0
 OpensSaved cells counter m n result = (stamp : ℕ) × IsGreatestStamp stamp (map_of m.seat.replica.plane) × DrawsIf (suffice counter stamp cells) cells counter m n result
 
--- room is wanting for the plane of a text's map, which is too large
+-- room is wanting for the plane of a text's map, which is too large; the text is not a short one
 pub record LacksRoom (r : GenerationsRule) (text : List ℕ) (m n : Moment) (result : Result Outcome SeatFault) : Type 0 where
   pub full : result ≡ Err StoreFull
   pub nothing : n ≡ m
+  pub long : MayWantRoom (2 ^ 26) text
   pub large : (meant : Writes) → IsTellableMap r.states meant → IsReadableStateText r meant text → IsMapTooLargeFor (2 ^ 26) meant
 
 -- what is wanting where a text could not be read for that

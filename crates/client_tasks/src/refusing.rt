@@ -3,7 +3,8 @@
 ghost use Rattle.genedit_lib.specs.Output.{refused_text, reply_line};
 ghost use Rattle.multistate_rle.specs.RleFault.{text_fault_number, text_fault_text};
 ghost use Rattle.replica_core.specs.declared.event.Reply.TheVariants as reply;
-ghost use Rattle.std.specs.Prelude.{◌≡◌, ◌++◌, OnOk, codes};
+ghost use Rattle.std.specs.Prelude.{◌≡◌, ◌++◌, OnErr, OnOk, codes};
+ghost use mathlib.Core.List.{IsPrefix};
 ghost use Rattle.client_tasks.specs.Opening.{IsRefusalTold};
 
 use client_session::{Outcome, SeatFault};
@@ -37,7 +38,8 @@ pub(crate) fn refuse_text(
 }
 
 fn push_text_refusal(alloc: Global, out: &mut Vec<u8>, fault: RleFault) -> Result<(), AllocError>
-    ensures { OnOk result (out.new.items ≡ out.old.items ++ (refused_text (text_fault_number fault) (text_fault_text fault) ++ codes "\n")) }
+    ensures told { OnOk result (out.new.items ≡ out.old.items ++ (refused_text (text_fault_number fault) (text_fault_text fault) ++ codes "\n")) }
+    ensures kept { OnErr result (IsPrefix out.old.items out.new.items) }
 {
     let line = text_refusal(alloc, fault)?;
     push_text(out, &line)

@@ -8,7 +8,7 @@ ghost use Rattle.delta_exchange.specs.Fault.{IsWantOrFull};
 ghost use Rattle.delta_exchange.specs.Room.{IsMapTooLargeFor};
 ghost use Rattle.delta_exchange.specs.State.{IsTellableMap};
 ghost use Rattle.delta_exchange.specs.Versions.{IsReadableStateText};
-ghost use Rattle.delta_exchange.specs.MessageReading.{begins_as_delta, message_of};
+ghost use Rattle.delta_exchange.specs.MessageReading.{MayWantRoom, begins_as_delta, message_of};
 ghost use Rattle.client_tasks.specs.Opening.{IsSaved, edits_for, suffice};
 
 use delta_exchange::{ReadFault, read_within_with_key};
@@ -42,6 +42,7 @@ pub(crate) fn saved_in(
     ensures saved { IfOk result (λ saved. IsSaved rule.now text.now saved.cells.items saved.counter) }
     ensures small { IfOk result (λ saved. saved.counter < 2 ^ 48) }
     ensures fault { IfErr result (λ fault. IsWantOrFull fault ⊎ (message_of rule.now text.now ≡ Err fault)) }
+    ensures full { IfErr result (λ fault. fault ≡ ReadFault.StoreFull → MayWantRoom (2 ^ 26) text.now) }
     ensures too_large { IfErr result (λ fault. (meant : Writes) → IsTellableMap rule.now.states meant → IsReadableStateText rule.now meant text.now → fault ≡ ReadFault.StoreFull → IsMapTooLargeFor (2 ^ 26) meant) }
 {
     let message = match read_within_with_key(alloc, rule, text, ROOM, key) {

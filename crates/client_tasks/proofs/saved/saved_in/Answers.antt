@@ -14,3 +14,6 @@ pub returns-in-Ok-walk-clause-saved : goal.returns-in-Ok-walk-clause-saved
 returns-in-Ok-walk-clause-saved c =
     saved_of c.args.rule.now c.args.text.now c.in-Ok.message.content c.in-Some.plane.now c.in-Ok-walk.cells.items c.greatest_stamp.result c.counter_of.result c.in-Some.ensures.value c.in-Ok.ensures.found.1
     c.in-Ok-walk.ensures c.greatest_stamp.ensures.greatest c.counter_of.ensures
+
+pub returns-in-Err-clause-full : goal.returns-in-Err-clause-full
+returns-in-Err-clause-full c = λ is. c.in-Err.ensures.full (ap (λ fault. Err fault) is)
