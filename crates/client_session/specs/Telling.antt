@@ -73,14 +73,14 @@ want_of stores.Memory = faults.Memory
 want_of stores.StoreFull = faults.StoreFull
 
 -- these edits are what is joined into a plane
-abbrev pub AreAdded : List PlaneEdit → Added → Type 0
-AreAdded edits (added.Edits joining) = joining.now ≡ edits
-AreAdded edits (added.Map joining) = ⊥
+abbrev pub AreEditsAdded : List PlaneEdit → Added → Type 0
+AreEditsAdded edits (added.Edits joining) = joining.now ≡ edits
+AreEditsAdded edits (added.Map joining) = ⊥
 
--- the map of a plane is
-abbrev pub IsAdded : StampedPlane → Added → Type 0
-IsAdded plane (added.Edits joining) = ⊥
-IsAdded plane (added.Map joining) = joining.now ≡ plane
+-- the map of this plane is what is joined into another
+abbrev pub IsMapAdded : StampedPlane → Added → Type 0
+IsMapAdded plane (added.Edits joining) = ⊥
+IsMapAdded plane (added.Map joining) = joining.now ≡ plane
 
 -- what is joined into a plane finds no room there: its map stays, and it is full of what it needs for that
 pub record FindsNoRoom (IsJoining : Added → Type 0) (before after : StampedPlane) : Type 0 where
@@ -91,7 +91,7 @@ pub record FindsNoRoom (IsJoining : Added → Type 0) (before after : StampedPla
 
 -- edits find none in the map that is told, and nothing is printed
 pub record ChangesFindNoRoom (edits : List PlaneEdit) (before after : StampedPlane) (out out' : List ℕ) : Type 0 where
-  pub full : FindsNoRoom (AreAdded edits) before after
+  pub full : FindsNoRoom (AreEditsAdded edits) before after
   pub told : out' ≡ out
 
 -- the same, where a map is told; else no room is wanted
@@ -104,7 +104,7 @@ pub record MapFindsNoRoom (plane : StampedPlane) : Type 0 where
   pub before : StampedPlane
   pub after : StampedPlane
   pub blank : ShowsMap (λ _. unwritten) before
-  pub full : FindsNoRoom (IsAdded plane) before after
+  pub full : FindsNoRoom (IsMapAdded plane) before after
 
 -- the same, where a map is told; else no room is wanted
 abbrev pub AllFindsNoRoom : StampedPlane → Option StampedPlane → Type 0

@@ -5,7 +5,7 @@ ghost use mathlib.Core.List.{IsPrefix};
 ghost use Rattle.stamped_tree.specs.Plane.{map_of};
 ghost use Rattle.stamped_writes.specs.Write.{unwritten};
 ghost use Rattle.client_session.specs.Moment.{IsWant};
-ghost use Rattle.client_session.specs.Telling.{AllFindsNoRoom, AreAdded, CameFindsNoRoom, ChangesFindNoRoom, FindsNoRoom, MapFindsNoRoom, ShowsAll, ShowsEdits, ShowsMap, TellsCame, TellsChanges, want_of};
+ghost use Rattle.client_session.specs.Telling.{AllFindsNoRoom, AreEditsAdded, CameFindsNoRoom, ChangesFindNoRoom, FindsNoRoom, MapFindsNoRoom, ShowsAll, ShowsEdits, ShowsMap, TellsCame, TellsChanges, want_of};
 ghost use Rattle.client_session.specs.Lines.{edit_lines};
 
 use crate::fault::SeatFault;
@@ -83,7 +83,7 @@ fn changed_cells(
     edits: &[Edit],
 ) -> Result<Vec<Cell>, SeatFault>
     ensures shows { IfOk result (λ cells. ShowsEdits edits.now shown.old shown.new cells.items) }
-    ensures want { IfErr result (IsWant (FindsNoRoom (AreAdded edits.now) shown.old shown.new)) }
+    ensures want { IfErr result (IsWant (FindsNoRoom (AreEditsAdded edits.now) shown.old shown.new)) }
 {
     let watched = Watched::of_edits(alloc, shown.plane(), edits)?;
     match shown.join(Added::Edits(edits)) {
