@@ -1,6 +1,12 @@
-//! Keys that are drawn.
+//! Keys: how they are drawn, and what is made by one keeps it.
 
-use keyed_hash::HashKey;
+use crate::telling::{blank, brians_brain};
+use delta_exchange::{ReadFault, read_within_with_key, write_state};
+use generations_rule::Rule;
+use keyed_hash::{HashKey, KEY_BYTES};
+use replica_core::Replica;
+use stamped_tree::Plane;
+use std::alloc::{AllocError, Global};
 use std::io;
 use std::random::RandomSource;
 use std::test::Fail;
@@ -43,5 +49,38 @@ fn two_keys_of_the_system_differ(rt: HostRuntime) -> Result<(), Fail> {
     let other = HashKey::drawn(&rt).ok().ok_or("key")?;
     assert!(rt; one.pair() != other.pair());
     assert!(rt; one.pair() != HashKey::fixed().pair());
+    Ok(())
+}
+
+/// The two numbers of the key by which a plane finds its squares.
+fn pair_of(plane: &Plane) -> (u64, u64) {
+    plane.key().pair()
+}
+
+/// Those of a plane that is read by a key.
+fn pair_read(alloc: Global, rule: &Rule, key: HashKey) -> Result<Option<(u64, u64)>, ReadFault> {
+    let text = unwritten(alloc, rule)?;
+    let message = read_within_with_key(alloc, rule, &text, 9, key)?;
+    Ok(message.plane().map(pair_of))
+}
+
+/// The state of the plane where nothing was written.
+fn unwritten(alloc: Global, rule: &Rule) -> Result<Vec<u8>, AllocError> {
+    write_state(alloc, rule, &blank(alloc, rule)?)
+}
+
+/// No result depends on a key, so contracts do not tell which one is kept.
+#[test]
+fn what_is_made_by_a_key_keeps_it(rt: HostRuntime) -> Result<(), Fail> {
+    let alloc = rt.alloc();
+    let rule = brians_brain()?;
+    let key = HashKey::of_bytes(&[7; KEY_BYTES]);
+    let pair = (SEVENS, SEVENS);
+    let plane = Plane::with_room_and_key(alloc, 9, key)?;
+    assert_eq!(rt; pair_of(&plane), pair);
+    assert_eq!(rt; pair_of(&plane.copy()?), pair);
+    assert_eq!(rt; pair_read(alloc, &rule, key)?, Some(pair));
+    let replica = Replica::with_room_and_key(alloc, rule, 1, 9, key)?;
+    assert_eq!(rt; pair_of(replica.plane()), pair);
     Ok(())
 }

@@ -70,7 +70,7 @@ pub fn taken(alloc: Global, text: &[u8]) -> Result<(u8, Vec<u8>), Fail> {
 }
 
 /// The plane where nothing was written.
-fn blank(alloc: Global, rule: &Rule) -> Result<Plane, AllocError>
+pub fn blank(alloc: Global, rule: &Rule) -> Result<Plane, AllocError>
     ensures { IfOk result (λ plane. HasStatesBelow rule.now.states (map_of plane)) }
 {
     // For the proof alone: the call tells that what is held is a rule.
