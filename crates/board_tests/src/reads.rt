@@ -2,7 +2,8 @@
 
 use crate::press::{Press, publish_all};
 use crate::told::{Told, View, planed, tell, viewed};
-use board::{BoardReader, SeatFault};
+use board::{BoardReader, Publisher, SeatFault};
+use keyed_hash::{HashKey, KEY_BYTES};
 use std::alloc::Global;
 use std::sync::Wait;
 use std::test::Fail;
@@ -92,5 +93,26 @@ fn an_ended_board_is_closed(rt: HostRuntime) -> Result<(), Fail> {
         after_the_end(rt, rt.alloc())?,
         (Told::Edits(1, 2), Told::Fault(SeatFault::Closed), closed)
     );
+    Ok(())
+}
+
+/// The two numbers of the key by which the plane of a board finds its squares.
+fn pair_of_board<R: Wait>(rt: &R, alloc: Global, key: HashKey) -> Result<(u64, u64), &'static str> {
+    let Ok(publisher) = Publisher::with_key(rt, alloc, 2, 1, key) else {
+        return Err("publisher");
+    };
+    let plane = publisher.board().copy_plane();
+    publisher.end(rt);
+    match plane {
+        Ok(plane) => Ok(plane.key().pair()),
+        Err(_) => Err("plane"),
+    }
+}
+
+/// No result depends on a key, so contracts do not tell which one is kept.
+#[test]
+fn a_board_keeps_its_key(rt: HostRuntime) -> Result<(), Fail> {
+    let key = HashKey::of_bytes(&[7; KEY_BYTES]);
+    assert_eq!(rt; pair_of_board(&rt, rt.alloc(), key)?, key.pair());
     Ok(())
 }
