@@ -1,4 +1,5 @@
-//! Reads before and after an edit, after what was learnt, and after the board has ended.
+//! Reads before and after an edit, after what was learnt, and after the board has ended; the key that a
+//! board keeps.
 
 use crate::press::{Press, publish_all};
 use crate::told::{Told, View, planed, tell, viewed};
