@@ -1,42 +1,30 @@
 -- How a server ends.
-use Rattle.std.proofs.Common.{◌≡◌, ◌∙◌, ◌++◌, ◌+◌, ◌⊎◌, ℕ, List, [], ◌∷◌, ap, sym, subst, inl, inr, arith}
+use Rattle.std.proofs.Common.{◌≡◌, ◌∙◌, ◌++◌, ◌+◌, ◌⊎◌, ℕ, List, [], ◌∷◌, ap, refl, sym, subst, inl, inr, arith}
 use Rattle.std.proofs.lemmas.List.{append-nil}
-use Rattle.std.specs.Prelude.{Result, Ok, Err, IfErr, IsErrAnd, length}
-use Rattle.devices.specs.Count.{one_more}
+use Rattle.std.specs.Prelude.{Result, Ok, Err, IfErr, length}
 use Rattle.devices.specs.Sink.{IsPush, KnownSink}
 use Rattle.frame_service.specs.declared.fault.ServeFault.{ServeFault}
 use Rattle.frame_service.specs.declared.served.Served.{Served}
 use Rattle.generations_rule.specs.Rule.{GenerationsRule}
 use Rattle.genedit_io.specs.declared.fault.RunFault.{RunFault}
-use Rattle.genedit_io.specs.declared.fault.RunFault.TheVariants.{Write, Memory}
+use Rattle.genedit_io.specs.declared.fault.RunFault.TheVariants.{Write}
 use Rattle.relay_board.specs.Seating.{AllFresh, Numbered, Seating}
 use Rattle.relay_board.specs.declared.fault.FinishFault.TheVariants as finish
+use Rattle.relay_core.specs.Relaying.{Relaying}
 use Rattle.relay_core.specs.declared.fault.TurnFault.TheVariants as turn
+use Rattle.seat_server.specs.Faults.{IsReason}
+use Rattle.seat_server.specs.Serving.{IsServed}
 use Rattle.seat_server.specs.declared.fault.ServerFault.{ServerFault}
 use Rattle.seat_server.specs.declared.fault.ServerFault.TheVariants as server
 use Rattle.seat_server.specs.declared.server.Finished.{Finished}
-use Rattle.seat_server.specs.Serving.{IsServed}
 use Rattle.genedit_serve.specs.Closing.{closing_text, listening_line, session_lines}
 use Rattle.genedit_serve.specs.Faults.{run_fault_of_server}
-use Rattle.genedit_serve.specs.Serving.{IsGivenUp, Serves}
+use Rattle.genedit_serve.specs.Serving.{AreFreshSeats, IsFreshRelay, IsGivenUp, IsUnserved, Listens, Serves}
 
 -- fresh seats stand in the order of their numbers
 pub numbered : (rule : GenerationsRule) (room n : ℕ) (seats : List Seating) → AllFresh rule room n seats → Numbered n seats
 numbered rule room n [] fresh = tt
 numbered rule room n (s ∷ seats) fresh = (ap (λ (s : Seating). s.place) fresh.0, numbered rule room (n + 1) seats fresh.1)
-
--- no fault of a server is one of the output
-pub no_write : (fault : ServerFault) → run_fault_of_server fault ≡ Write → ⊥
-no_write server.Read is = cc
-no_write (server.Turn turn.StoreFull) is = cc
-no_write (server.Turn turn.Memory) is = cc
-no_write (server.Finish finish.Closed) is = cc
-no_write (server.Finish finish.StoreFull) is = cc
-no_write (server.Finish finish.Memory) is = cc
-no_write server.Memory is = cc
-
-pub memory_no_write : Memory ≡ Write → ⊥
-memory_no_write is = cc
 
 -- a push of these bytes that did not fail, whatever its faults would be
 made : {A E : Type 0} (from to : KnownSink) (done : A) (bytes text : List ℕ) → bytes ≡ text → IsPush {A = A} {E = E} from to (Ok done) bytes
@@ -44,39 +32,44 @@ made : {A E : Type 0} (from to : KnownSink) (done : A) (bytes text : List ℕ) �
 made {A} {E} from to done bytes text is push =
     subst (λ (b : List ℕ). IsPush {A = Unit {0}} {E = Unit {0}} from to (Ok tt) b) is (record { added = push.added; pushes = push.pushes; failures = push.failures })
 
-module _ {A E : Type 0} (from between : KnownSink) (port : ℕ) (line : List ℕ) (done : A) (is_line : line ≡ listening_line port)
+module _ {A E : Type 0} (rule : GenerationsRule) (sessions : ℕ) (from between : KnownSink) (port : ℕ) (line : List ℕ) (done : A) (is_line : line ≡ listening_line port)
     (listened : IsPush {A = A} {E = E} from between (Ok done) line) where
-  -- the port was told, and nothing behind it
-  pub given_up : (fault : RunFault) → (fault ≡ Write → ⊥) → IsGivenUp from between fault
-  given_up fault not_write = record {
-    told = λ other. inr (port, made from between done line (listening_line port) is_line listened);
-    failed = λ is. absurd (not_write is);
-  }
+  -- the port was told
+  pub listens : Listens from between
+  listens = (port, made from between done line (listening_line port) is_line listened)
 
-  pub gives_up : {T : Type 0} (rule : GenerationsRule) (sessions : ℕ) (r : Result T RunFault) → IsErrAnd r (λ fault. fault ≡ Memory) → Serves rule sessions from between r
-  gives_up rule sessions (Ok t) is = absurd is
-  gives_up rule sessions (Err fault) is = given_up fault (λ write. memory_no_write (sym is ∙ write))
+  -- and nothing behind it
+  pub unserved : (relay : Relaying) (seats : List Seating) (cause : ServerFault) (fault : RunFault) → IsFreshRelay relay → AreFreshSeats rule sessions seats
+      → IsReason 1000 relay seats cause → fault ≡ run_fault_of_server cause → IsGivenUp rule sessions from between fault
+  unserved relay seats cause fault board fresh reason told = subst (λ (f : RunFault). IsGivenUp rule sessions from between f) (sym told) (by_cause cause reason)
+    where
+      so : (cause : ServerFault) → IsReason 1000 relay seats cause → IsUnserved rule sessions from between (run_fault_of_server cause)
+      so cause reason = record { listens = listens; relay = relay; board = board; seats = seats; fresh = fresh; cause = cause; told = refl; reason = reason }
+
+      by_cause : (cause : ServerFault) → IsReason 1000 relay seats cause → IsGivenUp rule sessions from between (run_fault_of_server cause)
+      by_cause server.Read reason = inr listens
+      by_cause (server.Turn turn.StoreFull) reason = so (server.Turn turn.StoreFull) reason
+      by_cause (server.Turn turn.Memory) reason = inr listens
+      by_cause (server.Finish finish.Closed) reason = inr (so (server.Finish finish.Closed) reason)
+      by_cause (server.Finish finish.StoreFull) reason = so (server.Finish finish.StoreFull) reason
+      by_cause (server.Finish finish.Memory) reason = inr listens
+      by_cause server.Memory reason = inr listens
 
   -- the closing lines were pushed too, or that failed
-  pub ends : {T : Type 0} (rule : GenerationsRule) (room sessions : ℕ) (seats : List Seating) (finished : Finished) (to : KnownSink) (r : Result T RunFault) (text : List ℕ)
-      → AllFresh rule room 0 seats → length seats ≡ sessions → IsServed seats finished → text ≡ closing_text finished → IsPush between to r text → IfErr r (λ fault. fault ≡ Write)
+  pub ends : {T : Type 0} (seats : List Seating) (finished : Finished) (to : KnownSink) (r : Result T RunFault) (text : List ℕ)
+      → AreFreshSeats rule sessions seats → IsServed seats finished → text ≡ closing_text finished → IsPush between to r text → IfErr r (λ fault. fault ≡ Write)
       → Serves rule sessions from to r
-  ends rule room sessions seats finished to (Ok t) text fresh count served is_text pushed fault = record {
-    room = room;
+  ends seats finished to (Ok t) text fresh served is_text pushed fault = record {
     seats = seats;
     fresh = fresh;
-    count = count;
     finished = finished;
     served = served;
-    port = port;
     between = between;
-    listens = made from between done line (listening_line port) is_line listened;
+    listens = listens;
     closes = made between to t text (closing_text finished) is_text pushed;
   }
-  ends rule room sessions seats finished to (Err fault) text fresh count served is_text pushed is = record {
-    told = λ other. absurd (other is);
-    failed = λ same. pushed.failures ∙ ap one_more listened.failures;
-  }
+  ends seats finished to (Err fault) text fresh served is_text pushed is =
+      subst (λ (f : RunFault). IsGivenUp rule sessions from to f) (sym is) (inr (between, listens, (pushed.pushes, pushed.failures)))
 
 -- ---- the lines of the sessions
 

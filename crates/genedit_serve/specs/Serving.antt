@@ -1,39 +1,79 @@
 -- What a server does.
-use Rattle.std.specs.Prelude.{◌≡◌, ◌≢◌, ◌⊎◌, ℕ, List, length, Result, Ok, Err}
+use Rattle.std.specs.Prelude.{◌≡◌, ◌^◌, ◌⊎◌, ℕ, List, [], false, length, Result, Ok, Err}
 use Rattle.devices.specs.Count.{one_more}
 use Rattle.devices.specs.Sink.{IsPush, KnownSink}
 use Rattle.generations_rule.specs.Rule.{GenerationsRule}
 use Rattle.genedit_io.specs.declared.fault.RunFault.{RunFault}
-use Rattle.genedit_io.specs.declared.fault.RunFault.TheVariants.{Write}
+use Rattle.genedit_io.specs.declared.fault.RunFault.TheVariants.{Script, Refused, Read, Turns, Write, Memory, StoreFull}
 use Rattle.relay_board.specs.Seating.{AllFresh, Seating}
-use Rattle.seat_server.specs.declared.server.Finished.{Finished}
+use Rattle.relay_core.specs.Relaying.{Relaying}
+use Rattle.relay_core.specs.declared.fault.StartFault.TheVariants.{NoPlace}
+use Rattle.seat_server.specs.Faults.{IsReason}
 use Rattle.seat_server.specs.Serving.{IsServed}
+use Rattle.seat_server.specs.declared.fault.ServerFault.{ServerFault}
+use Rattle.seat_server.specs.declared.server.Finished.{Finished}
 use Rattle.genedit_serve.specs.Closing.{closing_text, listening_line}
+use Rattle.genedit_serve.specs.Faults.{run_fault_of_server, run_fault_of_start}
 
 -- a push that did not fail
 abbrev Pushes : KnownSink → KnownSink → List ℕ → Type 0
 Pushes from to bytes = IsPush {A = Unit {0}} {E = Unit {0}} from to (Ok tt) bytes
 
+-- a push that failed; how many of its bytes were taken is not known
+abbrev pub Fails : KnownSink → KnownSink → Type 0
+Fails from to = (to.pushes ≡ one_more from.pushes) × (to.failures ≡ one_more from.failures)
+
+-- the line that tells the port was pushed, and nothing else
+abbrev pub Listens : KnownSink → KnownSink → Type 0
+Listens from to = (port : ℕ) × Pushes from to (listening_line port)
+
+-- so many seats that nothing was done with, over an inbox for 64 submissions
+abbrev pub AreFreshSeats : GenerationsRule → ℕ → List Seating → Type 0
+AreFreshSeats r sessions seats = AllFresh r 64 0 seats × (length seats ≡ sessions)
+
 -- A board was served to its end: of so many seats that nothing had been done with, each was served over a stream of its
 -- own; the line that tells the port was pushed, and behind it the lines of the sessions and of the published list.
 pub record IsServedBoard (r : GenerationsRule) (sessions : ℕ) (from to : KnownSink) : Type 0 where
-  pub room : ℕ
   pub seats : List Seating
-  pub fresh : AllFresh r room 0 seats
-  pub count : length seats ≡ sessions
+  pub fresh : AreFreshSeats r sessions seats
   pub finished : Finished
   pub served : IsServed seats finished
-  pub port : ℕ
   pub between : KnownSink
-  pub listens : Pushes from between (listening_line port)
+  pub listens : Listens from between
   pub closes : Pushes between to (closing_text finished)
 
--- Nothing was pushed but the line that tells the port, if that. A fault of the sink comes only where it failed.
-pub record IsGivenUp (from to : KnownSink) (fault : RunFault) : Type 0 where
-  pub told : fault ≢ Write → (to ≡ from) ⊎ ((port : ℕ) × Pushes from to (listening_line port))
-  pub failed : fault ≡ Write → to.failures ≡ one_more from.failures
+-- a relay that has published nothing, and has room for 2^26 squares
+pub record IsFreshRelay (relay : Relaying) : Type 0 where
+  pub empty : relay.list ≡ []
+  pub closed : relay.closed ≡ false
+  pub squares : relay.room ≡ 2 ^ 26
+
+-- The line that tells the port was pushed, and the server of a fresh relay and its seats gave no account, for a reason
+-- that is told so.
+pub record IsUnserved (r : GenerationsRule) (sessions : ℕ) (from to : KnownSink) (fault : RunFault) : Type 0 where
+  pub listens : Listens from to
+  pub relay : Relaying
+  pub board : IsFreshRelay relay
+  pub seats : List Seating
+  pub fresh : AreFreshSeats r sessions seats
+  pub cause : ServerFault
+  pub told : fault ≡ run_fault_of_server cause
+  pub reason : IsReason 1000 relay seats cause
+
+-- Why a board was not served to its end, and what was pushed by then: at most the line that tells the port. A fault of
+-- the sink comes only where this push failed, or the one behind it; a full store, only of a relay that was served; a
+-- refusal, only where there was no place at the start, or where the relay did not finish.
+abbrev pub IsGivenUp : GenerationsRule → ℕ → KnownSink → KnownSink → RunFault → Type 0
+IsGivenUp r sessions from to (Script line) = ⊥
+IsGivenUp r sessions from to (Refused number place) =
+    ((Refused number place ≡ run_fault_of_start NoPlace) × (to ≡ from)) ⊎ IsUnserved r sessions from to (Refused number place)
+IsGivenUp r sessions from to Read = (to ≡ from) ⊎ Listens from to
+IsGivenUp r sessions from to Turns = ⊥
+IsGivenUp r sessions from to Write = Fails from to ⊎ ((between : KnownSink) × Listens from between × Fails between to)
+IsGivenUp r sessions from to Memory = (to ≡ from) ⊎ Listens from to
+IsGivenUp r sessions from to StoreFull = IsUnserved r sessions from to StoreFull
 
 -- by its result
 abbrev pub Serves : {A : Type 0} → GenerationsRule → ℕ → KnownSink → KnownSink → Result A RunFault → Type 0
 Serves r sessions from to (Ok done) = IsServedBoard r sessions from to
-Serves r sessions from to (Err fault) = IsGivenUp from to fault
+Serves r sessions from to (Err fault) = IsGivenUp r sessions from to fault

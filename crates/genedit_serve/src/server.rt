@@ -1,7 +1,8 @@
 //! The server.
 
-ghost use Rattle.std.specs.Prelude.{◌≡◌, ◌≤◌};
+ghost use Rattle.std.specs.Prelude.{◌≡◌, ◌≤◌, ◌^◌};
 ghost use Rattle.std.specs.Arc.{arc_value};
+ghost use Rattle.crossbeam_queue.specs.Passes.{ruled_capacity};
 ghost use Rattle.genedit_serve.specs.Serving.{Serves};
 
 use crate::closing::{closing, listening};
@@ -118,6 +119,8 @@ fn serve<
 ) -> Result<(), RunFault>
     requires origin { opened.publisher.origin ≡ J.origin }
     requires inbox { (arc_value opened.drain.queue).table.shared.table_id ≡ J.inbox }
+    requires room { ruled_capacity (arc_value opened.drain.queue) ≡ 64 }
+    requires squares { opened.tried.store.room ≡ 2 ^ 26 }
     ensures { Serves opened.rule opened.count (K.known sink.old) (K.known sink.new) result }
 {
     let (relay, seats) = match opened.named::<J>() {

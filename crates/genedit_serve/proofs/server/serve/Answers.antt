@@ -1,7 +1,8 @@
-use Rattle.std.proofs.Common.{◌∙◌, sym}
+use Rattle.std.proofs.Common.{◌∙◌, ℕ, subst}
 use Rattle.std.specs.Arc.{arc_value}
 use Rattle.crossbeam_queue.specs.Passes.{ruled_capacity}
-use Rattle.genedit_serve.proofs.ServingLaws.{ends, given_up, gives_up, no_write, numbered}
+use Rattle.relay_board.specs.Seating.{AllFresh}
+use Rattle.genedit_serve.proofs.ServingLaws.{ends, numbered, unserved}
 use Rattle.genedit_serve.proofs.server.serve.Goals as goal
 
 pub serve_seats-requires-clause-order : goal.serve_seats-requires-clause-order
@@ -10,18 +11,17 @@ serve_seats-requires-clause-order g c κs within =
 
 pub returns-in-Err-serve_seats : goal.returns-in-Err-serve_seats
 returns-in-Err-serve_seats g c =
-    given_up _ _ c.args.port c.deref.result.now c.in_ok-push_output.field-0 (c.deref.ensures.value ∙ c.in_ok-line.ensures) c.in_ok-push_output.ensures.pushed
-    c.server_fault.result (λ write. no_write c.in-Err-serve_seats.fault (sym c.server_fault.ensures ∙ write))
-
-pub returns-in_err-text-in-Ok-serve_seats : goal.returns-in_err-text-in-Ok-serve_seats
-returns-in_err-text-in-Ok-serve_seats g c =
-    gives_up _ _ c.args.port c.deref.result.now c.in_ok-push_output.field-0 (c.deref.ensures.value ∙ c.in_ok-line.ensures) c.in_ok-push_output.ensures.pushed
-    c.args.opened.rule c.args.opened.count c.from_residual-in_err-text-in-Ok-serve_seats.result c.from_residual-in_err-text-in-Ok-serve_seats.ensures.1
+    unserved c.args.opened.rule c.args.opened.count _ _ c.args.port c.deref.result.now c.in_ok-push_output.field-0 (c.deref.ensures.value ∙ c.in_ok-line.ensures) c.in_ok-push_output.ensures.pushed
+    _ c.in-Ok.named.1.items c.in-Err-serve_seats.fault c.server_fault.result
+    (record { empty = c.in-Ok.ensures.relay.0; closed = c.in-Ok.ensures.relay.4; squares = c.in-Ok.ensures.relay.6 ∙ c.requires.squares })
+    (subst (λ (room : ℕ). AllFresh c.args.opened.rule room 0 c.in-Ok.named.1.items) c.requires.room c.in-Ok.ensures.seats.0, c.in-Ok.ensures.seats.1)
+    c.in-Err-serve_seats.ensures.reason c.server_fault.ensures
 
 pub returns : goal.returns
 returns g c =
-    ends _ _ c.args.port c.deref.result.now c.in_ok-push_output.field-0 (c.deref.ensures.value ∙ c.in_ok-line.ensures) c.in_ok-push_output.ensures.pushed
-    c.args.opened.rule (ruled_capacity (arc_value c.args.opened.drain.queue)) c.args.opened.count c.in-Ok.named.1.items c.in-Ok-serve_seats.finished _
+    ends c.args.opened.rule c.args.opened.count _ _ c.args.port c.deref.result.now c.in_ok-push_output.field-0 (c.deref.ensures.value ∙ c.in_ok-line.ensures) c.in_ok-push_output.ensures.pushed
+    c.in-Ok.named.1.items c.in-Ok-serve_seats.finished _
     c.push_output-in-Ok-serve_seats.result c.deref-in-Ok-serve_seats.result.now
-    c.in-Ok.ensures.seats.0 c.in-Ok.ensures.seats.1 c.in-Ok-serve_seats.ensures.served
+    (subst (λ (room : ℕ). AllFresh c.args.opened.rule room 0 c.in-Ok.named.1.items) c.requires.room c.in-Ok.ensures.seats.0, c.in-Ok.ensures.seats.1)
+    c.in-Ok-serve_seats.ensures.served
     (c.deref-in-Ok-serve_seats.ensures.value ∙ c.in_ok-text-in-Ok-serve_seats.ensures) c.push_output-in-Ok-serve_seats.ensures.pushed c.push_output-in-Ok-serve_seats.ensures.fault
