@@ -5,7 +5,7 @@ ghost use denote.Param.Send.{IsSend, IsSync};
 use crossbeam_channel::{Receiver, Sender, bounded};
 use devices::Source;
 use genedit_io::RunFault;
-use std::alloc::{AllocError, Global};
+use std::alloc::Global;
 use std::sync::Wait;
 use std::thread::Threads;
 use std::{mem, thread};
@@ -31,12 +31,6 @@ enum Stop {
     /// Nobody receives any more.
     Unheard,
     Memory,
-}
-
-impl From<AllocError> for Stop {
-    fn from(_error: AllocError) -> Stop {
-        Stop::Memory
-    }
 }
 
 /// The lines of a source, which a thread of its own sends; behind the last, and behind a failure, there

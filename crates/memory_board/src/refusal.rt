@@ -11,12 +11,21 @@ pub(crate) struct Refusal {
 
 /// That there was no memory: nothing was done.
 impl From<AllocError> for Refusal {
+    ghost use Rattle.std.specs.Prelude.{◌≡◌};
+
+    ghost from_gives = { λ _ refusal. refusal.number ≡ 255 };
+
     fn from(_error: AllocError) -> Refusal {
         Refusal { number: 255 }
     }
 }
 
 impl From<Fault> for Refusal {
+    ghost use Rattle.std.specs.Prelude.{◌≡◌};
+    ghost use Rattle.replica_core.specs.Fault.{fault_number};
+
+    ghost from_gives = { λ fault refusal. refusal.number ≡ fault_number fault };
+
     fn from(fault: Fault) -> Refusal {
         Refusal {
             number: fault.number(),

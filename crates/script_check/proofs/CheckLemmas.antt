@@ -1,5 +1,5 @@
 -- What is told where there are faults, and where there are none.
-use Rattle.std.proofs.Common.{◌≡◌, ◌∙◌, ap, ℕ, List, [], ◌∷◌, refl, sym, subst, inl, inr, arith, length}
+use Rattle.std.proofs.Common.{◌≡◌, ap, ℕ, List, [], ◌∷◌, refl, sym, subst, inl, inr, arith, length}
 use Rattle.std.proofs.lemmas.Bool.{eqb-true}
 use Rattle.std.specs.Prelude.{true, false, ◌⊎◌, map, Result, Ok, Err}
 use Rattle.std.specs.Prelude.{◌==◌}

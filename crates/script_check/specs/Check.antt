@@ -1,6 +1,5 @@
 -- Which commands of a script are refused when it is run.
-use Rattle.std.specs.Prelude.{◌≡◌, ℕ, Bool, true, false, List, [], ◌∷◌, map, codes, Ok, if◌then◌else◌}
-use Rattle.std.specs.List.{list_any}
+use Rattle.std.specs.Prelude.{◌≡◌, ℕ, Bool, true, false, List, [], ◌∷◌, map, codes, Ok}
 use Rattle.multistate_rle.specs.Position.{words}
 use Rattle.replica_core.specs.declared.event.Reply.{Reply}
 use Rattle.replica_core.specs.declared.event.Reply.TheVariants.{Drawn, Sent, Taken, Shown, Same, Bytes, Text, Refused}
@@ -8,7 +7,7 @@ use Rattle.replica_core.specs.World.{opening, AreReplies}
 use Rattle.genedit_script.specs.Script.{ScriptValue, script_of}
 use Rattle.genedit_lib.specs.Output.{OutputLine, ReplyLine, OwnLine, steps, no_patterns, events_among, step_line}
 use Rattle.script_faults.specs.declared.note.Note.{Note}
-use Rattle.script_faults.specs.Faults.{begins_with, command_lines, onto_faulty, is_fault, fault_lines, faulty_lines}
+use Rattle.script_faults.specs.Faults.{begins_with, command_lines, onto_faulty, fault_lines, faulty_lines}
 use Rattle.script_faults.specs.Laws.{Begin}
 use Rattle.script_check.specs.declared.refusals.Refusal.{Refusal}
 use Rattle.script_check.specs.declared.check.Outcome.{Outcome}
@@ -73,4 +72,4 @@ pub record ReportsAs (name text out : List ℕ) : Type 0 where
   pub faults : fault_lines notes ≡ faulty_lines text
   pub first : Begin (fault_lines notes) (script_of text)
   pub refused : AreRefused text (faulty_lines text) refusals
-  pub printed : IsReportText name notes refusals out
+  pub printed : IsReportText name text notes refusals out

@@ -1,2 +1,4 @@
+pub mod Shown
 pub mod Report
 pub mod Check
+pub mod Rows

@@ -66,7 +66,7 @@ pub fn checked(alloc: Global, name: &[u8], script: &[u8]) -> Result<Report, RunF
     ensures faults { IfOk result (λ report. fault_lines report.notes.notes.items ≡ faulty_lines script.now) }
     ensures first { IfOk result (λ report. Begin (fault_lines report.notes.notes.items) (script_of script.now)) }
     ensures refusals { IfOk result (λ report. AreRefused script.now (faulty_lines script.now) report.refusals.items) }
-    ensures text { IfOk result (λ report. IsReportText name.now report.notes.notes.items report.refusals.items report.text.items) }
+    ensures text { IfOk result (λ report. IsReportText name.now script.now report.notes.notes.items report.refusals.items report.text.items) }
     ensures stopped { IfErr result (λ fault. IsStopped script.now fault ⊎ IsWant fault) }
 {
     let notes = notes_in(alloc, script)?;

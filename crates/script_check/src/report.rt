@@ -1,9 +1,10 @@
 //! A report as it is printed.
 
-ghost use Rattle.std.specs.Prelude.{◌≡◌, ◌++◌, ℕ, List, IfOk, OnOk, codes, count_by, decimal, map};
+ghost use Rattle.std.specs.Prelude.{◌≡◌, ◌++◌, IfOk, OnOk, codes, count_by, decimal, map, replicate};
 ghost use Rattle.std.specs.List.{list_any};
 ghost use Rattle.script_faults.specs.Faults.{is_fault, place_of};
-ghost use Rattle.script_check.specs.Report.{AppendEntries, Extends, IsReportText, count_text, entry_text};
+ghost use Rattle.script_check.specs.Report.{AppendEntries, IsReportText, count_text, line_shown, place_text};
+ghost use Rattle.script_check.specs.Shown.{IsLeftOf, carets, line_text, shown_byte, shown_line};
 
 use crate::refusals::Refusal;
 use crate::words::refusal_text;
@@ -23,7 +24,7 @@ pub fn report_text(
     notes: &Notes,
     refusals: &[Refusal],
 ) -> Result<Vec<u8>, AllocError>
-    ensures { IfOk result (λ text. IsReportText name.now notes.now.notes.items refusals.now text.items) }
+    ensures { IfOk result (λ text. IsReportText name.now script.now notes.now.notes.items refusals.now text.items) }
 {
     let mut out = Vec::new(alloc);
     push_notes(alloc, &mut out, name, script, notes)?;
@@ -40,13 +41,12 @@ fn push_notes(
     script: &[u8],
     notes: &Notes,
 ) -> Result<(), AllocError>
-    ensures { OnOk result (AppendEntries name.now (map place_of notes.now.notes.items) out.old.items out.new.items) }
+    ensures { OnOk result (AppendEntries name.now script.now (map place_of notes.now.notes.items) out.old.items out.new.items) }
 {
     let mut lines = Lines::of(script);
     for note in &notes.notes {
         let place = note.place();
-        lines = at_line(lines, place.line);
-        let line = line_of(lines, place.line);
+        let line = line_at(script, &mut lines, place.line);
         let told = told_of(alloc, notes, note, part_of(line, place))?;
         push_entry(out, name, place, told.as_bytes(), line)?;
     }
@@ -60,12 +60,11 @@ fn push_refusals(
     script: &[u8],
     refusals: &[Refusal],
 ) -> Result<(), AllocError>
-    ensures { OnOk result (AppendEntries name.now (map (λ refusal. refusal.place) refusals.now) out.old.items out.new.items) }
+    ensures { OnOk result (AppendEntries name.now script.now (map (λ refusal. refusal.place) refusals.now) out.old.items out.new.items) }
 {
     let mut lines = Lines::of(script);
     for refusal in refusals {
-        lines = at_line(lines, refusal.place.line);
-        let line = line_of(lines, refusal.place.line);
+        let line = line_at(script, &mut lines, refusal.place.line);
         let told = refusal_text(alloc, refusal.number)?;
         push_entry(out, name, refusal.place, told.as_bytes(), line)?;
     }
@@ -103,19 +102,23 @@ fn told_of(alloc: Global, notes: &Notes, note: &Note, word: &[u8]) -> Result<Str
     }
 }
 
-/// The lines from one on, where it is not passed yet.
-fn at_line(mut lines: Lines<'_>, number: u64) -> Lines<'_> {
-    while lines.number < number {
-        if lines.next_line().is_none() {
-            return lines;
-        }
+/// The text of a script's line of this number; empty where there is none. The lines that are left are gone on
+/// with, or, where they are behind it, begun anew.
+fn line_at<'a>(script: &'a [u8], lines: &mut Lines<'a>, number: u64) -> &'a [u8]
+    requires { IsLeftOf script.now lines.old.number lines.old.rest.now }
+    ensures line { result.now ≡ line_text script.now number }
+    ensures left { IsLeftOf script.now lines.new.number lines.new.rest.now }
+{
+    if number < lines.number {
+        *lines = Lines::of(script);
     }
-    lines
-}
-
-/// The text of the next line, if it has this number.
-fn line_of(mut lines: Lines<'_>, number: u64) -> &[u8] {
-    match lines.next_line() {
+    while lines.number < number {
+        let Some(_) = lines.next_line() else {
+            return &[];
+        };
+    }
+    let mut here = *lines;
+    match here.next_line() {
         Some(line) if line.number == number => line.text,
         _ => &[],
     }
@@ -136,16 +139,19 @@ fn push_entry(
     told: &[u8],
     line: &[u8],
 ) -> Result<(), AllocError>
-    ensures { OnOk result ((said : List ℕ) × (out.new.items ≡ out.old.items ++ entry_text name.now place said)) }
+    ensures { OnOk result (out.new.items ≡ out.old.items ++ (place_text name.now place ++ told.now ++ line_shown line.now place)) }
 {
     push_place(out, name, place)?;
-    push_said(out, place, told, line)?;
+    out.extend_from_slice(told)?;
+    out.push(b'\n')?;
+    push_shown(out, line)?;
+    push_carets(out, place)?;
     Ok(())
 }
 
 /// `NAME:LINE:COLUMN: `
 fn push_place(out: &mut Vec<u8>, name: &[u8], place: Place) -> Result<(), AllocError>
-    ensures { OnOk result (out.new.items ≡ out.old.items ++ (name.now ++ codes ":" ++ decimal place.line ++ codes ":" ++ decimal place.column ++ codes ": ")) }
+    ensures { OnOk result (out.new.items ≡ out.old.items ++ place_text name.now place) }
 {
     out.extend_from_slice(name)?;
     out.push(b':')?;
@@ -155,27 +161,23 @@ fn push_place(out: &mut Vec<u8>, name: &[u8], place: Place) -> Result<(), AllocE
     out.extend_from_slice(b": ")
 }
 
-fn push_said(out: &mut Vec<u8>, place: Place, told: &[u8], line: &[u8]) -> Result<(), AllocError>
-    ensures { OnOk result (Extends out.old.items out.new.items) }
+/// A byte as it is shown.
+fn shown(byte: u8) -> u8
+    ensures { result ≡ shown_byte byte }
 {
-    out.extend_from_slice(told)?;
-    out.push(b'\n')?;
-    push_shown(out, line)?;
-    push_carets(out, place)?;
-    Ok(())
+    if b' ' <= byte && byte <= b'~' {
+        byte
+    } else {
+        b'?'
+    }
 }
 
 /// The line's first 100 bytes, with `?` for what is not printing ASCII.
 fn push_shown(out: &mut Vec<u8>, line: &[u8]) -> Result<(), AllocError>
-    ensures { OnOk result (Extends out.old.items out.new.items) }
+    ensures { OnOk result (out.new.items ≡ out.old.items ++ (shown_line line.now ++ codes "\n")) }
 {
-    for byte in line.iter().take(MOST_SHOWN) {
-        let shown = if b' ' <= *byte && *byte <= b'~' {
-            *byte
-        } else {
-            b'?'
-        };
-        out.push(shown)?;
+    for byte in &line[..line.len().min(MOST_SHOWN)] {
+        out.push(shown(*byte))?;
     }
     out.push(b'\n')?;
     Ok(())
@@ -183,7 +185,7 @@ fn push_shown(out: &mut Vec<u8>, line: &[u8]) -> Result<(), AllocError>
 
 /// Carets under the bytes of a place that are shown, or under the one behind them.
 fn push_carets(out: &mut Vec<u8>, place: Place) -> Result<(), AllocError>
-    ensures { OnOk result (Extends out.old.items out.new.items) }
+    ensures { OnOk result (out.new.items ≡ out.old.items ++ (carets place ++ codes "\n")) }
 {
     let start = place.column.saturating_sub(1).min(MOST_SHOWN);
     let width = place.width.min(MOST_SHOWN - start).max(1);
@@ -194,7 +196,7 @@ fn push_carets(out: &mut Vec<u8>, place: Place) -> Result<(), AllocError>
 }
 
 fn push_repeated(out: &mut Vec<u8>, byte: u8, count: usize) -> Result<(), AllocError>
-    ensures { OnOk result (Extends out.old.items out.new.items) }
+    ensures { OnOk result (out.new.items ≡ out.old.items ++ replicate count byte) }
 {
     for _turn in 0..count {
         out.push(byte)?;

@@ -1,9 +1,10 @@
-use Rattle.std.proofs.Common.{◌∙◌, ap, append_assoc, List, ℕ, ◌++◌}
-use Rattle.std.specs.Prelude.{codes, decimal}
+use Rattle.script_check.specs.Report.{place_text}
+use Rattle.script_check.specs.Shown.{carets, shown_line}
+use Rattle.script_check.proofs.ReportLemmas.{pushed}
 use Rattle.script_check.proofs.report.push_entry.Goals as goal
 
 pub returns : goal.returns
 returns c =
-    let head : List ℕ = c.args.name.now ++ codes ":" ++ decimal c.args.place.line ++ codes ":" ++ decimal c.args.place.column ++ codes ": " in
-    let said = c.in_ok-push_said.ensures in
-    (said.0, said.1 ∙ ap (λ (t : List ℕ). t ++ said.0) c.in_ok-push_place.ensures ∙ append_assoc c.args.out.now.items head said.0)
+    pushed c.args.out.now.items (place_text c.args.name.now c.args.place) c.args.told.now (shown_line c.args.line.now) (carets c.args.place)
+    c.push_place.new.out.items c.extend_from_slice.new.self.items c.push.new.self.items c.push_shown.new.out.items c.push_carets.new.out.items
+    c.in_ok-push_place.ensures c.in_ok-extend_from_slice.ensures.items c.in_ok-push.ensures.items c.in_ok-push_shown.ensures c.in_ok-push_carets.ensures

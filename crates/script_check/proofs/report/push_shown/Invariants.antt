@@ -1,5 +1,6 @@
-use Rattle.script_check.specs.Report.{Extends}
+use Rattle.std.proofs.Common.{◌≡◌, ◌++◌, map, take}
+use Rattle.script_check.specs.Shown.{shown_byte}
 use Rattle.script_check.proofs.report.push_shown.Given as goal
 
 abbrev pub invariant-loop-byte : goal.invariant-loop-byte
-invariant-loop-byte l = Extends l.fn.out.items l.out.items
+invariant-loop-byte l = l.out.items ≡ l.fn.out.items ++ map shown_byte (take l.byte-index l.line)

@@ -8,8 +8,9 @@ use Rattle.script_check.proofs.report.report_text.Goals as goal
 pub returns : goal.returns
 returns c =
     let name = c.args.name.now in
-    let none : AreEntries name [] c.new-out.result.items = subst (λ (t : List ℕ). AreEntries name [] t) (sym c.new-out.ensures.items) no_entry in
-    let notes : AreEntries name (map place_of c.args.notes.now.notes.items) c.push_notes.new.out.items = c.in_ok-push_notes.ensures [] none in
+    let script = c.args.script.now in
+    let none : AreEntries name script [] c.new-out.result.items = subst (λ (t : List ℕ). AreEntries name script [] t) (sym c.new-out.ensures.items) no_entry in
+    let notes : AreEntries name script (map place_of c.args.notes.now.notes.items) c.push_notes.new.out.items = c.in_ok-push_notes.ensures [] none in
     let faults = c.faults_among-faults.ensures ∙ ap (λ (n : List Note). count_by is_fault n) c.deref.ensures.value in
     record {
       entries = c.push_refusals.new.out.items;

@@ -1,5 +1,5 @@
-use Rattle.std.proofs.Common.{◌≡◌, ◌∙◌, ap, sym, length, List}
-use Rattle.std.specs.Prelude.{◌==◌, false}
+use Rattle.std.proofs.Common.{◌∙◌, ap, sym, length, List}
+use Rattle.std.specs.Prelude.{◌==◌}
 use Rattle.script_check.specs.declared.refusals.Refusal.{Refusal}
 use Rattle.std.specs.List.{list_any}
 use Rattle.script_faults.specs.Faults.{is_fault}
