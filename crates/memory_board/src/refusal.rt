@@ -22,9 +22,9 @@ impl From<AllocError> for Refusal {
 
 impl From<Fault> for Refusal {
     ghost use Rattle.std.specs.Prelude.{◌≡◌};
-    ghost use Rattle.replica_core.specs.Fault.{fault_number};
+    ghost use Rattle.replica_core.specs.Fault.{replica_fault_number};
 
-    ghost from_gives = { λ fault refusal. refusal.number ≡ fault_number fault };
+    ghost from_gives = { λ fault refusal. refusal.number ≡ replica_fault_number fault };
 
     fn from(fault: Fault) -> Refusal {
         Refusal {

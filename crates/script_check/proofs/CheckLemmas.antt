@@ -15,7 +15,7 @@ use Rattle.script_faults.specs.Faults.{is_fault, fault_lines}
 use Rattle.script_faults.specs.Laws.{Begin}
 use Rattle.script_check.specs.declared.refusals.Refusal.{Refusal}
 use Rattle.script_check.specs.declared.check.Outcome.{Outcome}
-use Rattle.script_check.specs.Check.{AreRefused, IsRefusedRun, outcome_of}
+use Rattle.script_check.specs.Check.{AreRefused, IsRefusedRun, command_of, outcome_of}
 use Rattle.script_check.specs.declared.check.Outcome.TheVariants.{Clean, Told}
 
 pub no_lines : (notes : List Note) → list_any is_fault notes ≡ false → fault_lines notes ≡ []
@@ -30,7 +30,7 @@ told_with_faults text (Fault place reason ∷ notes) refusals some none = none
 told_with_faults text (Warning place warning ∷ notes) refusals some none = told_with_faults text notes refusals some none
 
 -- no fault, and what is refused
-pub told_without : (text : List ℕ) (notes : List Note) (refusals : List Refusal) → list_any is_fault notes ≡ false → IsRefusedRun text (map (λ (refusal : Refusal). refusal.command) refusals) →
+pub told_without : (text : List ℕ) (notes : List Note) (refusals : List Refusal) → list_any is_fault notes ≡ false → IsRefusedRun text (map command_of refusals) →
     AreRefused text (fault_lines notes) refusals
 told_without text notes refusals none run = subst (λ (lines : List ℕ). AreRefused text lines refusals) (sym (no_lines notes none)) run
 

@@ -1,13 +1,14 @@
 //! What would be refused when a script is run.
 
-ghost use Rattle.std.specs.Prelude.{◌≡◌, ◌⊎◌, ◌∷◌, ◌++◌, [], ℕ, List, IfOk, IfErr, OnOk, MatchOption, Some, None, map, option_map, if◌then◌else◌};
+ghost use Rattle.std.specs.Prelude.{◌≡◌, ◌⊎◌, ◌∷◌, ◌++◌, [], ℕ, List, IfOk, IfErr, OnOk, MatchOption, map, option_map};
 ghost use Rattle.std.specs.Option.{option_to_list};
 ghost use Rattle.genedit_lib.specs.Output.{OutputLine};
+ghost use Rattle.multistate_rle.specs.Position.{words};
 ghost use Rattle.genedit_io.specs.RunFault.{IsWant};
 ghost use Rattle.genedit_lib.specs.Plan.{line_of};
 ghost use Rattle.genedit_lib.specs.Run.{IsUnprinted, run_fault_of, run_fault_of_stop, script_events, script_opening};
 ghost use Rattle.replica_core.specs.World.{IsStopOf};
-ghost use Rattle.script_check.specs.Check.{AreRefusedOf, IsRefusedRun, refused_lines, is_refusal_reply, is_refusal_text};
+ghost use Rattle.script_check.specs.Check.{AreRefusedOf, IsRefusedRun, command_of, number_first, refusal_in_reply, refusal_in_words, refused_at, refused_commands};
 
 use crate::block::fault_place;
 use genedit_io::RunFault;
@@ -37,7 +38,7 @@ pub struct Refusal {
 /// `RunFault::Script` comes only where the text is no script, `RunFault::StoreFull` where its run would
 /// end with it.
 pub fn refusals_in(alloc: Global, text: &[u8]) -> Result<Vec<Refusal>, RunFault>
-    ensures refused { IfOk result (λ refusals. IsRefusedRun text.now (map (λ refusal. refusal.command) refusals.items)) }
+    ensures refused { IfOk result (λ refusals. IsRefusedRun text.now (map command_of refusals.items)) }
     ensures fault { IfErr result (λ fault. IsUnprinted text.now fault ⊎ IsWant fault) }
 {
     let places = command_places(alloc, text)?;
@@ -53,7 +54,7 @@ fn script_refusals(
     places: &[Place],
     script: Script,
 ) -> Result<Vec<Refusal>, Stop>
-    ensures refused { IfOk result (λ refusals. AreRefusedOf script (map (λ place. place.line) places.now) (map (λ refusal. refusal.command) refusals.items)) }
+    ensures refused { IfOk result (λ refusals. AreRefusedOf script (map (λ place. place.line) places.now) (map command_of refusals.items)) }
     ensures stopped { IfErr result (IsStopOf (script_opening script) (script_events script)) }
 {
     let (rule, replicas) = (script.rule(), script.replicas());
@@ -71,8 +72,8 @@ fn refused<'a>(
     mut lines: &'a [PlannedLine],
     mut replies: &'a [Reply],
 ) -> Result<Vec<Refusal>, AllocError>
-    ensures { IfOk result (λ refusals. map (λ refusal. refusal.command) refusals.items
-        ≡ refused_lines (map (λ place. place.line) places.entry.now) (map line_of lines.entry.now) replies.entry.now) }
+    ensures { IfOk result (λ refusals. map command_of refusals.items
+        ≡ refused_commands (map (λ place. place.line) places.entry.now) (map line_of lines.entry.now) replies.entry.now) }
 {
     let mut refusals = Vec::new(alloc);
     while let Some((place, more_places)) = places.split_first() {
@@ -99,9 +100,9 @@ fn refusal_at<'a>(
     replies: &'a [Reply],
 ) -> Option<(Option<Refusal>, &'a [Reply])>
     ensures { (places : List ℕ) → (lines : List OutputLine) → MatchOption result
-        (refused_lines (place.line ∷ places) (line_of line.now ∷ lines) replies.now ≡ [])
-        (λ found. refused_lines (place.line ∷ places) (line_of line.now ∷ lines) replies.now
-        ≡ map (λ refusal. refusal.command) (option_to_list found.0) ++ refused_lines places lines found.1.now) }
+        (refused_commands (place.line ∷ places) (line_of line.now ∷ lines) replies.now ≡ [])
+        (λ found. refused_commands (place.line ∷ places) (line_of line.now ∷ lines) replies.now
+        ≡ option_to_list (option_map command_of found.0) ++ refused_commands places lines found.1.now) }
 {
     match line {
         PlannedLine::Own(text) => Some((text_refusal(script, place, text.as_slice()), replies)),
@@ -124,40 +125,40 @@ fn push_told(refusals: &mut Vec<Refusal>, refusal: Option<Refusal>) -> Result<()
 /// The refusal that a line of a command's own is: `refused NUMBER NAME`, with the place in its block
 /// where there is one.
 fn text_refusal(script: Lines<'_>, place: Place, text: &[u8]) -> Option<Refusal>
-    ensures { option_map (λ refusal. refusal.command) result ≡ (if is_refusal_text text.now then Some place.line else None) }
+    ensures { option_map command_of result ≡ refused_at place.line (refusal_in_words (words text.now)) }
 {
     let (first, rest) = split_word(text)?;
     if first != b"refused".as_slice() {
         return None;
     }
-    let (number, at) = numbers_in(rest);
+    let number = first_number(rest);
     Some(Refusal {
         command: place.line,
-        place: fault_place(script, place, number, at),
+        place: fault_place(script, place, number, third_number(rest)),
         number,
     })
 }
 
-/// The number of a refusal, and its place where there is one.
-fn numbers_in(text: &[u8]) -> (u8, Option<u64>) {
-    let Some((first, rest)) = split_word(text) else {
-        return (0, None);
-    };
-    let Some((_name, rest)) = split_word(rest) else {
-        return (0, None);
-    };
-    let at = match split_word(rest) {
-        Some((place, _)) => number(u64::MAX, place),
-        None => None,
-    };
-    match number(255, first) {
-        Some(found) => (found as u8, at),
-        None => (0, at),
+/// The number of a refusal, from the words behind `refused`; 0 where there is none.
+fn first_number(text: &[u8]) -> u8
+    ensures { result ≡ number_first (words text.now) }
+{
+    match split_word(text) {
+        Some((word, _)) => number(255, word).map_or(0, |found| found as u8),
+        None => 0,
     }
 }
 
+/// The place of a refusal, where there is one: it stands behind the number and the name.
+fn third_number(text: &[u8]) -> Option<u64> {
+    let (_number, rest) = split_word(text)?;
+    let (_name, rest) = split_word(rest)?;
+    let (place, _) = split_word(rest)?;
+    number(u64::MAX, place)
+}
+
 fn reply_refusal(place: Place, reply: &Reply) -> Option<Refusal>
-    ensures { option_map (λ refusal. refusal.command) result ≡ (if is_refusal_reply reply.now then Some place.line else None) }
+    ensures { option_map command_of result ≡ refused_at place.line (refusal_in_reply reply.now) }
 {
     match reply {
         Reply::Refused(fault) => Some(Refusal {

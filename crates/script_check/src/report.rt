@@ -2,8 +2,8 @@
 
 ghost use Rattle.std.specs.Prelude.{◌≡◌, ◌++◌, IfOk, OnOk, codes, count_by, decimal, map, replicate};
 ghost use Rattle.std.specs.List.{list_any};
-ghost use Rattle.script_faults.specs.Faults.{is_fault, place_of};
-ghost use Rattle.script_check.specs.Report.{AppendEntries, IsReportText, count_text, line_shown, place_text};
+ghost use Rattle.script_faults.specs.Faults.{is_fault};
+ghost use Rattle.script_check.specs.Report.{AppendEntries, IsReportText, count_text, entry_of_note, entry_of_refusal, line_shown, place_text};
 ghost use Rattle.script_check.specs.Shown.{IsLeftOf, carets, line_text, shown_byte, shown_line};
 
 use crate::refusals::Refusal;
@@ -41,7 +41,7 @@ fn push_notes(
     script: &[u8],
     notes: &Notes,
 ) -> Result<(), AllocError>
-    ensures { OnOk result (AppendEntries name.now script.now (map place_of notes.now.notes.items) out.old.items out.new.items) }
+    ensures { OnOk result (AppendEntries name.now script.now (map entry_of_note notes.now.notes.items) out.old.items out.new.items) }
 {
     let mut lines = Lines::of(script);
     for note in &notes.notes {
@@ -60,7 +60,7 @@ fn push_refusals(
     script: &[u8],
     refusals: &[Refusal],
 ) -> Result<(), AllocError>
-    ensures { OnOk result (AppendEntries name.now script.now (map (λ refusal. refusal.place) refusals.now) out.old.items out.new.items) }
+    ensures { OnOk result (AppendEntries name.now script.now (map entry_of_refusal refusals.now) out.old.items out.new.items) }
 {
     let mut lines = Lines::of(script);
     for refusal in refusals {

@@ -1,13 +1,19 @@
 //! Refusals in words.
 
+ghost use Rattle.std.specs.Prelude.{◌≡◌, ◌++◌, ℕ, List, IfOk};
+ghost use Rattle.script_check.specs.Report.{will_be_refused};
+
 use genedit_io::RunFault;
 use std::alloc::{AllocError, Global};
 
 /// What is said of a refusal, by its number in the table of faults.
-pub fn refusal_text(alloc: Global, number: u8) -> Result<String, AllocError> {
+pub fn refusal_text(alloc: Global, number: u8) -> Result<String, AllocError>
+    ensures { IfOk result (λ text. (words : List ℕ) × (text.bytes.items ≡ will_be_refused number ++ words)) }
+{
     let refusal = RunFault::Refused(number, None);
     let words = words_of(number);
-    format!(in alloc; "will be {refusal}: {words}")
+    let text = format!(in alloc; "will be {refusal}: {words}")?;
+    Ok(text)
 }
 
 fn words_of(number: u8) -> &'static str {
