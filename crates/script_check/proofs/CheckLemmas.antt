@@ -1,7 +1,7 @@
 -- What is told where there are faults, and where there are none.
-use Rattle.std.proofs.Common.{◌≡◌, ap, ℕ, List, [], ◌∷◌, refl, sym, subst, inl, inr, arith, length}
+use Rattle.std.proofs.Common.{◌≡◌, ap, ℕ, List, [], ◌∷◌, refl, sym, subst, inl, inr, arith, length, ◌++◌, append-nil, append_assoc, ◌∙◌}
 use Rattle.std.proofs.lemmas.Bool.{eqb-true}
-use Rattle.std.specs.Prelude.{true, false, ◌⊎◌, map, Result, Ok, Err}
+use Rattle.std.specs.Prelude.{true, false, ◌⊎◌, Result, Ok, Err}
 use Rattle.std.specs.Prelude.{◌==◌}
 use Rattle.std.specs.List.{list_any}
 use Rattle.devices.specs.Sink.{KnownSink, IsPush}
@@ -15,7 +15,7 @@ use Rattle.script_faults.specs.Faults.{is_fault, fault_lines}
 use Rattle.script_faults.specs.Laws.{Begin}
 use Rattle.script_check.specs.declared.refusals.Refusal.{Refusal}
 use Rattle.script_check.specs.declared.check.Outcome.{Outcome}
-use Rattle.script_check.specs.Check.{AreRefused, IsRefusedRun, command_of, outcome_of}
+use Rattle.script_check.specs.Check.{AreRefused, IsRefusedRun, outcome_of}
 use Rattle.script_check.specs.declared.check.Outcome.TheVariants.{Clean, Told}
 
 pub no_lines : (notes : List Note) → list_any is_fault notes ≡ false → fault_lines notes ≡ []
@@ -30,7 +30,7 @@ told_with_faults text (Fault place reason ∷ notes) refusals some none = none
 told_with_faults text (Warning place warning ∷ notes) refusals some none = told_with_faults text notes refusals some none
 
 -- no fault, and what is refused
-pub told_without : (text : List ℕ) (notes : List Note) (refusals : List Refusal) → list_any is_fault notes ≡ false → IsRefusedRun text (map command_of refusals) →
+pub told_without : (text : List ℕ) (notes : List Note) (refusals : List Refusal) → list_any is_fault notes ≡ false → IsRefusedRun text refusals →
     AreRefused text (fault_lines notes) refusals
 told_without text notes refusals none run = subst (λ (lines : List ℕ). AreRefused text lines refusals) (sym (no_lines notes none)) run
 
@@ -73,3 +73,14 @@ clean_outcome notes (refusal ∷ refusals) fine none = absurd (omega (arith, eqb
 pub refused_outcome : (notes : List Note) (refusals : List Refusal) → list_any is_fault notes ≡ false → (length refusals == 0) ≡ false → Told ≡ outcome_of (fault_lines notes) refusals
 refused_outcome notes [] fine some = absurd (cc)
 refused_outcome notes (refusal ∷ refusals) fine some = ap (λ (lines : List ℕ). outcome_of lines (refusal ∷ refusals)) (sym (no_lines notes fine))
+
+-- ---- the refusals of one command after another
+
+-- there are no more
+pub no_more : (told more total : List Refusal) → more ≡ [] → told ++ more ≡ total → told ≡ total
+no_more told more total none so_far = sym (append-nil told) ∙ sym (ap (λ (t : List Refusal). told ++ t) none) ∙ so_far
+
+-- those of one command are told
+pub one_more_told : (told here more all total new : List Refusal) → new ≡ told ++ here → all ≡ here ++ more → told ++ all ≡ total → new ++ more ≡ total
+one_more_told told here more all total new is_new is_all so_far =
+    ap (λ (t : List Refusal). t ++ more) is_new ∙ append_assoc told here more ∙ sym (ap (λ (t : List Refusal). told ++ t) is_all) ∙ so_far

@@ -2,8 +2,9 @@
 use Rattle.std.proofs.Common.{◌≡◌, ◌∙◌, ◌+◌, ◌<◌, ◌≤◌, ◌⊎◌, ℕ, List, [], ◌∷◌, ap, refl, sym, subst, inl, inr, arith, get_or, length}
 use Rattle.std.specs.Prelude.{◌==◌, suc, false, true}
 use Rattle.std.specs.Str.Lines.{lines}
-use Rattle.std.proofs.lemmas.Bool.{eq-eqb, ne_eqb}
+use Rattle.std.proofs.lemmas.Bool.{eq-eqb, le-leb, lt-leb, ne_eqb}
 use Rattle.genedit_script.specs.Script.{NumberedLine, lines_from, numbered_lines}
+use Rattle.script_check.specs.Block.{lines_behind}
 use Rattle.script_check.specs.Shown.{IsLeftOf, line_text, text_numbered}
 
 -- a line with another number is passed, one with this number is found
@@ -36,7 +37,7 @@ abbrev pub HasBegun : ℕ → ℕ → Type 0
 HasBegun number from = (from ≤ number) ⊎ ((from ≡ 1) × (number ≡ 0))
 
 module _ (rest : List ℕ) (from : ℕ) (line : NumberedLine) (next : ℕ) (behind : List ℕ) (is : lines_from from rest ≡ line ∷ lines_from next behind) where
-  counted : line.number ≡ from
+  pub counted : line.number ≡ from
   counted = first_number from (lines rest) line (lines_from next behind) is
 
   pub further : next + length (lines behind) ≡ from + length (lines rest) → next ≡ from + 1
@@ -69,3 +70,20 @@ module _ (rest : List ℕ) (from : ℕ) (line : NumberedLine) (next : ℕ) (behi
 pub none_left : (script rest : List ℕ) (from number : ℕ) → IsLeftOf script from rest → lines_from from rest ≡ [] → HasBegun number from → [] ≡ line_text script number
 none_left script rest from number left is (inl at_least) = sym (ap (text_numbered number) is) ∙ left number at_least
 none_left script rest from number left is (inr first) = no_line_0 script number first.1
+
+-- ---- the lines behind one
+
+pub behind_goes_on : (number : ℕ) (line : NumberedLine) (lines : List NumberedLine) → line.number ≤ number → lines_behind number (line ∷ lines) ≡ lines_behind number lines
+behind_goes_on number line lines at_most = rw (le-leb line.number number at_most) refl
+
+pub all_behind : (number n : ℕ) (texts : List (List ℕ)) → number < n → lines_behind number (numbered_lines n texts) ≡ numbered_lines n texts
+all_behind number n [] less = refl
+all_behind number n (text ∷ texts) less = rw (lt-leb n number less) refl
+
+-- a line further, where the next is not behind it
+pub one_passed : (number from next : ℕ) (rest behind : List ℕ) (line : NumberedLine) (first : List NumberedLine) → lines_from from rest ≡ line ∷ lines_from next behind → from ≤ number
+    → lines_behind number (lines_from from rest) ≡ lines_behind number first → lines_behind number (lines_from next behind) ≡ lines_behind number first
+one_passed number from next rest behind line first is at_most so_far =
+    sym (behind_goes_on number line (lines_from next behind) (subst (λ (k : ℕ). k ≤ number) (sym (counted rest from line next behind is)) at_most))
+    ∙ sym (ap (lines_behind number) is)
+    ∙ so_far

@@ -1,5 +1,5 @@
 -- Which commands of a script are refused when it is run.
-use Rattle.std.specs.Prelude.{◌≡◌, ℕ, List, [], ◌∷◌, ◌++◌, map, option_map, codes, Option, Some, None, Ok, if◌then◌else◌}
+use Rattle.std.specs.Prelude.{◌≡◌, ℕ, List, [], ◌∷◌, ◌++◌, map, codes, Option, Some, None, Ok, if◌then◌else◌}
 use Rattle.std.specs.Option.{option_to_list, unwrap_or}
 use Rattle.std.specs.Str.{bytes_eq}
 use Rattle.multistate_rle.specs.Bytes.{decimal_number}
@@ -8,75 +8,75 @@ use Rattle.replica_core.specs.declared.event.Reply.{Reply}
 use Rattle.replica_core.specs.declared.event.Reply.TheVariants.{Drawn, Sent, Taken, Shown, Same, Bytes, Text, Refused}
 use Rattle.replica_core.specs.Fault.{replica_fault_number}
 use Rattle.replica_core.specs.World.{opening, AreReplies}
-use Rattle.genedit_script.specs.Script.{ScriptValue, script_of}
+use Rattle.genedit_script.specs.Script.{NumberedLine, ScriptValue, lines_from, script_of}
 use Rattle.genedit_lib.specs.Output.{OutputLine, ReplyLine, OwnLine, steps, no_patterns, events_among, step_line}
 use Rattle.script_faults.specs.declared.note.Note.{Note}
+use Rattle.script_faults.specs.declared.note.Place.{Place}
 use Rattle.script_faults.specs.Faults.{command_lines, fault_lines, faulty_lines}
 use Rattle.script_faults.specs.Laws.{Begin}
 use Rattle.script_check.specs.declared.refusals.Refusal.{Refusal}
 use Rattle.script_check.specs.declared.check.Outcome.{Outcome}
 use Rattle.script_check.specs.declared.check.Outcome.TheVariants.{Clean, Told}
+use Rattle.script_check.specs.Block.{fault_place}
 use Rattle.script_check.specs.Report.{IsReportText}
-
--- a command that is refused: its line, and the number of the refusal
-pub record RefusedCommand : Type 0 where
-  pub line : ℕ
-  pub number : ℕ
 
 -- the number that the first of some words spells; 0 where it spells none of 8 bits
 abbrev pub number_first : List (List ℕ) → ℕ
 number_first [] = 0
 number_first (word ∷ words) = unwrap_or (decimal_number 255 word) 0
 
--- the refusal that a command's own line tells: `refused NUMBER NAME`
-abbrev pub refusal_in_words : List (List ℕ) → Option ℕ
-refusal_in_words [] = None
-refusal_in_words (word ∷ words) = if bytes_eq word (codes "refused") then Some (number_first words) else None
+-- the number of 64 bits that the third of some words spells, if it does
+abbrev pub number_third : List (List ℕ) → Option ℕ
+number_third (first ∷ second ∷ word ∷ words) = decimal_number 18446744073709551615 word
+number_third _ = None
 
--- the refusal that a reply tells
-abbrev pub refusal_in_reply : Reply → Option ℕ
-refusal_in_reply (Refused fault) = Some (replica_fault_number fault)
-refusal_in_reply (Drawn stamp) = None
-refusal_in_reply (Sent message) = None
-refusal_in_reply Taken = None
-refusal_in_reply (Shown write) = None
-refusal_in_reply (Same same) = None
-refusal_in_reply (Bytes text) = None
-refusal_in_reply (Text text) = None
+-- the refusal of the command at a place that its own line tells: `refused NUMBER NAME`, and a byte of its block where it
+-- is of that byte
+abbrev pub own_refusal : List NumberedLine → Place → List (List ℕ) → Option Refusal
+own_refusal lines place [] = None
+own_refusal lines place (word ∷ words) =
+    if bytes_eq word (codes "refused") then
+    Some (record { command = place.line; place = fault_place lines place (number_first words) (number_third words); number = number_first words })
+    else None
 
--- the command at this line, where it is refused
-abbrev pub refused_at : ℕ → Option ℕ → Option RefusedCommand
-refused_at line told = option_map (λ number. record { line = line; number = number }) told
+-- the refusal of the command at a place that a reply tells
+abbrev pub refusal_in_reply : Place → Reply → Option Refusal
+refusal_in_reply place (Refused fault) = Some (record { command = place.line; place = place; number = replica_fault_number fault })
+refusal_in_reply place (Drawn stamp) = None
+refusal_in_reply place (Sent message) = None
+refusal_in_reply place Taken = None
+refusal_in_reply place (Shown write) = None
+refusal_in_reply place (Same same) = None
+refusal_in_reply place (Bytes text) = None
+refusal_in_reply place (Text text) = None
 
--- the refused ones of the commands at these lines, by what is printed at each and the replies in order
-abbrev pub refused_commands : List ℕ → List OutputLine → List Reply → List RefusedCommand
-refused_commands [] printed replies = []
-refused_commands (line ∷ lines) [] replies = []
-refused_commands (line ∷ lines) (OwnLine text ∷ printed) replies =
-    option_to_list (refused_at line (refusal_in_words (words text))) ++ refused_commands lines printed replies
-refused_commands (line ∷ lines) (ReplyLine ∷ printed) [] = []
-refused_commands (line ∷ lines) (ReplyLine ∷ printed) (reply ∷ replies) =
-    option_to_list (refused_at line (refusal_in_reply reply)) ++ refused_commands lines printed replies
+-- the refusals of the commands at these places of a script's lines, by what is printed at each and the replies in order
+abbrev pub refusals_among : List NumberedLine → List Place → List OutputLine → List Reply → List Refusal
+refusals_among lines [] printed replies = []
+refusals_among lines (place ∷ places) [] replies = []
+refusals_among lines (place ∷ places) (OwnLine text ∷ printed) replies =
+    option_to_list (own_refusal lines place (words text)) ++ refusals_among lines places printed replies
+refusals_among lines (place ∷ places) (ReplyLine ∷ printed) [] = []
+refusals_among lines (place ∷ places) (ReplyLine ∷ printed) (reply ∷ replies) =
+    option_to_list (refusal_in_reply place reply) ++ refusals_among lines places printed replies
 
--- a refusal that is told, without its place
-abbrev pub command_of : Refusal → RefusedCommand
-command_of refusal = record { line = refusal.command; number = refusal.number }
-
--- these are the refused ones of a script's commands, which stand at these lines: those at which its run prints a refusal
-pub record AreRefusedOf (script : ScriptValue) (commands : List ℕ) (refused : List RefusedCommand) : Type 0 where
+-- these are the refusals that the run of a script prints, of its lines and with its commands at these places
+pub record AreRefusedOf (script : ScriptValue) (lines : List NumberedLine) (places : List Place) (refusals : List Refusal) : Type 0 where
   pub replies : List Reply
   pub answered : AreReplies (opening script.rule script.replicas) (events_among (steps no_patterns script.commands)) replies
-  pub are : refused ≡ refused_commands commands (map step_line (steps no_patterns script.commands)) replies
+  pub are : refusals ≡ refusals_among lines places (map step_line (steps no_patterns script.commands)) replies
 
--- the text is a script, and these are its commands at which its run prints a refusal
-pub record IsRefusedRun (text : List ℕ) (refused : List RefusedCommand) : Type 0 where
+-- the text is a script, and these are the refusals that its run prints, each told in its command's line or its block
+pub record IsRefusedRun (text : List ℕ) (refusals : List Refusal) : Type 0 where
   pub script : ScriptValue
   pub read : script_of text ≡ Ok script
-  pub of_script : AreRefusedOf script (command_lines text) refused
+  pub places : List Place
+  pub at : map (λ (place : Place). place.line) places ≡ command_lines text
+  pub of_script : AreRefusedOf script (lines_from 1 text) places refusals
 
 -- what is told of the refusals of a text with these faulty lines: none where there is one
 abbrev pub AreRefused : List ℕ → List ℕ → List Refusal → Type 0
-AreRefused text [] refusals = IsRefusedRun text (map command_of refusals)
+AreRefused text [] refusals = IsRefusedRun text refusals
 AreRefused text (line ∷ lines) refusals = refusals ≡ []
 
 -- what comes of faulty lines and refusals

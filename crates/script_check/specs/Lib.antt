@@ -1,3 +1,4 @@
+pub mod Block
 pub mod Shown
 pub mod Report
 pub mod Check

@@ -2,7 +2,10 @@
 use Rattle.std.specs.Prelude.{◌≡◌, ◌++◌, [], ◌∷◌, Some, None, codes, refl, replicate}
 use Rattle.std.specs.Fmt.{digits}
 use Rattle.multistate_rle.specs.Position.{words}
-use Rattle.script_check.specs.Check.{refusal_in_words}
+use Rattle.genedit_script.specs.Script.{lines_from}
+use Rattle.script_faults.specs.declared.note.Place.{Place}
+use Rattle.script_check.specs.Block.{fault_place}
+use Rattle.script_check.specs.Check.{own_refusal}
 use Rattle.script_check.specs.Report.{count_text, entry_text, will_be_refused}
 use Rattle.script_check.specs.Shown.{carets, line_text, shown_line}
 
@@ -38,13 +41,40 @@ refusals : count_text 0 2 ≡ codes "2 refusals\n"
 unfolding digits
 refusals = refl
 
--- a command's own line, and the number that it tells
-own : refusal_in_words (words (codes "refused 38 NoPattern")) ≡ Some 38
-own = refl
-
-no_refusal : refusal_in_words (words (codes "pattern gun 36 cells")) ≡ None
-no_refusal = refl
-
 said : will_be_refused 10 ≡ codes "will be refused 10 OutOfPlane: "
 unfolding digits
 said = refl
+
+-- ---- where refusals are told
+
+-- byte 5 of a pattern's text, which begins behind line 3
+command : Place
+command = record { line = 3; column = 1; width = 9 }
+
+byte_5 : fault_place (lines_from 1 (codes "rule B3/S23\nreplicas 1\npattern a\n#C\nx = 1\nend\n")) command 5 (Some 5)
+    ≡ record { line = 5; column = 3; width = 1 }
+unfolding command
+byte_5 = refl
+
+no_header : fault_place (lines_from 1 (codes "rule B3/S23\nreplicas 1\npattern a\n#C\n\t\nbo!\nend\n")) command 4 None
+    ≡ record { line = 6; column = 1; width = 3 }
+unfolding command
+no_header = refl
+
+empty_block : fault_place (lines_from 1 (codes "rule B3/S23\nreplicas 1\npattern a\n#C\nend\n")) command 4 None ≡ command
+unfolding command
+empty_block = refl
+
+-- a command's own line, and what it tells
+own : own_refusal [] command (words (codes "refused 38 NoPattern")) ≡ Some (record { command = 3; place = command; number = 38 })
+unfolding command
+own = refl
+
+own_byte : own_refusal (lines_from 3 (codes "pattern a\nbo\n")) command (words (codes "refused 5 Tag 1"))
+    ≡ Some (record { command = 3; place = record { line = 4; column = 2; width = 1 }; number = 5 })
+unfolding command
+own_byte = refl
+
+no_refusal : own_refusal [] command (words (codes "pattern gun 36 cells")) ≡ None
+unfolding command
+no_refusal = refl

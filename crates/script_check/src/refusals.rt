@@ -1,14 +1,16 @@
 //! What would be refused when a script is run.
 
-ghost use Rattle.std.specs.Prelude.{◌≡◌, ◌⊎◌, ◌∷◌, ◌++◌, [], ℕ, List, IfOk, IfErr, OnOk, MatchOption, map, option_map};
+ghost use Rattle.std.specs.Prelude.{◌≡◌, ◌⊎◌, ◌∷◌, ◌++◌, [], ℕ, List, IfOk, IfErr, OnOk, MatchOption, map};
 ghost use Rattle.std.specs.Option.{option_to_list};
 ghost use Rattle.genedit_lib.specs.Output.{OutputLine};
+ghost use Rattle.genedit_script.specs.Script.{lines_from};
+ghost use Rattle.script_faults.specs.declared.note.Place.{Place};
 ghost use Rattle.multistate_rle.specs.Position.{words};
 ghost use Rattle.genedit_io.specs.RunFault.{IsWant};
 ghost use Rattle.genedit_lib.specs.Plan.{line_of};
 ghost use Rattle.genedit_lib.specs.Run.{IsUnprinted, run_fault_of, run_fault_of_stop, script_events, script_opening};
 ghost use Rattle.replica_core.specs.World.{IsStopOf};
-ghost use Rattle.script_check.specs.Check.{AreRefusedOf, IsRefusedRun, command_of, number_first, refusal_in_reply, refusal_in_words, refused_at, refused_commands};
+ghost use Rattle.script_check.specs.Check.{AreRefusedOf, IsRefusedRun, number_first, number_third, own_refusal, refusal_in_reply, refusals_among};
 
 use crate::block::fault_place;
 use genedit_io::RunFault;
@@ -38,7 +40,7 @@ pub struct Refusal {
 /// `RunFault::Script` comes only where the text is no script, `RunFault::StoreFull` where its run would
 /// end with it.
 pub fn refusals_in(alloc: Global, text: &[u8]) -> Result<Vec<Refusal>, RunFault>
-    ensures refused { IfOk result (λ refusals. IsRefusedRun text.now (map command_of refusals.items)) }
+    ensures refused { IfOk result (λ refusals. IsRefusedRun text.now refusals.items) }
     ensures fault { IfErr result (λ fault. IsUnprinted text.now fault ⊎ IsWant fault) }
 {
     let places = command_places(alloc, text)?;
@@ -54,7 +56,7 @@ fn script_refusals(
     places: &[Place],
     script: Script,
 ) -> Result<Vec<Refusal>, Stop>
-    ensures refused { IfOk result (λ refusals. AreRefusedOf script (map (λ place. place.line) places.now) (map command_of refusals.items)) }
+    ensures refused { IfOk result (λ refusals. AreRefusedOf script (lines_from lines.entry.number lines.entry.rest.now) places.now refusals.items) }
     ensures stopped { IfErr result (IsStopOf (script_opening script) (script_events script)) }
 {
     let (rule, replicas) = (script.rule(), script.replicas());
@@ -72,8 +74,8 @@ fn refused<'a>(
     mut lines: &'a [PlannedLine],
     mut replies: &'a [Reply],
 ) -> Result<Vec<Refusal>, AllocError>
-    ensures { IfOk result (λ refusals. map command_of refusals.items
-        ≡ refused_commands (map (λ place. place.line) places.entry.now) (map line_of lines.entry.now) replies.entry.now) }
+    ensures { IfOk result (λ refusals. refusals.items
+        ≡ refusals_among (lines_from script.entry.number script.entry.rest.now) places.entry.now (map line_of lines.entry.now) replies.entry.now) }
 {
     let mut refusals = Vec::new(alloc);
     while let Some((place, more_places)) = places.split_first() {
@@ -99,10 +101,10 @@ fn refusal_at<'a>(
     line: &PlannedLine,
     replies: &'a [Reply],
 ) -> Option<(Option<Refusal>, &'a [Reply])>
-    ensures { (places : List ℕ) → (lines : List OutputLine) → MatchOption result
-        (refused_commands (place.line ∷ places) (line_of line.now ∷ lines) replies.now ≡ [])
-        (λ found. refused_commands (place.line ∷ places) (line_of line.now ∷ lines) replies.now
-        ≡ option_to_list (option_map command_of found.0) ++ refused_commands places lines found.1.now) }
+    ensures { (places : List Place) → (lines : List OutputLine) → MatchOption result
+        (refusals_among (lines_from script.entry.number script.entry.rest.now) (place ∷ places) (line_of line.now ∷ lines) replies.now ≡ [])
+        (λ found. refusals_among (lines_from script.entry.number script.entry.rest.now) (place ∷ places) (line_of line.now ∷ lines) replies.now
+        ≡ option_to_list found.0 ++ refusals_among (lines_from script.entry.number script.entry.rest.now) places lines found.1.now) }
 {
     match line {
         PlannedLine::Own(text) => Some((text_refusal(script, place, text.as_slice()), replies)),
@@ -125,7 +127,7 @@ fn push_told(refusals: &mut Vec<Refusal>, refusal: Option<Refusal>) -> Result<()
 /// The refusal that a line of a command's own is: `refused NUMBER NAME`, with the place in its block
 /// where there is one.
 fn text_refusal(script: Lines<'_>, place: Place, text: &[u8]) -> Option<Refusal>
-    ensures { option_map command_of result ≡ refused_at place.line (refusal_in_words (words text.now)) }
+    ensures { result ≡ own_refusal (lines_from script.entry.number script.entry.rest.now) place (words text.now) }
 {
     let (first, rest) = split_word(text)?;
     if first != b"refused".as_slice() {
@@ -150,7 +152,9 @@ fn first_number(text: &[u8]) -> u8
 }
 
 /// The place of a refusal, where there is one: it stands behind the number and the name.
-fn third_number(text: &[u8]) -> Option<u64> {
+fn third_number(text: &[u8]) -> Option<u64>
+    ensures { result ≡ number_third (words text.now) }
+{
     let (_number, rest) = split_word(text)?;
     let (_name, rest) = split_word(rest)?;
     let (place, _) = split_word(rest)?;
@@ -158,7 +162,7 @@ fn third_number(text: &[u8]) -> Option<u64> {
 }
 
 fn reply_refusal(place: Place, reply: &Reply) -> Option<Refusal>
-    ensures { option_map command_of result ≡ refused_at place.line (refusal_in_reply reply.now) }
+    ensures { result ≡ refusal_in_reply place reply.now }
 {
     match reply {
         Reply::Refused(fault) => Some(Refusal {

@@ -1,8 +1,8 @@
-use Rattle.std.proofs.Common.{◌≡◌, ◌∙◌, ap, sym, subst, false, ℕ, List, map, rules}
+use Rattle.std.proofs.Common.{◌≡◌, ◌∙◌, ap, sym, subst, false, ℕ, List, rules}
 use Rattle.std.specs.Prelude.{Err}
 use Rattle.std.specs.List.{list_any}
 use Rattle.script_faults.specs.Faults.{is_fault}
-use Rattle.script_check.specs.Check.{AreRefused, IsRefusedRun, command_of}
+use Rattle.script_check.specs.Check.{AreRefused, IsRefusedRun}
 use Rattle.script_check.specs.declared.refusals.Refusal.{Refusal}
 use Rattle.script_check.proofs.CheckLemmas.{not_faulty, told_with_faults, told_without}
 use Rattle.script_check.proofs.check.checked.Goals as goal
@@ -21,5 +21,5 @@ returns-clause-refusals c =
     (elim c.if-has_fault.branch [
       | then-has_fault w ↦ told_with_faults c.args.script.now c.in_ok-notes.notes.notes.items c.if-has_fault.refusals.items (asked ∙ w.if-has_fault.true) (ap (λ v. v.items) w.refusals-is ∙ w.new-refusals.ensures.items)
       | else-has_fault+in_ok-refusals w ↦ told_without c.args.script.now c.in_ok-notes.notes.notes.items c.if-has_fault.refusals.items (asked ∙ w.if-has_fault.false)
-          (subst (λ (r : List Refusal). IsRefusedRun c.args.script.now (map command_of r)) (sym (ap (λ v. v.items) w.refusals-is)) w.in_ok-refusals.ensures.refused)
+          (subst (λ (r : List Refusal). IsRefusedRun c.args.script.now r) (sym (ap (λ v. v.items) w.refusals-is)) w.in_ok-refusals.ensures.refused)
     ])
