@@ -34,10 +34,10 @@ header_among (line ∷ lines) =
     else Some (record { line = line.number; column = 1; width = max (length line.text) 1 })
 
 -- the place in a block of a refusal with this number and, where it tells one, at this byte
-abbrev pub place_in_block : ℕ → Option ℕ → List NumberedLine → Option Place
-place_in_block number (Some at) block = byte_among at block
-place_in_block number None block = if number == text_fault_number texts.Header then header_among block else None
+abbrev pub told_in_block : ℕ → Option ℕ → List NumberedLine → Option Place
+told_in_block number (Some at) block = byte_among at block
+told_in_block number None block = if number == text_fault_number texts.Header then header_among block else None
 
 -- a command's own refusal is told in its block, or else at the command
 abbrev pub fault_place : List NumberedLine → Place → ℕ → Option ℕ → Place
-fault_place lines command number at = unwrap_or (place_in_block number at (lines_behind command.line lines)) command
+fault_place lines command number at = unwrap_or (told_in_block number at (lines_behind command.line lines)) command
