@@ -39,7 +39,7 @@ module _ {A E : Type 0} (rule : GenerationsRule) (sessions : ℕ) (from between 
   listens = (port, made from between done line (listening_line port) is_line listened)
 
   -- and nothing behind it
-  pub unserved : (relay : Relaying) (seats : List Seating) (cause : ServerFault) (fault : RunFault) → IsFreshRelay relay → AreFreshSeats rule sessions seats
+  pub unserved : (relay : Relaying) (seats : List Seating) (cause : ServerFault) (fault : RunFault) → IsFreshRelay sessions relay → AreFreshSeats rule sessions seats
       → IsReason 1000 relay seats cause → fault ≡ run_fault_of_server cause → IsGivenUp rule sessions from between fault
   unserved relay seats cause fault board fresh reason told = subst (λ (f : RunFault). IsGivenUp rule sessions from between f) (sym told) (by_cause cause reason)
     where

@@ -42,9 +42,12 @@ pub record IsServedBoard (r : GenerationsRule) (sessions : ℕ) (from to : Known
   pub listens : Listens from between
   pub closes : Pushes between to (closing_text finished)
 
--- a relay that has published nothing, and has room for 2^26 squares
-pub record IsFreshRelay (relay : Relaying) : Type 0 where
-  pub empty : relay.list ≡ []
+-- a relay of so many seats that has taken, kept and published nothing, with room for 2^26 squares
+pub record IsFreshRelay (sessions : ℕ) (relay : Relaying) : Type 0 where
+  pub published : relay.list ≡ []
+  pub taken : relay.out ≡ []
+  pub kept : relay.kept ≡ []
+  pub seats : relay.made ≡ sessions
   pub closed : relay.closed ≡ false
   pub squares : relay.room ≡ 2 ^ 26
 
@@ -53,7 +56,7 @@ pub record IsFreshRelay (relay : Relaying) : Type 0 where
 pub record IsUnserved (r : GenerationsRule) (sessions : ℕ) (from to : KnownSink) (fault : RunFault) : Type 0 where
   pub listens : Listens from to
   pub relay : Relaying
-  pub board : IsFreshRelay relay
+  pub board : IsFreshRelay sessions relay
   pub seats : List Seating
   pub fresh : AreFreshSeats r sessions seats
   pub cause : ServerFault

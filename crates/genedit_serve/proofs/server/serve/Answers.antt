@@ -13,7 +13,14 @@ pub returns-in-Err-serve_seats : goal.returns-in-Err-serve_seats
 returns-in-Err-serve_seats g c =
     unserved c.args.opened.rule c.args.opened.count _ _ c.args.port c.deref.result.now c.in_ok-push_output.field-0 (c.deref.ensures.value ∙ c.in_ok-line.ensures) c.in_ok-push_output.ensures.pushed
     _ c.in-Ok.named.1.items c.in-Err-serve_seats.fault c.server_fault.result
-    (record { empty = c.in-Ok.ensures.relay.0; closed = c.in-Ok.ensures.relay.4; squares = c.in-Ok.ensures.relay.6 ∙ c.requires.squares })
+    (record {
+      published = c.in-Ok.ensures.relay.0;
+      taken = c.in-Ok.ensures.relay.1;
+      kept = c.in-Ok.ensures.relay.2;
+      seats = c.in-Ok.ensures.relay.3;
+      closed = c.in-Ok.ensures.relay.4;
+      squares = c.in-Ok.ensures.relay.6 ∙ c.requires.squares;
+    })
     (subst (λ (room : ℕ). AllFresh c.args.opened.rule room 0 c.in-Ok.named.1.items) c.requires.room c.in-Ok.ensures.seats.0, c.in-Ok.ensures.seats.1)
     c.in-Err-serve_seats.ensures.reason c.server_fault.ensures
 
