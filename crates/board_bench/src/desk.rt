@@ -9,7 +9,7 @@ use board::{BoardReader, Entry, Publisher};
 use core::mem::replace_with;
 use edit_stamps::{Cell, Edit, Stamp};
 use generations_rule::Rule;
-use multistate_rle::are_below;
+use pattern_cells::are_below;
 use std::alloc::Global;
 use std::sync::Wait;
 

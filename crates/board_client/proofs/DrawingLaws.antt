@@ -4,7 +4,7 @@ use Rattle.std.specs.Prelude.{not, nat_lt, length, ◌==◌}
 use Rattle.std.specs.Result.{IsOk}
 use Rattle.generations_rule.specs.Refusal.{◌>>=◌, first_of, unless, when}
 use Rattle.generations_rule.specs.Rule.{GenerationsRule}
-use Rattle.multistate_rle.specs.Cells.{are_states_below}
+use Rattle.pattern_cells.specs.Cells.{are_states_below}
 use Rattle.edit_stamps.specs.declared.fault.EditFault.{EditFault}
 use Rattle.edit_stamps.specs.declared.fault.EditFault.TheVariants as edits
 use Rattle.edit_stamps.specs.Edit.{PlaneEdit, most_cells}

@@ -4,8 +4,8 @@ use Rattle.std.specs.Prelude.{Contains, Option, None, Some, unwrap_or}
 use Rattle.std.proofs.lemmas.Bool.{and_parts, cases_Bool}
 use Rattle.std.proofs.lemmas.Bool.Decides.{nat_tests}
 use Rattle.generations_rule.specs.Place.{Place, is_before, is_place}
-use Rattle.multistate_rle.specs.declared.cell.Cell.{Cell}
-use Rattle.multistate_rle.specs.Cells.{place_of, is_sorted}
+use Rattle.pattern_cells.specs.declared.cell.Cell.{Cell}
+use Rattle.pattern_cells.specs.Cells.{place_of, is_sorted}
 use Rattle.stamped_writes.specs.declared.write.Write.{Write}
 use Rattle.stamped_writes.specs.Write.{Writes, at_most, greater, unwritten}
 use Rattle.edit_stamps.specs.Edit.{PlaneEdit, greatest, is_covered, listed, writes_of}

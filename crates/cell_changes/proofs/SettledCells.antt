@@ -1,8 +1,8 @@
 -- What is left of cells that are settled.
 use Rattle.std.proofs.Common.{◌≡◌, ◌⊎◌, List, [], ◌∷◌, inl, inr, sym, ap, subst, ◌∙◌}
 use Rattle.std.specs.Prelude.{Contains}
-use Rattle.multistate_rle.specs.declared.cell.Cell.{Cell}
-use Rattle.multistate_rle.specs.Cells.{place_of}
+use Rattle.pattern_cells.specs.declared.cell.Cell.{Cell}
+use Rattle.pattern_cells.specs.Cells.{place_of}
 use Rattle.stamped_writes.specs.Write.{Writes}
 use Rattle.edit_stamps.specs.Making.{add, settled}
 use Rattle.edit_stamps.proofs.PlaceOrder.{Before, Same, Behind, compared, one_place}

@@ -3,8 +3,8 @@ use Rattle.std.proofs.Common.{◌≡◌, ◌≢◌, ℕ, Bool, true, ◌+◌, �
 use Rattle.std.specs.Prelude.{Contains, IsTrue, false}
 use Rattle.std.proofs.lemmas.Bool.{cases_lt}
 use Rattle.generations_rule.specs.Place.{Place}
-use Rattle.multistate_rle.specs.declared.cell.Cell.{Cell}
-use Rattle.multistate_rle.specs.Cells.{place_of}
+use Rattle.pattern_cells.specs.declared.cell.Cell.{Cell}
+use Rattle.pattern_cells.specs.Cells.{place_of}
 use Rattle.stamped_writes.specs.declared.write.Write.{Write}
 use Rattle.stamped_writes.specs.Write.{Writes, unwritten}
 use Rattle.edit_stamps.specs.declared.rect.Rect.{Rect}

@@ -1,8 +1,8 @@
 -- Which cells of a map look different in another.
 use Rattle.std.specs.Prelude.{◌≡◌, ◌≢◌, ◌↔◌, List, Contains, IsTrue}
 use Rattle.generations_rule.specs.Place.{Place}
-use Rattle.multistate_rle.specs.declared.cell.Cell.{Cell}
-use Rattle.multistate_rle.specs.Cells.{place_of, is_sorted}
+use Rattle.pattern_cells.specs.declared.cell.Cell.{Cell}
+use Rattle.pattern_cells.specs.Cells.{place_of, is_sorted}
 use Rattle.stamped_writes.specs.Write.{Writes, AreSame, joined}
 
 -- a place, and its state in a map

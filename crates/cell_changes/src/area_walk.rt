@@ -1,7 +1,7 @@
 //! The cells of an area whose state is not 0.
 
 ghost use Rattle.std.specs.Prelude.{◌≡◌, ◌≢◌, ◌<◌, ◌≤◌, ◌+◌, IsTrue, OnOk};
-ghost use Rattle.multistate_rle.specs.Cells.{place_of};
+ghost use Rattle.pattern_cells.specs.Cells.{place_of};
 ghost use Rattle.stamped_writes.specs.Write.{Writes};
 ghost use Rattle.square_store.specs.Squares.{IsAt, side_at};
 ghost use Rattle.stamped_tree.specs.Plane.{grid_of_leaf, map_of};
@@ -11,7 +11,7 @@ ghost use Rattle.cell_changes.specs.Put.{IsNonzeroIn, IsPartOfMap, IsSoughtOn, I
 use crate::areas::{areas_on_square, coordinate_of, is_in_some};
 use edit_stamps::Rect;
 use leaf_merge_lanes::Leaf;
-use multistate_rle::Cell;
+use pattern_cells::Cell;
 use stamped_tree::{Corner, Plane, Square, View};
 use std::alloc::{AllocError, Global};
 

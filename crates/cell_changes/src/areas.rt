@@ -1,12 +1,12 @@
 //! Areas, and squares that they meet or cover.
 
 ghost use Rattle.std.specs.Prelude.{◌≡◌, ◌<◌, ◌≤◌, ◌+◌, ◌+ℤ◌, pos, filter, filter_map, find, [], ◌∷◌, IfOk};
-ghost use Rattle.multistate_rle.specs.Cells.{place_of};
+ghost use Rattle.pattern_cells.specs.Cells.{place_of};
 ghost use Rattle.edit_stamps.specs.Plane.{least};
 ghost use Rattle.cell_changes.specs.Areas.{HaveOfSquare, covers, covers_side, is_in_some, meets, meets_side};
 
 use edit_stamps::{Edit, Rect};
-use multistate_rle::Cell;
+use pattern_cells::Cell;
 use std::alloc::{AllocError, Global};
 
 /// The least coordinate of the plane.

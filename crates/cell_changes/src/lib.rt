@@ -8,8 +8,5 @@ mod settling;
 mod states;
 mod watched;
 
-pub use multistate_rle::Cell;
+pub use pattern_cells::Cell;
 pub use watched::Watched;
-
-#[cfg(test)]
-mod tests;

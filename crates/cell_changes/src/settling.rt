@@ -3,7 +3,7 @@
 ghost use Rattle.std.specs.Prelude.{◌≡◌, IfOk};
 ghost use Rattle.edit_stamps.specs.Making.{settled};
 
-use multistate_rle::Cell;
+use pattern_cells::Cell;
 use std::alloc::AllocError;
 
 /// The cells by `y`, then `x`, each coordinate once: of those of one coordinate the last.

@@ -4,7 +4,7 @@ ghost use Rattle.std.specs.Prelude.{◌≡◌, OnOk};
 ghost use Rattle.stamped_tree.specs.Plane.{map_of};
 ghost use Rattle.cell_changes.specs.Put.{IsPlaceOf, Puts, now_in};
 
-use multistate_rle::Cell;
+use pattern_cells::Cell;
 use stamped_tree::Plane;
 use std::alloc::AllocError;
 

@@ -9,7 +9,7 @@ use crate::areas::areas_of;
 use crate::settling::settled_cells;
 use crate::states::{now_in, push_places};
 use edit_stamps::Edit;
-use multistate_rle::Cell;
+use pattern_cells::Cell;
 use stamped_tree::Plane;
 use std::alloc::{AllocError, Global};
 use std::marker::Model;
@@ -22,7 +22,7 @@ pub struct Watched {
 
 impl Model for Watched {
     ghost use Rattle.std.specs.Prelude.{List};
-    ghost use Rattle.multistate_rle.specs.declared.cell.Cell.{Cell};
+    ghost use Rattle.pattern_cells.specs.declared.cell.Cell.{Cell};
 
     ghost Value = { List Cell };
 

@@ -1,7 +1,7 @@
 -- The text of two rows is that of the cells from the first of them on.
 use Rattle.std.proofs.Common.{◌≡◌, ℕ, ◌+◌, ◌*◌, List, ◌∷◌, ◌++◌, arith}
 use Rattle.std.specs.Prelude.{codes, Some, None, nat_lt, if◌then◌else◌}
-use Rattle.multistate_rle.specs.declared.cell.Cell.{Cell}
+use Rattle.pattern_cells.specs.declared.cell.Cell.{Cell}
 use Rattle.cell_pictures.specs.Colour.{colour_of}
 use Rattle.cell_pictures.specs.Blocks.{block_row, block_text}
 use Rattle.cell_pictures.specs.Shown.{TellsFrom, state_at, texts_below}

@@ -11,8 +11,8 @@ use Rattle.std.proofs.lemmas.Int.{ints}
 use Rattle.std.proofs.lemmas.List.{append_cancel_left}
 use Rattle.std.proofs.lemmas.List.Folds.{find-append}
 use Rattle.generations_rule.specs.Place.{Place, is_place}
-use Rattle.multistate_rle.specs.declared.cell.Cell.{Cell}
-use Rattle.multistate_rle.specs.Cells.{are_nonzero, are_states_below, is_sorted, place_of}
+use Rattle.pattern_cells.specs.declared.cell.Cell.{Cell}
+use Rattle.pattern_cells.specs.Cells.{are_nonzero, are_states_below, is_sorted, place_of}
 use Rattle.edit_stamps.specs.Edit.{listed}
 use Rattle.edit_stamps.specs.Plane.{is_coordinate}
 use Rattle.edit_stamps.proofs.PlaceOrder.{one_place}

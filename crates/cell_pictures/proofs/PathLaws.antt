@@ -4,8 +4,8 @@ use Rattle.std.specs.Prelude.{Option, Some, None, Result, if◌then◌else◌}
 use Rattle.std.proofs.lemmas.Bool.{cases_Bool}
 use Rattle.devices.specs.Sink.{KnownSink}
 use Rattle.generations_rule.specs.Place.{Place}
-use Rattle.multistate_rle.specs.declared.cell.Cell.{Cell}
-use Rattle.multistate_rle.specs.Cells.{place_of}
+use Rattle.pattern_cells.specs.declared.cell.Cell.{Cell}
+use Rattle.pattern_cells.specs.Cells.{place_of}
 use Rattle.cell_pictures.specs.Drawn.{IsAdded, IsDrawn}
 use Rattle.cell_pictures.specs.Paths.{IsPathBegun, TakesPlace, extended, path_closed, path_left}
 use Rattle.cell_pictures.specs.Runs.{RunValue, cells_of_state, is_behind, is_seen, longer, run_at, runs_behind, runs_in}

@@ -3,8 +3,8 @@ use Rattle.std.proofs.Common.{◌≡◌, inl, inr, true, false, List, [], ◌∷
 use Rattle.std.specs.Prelude.{None, unwrap_or}
 use Rattle.std.proofs.lemmas.Bool.{and_parts, cases_Bool, false≢true}
 use Rattle.generations_rule.specs.Place.{Place, is_before, is_place}
-use Rattle.multistate_rle.specs.declared.cell.Cell.{Cell}
-use Rattle.multistate_rle.specs.Cells.{place_of, is_sorted}
+use Rattle.pattern_cells.specs.declared.cell.Cell.{Cell}
+use Rattle.pattern_cells.specs.Cells.{place_of, is_sorted}
 use Rattle.edit_stamps.specs.Edit.{listed}
 use Rattle.edit_stamps.proofs.PlaceOrder.{Before, Same, Behind, compared, before_is_other, before_trans, one_place, not_before_itself}
 use Rattle.edit_stamps.proofs.SortedCells.{sorted_tail, listed_there}

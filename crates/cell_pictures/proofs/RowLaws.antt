@@ -3,7 +3,7 @@ use Rattle.std.proofs.Common.{◌≡◌, ℕ, ◌+◌, ◌<◌, false, List, sym
 use Rattle.std.specs.Prelude.{Result, Ok, Err, OnOk}
 use Rattle.std.proofs.lemmas.Int.{ints}
 use Rattle.generations_rule.specs.Place.{Place, is_before}
-use Rattle.multistate_rle.specs.declared.cell.Cell.{Cell}
+use Rattle.pattern_cells.specs.declared.cell.Cell.{Cell}
 use Rattle.edit_stamps.proofs.PlaceOrder.{not_before_itself}
 use Rattle.cell_pictures.specs.Shown.{TellsFrom, state_at}
 use Rattle.cell_pictures.specs.Window.{WindowValue, place_in}

@@ -3,7 +3,7 @@ use Rattle.std.proofs.Common.{◌≡◌, inl, inr, ℕ, zero, suc, ◌+◌, ◌�
 use Rattle.std.proofs.lemmas.Bool.{cases_Bool}
 use Rattle.std.proofs.lemmas.Int.{ints}
 use Rattle.generations_rule.specs.Place.{Place, at_place}
-use Rattle.multistate_rle.specs.Cells.{place_of}
+use Rattle.pattern_cells.specs.Cells.{place_of}
 use Rattle.cell_pictures.specs.Laws.{HasOneRunList, HasRuns}
 use Rattle.cell_pictures.specs.Runs.{AreMaximal, RunValue, is_behind, longer, places_from, places_of, run_at, runs_behind, runs_in}
 

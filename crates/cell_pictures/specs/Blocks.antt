@@ -1,6 +1,6 @@
 -- Cells as half blocks in a terminal: a character shows a cell in its upper half and the one below it in its lower half.
 use Rattle.std.specs.Prelude.{ℕ, List, [], ◌∷◌, ◌++◌, ◌+◌, ◌*◌, ◌/◌, nat_lt, if◌then◌else◌, codes, decimal, Option, Some, None}
-use Rattle.multistate_rle.specs.declared.cell.Cell.{Cell}
+use Rattle.pattern_cells.specs.declared.cell.Cell.{Cell}
 use Rattle.cell_pictures.specs.declared.colour.Colour.{Colour}
 use Rattle.cell_pictures.specs.Colour.{colour_of}
 use Rattle.cell_pictures.specs.Shown.{state_at, texts_below}

@@ -1,8 +1,8 @@
 -- What the definitions obey.
 use Rattle.std.specs.Prelude.{◌≡◌, ℕ, ◌<◌, ◌≤◌, ◌^◌, true, List, length}
 use Rattle.generations_rule.specs.Place.{Place}
-use Rattle.multistate_rle.specs.declared.cell.Cell.{Cell}
-use Rattle.multistate_rle.specs.Cells.{are_nonzero, are_states_below, is_sorted}
+use Rattle.pattern_cells.specs.declared.cell.Cell.{Cell}
+use Rattle.pattern_cells.specs.Cells.{are_nonzero, are_states_below, is_sorted}
 use Rattle.edit_stamps.specs.Plane.{is_coordinate}
 use Rattle.cell_pictures.specs.Runs.{AreRunsOf, RunValue, runs_of}
 use Rattle.cell_pictures.specs.Shown.{state_at}

@@ -1,6 +1,6 @@
 -- A picture in one of the forms: of a window, or of all cells.
 use Rattle.std.specs.Prelude.{ℕ, List, [], ◌++◌, if◌then◌else◌, codes, decimal, Option, Some, None}
-use Rattle.multistate_rle.specs.declared.cell.Cell.{Cell}
+use Rattle.pattern_cells.specs.declared.cell.Cell.{Cell}
 use Rattle.cell_pictures.specs.declared.picture.Form.{Form}
 use Rattle.cell_pictures.specs.declared.picture.Form.TheVariants.{Plain, HalfBlocks, Svg}
 use Rattle.cell_pictures.specs.Blocks.{half_blocks}

@@ -1,6 +1,6 @@
 -- Cells as plain text.
 use Rattle.std.specs.Prelude.{ℕ, List, [], ◌∷◌, ◌++◌, ◌==◌, if◌then◌else◌, codes, slice_index_or}
-use Rattle.multistate_rle.specs.declared.cell.Cell.{Cell}
+use Rattle.pattern_cells.specs.declared.cell.Cell.{Cell}
 use Rattle.cell_pictures.specs.Shown.{state_at, texts_below}
 use Rattle.cell_pictures.specs.Window.{WindowValue, place_in}
 

@@ -2,8 +2,8 @@
 use Rattle.std.specs.Prelude.{ℕ, List, [], ◌∷◌, drop, if◌then◌else◌}
 use Rattle.std.specs.List.{prefix_len}
 use Rattle.generations_rule.specs.Place.{Place, is_before, is_place}
-use Rattle.multistate_rle.specs.declared.cell.Cell.{Cell}
-use Rattle.multistate_rle.specs.Cells.{place_of}
+use Rattle.pattern_cells.specs.declared.cell.Cell.{Cell}
+use Rattle.pattern_cells.specs.Cells.{place_of}
 
 -- how many cells in front stand before a place
 abbrev pub passed : Place → List Cell → ℕ

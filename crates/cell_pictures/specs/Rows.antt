@@ -1,7 +1,7 @@
 -- Worked values of the definitions.
 use Rattle.std.specs.Prelude.{◌≡◌, ℕ, ℤ, pos, negsuc, List, [], ◌∷◌, ◌++◌, Some, None, codes, refl}
 use Rattle.std.specs.Fmt.{digits}
-use Rattle.multistate_rle.specs.declared.cell.Cell.{Cell}
+use Rattle.pattern_cells.specs.declared.cell.Cell.{Cell}
 use Rattle.cell_pictures.specs.declared.picture.Form.TheVariants.{Plain}
 use Rattle.cell_pictures.specs.Blocks.{half_blocks}
 use Rattle.cell_pictures.specs.Colour.{colour_of, green_of}

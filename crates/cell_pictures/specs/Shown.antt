@@ -1,7 +1,7 @@
 -- What a picture shows of cells.
 use Rattle.std.specs.Prelude.{◌≡◌, false, ℕ, zero, suc, List, [], ◌++◌, unwrap_or}
 use Rattle.generations_rule.specs.Place.{Place, is_before}
-use Rattle.multistate_rle.specs.declared.cell.Cell.{Cell}
+use Rattle.pattern_cells.specs.declared.cell.Cell.{Cell}
 use Rattle.edit_stamps.specs.Edit.{listed}
 
 -- the state at a place: that of the cell that stands there, or 0

@@ -1,7 +1,7 @@
 -- Cells as SVG: one path for each state, of the runs of its cells, over a ground in the colour of dead cells.
 use Rattle.std.specs.Prelude.{ℕ, ◌+◌, ◌-◌, ◌/◌, ◌%◌, ℤ, List, [], ◌∷◌, ◌++◌, codes, decimal, slice_index_or}
 use Rattle.std.specs.Fmt.{signed_decimal}
-use Rattle.multistate_rle.specs.declared.cell.Cell.{Cell}
+use Rattle.pattern_cells.specs.declared.cell.Cell.{Cell}
 use Rattle.cell_pictures.specs.declared.colour.Colour.{Colour}
 use Rattle.cell_pictures.specs.Colour.{colour_of}
 use Rattle.cell_pictures.specs.Runs.{RunValue, cells_of_state, runs_of}

@@ -1,7 +1,7 @@
 -- Windows: the part of a plane that a picture shows.
 use Rattle.std.specs.Prelude.{ℕ, ◌^◌, ℤ, pos, ◌+ℤ◌, ◌&&◌, ◌||◌, ◌==◌, not, Bool, int_le, int_lt, nat_lt, List, if◌then◌else◌, Option, Some, None, min}
 use Rattle.generations_rule.specs.Place.{Place, at_place}
-use Rattle.multistate_rle.specs.declared.cell.Cell.{Cell}
+use Rattle.pattern_cells.specs.declared.cell.Cell.{Cell}
 use Rattle.multistate_rle.specs.Bounds.{BoundsValue, bounds_of}
 
 -- a corner, and how many columns and rows there are from it on

@@ -1,7 +1,7 @@
 //! Cells as half blocks in a terminal.
 
 ghost use Rattle.std.specs.Prelude.{◌≡◌, ◌<◌, ◌+◌, ◌*◌, ◌/◌, ◌++◌, IsTrue, OnOk, decimal};
-ghost use Rattle.multistate_rle.specs.Cells.{is_sorted};
+ghost use Rattle.pattern_cells.specs.Cells.{is_sorted};
 ghost use Rattle.cell_pictures.specs.Drawn.{IsDrawn};
 ghost use Rattle.cell_pictures.specs.Shown.{TellsFrom};
 ghost use Rattle.cell_pictures.specs.Window.{place_in};
@@ -12,7 +12,7 @@ use crate::reader::StateReader;
 use crate::window::Window;
 use devices::{Failed, Sink};
 use itoa::Buffer;
-use multistate_rle::Cell;
+use pattern_cells::Cell;
 
 /// Sets the colour of the upper half, and of the lower one; the parts of a colour follow.
 const UPPER: &[u8] = b"\x1b[38;2;";

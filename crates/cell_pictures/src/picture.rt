@@ -1,7 +1,7 @@
 //! A picture in one of the forms.
 
 ghost use Rattle.std.specs.Prelude.{◌≡◌, ◌≤◌, IsTrue};
-ghost use Rattle.multistate_rle.specs.Cells.{is_sorted};
+ghost use Rattle.pattern_cells.specs.Cells.{is_sorted};
 ghost use Rattle.cell_pictures.specs.Drawn.{IsDrawn};
 ghost use Rattle.cell_pictures.specs.Window.{box_of};
 ghost use Rattle.cell_pictures.specs.Picture.{box_text, cut_line, cut_text, picture_text, window_text};
@@ -12,7 +12,7 @@ use crate::svg::svg_text;
 use crate::window::Window;
 use devices::{Failed, Sink};
 use itoa::Buffer;
-use multistate_rle::Cell;
+use pattern_cells::Cell;
 
 /// How cells are drawn.
 #[derive(Clone, Copy, Debug, PartialEq, Eq)]

@@ -1,7 +1,7 @@
 //! Cells as plain text.
 
 ghost use Rattle.std.specs.Prelude.{◌≡◌, ◌<◌, ◌+◌, IsTrue, OnOk};
-ghost use Rattle.multistate_rle.specs.Cells.{is_sorted};
+ghost use Rattle.pattern_cells.specs.Cells.{is_sorted};
 ghost use Rattle.cell_pictures.specs.Drawn.{IsDrawn};
 ghost use Rattle.cell_pictures.specs.Shown.{TellsFrom};
 ghost use Rattle.cell_pictures.specs.Window.{place_in};
@@ -10,7 +10,7 @@ ghost use Rattle.cell_pictures.specs.Plain.{character_of, characters, plain_row,
 use crate::reader::StateReader;
 use crate::window::Window;
 use devices::{Failed, Sink};
-use multistate_rle::Cell;
+use pattern_cells::Cell;
 
 /// The characters of states from 0 on.
 const CHARACTERS: &[u8] = b".ABCDEFGHIJKLMNOPQRSTUVWXYZabcdefghijklmnopqrstuvwxyz0123456789";

@@ -2,11 +2,11 @@
 
 ghost use Rattle.std.specs.Prelude.{◌≡◌, ◌≤◌, IsTrue, length};
 ghost use Rattle.generations_rule.specs.Place.{at_place, is_before};
-ghost use Rattle.multistate_rle.specs.Cells.{is_sorted, place_of};
+ghost use Rattle.pattern_cells.specs.Cells.{is_sorted, place_of};
 ghost use Rattle.cell_pictures.specs.Reader.{first_state, from_place, passed};
 
 use crate::window::Window;
-use multistate_rle::Cell;
+use pattern_cells::Cell;
 
 /// Reads states at places that come by row, then column. A cell that stands before such a place is
 /// passed over, so reading all of them takes one pass over the cells.
@@ -19,7 +19,7 @@ pub struct StateReader<'a> {
 impl<'a> StateReader<'a> {
     ghost use Rattle.std.specs.Prelude.{◌≡◌, ◌<◌, IsTrue};
     ghost use Rattle.generations_rule.specs.Place.{at_place};
-    ghost use Rattle.multistate_rle.specs.Cells.{is_sorted};
+    ghost use Rattle.pattern_cells.specs.Cells.{is_sorted};
     ghost use Rattle.cell_pictures.specs.Window.{place_in};
     ghost use Rattle.cell_pictures.specs.Shown.{TellsFrom, state_at};
 

@@ -2,7 +2,7 @@
 
 ghost use Rattle.std.specs.Prelude.{◌≡◌, ◌+◌, ◌+ℤ◌, pos};
 
-use multistate_rle::Cell;
+use pattern_cells::Cell;
 use std::marker::Model;
 
 /// A run: its first place, and how many places it has, up to 2^32.
@@ -28,7 +28,7 @@ impl Model for Run {
 
 impl Run {
     ghost use Rattle.std.specs.Prelude.{◌≡◌};
-    ghost use Rattle.multistate_rle.specs.Cells.{place_of};
+    ghost use Rattle.pattern_cells.specs.Cells.{place_of};
     ghost use Rattle.cell_pictures.specs.Runs.{run_at};
     ghost use Rattle.cell_pictures.specs.Paths.{extended};
 

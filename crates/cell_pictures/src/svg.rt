@@ -2,7 +2,7 @@
 
 ghost use Rattle.std.specs.Prelude.{◌≡◌, ◌≤◌, ◌<◌, ◌+◌, ◌-◌, IfOk, OnErr};
 ghost use Rattle.devices.specs.Count.{one_more};
-ghost use Rattle.multistate_rle.specs.Cells.{place_of};
+ghost use Rattle.pattern_cells.specs.Cells.{place_of};
 ghost use Rattle.cell_pictures.specs.Drawn.{IsDrawn};
 ghost use Rattle.cell_pictures.specs.Shown.{texts_below};
 ghost use Rattle.cell_pictures.specs.Paths.{TakesPlace, path_closed};
@@ -14,7 +14,7 @@ use crate::runs::Run;
 use crate::window::Window;
 use devices::{Failed, Sink};
 use itoa::Buffer;
-use multistate_rle::Cell;
+use pattern_cells::Cell;
 
 const PATH_END: &[u8] = b"\"/>\n";
 

@@ -5,7 +5,7 @@ ghost use Rattle.std.specs.Int.{int_min, int_max};
 ghost use Rattle.multistate_rle.specs.Bounds.{greatest_coordinate, least_coordinate, span_of};
 ghost use Rattle.cell_pictures.specs.Window.{is_on_side};
 
-use multistate_rle::Cell;
+use pattern_cells::Cell;
 use std::marker::Model;
 
 /// How many columns and rows a picture in a terminal has at most, unless a window is asked for.

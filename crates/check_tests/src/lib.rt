@@ -1,4 +1,4 @@
-//! Tests of `script_faults` and `script_check`.
+//! Tests of `script_faults`, `script_check` and `client_commands`.
 #![tactic(auto)]
 
 #[cfg(test)]
@@ -7,5 +7,7 @@ mod chance;
 mod client_lines;
 #[cfg(test)]
 mod clients;
+#[cfg(test)]
+mod dictation;
 #[cfg(test)]
 mod mistakes;

@@ -6,7 +6,7 @@ use Rattle.std.proofs.lemmas.Bool.{eqb-true}
 use Rattle.std.proofs.lemmas.Slice.Eq.{bytes_eq-Decides}
 use Rattle.multistate_rle.specs.Bytes.{◌>=>◌}
 use Rattle.multistate_rle.specs.Position.{signed_number}
-use Rattle.multistate_rle.specs.declared.cell.Cell.{Cell}
+use Rattle.pattern_cells.specs.declared.cell.Cell.{Cell}
 use Rattle.edit_stamps.specs.declared.rect.Rect.{Rect}
 use Rattle.replica_events.specs.declared.event.Event.TheVariants as event
 use Rattle.replica_events.specs.declared.edit_spec.EditSpec.TheVariants.{Cells, Clear}

@@ -7,8 +7,6 @@ mod command;
 mod dictation;
 mod laws;
 mod spelling;
-#[cfg(test)]
-mod tests;
 
 pub use command::{ClientCommand, FileName, Placement, Wait};
 pub use dictation::{Dictation, Heard};

@@ -17,8 +17,8 @@ use Rattle.board_client.specs.declared.drawing.Drawing.{Drawing}
 use Rattle.board_client.specs.declared.drawing.Drawing.TheVariants.{Drawn, Refused, Unpublished}
 use Rattle.board_client.specs.Drawing.{IsDrawing}
 use Rattle.replica_events.specs.declared.edit_spec.EditSpec.{EditSpec}
-use Rattle.multistate_rle.specs.declared.cell.Cell.{Cell}
-use Rattle.multistate_rle.specs.Cells.{place_of}
+use Rattle.pattern_cells.specs.declared.cell.Cell.{Cell}
+use Rattle.pattern_cells.specs.Cells.{place_of}
 use Rattle.cell_changes.specs.Changes.{AreChanges}
 use Rattle.client_session.specs.declared.joining.Telling.{Telling}
 use Rattle.client_session.specs.declared.joining.Telling.TheVariants.{Edits, Changes}

@@ -1,6 +1,6 @@
 -- What changes in a map that was told.
 use Rattle.std.proofs.Common.{◌≡◌, List, sym, subst}
-use Rattle.multistate_rle.specs.declared.cell.Cell.{Cell}
+use Rattle.pattern_cells.specs.declared.cell.Cell.{Cell}
 use Rattle.stamped_writes.specs.Write.{Writes, AreSame, joined}
 use Rattle.edit_stamps.specs.Edit.{PlaneEdit, greatest}
 use Rattle.stamped_tree.specs.Plane.{StampedPlane, map_of}

@@ -1,6 +1,6 @@
 -- What is told of edits and planes that came.
 use Rattle.std.specs.Prelude.{◌≡◌, ◌≢◌, ⊤, ℕ, ◌^◌, List, ◌++◌, length, drop, Option, Some, None, Result, Ok, Err}
-use Rattle.multistate_rle.specs.declared.cell.Cell.{Cell}
+use Rattle.pattern_cells.specs.declared.cell.Cell.{Cell}
 use Rattle.stamped_writes.specs.Write.{Writes, AreSame, joined, unwritten}
 use Rattle.edit_stamps.specs.Edit.{PlaneEdit, greatest}
 use Rattle.square_store.specs.declared.fault.StoreFault.{StoreFault}

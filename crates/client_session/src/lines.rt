@@ -11,7 +11,7 @@ use genedit_io::RunFault;
 use genedit_lib::{no_pattern_text, push_text};
 use generations_rule::Rule;
 use itoa::Buffer;
-use multistate_rle::Cell;
+use pattern_cells::Cell;
 use std::alloc::{AllocError, Global};
 
 /// That the client has a seat of this number, at a board of this rule.

@@ -14,7 +14,7 @@ use cell_changes::Watched;
 use edit_stamps::Edit;
 use held_plane::{Added, HeldPlane};
 use keyed_hash::HashKey;
-use multistate_rle::Cell;
+use pattern_cells::Cell;
 use stamped_tree::{Plane, StoreFault};
 use std::alloc::{AllocError, Global};
 

@@ -1,6 +1,6 @@
 -- Cells that are drawn edit by edit.
 use Rattle.std.proofs.Common.{◌≡◌, ℕ, ◌<◌, ◌≤◌, List, length, take, drop, Result, Ok, subst}
-use Rattle.multistate_rle.specs.declared.cell.Cell.{Cell}
+use Rattle.pattern_cells.specs.declared.cell.Cell.{Cell}
 use Rattle.edit_stamps.specs.Edit.{most_cells}
 use Rattle.client_session.specs.declared.drawing.Outcome.{Outcome}
 use Rattle.client_session.specs.declared.drawing.Outcome.TheVariants.{Drawn}

@@ -3,7 +3,7 @@ use Rattle.std.proofs.Common.{◌≡◌, ℕ, List, Some, Result, Ok, Err, sym, 
 use Rattle.std.specs.Prelude.{◌⊎◌}
 use Rattle.generations_rule.specs.Rule.{GenerationsRule}
 use Rattle.generations_rule.specs.Refusal.{AnswersAs}
-use Rattle.multistate_rle.specs.declared.cell.Cell.{Cell}
+use Rattle.pattern_cells.specs.declared.cell.Cell.{Cell}
 use Rattle.edit_stamps.specs.PlaneMap.{IsGreatestStamp}
 use Rattle.edit_stamps.specs.Stamp.{counter_in}
 use Rattle.stamped_tree.specs.Plane.{StampedPlane, map_of}

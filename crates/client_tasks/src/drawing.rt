@@ -9,7 +9,7 @@ use client_session::{Outcome, Seat, SeatFault};
 use devices::{Sink, Source};
 use edit_stamps::MOST_CELLS;
 use frame_line::Line;
-use multistate_rle::Cell;
+use pattern_cells::Cell;
 use replica_events::{CellList, EditSpec};
 use std::alloc::{AllocError, Global};
 use std::time::Clock;

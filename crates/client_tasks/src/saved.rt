@@ -15,7 +15,7 @@ use delta_exchange::{ReadFault, read_within_with_key};
 use edit_stamps::{MOST_CELLS, Stamp, counter_of};
 use generations_rule::Rule;
 use keyed_hash::HashKey;
-use multistate_rle::Cell;
+use pattern_cells::Cell;
 use stamped_tree::Plane;
 use std::alloc::Global;
 

@@ -2,7 +2,8 @@
 
 use edit_stamps::{Cell, Edit, Stamp};
 use generations_rule::Rule;
-use multistate_rle::{Pattern, parse};
+use multistate_rle::parse;
+use pattern_cells::Pattern;
 use replica_core::Replica;
 use std::alloc::{AllocError, Global};
 use std::slice;

@@ -3,7 +3,7 @@ use Rattle.std.specs.Prelude.{ℕ, ◌+◌, ◌*◌, ◌^◌, ◌++◌}
 use Rattle.std.specs.Hash as fed
 use Rattle.std.specs.Int.{cast_unsigned, w32}
 use Rattle.std.specs.Hash.{HashWrites}
-use Rattle.multistate_rle.specs.declared.cell.Cell.{Cell}
+use Rattle.pattern_cells.specs.declared.cell.Cell.{Cell}
 use Rattle.edit_stamps.specs.declared.rect.Rect.{Rect}
 use Rattle.edit_stamps.specs.Edit.{PlaneEdit}
 

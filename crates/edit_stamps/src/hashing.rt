@@ -11,7 +11,7 @@ ghost use Rattle.edit_stamps.specs.OneEdit.{edits_equiv, tells_edits};
 
 use crate::edit::Edit;
 use crate::rect::Rect;
-use multistate_rle::Cell;
+use pattern_cells::Cell;
 use std::hash::{Hash, Hasher};
 
 /// By all that an edit says: its stamp, its area and its cells.

@@ -3,7 +3,8 @@
 ghost use Rattle.std.specs.Prelude.{◌≤◌, ◌<◌};
 
 use generations_rule::Rule;
-use multistate_rle::{Cell, Pattern, RleFault, are_writable, parse, write};
+use multistate_rle::{RleFault, are_writable, parse, write};
+use pattern_cells::{Cell, Pattern};
 use std::alloc::{AllocError, Global};
 
 /// Numbers that look random, by Knuth's generator MMIX.

@@ -4,7 +4,8 @@
 ghost use Rattle.std.specs.Prelude.{◌≤◌, ◌^◌, IfOk};
 
 use generations_rule::Rule;
-use multistate_rle::{Cell, Pattern, RleFault, are_writable, parse, write};
+use multistate_rle::{RleFault, are_writable, parse, write};
+use pattern_cells::{Cell, Pattern};
 use std::alloc::{AllocError, Global};
 
 /// How many nonzero cells a text has: the caller of README.md.

@@ -8,8 +8,8 @@ use Rattle.generations_rule.specs.Place.{Place, is_place}
 use Rattle.generations_rule.specs.Rule.{GenerationsRule, IsRule}
 use Rattle.generations_rule.specs.Evolution.{at}
 use Rattle.generations_rule.proofs.EvolutionLaws.{stays_in_range}
-use Rattle.multistate_rle.specs.declared.cell.Cell.{Cell}
-use Rattle.multistate_rle.specs.Cells.{place_of, are_nonzero, are_states_below, is_sorted}
+use Rattle.pattern_cells.specs.declared.cell.Cell.{Cell}
+use Rattle.pattern_cells.specs.Cells.{place_of, are_nonzero, are_states_below, is_sorted}
 use Rattle.multistate_rle.specs.Writing.{text_of_cells}
 use Rattle.edit_stamps.specs.Edit.{listed}
 use Rattle.edit_stamps.proofs.SortedCells.{listed_behind, listed_here, listed_there, sorted_tail, told_by_reads}

@@ -3,8 +3,8 @@ use Rattle.std.specs.Prelude.{◌≡◌, true, ◌⊎◌, ⊤, ℕ, ◌^◌, ◌
 use Rattle.generations_rule.specs.Place.{Place, moved}
 use Rattle.generations_rule.specs.Rule.{GenerationsRule}
 use Rattle.generations_rule.specs.Evolution.{at}
-use Rattle.multistate_rle.specs.declared.cell.Cell.{Cell}
-use Rattle.multistate_rle.specs.Cells.{are_states_below}
+use Rattle.pattern_cells.specs.declared.cell.Cell.{Cell}
+use Rattle.pattern_cells.specs.Cells.{are_states_below}
 use Rattle.multistate_rle.specs.Writing.{text_of_cells}
 use Rattle.bitplane_kernel.specs.Population.{population}
 use Rattle.square_store.specs.Store.{IsStore}

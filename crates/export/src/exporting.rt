@@ -10,7 +10,8 @@ ghost use Rattle.export.specs.Export.{AreExported, IsExport, IsExportRefused, Is
 use crate::fault::ExportFault;
 use generation_engine::Engine;
 use generations_rule::Rule;
-use multistate_rle::{Cell, write};
+use multistate_rle::write;
+use pattern_cells::Cell;
 use stamped_tree::Plane;
 use std::alloc::Global;
 

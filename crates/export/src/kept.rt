@@ -11,7 +11,8 @@ use crate::exporting::{LAST, MOST_CELLS, ROOM, cells_within, export};
 use crate::fault::ExportFault;
 use generation_engine::{Engine, EngineFault};
 use generations_rule::Rule;
-use multistate_rle::{Cell, write};
+use multistate_rle::write;
+use pattern_cells::Cell;
 use stamped_tree::Plane;
 use std::alloc::Global;
 

@@ -2,7 +2,7 @@
 use Rattle.std.specs.Prelude.{◌≡◌, ℕ, List, [], ◌∷◌, ◌++◌, length, map, if◌then◌else◌, codes, decimal, bytes_eq, option_map, Option, Some, None, Result, Ok, Err}
 use Rattle.std.specs.Fmt.{signed_decimal}
 use Rattle.multistate_rle.specs.declared.fault.RleFault.{RleFault}
-use Rattle.multistate_rle.specs.Pattern.{RlePattern}
+use Rattle.pattern_cells.specs.Pattern.{RlePattern}
 use Rattle.multistate_rle.specs.Reading.{parsed}
 use Rattle.multistate_rle.specs.RleFault.{text_fault_number, text_fault_text}
 use Rattle.stamped_writes.specs.declared.write.Write.{Write}

@@ -3,7 +3,7 @@ use Rattle.std.specs.Prelude.{ℕ, List, Option}
 use Rattle.std.specs.BTreeMap.{get}
 use Rattle.std.specs.Cmp.Lexicographic.{slice_cmp}
 use Rattle.std.specs.Ordering.{nat_cmp}
-use Rattle.multistate_rle.specs.Pattern.{RlePattern}
+use Rattle.pattern_cells.specs.Pattern.{RlePattern}
 use Rattle.genedit_lib.specs.declared.patterns.Patterns.{Patterns}
 
 -- the pattern that a name stands for

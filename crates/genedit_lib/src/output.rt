@@ -11,7 +11,8 @@ use crate::plan::PlannedLine;
 use crate::step::Text;
 use edit_stamps::{Write, counter_of, replica_of};
 use itoa::Buffer;
-use multistate_rle::{Pattern, RleFault};
+use multistate_rle::RleFault;
+use pattern_cells::Pattern;
 use replica_core::Reply;
 use std::alloc::{AllocError, Global};
 

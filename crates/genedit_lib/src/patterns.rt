@@ -5,7 +5,7 @@ ghost use Rattle.genedit_lib.specs.Output.{no_patterns, with_pattern};
 ghost use Rattle.genedit_lib.specs.Patterns.{pattern_in};
 
 use genedit_script::PatternName;
-use multistate_rle::Pattern;
+use pattern_cells::Pattern;
 use std::alloc::{AllocError, Global};
 use std::collections::BTreeMap;
 

@@ -2,8 +2,8 @@
 use Rattle.std.proofs.Common.{◌≡◌, ℕ, Bool, true, false, [], ◌∷◌, refl, ◌∙◌}
 use Rattle.std.specs.Prelude.{not, None}
 use Rattle.generations_rule.specs.Refusal.{when, first_of}
-use Rattle.multistate_rle.specs.Cells.{are_states_below}
-use Rattle.multistate_rle.specs.Pattern.{RlePattern}
+use Rattle.pattern_cells.specs.Cells.{are_states_below}
+use Rattle.pattern_cells.specs.Pattern.{RlePattern}
 use Rattle.edit_stamps.specs.Pasting.{are_placeable, have_states_below}
 use Rattle.edit_stamps.proofs.PastingLaws.{below_placed}
 use Rattle.genedit_rle.specs.Canonical.{cells_in_plane, pattern_refusal}

@@ -3,9 +3,9 @@
 use Rattle.std.specs.Prelude.{ℕ, not, List, [], ◌∷◌, Option, Result, Ok, Err}
 use Rattle.generations_rule.specs.Refusal.{when, first_of, unless, ◌>>=◌}
 use Rattle.generations_rule.specs.Rule.{GenerationsRule}
-use Rattle.multistate_rle.specs.declared.cell.Cell.{Cell}
+use Rattle.pattern_cells.specs.declared.cell.Cell.{Cell}
 use Rattle.multistate_rle.specs.declared.fault.RleFault.{RleFault}
-use Rattle.multistate_rle.specs.Pattern.{RlePattern}
+use Rattle.pattern_cells.specs.Pattern.{RlePattern}
 use Rattle.multistate_rle.specs.Reading.{parsed}
 use Rattle.multistate_rle.specs.Writing.{text_of_cells}
 use Rattle.edit_stamps.specs.Pasting.{are_placeable, have_states_below, placed}

@@ -8,7 +8,8 @@ ghost use Rattle.genedit_rle.specs.Fault.{refusal_of};
 use crate::fault::CanonicalFault;
 use edit_stamps::{Corner, are_placeable, have_states_below, placed_cells};
 use generations_rule::Rule;
-use multistate_rle::{Pattern, parse, write};
+use multistate_rle::{parse, write};
+use pattern_cells::Pattern;
 use std::alloc::{AllocError, Global};
 
 /// The canonical form of an RLE text under a rule, or its first refusal; the fault is `Memory` only

@@ -9,7 +9,8 @@ ghost use Rattle.genedit_script.specs.Script.{argument_behind, rule_spelled, rep
 use crate::command::{Command, Paste, PatternName};
 use edit_stamps::Rect;
 use generations_rule::Rule;
-use multistate_rle::{Cell, number, signed, split_word};
+use multistate_rle::{number, signed, split_word};
+use pattern_cells::Cell;
 use replica_events::{CellList, EditSpec, Event};
 use std::alloc::{AllocError, Global};
 

@@ -4,8 +4,8 @@ use Rattle.std.specs.Prelude.{Option, Some, None, Result, Ok, Err, IfOk, IsTrue}
 use Rattle.std.proofs.lemmas.Bool.{and_parts}
 use Rattle.generations_rule.specs.Refusal.{unless}
 use Rattle.generations_rule.specs.Rule.{GenerationsRule, IsRule}
-use Rattle.multistate_rle.specs.declared.cell.Cell.{Cell}
-use Rattle.multistate_rle.specs.Cells.{is_sorted, place_of}
+use Rattle.pattern_cells.specs.declared.cell.Cell.{Cell}
+use Rattle.pattern_cells.specs.Cells.{is_sorted, place_of}
 use Rattle.generations_rule.specs.Place.{is_before}
 use Rattle.stamped_writes.specs.Write.{AreSame}
 use Rattle.edit_stamps.specs.Edit.{PlaneEdit, has_states_below, writes_of}

@@ -6,8 +6,8 @@ use Rattle.std.proofs.lemmas.List.{length-map}
 use Rattle.std.proofs.lemmas.Bool.{and_parts, cases_Bool}
 use Rattle.generations_rule.specs.Refusal.{when, first_of}
 use Rattle.generations_rule.specs.Rule.{GenerationsRule, IsRule}
-use Rattle.multistate_rle.specs.declared.cell.Cell.{Cell}
-use Rattle.multistate_rle.specs.Pattern.{IsPattern, RlePattern}
+use Rattle.pattern_cells.specs.declared.cell.Cell.{Cell}
+use Rattle.pattern_cells.specs.Pattern.{IsPattern, RlePattern}
 use Rattle.edit_stamps.specs.Making.{are_in_plane}
 use Rattle.edit_stamps.specs.Pasting.{are_placeable, cell_placed, have_states_below}
 use Rattle.edit_stamps.proofs.PastingLaws.{alive_placed, below_placed, in_plane_placed, sorted_placed}

@@ -6,9 +6,9 @@ use Rattle.generations_rule.specs.Place.{Place}
 use Rattle.generations_rule.specs.Refusal.{when, first_of, unless, ◌>>=◌}
 use Rattle.generations_rule.specs.Rule.{GenerationsRule}
 use Rattle.generations_rule.specs.RuleText as rules
-use Rattle.multistate_rle.specs.declared.cell.Cell.{Cell}
+use Rattle.pattern_cells.specs.declared.cell.Cell.{Cell}
 use Rattle.multistate_rle.specs.declared.fault.RleFault.{RleFault}
-use Rattle.multistate_rle.specs.Pattern.{RlePattern}
+use Rattle.pattern_cells.specs.Pattern.{RlePattern}
 use Rattle.multistate_rle.specs.Reading.{parsed}
 use Rattle.edit_stamps.specs.Making.{are_in_plane}
 use Rattle.edit_stamps.specs.Pasting.{are_placeable, have_states_below}

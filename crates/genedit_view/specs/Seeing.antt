@@ -2,7 +2,7 @@
 use Rattle.std.specs.Prelude.{◌≡◌, ◌⊎◌, ℕ, ◌≤◌, true, false, List, Option, Some, None, is_some, Ok, Err}
 use Rattle.generations_rule.specs.Place.{Place}
 use Rattle.generations_rule.specs.Rule.{GenerationsRule}
-use Rattle.multistate_rle.specs.declared.cell.Cell.{Cell}
+use Rattle.pattern_cells.specs.declared.cell.Cell.{Cell}
 use Rattle.delta_exchange.specs.declared.fault.ReadFault.{ReadFault}
 use Rattle.delta_exchange.specs.MessageReading.{message_of}
 use Rattle.generation_engine.specs.Walk.{AreCellsOf}

@@ -9,7 +9,7 @@ ghost use Rattle.export.specs.Export.{AreExported, IsExportRefused, most_cells};
 use export::{ExportFault, cells_within};
 use generation_engine::Engine;
 use generations_rule::Rule;
-use multistate_rle::Cell;
+use pattern_cells::Cell;
 use stamped_tree::Plane;
 use std::alloc::Global;
 

@@ -11,7 +11,8 @@ use crate::rule::pattern_rule;
 use crate::seen::SeenCells;
 use edit_stamps::{Corner, are_placeable, have_states_below, placed_cells};
 use generations_rule::Rule;
-use multistate_rle::{Pattern, PatternCell, parse};
+use multistate_rle::parse;
+use pattern_cells::{Pattern, PatternCell};
 use std::alloc::Global;
 
 /// The least coordinate of the plane of edits, and one past the greatest.

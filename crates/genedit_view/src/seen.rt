@@ -1,7 +1,7 @@
 //! What is seen of a text.
 
 use generations_rule::Rule;
-use multistate_rle::Cell;
+use pattern_cells::Cell;
 
 /// A rule, and sorted cells that are not dead.
 #[derive(Drop)]

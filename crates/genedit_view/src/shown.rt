@@ -19,7 +19,7 @@ use crate::rule::{begins_as_state, state_rule};
 use crate::seen::SeenCells;
 use delta_exchange::read;
 use generations_rule::Rule;
-use multistate_rle::Cell;
+use pattern_cells::Cell;
 use stamped_tree::Plane;
 use std::alloc::Global;
 

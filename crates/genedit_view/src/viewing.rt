@@ -2,7 +2,7 @@
 
 ghost use Rattle.std.specs.Prelude.{◌≡◌, ◌^◌, IfErr, IsTrue, true};
 ghost use Rattle.genedit_io.specs.declared.fault.RunFault.TheVariants.{Write};
-ghost use Rattle.multistate_rle.specs.Cells.{is_sorted};
+ghost use Rattle.pattern_cells.specs.Cells.{is_sorted};
 ghost use Rattle.cell_pictures.specs.Drawn.{IsDrawn, with_waiting};
 ghost use Rattle.cell_pictures.specs.Picture.{picture_text};
 ghost use Rattle.genedit_view.specs.Runs.{IsView};

@@ -1,7 +1,7 @@
 -- The cells of a universe, as they are listed.
 use Rattle.std.specs.Prelude.{◌≡◌, ◌≢◌, ℕ, ◌+◌, ◌-◌, ◌*◌, ◌^◌, ◌<◌, ℤ, pos, negsuc, ◌+ℤ◌, ◌-ℤ◌, nat_abs, Bool, ◌&&◌, int_le, int_lt, List, length, Contains}
 use Rattle.generations_rule.specs.Place.{Place}
-use Rattle.multistate_rle.specs.declared.cell.Cell.{Cell}
+use Rattle.pattern_cells.specs.declared.cell.Cell.{Cell}
 use Rattle.bitplane_kernel.specs.Population.{one_unless_dead, population}
 use Rattle.square_store.specs.Grid.{Grid}
 use Rattle.square_store.specs.Squares.{Held, side_at, grid_at, four_grid}

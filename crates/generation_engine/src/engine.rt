@@ -18,7 +18,7 @@ use crate::results::ResultStore;
 use crate::walk::middle_cells;
 use generations_rule::Rule;
 use keyed_hash::HashKey;
-use multistate_rle::Cell;
+use pattern_cells::Cell;
 use square_store::{Part, Store, StoreFault};
 use stamped_tree::Plane;
 use std::alloc::{AllocError, Global};

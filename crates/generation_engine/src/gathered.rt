@@ -4,7 +4,7 @@ ghost use Rattle.std.specs.Prelude.{◌≡◌, ◌++◌, ◌∷◌, [], IfOk, On
 ghost use Rattle.std.specs.List.Sorted.{IsNonDecreasingBy, IsPermutation};
 ghost use Rattle.generation_engine.specs.Walk.{cell_of_middle, middle_order, row_order, spot_of};
 
-use multistate_rle::Cell;
+use pattern_cells::Cell;
 use stamped_tree::ListedCell;
 use std::alloc::{AllocError, Global};
 use std::marker::Model;

@@ -11,7 +11,7 @@ ghost use Rattle.generation_engine.specs.Walk.{GathersOne, GathersSquare, cell_o
 use crate::gathered::GatheredCells;
 use crate::leaf_kind::EngineLeaf;
 use crate::quarters::middle;
-use multistate_rle::Cell;
+use pattern_cells::Cell;
 use square_store::{Part, Square, Store};
 use stamped_tree::{Corner, ListedCell};
 use std::alloc::{AllocError, Global};

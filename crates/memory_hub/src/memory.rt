@@ -6,7 +6,7 @@ ghost use Rattle.stamped_tree.specs.Plane.{map_of};
 
 use edit_stamps::{Edit, EditList};
 use generations_rule::Rule;
-use multistate_rle::are_below;
+use pattern_cells::are_below;
 use poll_news::News;
 use session_hub::{Hub, HubFault};
 use stamped_tree::Plane;

@@ -3,7 +3,7 @@
 use crate::texts;
 use edit_stamps::{Corner, Edit, EditFault, Rect, Stamp, are_placeable, placed_cells};
 use generations_rule::Rule;
-use multistate_rle::{Cell, Pattern};
+use pattern_cells::{Cell, Pattern};
 use std::alloc::{AllocError, Global};
 
 /// The rule and the stamp of what is drawn here.

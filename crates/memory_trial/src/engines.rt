@@ -9,7 +9,7 @@ use delta_exchange::Message;
 use edit_stamps::EditFault;
 use generation_engine::{Engine, EngineFault, StoreFault};
 use generations_rule::Rule;
-use multistate_rle::Cell;
+use pattern_cells::Cell;
 use samples::plane_of;
 use stamped_tree::Plane;
 use std::alloc::{AllocError, Global};

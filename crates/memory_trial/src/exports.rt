@@ -6,7 +6,7 @@ ghost use Rattle.stamped_tree.specs.Plane.{map_of};
 use crate::{engines, replicas};
 use export::{ExportFault, export, export_within};
 use generations_rule::Rule;
-use multistate_rle::Cell;
+use pattern_cells::Cell;
 use replica_core::Fault;
 use stamped_tree::Plane;
 use std::alloc::Global;

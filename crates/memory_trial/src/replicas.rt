@@ -6,7 +6,7 @@ ghost use Rattle.edit_stamps.specs.Edit.{has_states_below, HaveStatesBelow};
 use crate::edits;
 use edit_stamps::{Edit, EditFault, Stamp, Write};
 use generations_rule::Rule;
-use multistate_rle::Cell;
+use pattern_cells::Cell;
 use replica_core::{CellList, EditSpec, Fault, Message, Replica};
 use std::alloc::{AllocError, Global};
 

@@ -1,7 +1,8 @@
 //! Rules and pattern texts.
 
 use generations_rule::Rule;
-use multistate_rle::{Cell, Pattern, PatternCell, RleFault, are_writable, parse, write};
+use multistate_rle::{RleFault, are_writable, parse, write};
+use pattern_cells::{Cell, Pattern, PatternCell};
 use std::alloc::{AllocError, Global};
 
 const TEXT: &str = "#CXRLE Pos=-1,2 Gen=7\nx = 3, y = 2\n2bo$AC!\n";

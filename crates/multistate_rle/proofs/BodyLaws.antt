@@ -7,7 +7,7 @@ use Rattle.std.proofs.lemmas.Fmt.{decimal_is_IsNumeral}
 use Rattle.std.proofs.lemmas.List.Folds.{list_all-append}
 use Rattle.std.proofs.lemmas.Bool.{ne_eqb, eqb-true, eqb-false}
 use Rattle.std.proofs.lemmas.Bool.Decides.{nat_tests}
-use Rattle.multistate_rle.specs.declared.pattern.PatternCell.{PatternCell}
+use Rattle.pattern_cells.specs.declared.pattern.PatternCell.{PatternCell}
 use Rattle.multistate_rle.specs.declared.line.LineProgress.TheVariants.{Start, Inside}
 use Rattle.multistate_rle.specs.Bytes.{is_decimal_digit, is_space_or_tab, ends_line}
 use Rattle.multistate_rle.specs.Letters.{letters_of, letters_text, plain}

@@ -16,9 +16,9 @@ use Rattle.multistate_rle.specs.Bytes.{ends_line}
 use Rattle.multistate_rle.specs.Laws.{ReadsBack}
 use Rattle.multistate_rle.proofs.HeadLaws.{both_pass, digits_pass, digit_no_end, printed}
 use Rattle.multistate_rle.proofs.TextBackLaws.{text_back}
-use Rattle.multistate_rle.specs.declared.cell.Cell.{Cell}
-use Rattle.multistate_rle.specs.Cells.{is_sorted, are_nonzero, are_states_below}
-use Rattle.multistate_rle.specs.Pattern.{precedes, are_sorted, are_alive, are_within}
+use Rattle.pattern_cells.specs.declared.cell.Cell.{Cell}
+use Rattle.pattern_cells.specs.Cells.{is_sorted, are_nonzero, are_states_below}
+use Rattle.pattern_cells.specs.Pattern.{precedes, are_sorted, are_alive, are_within}
 use Rattle.multistate_rle.specs.Bounds.{least_coordinate, greatest_coordinate, span_of, bounds_of, seen_from, in_box}
 use Rattle.multistate_rle.proofs.PatternLaws.{and_parts}
 

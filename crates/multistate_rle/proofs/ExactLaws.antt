@@ -6,7 +6,7 @@ use Rattle.generations_rule.specs.Refusal.{◌>>=◌}
 use Rattle.multistate_rle.specs.declared.fault.RleFault.{RleFault}
 use Rattle.multistate_rle.specs.declared.fault.RleFault.TheVariants.{Header}
 use Rattle.multistate_rle.specs.HeaderLine.{HasNoHeader}
-use Rattle.multistate_rle.specs.Pattern.{RlePattern}
+use Rattle.pattern_cells.specs.Pattern.{RlePattern}
 use Rattle.multistate_rle.specs.Position.{origin_from, no_items}
 use Rattle.multistate_rle.specs.Tokens.{cells_drawn}
 use Rattle.multistate_rle.specs.Reading.{parsed, start, fresh, tokens_of, lines_of, pattern_of}

@@ -11,13 +11,13 @@ use Rattle.std.proofs.lemmas.Bool.Decides.{nat_tests}
 use Rattle.multistate_rle.specs.declared.lines.LineWriter.{LineWriter}
 use Rattle.multistate_rle.specs.declared.lines.WritingPen.{WritingPen}
 use Rattle.multistate_rle.specs.declared.lines.Run.{Run}
-use Rattle.multistate_rle.specs.declared.pattern.PatternCell.{PatternCell}
+use Rattle.pattern_cells.specs.declared.pattern.PatternCell.{PatternCell}
 use Rattle.multistate_rle.specs.Tokens.{Token, Cells, Rows, with_run, tokens_from, gap, skip}
 use Rattle.std.proofs.lemmas.List.Folds.{list_all_at}
-use Rattle.multistate_rle.specs.declared.cell.Cell.{Cell}
+use Rattle.pattern_cells.specs.declared.cell.Cell.{Cell}
 use Rattle.multistate_rle.specs.Bounds.{BoundsValue}
 use Rattle.multistate_rle.specs.Bounds.{seen_from}
-use Rattle.multistate_rle.specs.Cells.{are_nonzero}
+use Rattle.pattern_cells.specs.Cells.{are_nonzero}
 use Rattle.multistate_rle.specs.Writing.{token_text, wrapped, count_text, spelling}
 use Rattle.multistate_rle.specs.Filling.{run_tokens, tokens_with, extends, extends_run, WritesPieces, WritesCell, text_with, no_pen}
 

@@ -5,11 +5,11 @@ use Rattle.std.specs.List.{enumerate_from}
 use Rattle.generations_rule.specs.Refusal.{AnswersAs, ◌>>=◌}
 use Rattle.multistate_rle.specs.declared.fault.RleFault.{RleFault}
 use Rattle.multistate_rle.specs.declared.fault.RleFault.TheVariants.{Header, Memory}
-use Rattle.multistate_rle.specs.declared.pattern.PatternCell.{PatternCell}
+use Rattle.pattern_cells.specs.declared.pattern.PatternCell.{PatternCell}
 use Rattle.multistate_rle.specs.HeaderLine.{HasNoHeader}
 use Rattle.multistate_rle.specs.declared.reading.Front.{Front}
 use Rattle.multistate_rle.specs.declared.tokens.TokenReader.{TokenReader}
-use Rattle.multistate_rle.specs.Pattern.{RlePattern, IsPattern}
+use Rattle.pattern_cells.specs.Pattern.{RlePattern, IsPattern}
 use Rattle.multistate_rle.specs.Reading.{parsed, lines_of, bare, body_read, cells_read, pattern_of, width_of, height_of}
 use Rattle.multistate_rle.proofs.HeaderlessLaws.{cells_never, body_never, refuses_without_header}
 use Rattle.multistate_rle.proofs.BodyLemmas.{answered_is}

@@ -8,7 +8,7 @@ use Rattle.multistate_rle.specs.Bytes.{is_space_or_tab, ends_line}
 use Rattle.multistate_rle.specs.Header.{header_of}
 use Rattle.multistate_rle.specs.HeaderLine.{text_lines, may_precede, first_header, HasNoHeader}
 use Rattle.multistate_rle.specs.Position.{OriginValue, origin_in, origin_from, no_items}
-use Rattle.multistate_rle.specs.Pattern.{RlePattern}
+use Rattle.pattern_cells.specs.Pattern.{RlePattern}
 use Rattle.multistate_rle.specs.Reading.{parsed, body_read, lines_of, lines_read, begins_comment, or_else}
 use Rattle.multistate_rle.specs.Spelling.{IsLine, AreFrontLines, with_lines, first_origin}
 use Rattle.multistate_rle.specs.Parts.{EndsLine, HasFrontAndBody}

@@ -5,8 +5,8 @@ use Rattle.std.specs.List.{list_all}
 use Rattle.std.proofs.lemmas.List.Folds.{list_all-append}
 use Rattle.std.proofs.lemmas.Bool.{ne_eqb}
 use Rattle.std.proofs.lemmas.Bool.Decides.{nat_tests}
-use Rattle.multistate_rle.specs.declared.pattern.PatternCell.{PatternCell}
-use Rattle.multistate_rle.specs.Pattern.{precedes, are_sorted, are_alive, are_within, IsPattern}
+use Rattle.pattern_cells.specs.declared.pattern.PatternCell.{PatternCell}
+use Rattle.pattern_cells.specs.Pattern.{precedes, are_sorted, are_alive, are_within, IsPattern}
 use Rattle.generations_rule.specs.Refusal.{when, first_of, ◌>>=◌}
 use Rattle.multistate_rle.specs.declared.fault.RleFault.{RleFault}
 use Rattle.multistate_rle.specs.declared.fault.RleFault.TheVariants.{State, Count, TooMany}

@@ -3,8 +3,8 @@ use Rattle.std.proofs.Common.{◌≡◌, ◌≢◌, ℕ, zero, suc, ◌+◌, ◌
 use Rattle.std.specs.Prelude.{◌==◌, ◌&&◌, ◌||◌, nat_lt, not, if◌then◌else◌}
 use Rattle.std.proofs.lemmas.Bool.{ne_eqb, eqb-true, eqb-false}
 use Rattle.std.proofs.lemmas.Bool.Decides.{nat_tests}
-use Rattle.multistate_rle.specs.declared.pattern.PatternCell.{PatternCell}
-use Rattle.multistate_rle.specs.Pattern.{precedes, are_sorted, are_alive}
+use Rattle.pattern_cells.specs.declared.pattern.PatternCell.{PatternCell}
+use Rattle.pattern_cells.specs.Pattern.{precedes, are_sorted, are_alive}
 use Rattle.multistate_rle.specs.Tokens.{Token, Cells, Rows, cells_in_row, cells_drawn, AreCanonical, skip, gap, with_run, tokens_from}
 use Rattle.generations_rule.specs.RuleText.{text_of}
 use Rattle.multistate_rle.specs.Bounds.{bounds_of, in_box}

@@ -10,7 +10,7 @@ use Rattle.multistate_rle.specs.declared.fault.RleFault.{RleFault}
 use Rattle.multistate_rle.specs.Bytes.{is_space_or_tab, ends_line, past_prefix, text_behind, ◌>=>◌}
 use Rattle.multistate_rle.specs.Header.{header_of, behind_symbol, side_spelled, number_in_front, may_end_with}
 use Rattle.multistate_rle.specs.Position.{origin_in, origin_from, no_items}
-use Rattle.multistate_rle.specs.Pattern.{RlePattern}
+use Rattle.pattern_cells.specs.Pattern.{RlePattern}
 use Rattle.multistate_rle.specs.Tokens.{cells_drawn}
 use Rattle.multistate_rle.specs.Lines.{line_after, is_dropped}
 use Rattle.multistate_rle.specs.Reading.{bytes_of, bare, pattern_of, lines_of, lines_read, begins_comment, or_else}

@@ -1,8 +1,8 @@
 -- The bounding box of cells.
 use Rattle.std.specs.Prelude.{ℕ, ◌+◌, List, [], ◌∷◌, map, fold, ℤ, pos, ◌-ℤ◌, nat_abs}
 use Rattle.std.specs.Int.{int_max, int_min}
-use Rattle.multistate_rle.specs.declared.cell.Cell.{Cell}
-use Rattle.multistate_rle.specs.declared.pattern.PatternCell.{PatternCell}
+use Rattle.pattern_cells.specs.declared.cell.Cell.{Cell}
+use Rattle.pattern_cells.specs.declared.pattern.PatternCell.{PatternCell}
 
 -- a box: its upper left corner, and its sides
 pub record BoundsValue : Type 0 where

@@ -3,7 +3,7 @@ use Rattle.std.specs.Prelude.{◌≡◌, ◌≢◌, ℕ, ◌+◌, ◌≤◌, ◌
 use Rattle.multistate_rle.specs.declared.lines.LineWriter.{LineWriter}
 use Rattle.multistate_rle.specs.declared.lines.WritingPen.{WritingPen}
 use Rattle.multistate_rle.specs.declared.lines.Run.{Run}
-use Rattle.multistate_rle.specs.declared.pattern.PatternCell.{PatternCell}
+use Rattle.pattern_cells.specs.declared.pattern.PatternCell.{PatternCell}
 use Rattle.multistate_rle.specs.Tokens.{Token, with_run, tokens_from}
 use Rattle.multistate_rle.specs.Writing.{wrapped, token_text}
 

@@ -1,11 +1,11 @@
 -- What the definitions obey.
 use Rattle.std.specs.Prelude.{◌↔◌, Some, None, unwrap_or, ◌≡◌, ◌⊎◌, ℕ, ◌+◌, ◌≤◌, ◌<◌, ◌^◌, ℤ, pos, negsuc, not, Bool, List, ◌∷◌, ◌++◌, true, false, nat_le, if◌then◌else◌, length, Ok, Err}
 use Rattle.generations_rule.specs.Rule.{GenerationsRule, IsRule}
-use Rattle.multistate_rle.specs.declared.pattern.PatternCell.{PatternCell}
-use Rattle.multistate_rle.specs.declared.cell.Cell.{Cell}
-use Rattle.multistate_rle.specs.Cells.{is_sorted, are_nonzero, are_states_below}
+use Rattle.pattern_cells.specs.declared.pattern.PatternCell.{PatternCell}
+use Rattle.pattern_cells.specs.declared.cell.Cell.{Cell}
+use Rattle.pattern_cells.specs.Cells.{is_sorted, are_nonzero, are_states_below}
 use Rattle.multistate_rle.specs.Bounds.{BoundsValue, bounds_of, in_box}
-use Rattle.multistate_rle.specs.Pattern.{RlePattern, are_sorted, are_alive, are_within}
+use Rattle.pattern_cells.specs.Pattern.{RlePattern, are_sorted, are_alive, are_within}
 use Rattle.std.specs.List.{list_all, enumerate_from}
 use Rattle.multistate_rle.specs.Bytes.{ends_line}
 use Rattle.multistate_rle.specs.Header.{header_of}

@@ -5,7 +5,7 @@ use Rattle.multistate_rle.specs.declared.fault.RleFault.TheVariants.{Header}
 use Rattle.multistate_rle.specs.Bytes.{ends_line}
 use Rattle.multistate_rle.specs.Header.{header_of}
 use Rattle.multistate_rle.specs.HeaderLine.{HasNoHeader}
-use Rattle.multistate_rle.specs.Pattern.{RlePattern}
+use Rattle.pattern_cells.specs.Pattern.{RlePattern}
 use Rattle.multistate_rle.specs.Position.{origin_from, no_items}
 use Rattle.multistate_rle.specs.Tokens.{Token, cells_drawn}
 use Rattle.multistate_rle.specs.Reading.{Mark, bytes_of, start, AreFine, pattern_of}

@@ -3,14 +3,14 @@
 use Rattle.std.specs.Prelude.{ℕ, ◌+◌, ◌-◌, ◌*◌, ◌^◌, Bool, false, not, ◌||◌, ◌&&◌, List, [], ◌∷◌, map, length, nat_lt, nat_le, ◌==◌, if◌then◌else◌, filter, Option, Some, None, Result, Ok, Err, fold, max, unwrap_or, ⊤, ◌≡◌}
 use Rattle.std.specs.List.{list_all, enumerate_from, slice_split, flat_map}
 use Rattle.generations_rule.specs.Refusal.{when, first_of, ◌>>=◌}
-use Rattle.multistate_rle.specs.declared.pattern.PatternCell.{PatternCell}
+use Rattle.pattern_cells.specs.declared.pattern.PatternCell.{PatternCell}
 use Rattle.multistate_rle.specs.declared.fault.RleFault.{RleFault}
 use Rattle.multistate_rle.specs.declared.fault.RleFault.TheVariants.{Header, Tag, Count, State, TooMany}
 use Rattle.multistate_rle.specs.Role.{RoleValue}
 use Rattle.multistate_rle.specs.Role as role
 use Rattle.multistate_rle.specs.Bytes.{is_decimal_digit, is_space_or_tab, ends_line}
 use Rattle.multistate_rle.specs.Tokens.{Token, Cells, Rows, cells_drawn}
-use Rattle.multistate_rle.specs.Pattern.{RlePattern}
+use Rattle.pattern_cells.specs.Pattern.{RlePattern}
 use Rattle.multistate_rle.specs.Header.{header_of}
 use Rattle.multistate_rle.specs.Position.{OriginValue, origin_from, no_items, origin_in}
 

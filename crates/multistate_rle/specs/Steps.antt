@@ -3,7 +3,7 @@ use Rattle.std.specs.Prelude.{◌≤◌, drop, ◌≡◌, ◌⊎◌, ℕ, List, 
 use Rattle.generations_rule.specs.Refusal.{◌>>=◌}
 use Rattle.multistate_rle.specs.declared.fault.RleFault.{RleFault}
 use Rattle.multistate_rle.specs.declared.fault.RleFault.TheVariants.{Memory}
-use Rattle.multistate_rle.specs.declared.pattern.PatternCell.{PatternCell}
+use Rattle.pattern_cells.specs.declared.pattern.PatternCell.{PatternCell}
 use Rattle.multistate_rle.specs.declared.tokens.TokenReader.{TokenReader}
 use Rattle.multistate_rle.specs.declared.role.Role as declared
 use Rattle.multistate_rle.specs.declared.role.Role.TheVariants as code

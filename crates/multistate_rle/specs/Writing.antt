@@ -3,7 +3,7 @@ use Rattle.std.specs.Prelude.{◌≡◌, ℕ, ◌+◌, List, [], ◌∷◌, ◌+
 use Rattle.std.specs.Fmt.{signed_decimal}
 use Rattle.generations_rule.specs.Rule.{GenerationsRule}
 use Rattle.generations_rule.specs.RuleText.{text_of}
-use Rattle.multistate_rle.specs.declared.cell.Cell.{Cell}
+use Rattle.pattern_cells.specs.declared.cell.Cell.{Cell}
 use Rattle.multistate_rle.specs.Bounds.{BoundsValue, bounds_of, in_box}
 use Rattle.multistate_rle.specs.Letters.{LettersValue, letters_of, letters_text, plain}
 use Rattle.multistate_rle.specs.Tokens.{Token, Cells, Rows, IsTokensOf, tokens_from}

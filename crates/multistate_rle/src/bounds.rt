@@ -4,7 +4,7 @@ ghost use Rattle.std.specs.Prelude.{◌≡◌, ◌∷◌, []};
 ghost use Rattle.std.specs.Int.{int_min, int_max};
 ghost use Rattle.multistate_rle.specs.Bounds.{bounds_of, span_of};
 
-use crate::cell::Cell;
+use pattern_cells::Cell;
 use std::marker::Model;
 
 /// The least box that holds all cells: its corner, and its sides, which can reach 2^32. Without

@@ -7,7 +7,6 @@
 
 mod ahead;
 mod bounds;
-mod cell;
 mod fault;
 mod header;
 mod laws;
@@ -16,7 +15,6 @@ mod line;
 mod lines;
 mod numbers;
 mod origin;
-mod pattern;
 mod reading;
 mod role;
 mod scan;
@@ -25,12 +23,10 @@ mod word;
 mod writable;
 mod writing;
 
-pub use cell::Cell;
 pub use fault::RleFault;
 pub use laws::{reading_laws, token_laws};
 pub use numbers::{number, signed};
-pub use pattern::{Pattern, PatternCell};
 pub use reading::parse;
 pub use word::split_word;
-pub use writable::{are_below, are_writable};
+pub use writable::are_writable;
 pub use writing::write;

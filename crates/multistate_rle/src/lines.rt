@@ -7,8 +7,8 @@ ghost use Rattle.multistate_rle.specs.Letters.{letters_text};
 ghost use Rattle.multistate_rle.specs.Tokens.{Cells, Rows, gap, tokens_from, skip};
 
 use crate::letters::Letters;
-use crate::pattern::PatternCell;
 use itoa::Buffer;
+use pattern_cells::PatternCell;
 use std::alloc::AllocError;
 
 /// The greatest length of a line.

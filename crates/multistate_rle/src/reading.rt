@@ -12,9 +12,9 @@ use crate::fault::RleFault;
 use crate::header::header;
 use crate::line::LineProgress;
 use crate::origin::{self, Items, Origin};
-use crate::pattern::Pattern;
 use crate::scan;
 use crate::tokens::{Onward, TokenReader};
+use pattern_cells::Pattern;
 use std::alloc::Global;
 
 /// The pattern that a text in Golly's multi-state RLE spells, or what is wrong with the text; the
@@ -31,13 +31,13 @@ pub fn parse(alloc: Global, text: &[u8]) -> Result<Pattern, RleFault>
         return Err(RleFault::Header);
     };
     let drawn = body(alloc, text, front.body)?;
-    Ok(Pattern {
-        width: front.width.max(drawn.width),
-        height: front.height.max(drawn.height),
-        pos: front.origin.pos,
-        generation: front.origin.generation,
-        cells: drawn.cells,
-    })
+    Ok(Pattern::new(
+        front.width.max(drawn.width),
+        front.height.max(drawn.height),
+        front.origin.pos,
+        front.origin.generation,
+        drawn.cells,
+    ))
 }
 
 /// What stands before the tokens: the origin, the header's sides, and where the next line begins.

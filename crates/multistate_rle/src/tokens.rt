@@ -10,8 +10,8 @@ ghost use Rattle.multistate_rle.specs.Tokens.{Cells, Rows, run, cells_in_row};
 use crate::ahead::token_at;
 use crate::fault::RleFault;
 use crate::numbers::{COUNT_LIMIT, longer_count};
-use crate::pattern::PatternCell;
 use crate::role::Role;
+use pattern_cells::PatternCell;
 use std::alloc::{AllocError, Global};
 use std::marker::Model;
 

@@ -2,10 +2,11 @@
 
 ghost use Rattle.std.specs.Prelude.{◌≡◌, ◌∷◌};
 ghost use Rattle.generations_rule.specs.Place.{is_before};
-ghost use Rattle.multistate_rle.specs.Cells.{place_of, may_be_written, is_sorted, are_nonzero, are_states_below};
+ghost use Rattle.multistate_rle.specs.Cells.{may_be_written};
+ghost use Rattle.pattern_cells.specs.Cells.{place_of, is_sorted, are_nonzero, are_states_below};
 
-use crate::cell::Cell;
 use generations_rule::Rule;
+use pattern_cells::{Cell, are_below};
 
 /// Whether `write` takes these cells under this rule: sorted by `y`, then `x`, each coordinate once,
 /// none in state 0, and all below the rule's number of states.
@@ -47,11 +48,4 @@ fn are_alive(cells: &[Cell]) -> bool
     ensures { result ≡ are_nonzero cells.now }
 {
     cells.iter().all(|cell| cell.state != 0)
-}
-
-/// Whether all states are below a number of states.
-pub fn are_below(states: u16, cells: &[Cell]) -> bool
-    ensures { result ≡ are_states_below states cells.now }
-{
-    cells.iter().all(|cell| u16::from(cell.state) < states)
 }

@@ -2,19 +2,18 @@
 
 ghost use Rattle.std.specs.Prelude.{◌≡◌, ◌<◌, ◌==◌, ◌++◌, ◌∷◌, [], IfOk, OnOk, true, map, codes, decimal};
 ghost use Rattle.std.specs.Fmt.{signed_decimal};
-ghost use Rattle.multistate_rle.specs.Cells.{is_sorted, are_nonzero, are_states_below};
+ghost use Rattle.pattern_cells.specs.Cells.{is_sorted, are_nonzero, are_states_below};
 ghost use Rattle.multistate_rle.specs.Writing.{text_of_cells, head_lines, body, token_text};
 ghost use Rattle.multistate_rle.specs.Bounds.{seen_from, in_box};
 ghost use Rattle.multistate_rle.specs.Tokens.{tokens_from};
 ghost use Rattle.multistate_rle.specs.Filling.{WritesPieces};
 
 use crate::bounds::{Bounds, bounds_of};
-use crate::cell::Cell;
 use crate::letters::Letters;
 use crate::lines::{LineWriter, WritingPen};
-use crate::pattern::PatternCell;
 use generations_rule::Rule;
 use itoa::Buffer;
+use pattern_cells::{Cell, PatternCell};
 use std::alloc::{AllocError, Global};
 
 /// The text of nonzero cells at a generation, in Golly's multi-state RLE under a rule: a `#CXRLE`

@@ -1,7 +1,9 @@
-//! Tests of `square_store`, over leaves of two kinds, of `stamped_tree`, `tree_join` and
-//! `delta_exchange`.
+//! Tests of `square_store`, over leaves of two kinds, of `stamped_tree`, `tree_join`,
+//! `cell_changes` and `delta_exchange`.
 #![tactic(auto)]
 
+#[cfg(test)]
+mod changes;
 #[cfg(test)]
 mod joins;
 #[cfg(test)]

@@ -21,7 +21,7 @@ use board::{BoardReader, Front};
 use edit_stamps::Edit;
 use generations_rule::Rule;
 use inbox::{Post, Refused};
-use multistate_rle::are_below;
+use pattern_cells::are_below;
 use receipts::{Answer, Pending};
 use std::alloc::Global;
 use std::sync::{Arc, Wait};

@@ -2,7 +2,7 @@
 
 use edit_stamps::Rect;
 use lists::ListOf;
-use multistate_rle::{Cell, Pattern};
+use pattern_cells::{Cell, Pattern};
 
 /// What is to be drawn.
 #[derive(Debug, Drop)]

@@ -2,7 +2,8 @@
 
 use edit_stamps::{Cell, Corner, Edit, EditFault, Rect, Stamp, Write};
 use generations_rule::Rule;
-use multistate_rle::{Pattern, parse};
+use multistate_rle::parse;
+use pattern_cells::Pattern;
 use std::alloc::{AllocError, Global};
 
 /// How far from their centre edits are drawn, in columns and rows.

@@ -8,8 +8,8 @@ use Rattle.std.proofs.lemmas.Bool.Decides.{nat_tests}
 use Rattle.std.proofs.lemmas.List.Sorted.{Contains-permutation, IsPermutation-sym}
 use Rattle.std.proofs.lemmas.Map.Keys.{IsDistinct-IsPermutation}
 use Rattle.generations_rule.specs.Place.{Place, is_before, is_place}
-use Rattle.multistate_rle.specs.declared.cell.Cell.{Cell}
-use Rattle.multistate_rle.specs.Cells.{place_of, is_sorted, are_nonzero}
+use Rattle.pattern_cells.specs.declared.cell.Cell.{Cell}
+use Rattle.pattern_cells.specs.Cells.{place_of, is_sorted, are_nonzero}
 use Rattle.edit_stamps.specs.Edit.{listed}
 use Rattle.stamped_writes.specs.Write.{Writes}
 use Rattle.square_store.specs.Grid.{Grid}

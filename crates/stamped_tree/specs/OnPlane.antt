@@ -1,5 +1,5 @@
 -- An edit, by the columns and rows of the plane.
-use Rattle.multistate_rle.specs.declared.cell.Cell.{Cell}
+use Rattle.pattern_cells.specs.declared.cell.Cell.{Cell}
 use Rattle.edit_stamps.specs.Edit.{PlaneEdit, writes_of}
 use Rattle.square_store.specs.Grid.{Grid}
 use Rattle.stamped_tree.specs.declared.cells.ListedCell.{ListedCell}

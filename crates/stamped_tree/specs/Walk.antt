@@ -2,8 +2,8 @@
 use Rattle.std.specs.Prelude.{◌≡◌, ◌≢◌, ◌⊎◌, ℕ, ◌+◌, ◌-◌, ◌*◌, ◌<◌, ◌≤◌, Bool, false, ◌&&◌, ◌==◌, nat_lt, pos, ◌+ℤ◌, List, Contains, unwrap_or, IsTrue}
 use Rattle.std.specs.List.{IsDistinct}
 use Rattle.generations_rule.specs.Place.{Place}
-use Rattle.multistate_rle.specs.declared.cell.Cell.{Cell}
-use Rattle.multistate_rle.specs.Cells.{is_sorted, are_nonzero}
+use Rattle.pattern_cells.specs.declared.cell.Cell.{Cell}
+use Rattle.pattern_cells.specs.Cells.{is_sorted, are_nonzero}
 use Rattle.edit_stamps.specs.Edit.{listed}
 use Rattle.edit_stamps.specs.Plane.{least}
 use Rattle.stamped_writes.specs.Write.{Writes}

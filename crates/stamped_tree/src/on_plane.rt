@@ -12,7 +12,7 @@ ghost use Rattle.stamped_tree.specs.Tree.{plane_corner};
 use crate::area::Area;
 use crate::cells::ListedCell;
 use edit_stamps::Rect;
-use multistate_rle::Cell;
+use pattern_cells::Cell;
 use std::alloc::{AllocError, Global};
 
 /// The least coordinate of the plane.

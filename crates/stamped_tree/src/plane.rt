@@ -28,7 +28,7 @@ use edit_stamps::{Edit, Write};
 use indexmap::IndexMap;
 use keyed_hash::HashKey;
 use leaf_merge_lanes::Leaf;
-use multistate_rle::Cell;
+use pattern_cells::Cell;
 use square_store::{Part, Store, StoreFault};
 use std::alloc::{AllocError, Global};
 use std::marker::Model;

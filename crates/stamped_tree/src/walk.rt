@@ -12,7 +12,7 @@ use crate::area::side_of;
 use crate::cells::ListedCell;
 use crate::corner::Corner;
 use crate::leaf_kind::PlaneLeaf;
-use multistate_rle::Cell;
+use pattern_cells::Cell;
 use square_store::{Part, Square, Store};
 use std::alloc::{AllocError, Global};
 

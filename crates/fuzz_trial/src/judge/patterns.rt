@@ -2,7 +2,8 @@
 
 use crate::slow::patterns::{SlowPattern, pattern};
 use crate::verdict::{Verdict, accepted_if, refused_if};
-use multistate_rle::{Pattern, RleFault, parse};
+use multistate_rle::{RleFault, parse};
+use pattern_cells::Pattern;
 use std::alloc::{AllocError, Global};
 
 /// The verdict on an RLE text.

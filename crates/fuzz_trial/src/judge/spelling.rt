@@ -2,7 +2,7 @@
 
 use edit_stamps::Rect;
 use genedit_script::{Command, Paste, Script};
-use multistate_rle::Cell;
+use pattern_cells::Cell;
 use replica_events::{EditSpec, Event};
 use std::alloc::{AllocError, Global};
 

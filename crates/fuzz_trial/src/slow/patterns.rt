@@ -2,7 +2,8 @@
 
 use crate::slow::lines::{is_blank, words};
 use crate::slow::rules::{number, signed};
-use multistate_rle::{PatternCell, RleFault};
+use multistate_rle::RleFault;
+use pattern_cells::PatternCell;
 use std::alloc::{AllocError, Global};
 
 /// The most nonzero cells.

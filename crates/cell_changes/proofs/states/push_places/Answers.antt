@@ -1,5 +1,5 @@
 use Rattle.std.proofs.Common.{◌∙◌, ◌++◌, ◌∷◌, [], ap, refl, arith, pos}
-use Rattle.multistate_rle.specs.declared.cell.Cell.{Cell}
+use Rattle.pattern_cells.specs.declared.cell.Cell.{Cell}
 use Rattle.stamped_tree.specs.Plane.{map_of}
 use Rattle.cell_changes.proofs.Putting.{next_place}
 use Rattle.cell_changes.proofs.states.push_places.Goals as goal

@@ -1,7 +1,7 @@
 use Rattle.std.proofs.Common.{◌≡◌, ◌+◌, ap, sym, pos, List, [], map, drop, get_or}
 use Rattle.std.proofs.Math.ListN.{drop_of_length-le}
-use Rattle.multistate_rle.specs.declared.cell.Cell.{Cell}
-use Rattle.multistate_rle.specs.Cells.{place_of}
+use Rattle.pattern_cells.specs.declared.cell.Cell.{Cell}
+use Rattle.pattern_cells.specs.Cells.{place_of}
 use Rattle.cell_pictures.specs.Runs.{cells_of_state}
 use Rattle.cell_pictures.proofs.PathLaws.{begun_on, begun_as, path_ended, seen_here, seen_later}
 use Rattle.cell_pictures.proofs.svg.push_path.Goals as goal

@@ -1,5 +1,5 @@
 use Rattle.std.proofs.Common.{drop, map}
-use Rattle.multistate_rle.specs.Cells.{place_of}
+use Rattle.pattern_cells.specs.Cells.{place_of}
 use Rattle.cell_pictures.specs.Paths.{IsPathBegun}
 use Rattle.cell_pictures.specs.Runs.{cells_of_state}
 use Rattle.cell_pictures.proofs.svg.push_path.Given as goal

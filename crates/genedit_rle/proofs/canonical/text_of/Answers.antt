@@ -1,6 +1,6 @@
 use Rattle.std.proofs.Common.{◌∙◌, ap}
-use Rattle.multistate_rle.specs.Cells.{are_states_below, are_nonzero, is_sorted}
-use Rattle.multistate_rle.specs.Pattern.{are_alive, are_sorted}
+use Rattle.pattern_cells.specs.Cells.{are_states_below, are_nonzero, is_sorted}
+use Rattle.pattern_cells.specs.Pattern.{are_alive, are_sorted}
 use Rattle.edit_stamps.specs.Pasting.{are_placeable, placed}
 use Rattle.edit_stamps.proofs.PastingLaws.{alive_placed, sorted_placed}
 use Rattle.genedit_rle.proofs.PlacedLaws.{below, placeable}

@@ -4,8 +4,8 @@ use Rattle.multistate_rle.proofs.FrontLemmas.{ReadsPattern, reads_pattern, IsRef
 use Rattle.multistate_rle.proofs.HeaderlessLaws.{refuses_without_header}
 use Rattle.multistate_rle.proofs.reading.parse.Goals as goal
 
-pub invariant_of-result : goal.invariant_of-result
-invariant_of-result c =
+pub new-requires : goal.new-requires
+new-requires c =
     let drawn = c.in_ok-drawn.drawn in
     (subst (λ (front : Front). ReadsPattern c.args.text.now drawn c.max.result c.max-2.result front) (sym c.front.view_is)
     (reads_pattern c.args.text.now drawn c.max.result c.max-2.result c.in-Some.front drawn.wide drawn.high c.in-Some.ensures) c.max.ensures c.max-2.ensures c.in_ok-drawn.ensures).0
@@ -13,8 +13,8 @@ invariant_of-result c =
 pub returns-clause-answers : goal.returns-clause-answers
 returns-clause-answers c =
     let drawn = c.in_ok-drawn.drawn in
-    (subst (λ (front : Front). ReadsPattern c.args.text.now drawn c.max.result c.max-2.result front) (sym c.front.view_is)
-    (reads_pattern c.args.text.now drawn c.max.result c.max-2.result c.in-Some.front drawn.wide drawn.high c.in-Some.ensures) c.max.ensures c.max-2.ensures c.in_ok-drawn.ensures).1
+    rw c.new.ensures ((subst (λ (front : Front). ReadsPattern c.args.text.now drawn c.max.result c.max-2.result front) (sym c.front.view_is)
+    (reads_pattern c.args.text.now drawn c.max.result c.max-2.result c.in-Some.front drawn.wide drawn.high c.in-Some.ensures) c.max.ensures c.max-2.ensures c.in_ok-drawn.ensures).1)
 
 pub returns-in_default-clause-no_header : goal.returns-in_default-clause-no_header
 returns-in_default-clause-no_header c = (λ none. refl, λ told. (refuses_without_header c.args.text.now).1 c.in_default.ensures)

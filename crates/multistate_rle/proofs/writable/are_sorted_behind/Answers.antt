@@ -1,8 +1,8 @@
 use Rattle.std.proofs.Common.{◌≡◌, ◌∙◌, ap, refl, ℕ, ◌+◌, ◌<◌, List, ◌∷◌, length, drop, get_or, drop-cons, add-one}
 use Rattle.std.specs.Prelude.{Bool, ◌&&◌}
 use Rattle.generations_rule.specs.Place.{is_before}
-use Rattle.multistate_rle.specs.declared.cell.Cell.{Cell}
-use Rattle.multistate_rle.specs.Cells.{is_sorted, place_of}
+use Rattle.pattern_cells.specs.declared.cell.Cell.{Cell}
+use Rattle.pattern_cells.specs.Cells.{is_sorted, place_of}
 use Rattle.multistate_rle.proofs.writable.are_sorted_behind.Goals as goal
 
 -- how the next cell stands behind the last, and then the rest

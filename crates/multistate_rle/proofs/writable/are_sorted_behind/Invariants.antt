@@ -1,5 +1,5 @@
 use Rattle.std.proofs.Common.{◌≡◌, ◌∷◌, drop}
-use Rattle.multistate_rle.specs.Cells.{is_sorted}
+use Rattle.pattern_cells.specs.Cells.{is_sorted}
 use Rattle.multistate_rle.proofs.writable.are_sorted_behind.Given as goal
 
 abbrev pub invariant-loop-cell : goal.invariant-loop-cell

@@ -1,5 +1,5 @@
 use Rattle.std.proofs.Common.{◌≡◌, List, sym, subst, ◌∙◌, ap, map}
-use Rattle.multistate_rle.specs.declared.cell.Cell.{Cell}
+use Rattle.pattern_cells.specs.declared.cell.Cell.{Cell}
 use Rattle.std.specs.Prelude.{filter}
 use Rattle.edit_stamps.specs.Making.{settled}
 use Rattle.stamped_tree.specs.Plane.{map_of}

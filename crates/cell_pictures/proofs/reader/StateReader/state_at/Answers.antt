@@ -1,7 +1,7 @@
 use Rattle.std.proofs.Common.{◌≡◌, ◌∙◌, ap, w32, to_z, of_z, List}
 use Rattle.std.proofs.lemmas.Int.{to_z-of_z}
 use Rattle.generations_rule.specs.Place.{Place, at_place}
-use Rattle.multistate_rle.specs.declared.cell.Cell.{Cell}
+use Rattle.pattern_cells.specs.declared.cell.Cell.{Cell}
 use Rattle.cell_pictures.specs.Shown.{state_at}
 use Rattle.cell_pictures.specs.Reader.{first_state, from_place}
 use Rattle.cell_pictures.proofs.ReaderLaws.{first_is, from_sorted, from_states}

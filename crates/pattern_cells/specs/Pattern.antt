@@ -1,7 +1,7 @@
 -- A pattern: a box, a position, a generation, and the nonzero cells in the box, by row, then column.
 use Rattle.std.specs.Prelude.{◌≡◌, ℕ, ◌≤◌, ◌^◌, ℤ, Bool, true, not, ◌||◌, ◌&&◌, List, [], ◌∷◌, length, nat_lt, ◌==◌}
 use Rattle.std.specs.List.{list_all}
-use Rattle.multistate_rle.specs.declared.pattern.PatternCell.{PatternCell}
+use Rattle.pattern_cells.specs.declared.pattern.PatternCell.{PatternCell}
 
 pub record RlePattern : Type 0 where
   pub width : ℕ

@@ -1,9 +1,9 @@
 //! Strokes and clears on a small board, told by what they change.
 
-use crate::watched::Watched;
+use cell_changes::Watched;
 use edit_stamps::{Edit, EditFault, Rect, Stamp};
 use generations_rule::Rule;
-use multistate_rle::Cell;
+use pattern_cells::Cell;
 use stamped_tree::{Plane, StoreFault};
 use std::alloc::Global;
 use std::test::Fail;

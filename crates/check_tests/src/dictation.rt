@@ -1,7 +1,6 @@
 //! What lines come to, by the names of the commands in them.
 
-use crate::command::{ClientCommand, FileName, Placement};
-use crate::dictation::{Dictation, Heard};
+use client_commands::{ClientCommand, Dictation, FileName, Heard, Placement};
 use replica_events::EditSpec;
 use std::alloc::{AllocError, Global};
 use std::test::Fail;

@@ -18,15 +18,15 @@ pub struct PatternCell {
 /// which generation.
 #[derive(Debug, Drop)]
 pub struct Pattern {
-    pub(crate) width: u64,
-    pub(crate) height: u64,
-    pub(crate) pos: (i32, i32),
-    pub(crate) generation: u64,
-    pub(crate) cells: Vec<PatternCell>,
+    width: u64,
+    height: u64,
+    pos: (i32, i32),
+    generation: u64,
+    cells: Vec<PatternCell>,
 }
 
 impl Model for Pattern {
-    ghost use Rattle.multistate_rle.specs.Pattern.{RlePattern, IsPattern};
+    ghost use Rattle.pattern_cells.specs.Pattern.{RlePattern, IsPattern};
 
     ghost Value = { RlePattern };
 
@@ -36,7 +36,28 @@ impl Model for Pattern {
 }
 
 impl Pattern {
-    ghost use Rattle.multistate_rle.specs.Pattern.{RlePattern, IsPattern};
+    ghost use Rattle.pattern_cells.specs.Pattern.{RlePattern, IsPattern};
+
+    /// The pattern of these cells: sorted by row, then column, each place once, none in state 0, at
+    /// most 2^20, all in a box with sides of at most 2^32.
+    pub fn new(
+        width: u64,
+        height: u64,
+        pos: (i32, i32),
+        generation: u64,
+        cells: Vec<PatternCell>,
+    ) -> Pattern
+        requires { IsPattern (record { width = width; height = height; pos = pos; generation = generation; cells = cells.items }) }
+        ensures { result ≡ record { width = width; height = height; pos = pos; generation = generation; cells = cells.items } }
+    {
+        Pattern {
+            width,
+            height,
+            pos,
+            generation,
+            cells,
+        }
+    }
 
     /// Columns of the box, at most 2^32.
     pub fn width(&self) -> u64
