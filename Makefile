@@ -1,7 +1,7 @@
-.PHONY: test run look build bench memory trial
+.PHONY: test run look build bench memory fuzz trial
 
-# How many checks run at a time: one a processor, or fewer, so that each can have 4 GB. The most that
-# one has taken is 3.3.
+# How many checks of the gate run at a time: one a processor, or fewer, so that each can have 4 GB. The
+# most that one has taken is 3.3.
 JOBS := $(shell awk -v most="$$(nproc)" '/^MemAvailable/ { n = int($$2 / 4000000); \
 	print n < 1 ? 1 : n < most ? n : most }' /proc/meminfo)
 
@@ -10,10 +10,10 @@ PROGRAM := crates/genedit/out/genedit
 
 # Everything that must pass: each crate's proofs and tests from nothing, the edits that the prover
 # must refuse, each program's stored run, and then the example scripts through the built program.
-# The last line is `N passed, M failed`, of all of them. The prover's memory comes in large pages where
-# the system has them to give, which spares it some of its time.
+# It says what it is at; the last line is `N passed, M failed`, of all of them. The prover's memory comes in
+# large pages where the system has them to give, which spares it some of its time.
 test:
-	@examples/count env GLIBC_TUNABLES=glibc.malloc.hugetlb=1 RT_JOBS=$(JOBS) rt ci
+	@GLIBC_TUNABLES=glibc.malloc.hugetlb=1 RT_JOBS=$(JOBS) examples/count
 
 # Runs `genedit` on its stored script: the proved program, where it stands and is no older than its
 # sources; else an unproved one that is made in a minute or two, which is said on standard error.
@@ -25,7 +25,7 @@ run:
 look:
 	@examples/look "$(SCRIPT)"
 
-# Proves the program and all that it stands on, and builds it: a line for each crate that is done.
+# Proves the program and all that it stands on, in a copy, and builds it: a line for each crate that is done.
 build: $(PROGRAM)
 
 # What is proved and built with the program: all that the gate reads of the crates, tests and programs
@@ -36,8 +36,7 @@ SOURCES := $(shell find crates -name out -prune -o -name trials -prune -o -name 
 	-o \( -name '*.rt' -o -name '*.antt' -o -name src -o -name specs -o -name proofs \) -print)
 
 $(PROGRAM): $(SOURCES) crates.txt HANDLES
-	@examples/build $(JOBS)
-	@touch $@
+	@examples/build
 
 # Measures; asserts nothing: scripts through the program, how costs grow, and what no script reaches.
 bench:

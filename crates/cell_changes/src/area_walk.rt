@@ -32,6 +32,7 @@ pub fn push_covered(
 }
 
 /// Puts those of a square last, so many levels above a leaf.
+#[cycle(walk)]
 fn push_square(
     square: &Square<'_>,
     above: u32,
@@ -46,18 +47,36 @@ fn push_square(
     ensures { OnOk result ((map : Writes) → IsSquareOfMap map square.now.store above square.now.part corner.left corner.top
         → PutsSquare map (IsSoughtOn map areas.now (side_at 8 above) corner.left corner.top) cells.old.items cells.new.items) }
 {
-    let Corner { left, top } = corner;
     let alloc = *cells.allocator();
-    let listed = areas_on_square(alloc, areas, left, top, side_of(above))?;
-    let near = listed.as_slice();
+    let near = areas_on_square(alloc, areas, corner.left, corner.top, side_of(above))?;
     if near.is_empty() {
         return Ok(());
     }
+    push_met(square, above, corner, &near, cells)
+}
+
+/// The same, of areas that all meet the square.
+#[cycle(walk)]
+fn push_met(
+    square: &Square<'_>,
+    above: u32,
+    corner: Corner,
+    areas: &[Rect],
+    cells: &mut Vec<Cell>,
+) -> Result<(), AllocError>
+    requires above { above ≤ 28 }
+    requires stands { IsAt square.now.store above square.now.part }
+    requires left { corner.left + side_at 8 above ≤ 2147483648 }
+    requires top { corner.top + side_at 8 above ≤ 2147483648 }
+    ensures { OnOk result ((map : Writes) → IsSquareOfMap map square.now.store above square.now.part corner.left corner.top
+        → PutsSquare map (IsSoughtOn map areas.now (side_at 8 above) corner.left corner.top) cells.old.items cells.new.items) }
+{
     match square.view() {
         View::Blank(_) => Ok(()),
-        View::Leaf(leaf) => push_leaf(leaf, corner, near, cells),
+        View::Leaf(leaf) => push_leaf(leaf, corner, areas, cells),
         View::Four { nw, ne, sw, se } => {
             let half = side_of(above - 1);
+            let Corner { left, top } = corner;
             let east = left + half;
             let south = top + half;
             let to_east = Corner { left: east, top };
@@ -66,10 +85,10 @@ fn push_square(
                 left: east,
                 top: south,
             };
-            push_square(&nw, above - 1, corner, near, cells)?;
-            push_square(&ne, above - 1, to_east, near, cells)?;
-            push_square(&sw, above - 1, to_south, near, cells)?;
-            push_square(&se, above - 1, to_both, near, cells)
+            push_square(&nw, above - 1, corner, areas, cells)?;
+            push_square(&ne, above - 1, to_east, areas, cells)?;
+            push_square(&sw, above - 1, to_south, areas, cells)?;
+            push_square(&se, above - 1, to_both, areas, cells)
         }
     }
 }

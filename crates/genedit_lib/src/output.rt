@@ -1,6 +1,7 @@
 //! What is printed.
 
-ghost use Rattle.std.specs.Prelude.{◌≡◌, ◌++◌, OnErr, OnOk, IfOk, codes, decimal, map};
+ghost use Rattle.std.specs.Prelude.{◌≡◌, ◌++◌, OnErr, OnOk, IfOk, codes, decimal, length, map};
+ghost use Rattle.std.specs.Fmt.{signed_decimal};
 ghost use mathlib.Core.List.{IsPrefix};
 ghost use Rattle.hex.specs.Hex.{encode_lower};
 ghost use Rattle.multistate_rle.specs.RleFault.{text_fault_number, text_fault_text};
@@ -46,23 +47,30 @@ pub fn pattern_text(alloc: Global, name: &[u8], pattern: &Pattern) -> Result<Tex
     ensures { IfOk result (λ text. text ≡ pattern_line name.now pattern.now) }
 {
     let mut text = Vec::new(alloc);
-    let mut buffer = Buffer::new();
-    let (x, y) = pattern.pos();
     text.extend_from_slice(b"pattern ")?;
     text.extend_from_slice(name)?;
-    text.push(b' ')?;
-    text.extend_from_slice(buffer.format(pattern.width()).as_bytes())?;
-    text.push(b' ')?;
-    text.extend_from_slice(buffer.format(pattern.height()).as_bytes())?;
-    text.push(b' ')?;
-    text.extend_from_slice(buffer.format(pattern.cells().len()).as_bytes())?;
-    text.push(b' ')?;
-    text.extend_from_slice(buffer.format(x).as_bytes())?;
-    text.push(b' ')?;
-    text.extend_from_slice(buffer.format(y).as_bytes())?;
-    text.push(b' ')?;
-    text.extend_from_slice(buffer.format(pattern.generation()).as_bytes())?;
+    push_box(&mut text, pattern)?;
+    push_origin(&mut text, pattern)?;
     Ok(Text::of_vec(text))
+}
+
+/// Width, height and number of nonzero cells, a blank before each.
+fn push_box(out: &mut Vec<u8>, pattern: &Pattern) -> Result<(), AllocError>
+    ensures { OnOk result (out.new.items ≡ out.old.items ++ (codes " " ++ decimal pattern.now.width ++ codes " " ++ decimal pattern.now.height ++ codes " " ++ decimal (length pattern.now.cells))) }
+{
+    push_apart(out, pattern.width())?;
+    push_apart(out, pattern.height())?;
+    push_apart(out, pattern.cells().len() as u64)
+}
+
+/// Position and generation, a blank before each number.
+fn push_origin(out: &mut Vec<u8>, pattern: &Pattern) -> Result<(), AllocError>
+    ensures { OnOk result (out.new.items ≡ out.old.items ++ (codes " " ++ signed_decimal pattern.now.pos.0 ++ codes " " ++ signed_decimal pattern.now.pos.1 ++ codes " " ++ decimal pattern.now.generation)) }
+{
+    let (x, y) = pattern.pos();
+    push_coordinate(out, x)?;
+    push_coordinate(out, y)?;
+    push_apart(out, pattern.generation())
 }
 
 /// The refusal of a text that is no pattern.
@@ -175,4 +183,20 @@ fn push_number(out: &mut Vec<u8>, number: u64) -> Result<(), AllocError>
     ensures kept { OnErr result (IsPrefix out.old.items out.new.items) }
 {
     out.extend_from_slice(Buffer::new().format(number).as_bytes())
+}
+
+/// A blank, and a number.
+fn push_apart(out: &mut Vec<u8>, number: u64) -> Result<(), AllocError>
+    ensures { OnOk result (out.new.items ≡ out.old.items ++ (codes " " ++ decimal number)) }
+{
+    out.push(b' ')?;
+    push_number(out, number)
+}
+
+/// A blank, and a coordinate.
+fn push_coordinate(out: &mut Vec<u8>, coordinate: i32) -> Result<(), AllocError>
+    ensures { OnOk result (out.new.items ≡ out.old.items ++ (codes " " ++ signed_decimal coordinate)) }
+{
+    out.push(b' ')?;
+    out.extend_from_slice(Buffer::new().format(coordinate).as_bytes())
 }

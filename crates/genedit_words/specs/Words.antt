@@ -99,6 +99,17 @@ top_app = record {
   subs = [];
 }
 
+-- it with the commands for scripts and texts
+abbrev pub text_app : App
+text_app = record {
+  top = record (new_shape (codes "genedit")) {
+    is_leaf = false;
+    has_version = true;
+    subcommand_required = true;
+  };
+  subs = run_shape ∷ check_shape ∷ rle_shape ∷ [];
+}
+
 -- `genedit` has a version and no arguments, and one of its subcommands has to be given
 abbrev pub genedit_app : App
 genedit_app = record {

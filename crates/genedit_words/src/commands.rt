@@ -1,9 +1,10 @@
 //! The commands of `genedit`, as `clap` reads them, with their help.
 
 ghost use Rattle.std.specs.Prelude.{◌≡◌, IfOk, false};
+ghost use Rattle.clap.specs.Simple.{new_app};
 ghost use Rattle.clap.specs.Words.{app_of, rule_of, shape_of};
 ghost use Rattle.clap.specs.declared.builder.command.Command.TheViews.{out-Command as fields_of};
-ghost use Rattle.genedit_words.specs.Words.{check_shape, every_option, file_argument, flag, gen_option, genedit_app, join_shape, option, optional, port_option, rle_shape, run_shape, serve_shape, sessions_option, top_app, view_shape};
+ghost use Rattle.genedit_words.specs.Words.{check_shape, every_option, file_argument, flag, gen_option, genedit_app, join_shape, option, optional, port_option, rle_shape, run_shape, serve_shape, sessions_option, text_app, top_app, view_shape};
 
 use clap::{Arg, ArgAction, Command, value_parser};
 use std::alloc::{AllocError, Global};
@@ -131,13 +132,21 @@ Examples:
 pub fn command<'a>(alloc: Global) -> Result<Command<'a>, AllocError>
     ensures { IfOk result (λ command. app_of command ≡ genedit_app) }
 {
-    let command = top_command(alloc)
-        .subcommand(run_command(alloc))?
-        .subcommand(check_command(alloc)?)?
-        .subcommand(rle_command(alloc)?)?
+    let command = text_commands(alloc)?
         .subcommand(view_command(alloc)?)?
         .subcommand(serve_command(alloc)?)?
         .subcommand(join_command(alloc)?)?;
+    Ok(command)
+}
+
+/// The command line with the subcommands for scripts and texts.
+fn text_commands<'a>(alloc: Global) -> Result<Command<'a>, AllocError>
+    ensures { IfOk result (λ command. (app_of command ≡ text_app) × ((fields_of command).has_globals ≡ false)) }
+{
+    let command = top_command(alloc)
+        .subcommand(run_command(alloc))?
+        .subcommand(check_command(alloc)?)?
+        .subcommand(rle_command(alloc)?)?;
     Ok(command)
 }
 
@@ -152,24 +161,38 @@ fn top_command<'a>(alloc: Global) -> Command<'a>
         .subcommand_required(true)
 }
 
+/// A subcommand with its line in the list of all, and its help.
+fn titled<'a>(alloc: Global, name: &'a str, about: &'a str, help: &'a str) -> Command<'a>
+    ensures app { app_of result ≡ new_app name.entry.now }
+    ensures local { (fields_of result).has_globals ≡ false }
+{
+    Command::new(alloc, name).about(about).after_help(help)
+}
+
 fn run_command<'a>(alloc: Global) -> Command<'a>
     ensures shape { shape_of result ≡ run_shape }
     ensures local { (fields_of result).has_globals ≡ false }
 {
-    Command::new(alloc, "run")
-        .about("Runs a script from standard input and prints what happened")
-        .override_usage("genedit run < SCRIPT")
-        .after_help(SCRIPT_HELP)
+    titled(
+        alloc,
+        "run",
+        "Runs a script from standard input and prints what happened",
+        SCRIPT_HELP,
+    )
+    .override_usage("genedit run < SCRIPT")
 }
 
 fn check_command<'a>(alloc: Global) -> Result<Command<'a>, AllocError>
     ensures shape { IfOk result (λ command. shape_of command ≡ check_shape) }
     ensures local { IfOk result (λ command. (fields_of command).has_globals ≡ false) }
 {
-    let command = Command::new(alloc, "check")
-        .about("Tells what is wrong with a script, each mistake with its place and its cure")
-        .after_help(CHECK_HELP)
-        .arg(file_argument(alloc))?;
+    let command = titled(
+        alloc,
+        "check",
+        "Tells what is wrong with a script, each mistake with its place and its cure",
+        CHECK_HELP,
+    )
+    .arg(file_argument(alloc))?;
     Ok(command)
 }
 
@@ -193,43 +216,43 @@ fn rle_command<'a>(alloc: Global) -> Result<Command<'a>, AllocError>
         "TEXT",
         "The rule S/B/C of the cells, as /2/3 or 345/2/4",
     );
-    Command::new(alloc, "rle")
-        .about("Prints an RLE text from standard input in canonical form")
-        .override_usage("genedit rle --rule <TEXT> < RLE")
-        .after_help(FORM_HELP)
-        .arg(rule)
+    titled(
+        alloc,
+        "rle",
+        "Prints an RLE text from standard input in canonical form",
+        FORM_HELP,
+    )
+    .override_usage("genedit rle --rule <TEXT> < RLE")
+    .arg(rule)
 }
 
 fn view_command<'a>(alloc: Global) -> Result<Command<'a>, AllocError>
     ensures shape { IfOk result (λ command. shape_of command ≡ view_shape) }
     ensures local { IfOk result (λ command. (fields_of command).has_globals ≡ false) }
 {
-    let rule = optional(
+    let command = titled(
+        alloc,
+        "view",
+        "Draws a picture of an RLE text or of a state",
+        VIEW_HELP,
+    )
+    .arg(file_argument(alloc))?
+    .arg(optional(
         alloc,
         "rule",
         "TEXT",
         "The rule S/B/C of the cells; else the one that the text tells",
-    );
-    let at = optional(
+    ))?
+    .arg(optional(
         alloc,
         "at",
         "X,Y",
         "The corner of the window, as --at=-3,4; with --size",
-    );
-    let size = optional(alloc, "size", "W,H", "The width and height of the window");
-    let generation = generation_argument(alloc);
-    let plain = flag(alloc, "plain", "Draws a character for each cell");
-    let svg = flag(alloc, "svg", "Draws an SVG");
-    let command = Command::new(alloc, "view")
-        .about("Draws a picture of an RLE text or of a state")
-        .after_help(VIEW_HELP)
-        .arg(file_argument(alloc))?
-        .arg(rule)?
-        .arg(at)?
-        .arg(size)?
-        .arg(generation)?
-        .arg(plain)?
-        .arg(svg)?;
+    ))?
+    .arg(optional(alloc, "size", "W,H", "The width and height of the window"))?
+    .arg(generation_argument(alloc))?
+    .arg(flag(alloc, "plain", "Draws a character for each cell"))?
+    .arg(flag(alloc, "svg", "Draws an SVG"))?;
     Ok(command)
 }
 
@@ -250,20 +273,20 @@ fn serve_command<'a>(alloc: Global) -> Result<Command<'a>, AllocError>
     ensures shape { IfOk result (λ command. shape_of command ≡ serve_shape) }
     ensures local { IfOk result (λ command. (fields_of command).has_globals ≡ false) }
 {
-    let rule = required(
+    let command = titled(
+        alloc,
+        "serve",
+        "Serves a board on which several programs draw together",
+        SERVE_HELP,
+    )
+    .arg(required(
         alloc,
         "rule",
         "TEXT",
         "The rule S/B/C of the board, as /2/3 or 345/2/4",
-    );
-    let port = port_argument(alloc, "The port to listen at, 0 for any that is free");
-    let sessions = sessions_argument(alloc);
-    let command = Command::new(alloc, "serve")
-        .about("Serves a board on which several programs draw together")
-        .after_help(SERVE_HELP)
-        .arg(rule)?
-        .arg(port)?
-        .arg(sessions)?;
+    ))?
+    .arg(port_argument(alloc, "The port to listen at, 0 for any that is free"))?
+    .arg(sessions_argument(alloc))?;
     Ok(command)
 }
 
@@ -271,22 +294,16 @@ fn join_command<'a>(alloc: Global) -> Result<Command<'a>, AllocError>
     ensures shape { IfOk result (λ command. shape_of command ≡ join_shape) }
     ensures local { IfOk result (λ command. (fields_of command).has_globals ≡ false) }
 {
-    let port = port_argument(alloc, "The port that the server printed");
-    let every = every_argument(alloc);
-    let follow = flag(alloc, "follow", "Polls while no command comes");
-    let changes = flag(
-        alloc,
-        "changes",
-        "Tells the cells that look different, and not each edit",
-    );
-    let command = Command::new(alloc, "join")
-        .about("Draws on a board that is served")
+    let command = titled(alloc, "join", "Draws on a board that is served", JOIN_HELP)
         .override_usage("genedit join --port <P> [OPTIONS] < COMMANDS")
-        .after_help(JOIN_HELP)
-        .arg(port)?
-        .arg(every)?
-        .arg(follow)?
-        .arg(changes)?;
+        .arg(port_argument(alloc, "The port that the server printed"))?
+        .arg(every_argument(alloc))?
+        .arg(flag(alloc, "follow", "Polls while no command comes"))?
+        .arg(flag(
+            alloc,
+            "changes",
+            "Tells the cells that look different, and not each edit",
+        ))?;
     Ok(command)
 }
 

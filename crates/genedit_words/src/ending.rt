@@ -14,7 +14,7 @@ use std::alloc::{AllocError, AllocGlobal, Global};
 const WORDS_STATUS: u8 = 2;
 
 /// Why the program ends before its work is done.
-#[derive(Debug, Drop)]
+#[derive(Drop)]
 pub enum Ending {
     /// The words are at fault, or ask for help.
     Words(Error),
@@ -102,13 +102,22 @@ fn tell_words<R: Print + Eprint + AllocGlobal>(rt: &R, error: &Error) -> u8
 /// The first paragraph of an error's text as one line, which tells the fault; what follows it is
 /// advice.
 fn told(alloc: Global, error: &Error) -> Result<String, AllocError> {
-    let text = error.to_string(alloc)?;
-    let mut lines = text.lines();
-    let first = lines.next().unwrap_or("");
-    let mut fault = String::from_str(alloc, first.strip_prefix("error: ").unwrap_or(first))?;
-    for line in lines.take_while(|line| !line.is_empty()) {
-        fault.push(' ')?;
-        fault.push_str(line.trim())?;
+    first_paragraph(alloc, error.to_string(alloc)?.as_str())
+}
+
+fn first_paragraph(alloc: Global, text: &str) -> Result<String, AllocError> {
+    let mut fault = String::new(alloc);
+    for line in text.lines().take_while(|line| !line.is_empty()) {
+        push_line(&mut fault, line)?;
     }
     Ok(fault)
+}
+
+/// Puts a line last, behind a blank where something stands before.
+fn push_line(fault: &mut String, line: &str) -> Result<(), AllocError> {
+    if fault.is_empty() {
+        return fault.push_str(line.strip_prefix("error: ").unwrap_or(line));
+    }
+    fault.push(' ')?;
+    fault.push_str(line.trim())
 }

@@ -23,7 +23,7 @@ use std::collections::VecDeque;
 use std::snapshot::Snapshot;
 use std::sync::{Arc, Wait};
 use std::thread;
-use std::thread::{Promise, Threads};
+use std::thread::{Promise, PromisedHandle, Threads};
 
 /// How the sessions ended, in the order of their seats, and the account of the board.
 #[derive(Drop)]
@@ -38,12 +38,47 @@ struct AttendingAll<J: Naming> {
     seats: Snapshot<Vec<Seat<J>>>,
 }
 
+/// The thread that serves all seats.
+type Attendance<J> = PromisedHandle<Result<Vec<Attended<J>>, ServerFault>, AttendingAll<J>>;
+
 impl<J: Naming> Promise<Result<Vec<Attended<J>>, ServerFault>> for AttendingAll<J> {
     ghost use Rattle.std.specs.Prelude.{map, IfOk, IfErr};
     ghost use Rattle.seat_server.specs.Faults.{IsAttendFault};
     ghost use Rattle.seat_server.specs.Sessions.{AreAttended};
 
     ghost kept_by = { λ p r. IfOk r (λ v. AreAttended p.seats.value.items (map (λ a. a.seat) v.items) (map (λ a. a.end) v.items)) × IfErr r IsAttendFault };
+}
+
+/// Starts the thread that serves the seats. `Read` where it could not be started.
+fn attending<
+    J: Naming + Send + 'static,
+    R: Threads + Wait + Copy + Drop + Send + Sync + 'static,
+    S: Source + Send + Drop + 'static,
+    K: Sink + Send + Drop + 'static,
+    A: Accept<S, K> + Send + Drop + 'static,
+>(
+    rt: R,
+    alloc: Global,
+    progress: &Arc<Progress>,
+    acceptor: A,
+    seats: Vec<Seat<J>>,
+) -> Result<Attendance<J>, ServerFault>
+    ensures seats { IfOk result (λ h. h.promise.seats.value.items ≡ seats.items) }
+    ensures fault { IfErr result IsAttendFault }
+{
+    let theirs = Arc::try_clone(progress)?;
+    let promise = AttendingAll {
+        seats: Snapshot::of(&seats),
+    };
+    let begun = thread::spawn_with(
+        &rt,
+        promise,
+        move || -> Result<Vec<Attended<J>>, ServerFault>
+            requires { IsSend J.row × IsSend R.row × IsSync R.row × IsSend S.row × IsSend K.row }
+            ensures { IfOk result (λ v. AreAttended seats.items (map (λ a. a.seat) v.items) (map (λ a. a.end) v.items)) × IfErr result IsAttendFault }
+        { all_attended(rt, alloc, &theirs, acceptor, seats) },
+    );
+    begun.ok().ok_or(ServerFault::Read)
 }
 
 /// The seats, and how their sessions ended.
@@ -114,23 +149,8 @@ pub fn serve_seats<
     ensures goes_on { IfOk result (λ f. GoesOnFrom 1000 relay (list_of f.account.front)) }
     ensures reason { IfErr result (IsReason 1000 relay seats.items) }
 {
-    let bell = relay.bell()?;
-    let progress = Arc::new(alloc, Progress::new(bell))?;
-    let theirs = Arc::try_clone(&progress)?;
-    let promise = AttendingAll {
-        seats: Snapshot::of(&seats),
-    };
-    let begun = thread::spawn_with(
-        &rt,
-        promise,
-        move || -> Result<Vec<Attended<J>>, ServerFault>
-            requires { IsSend J.row × IsSend R.row × IsSync R.row × IsSend S.row × IsSend K.row }
-            ensures { IfOk result (λ v. AreAttended seats.items (map (λ a. a.seat) v.items) (map (λ a. a.end) v.items)) × IfErr result IsAttendFault }
-        { all_attended(rt, alloc, &theirs, acceptor, seats) },
-    );
-    let Ok(accepting) = begun else {
-        return Err(ServerFault::Read);
-    };
+    let progress = Arc::new(alloc, Progress::new(relay.bell()?))?;
+    let accepting = attending(rt, alloc, &progress, acceptor, seats)?;
     if let Some(fault) = take_turns(&rt, &mut relay, &progress) {
         drop(relay);
         progress.give_up();

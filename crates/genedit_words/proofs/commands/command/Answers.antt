@@ -1,14 +1,11 @@
-use Rattle.genedit_words.specs.Words.{check_shape, join_shape, rle_shape, run_shape, serve_shape, top_app, view_shape}
+use Rattle.genedit_words.specs.Words.{join_shape, serve_shape, text_app, view_shape}
 use Rattle.genedit_words.proofs.ShapeLaws.{IsShape, with_command}
 use Rattle.genedit_words.proofs.commands.command.Goals as goal
 
 pub returns : goal.returns
 returns c =
-    let begun : IsShape c.top_command.result top_app = record { is = c.top_command.ensures.app; local = c.top_command.ensures.local } in
-    let run = with_command c.top_command.result c.in_ok-subcommand.field-0 c.run_command.result _ run_shape begun c.run_command.ensures.shape c.run_command.ensures.local c.in_ok-subcommand.ensures in
-    let check = with_command c.in_ok-subcommand.field-0 c.in_ok-subcommand-2.field-0 c.in_ok-check_command.field-0 _ check_shape run c.in_ok-check_command.ensures.shape c.in_ok-check_command.ensures.local c.in_ok-subcommand-2.ensures in
-    let rle = with_command c.in_ok-subcommand-2.field-0 c.in_ok-subcommand-3.field-0 c.in_ok-rle_command.field-0 _ rle_shape check c.in_ok-rle_command.ensures.shape c.in_ok-rle_command.ensures.local c.in_ok-subcommand-3.ensures in
-    let view = with_command c.in_ok-subcommand-3.field-0 c.in_ok-subcommand-4.field-0 c.in_ok-view_command.field-0 _ view_shape rle c.in_ok-view_command.ensures.shape c.in_ok-view_command.ensures.local c.in_ok-subcommand-4.ensures in
-    let serve = with_command c.in_ok-subcommand-4.field-0 c.in_ok-subcommand-5.field-0 c.in_ok-serve_command.field-0 _ serve_shape view c.in_ok-serve_command.ensures.shape c.in_ok-serve_command.ensures.local c.in_ok-subcommand-5.ensures in
-    let join = with_command c.in_ok-subcommand-5.field-0 c.in_ok-command.command c.in_ok-join_command.field-0 _ join_shape serve c.in_ok-join_command.ensures.shape c.in_ok-join_command.ensures.local c.in_ok-command.ensures in
+    let begun : IsShape c.in_ok-text_commands.field-0 text_app = record { is = c.in_ok-text_commands.ensures.0; local = c.in_ok-text_commands.ensures.1 } in
+    let view = with_command c.in_ok-text_commands.field-0 c.in_ok-subcommand.field-0 c.in_ok-view_command.field-0 _ view_shape begun c.in_ok-view_command.ensures.shape c.in_ok-view_command.ensures.local c.in_ok-subcommand.ensures in
+    let serve = with_command c.in_ok-subcommand.field-0 c.in_ok-subcommand-2.field-0 c.in_ok-serve_command.field-0 _ serve_shape view c.in_ok-serve_command.ensures.shape c.in_ok-serve_command.ensures.local c.in_ok-subcommand-2.ensures in
+    let join = with_command c.in_ok-subcommand-2.field-0 c.in_ok-command.command c.in_ok-join_command.field-0 _ join_shape serve c.in_ok-join_command.ensures.shape c.in_ok-join_command.ensures.local c.in_ok-command.ensures in
     join.is

@@ -1,4 +1,4 @@
-use Rattle.std.proofs.Common.{◌∙◌, ap, map, subst, sym}
+use Rattle.std.proofs.Common.{◌∙◌, map, subst, sym}
 use Rattle.seat_server.specs.Sessions.{AreAttended}
 use Rattle.seat_server.proofs.EndingLaws.{goes_on_from, stays}
 use Rattle.seat_server.proofs.ListLaws.{as_many, in_order}
@@ -9,7 +9,7 @@ pub closed-requires-clause-all : goal.closed-requires-clause-all
 closed-requires-clause-all g c =
     let after = map (λ a. a.seat) c.in_ok-attended.attended.items in
     let ends = map (λ a. a.end) c.in_ok-attended.attended.items in
-    let seats = ap (λ p. p.seats.value.items) c.in-Ok.ensures.ok ∙ ap (λ v. v.items) c.of.ensures in
+    let seats = c.in_ok-accepting.ensures.seats in
     let attended : AreAttended c.args.seats.items after ends = subst (λ l. AreAttended l after ends) seats c.in_ok-attended.ensures.0 in
     makes_none c.take_turns.new.relay c.close.new.self c.close.ensures.closed ∙ (c.take_turns.ensures.made ∙ (c.requires.all ∙ sym (as_many c.args.seats.items after ends attended)))
 
@@ -17,7 +17,7 @@ pub closed-requires-clause-order : goal.closed-requires-clause-order
 closed-requires-clause-order g c =
     let after = map (λ a. a.seat) c.in_ok-attended.attended.items in
     let ends = map (λ a. a.end) c.in_ok-attended.attended.items in
-    let seats = ap (λ p. p.seats.value.items) c.in-Ok.ensures.ok ∙ ap (λ v. v.items) c.of.ensures in
+    let seats = c.in_ok-accepting.ensures.seats in
     let attended : AreAttended c.args.seats.items after ends = subst (λ l. AreAttended l after ends) seats c.in_ok-attended.ensures.0 in
     in_order 0 c.args.seats.items after ends attended c.requires.order
 
