@@ -48,11 +48,12 @@ fn push_square(
         → PutsSquare map (IsSoughtOn map areas.now (side_at 8 above) corner.left corner.top) cells.old.items cells.new.items) }
 {
     let alloc = *cells.allocator();
-    let near = areas_on_square(alloc, areas, corner.left, corner.top, side_of(above))?;
+    let listed = areas_on_square(alloc, areas, corner.left, corner.top, side_of(above))?;
+    let near = listed.as_slice();
     if near.is_empty() {
         return Ok(());
     }
-    push_met(square, above, corner, &near, cells)
+    push_met(square, above, corner, near, cells)
 }
 
 /// The same, of areas that all meet the square.
