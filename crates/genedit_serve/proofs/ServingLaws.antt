@@ -3,8 +3,6 @@ use Rattle.std.proofs.Common.{◌≡◌, ◌∙◌, ◌++◌, ◌+◌, ◌⊎◌
 use Rattle.std.proofs.lemmas.List.{append-nil}
 use Rattle.std.specs.Prelude.{Result, Ok, Err, IfErr, length}
 use Rattle.devices.specs.Sink.{IsPush, KnownSink}
-use Rattle.frame_service.specs.declared.fault.ServeFault.{ServeFault}
-use Rattle.frame_service.specs.declared.served.Served.{Served}
 use Rattle.generations_rule.specs.Rule.{GenerationsRule}
 use Rattle.genedit_io.specs.declared.fault.RunFault.{RunFault}
 use Rattle.genedit_io.specs.declared.fault.RunFault.TheVariants.{Write}
@@ -13,13 +11,13 @@ use Rattle.relay_board.specs.declared.fault.FinishFault.TheVariants as finish
 use Rattle.relay_core.specs.Relaying.{Relaying}
 use Rattle.relay_core.specs.declared.fault.TurnFault.TheVariants as turn
 use Rattle.seat_server.specs.Faults.{IsReason}
-use Rattle.seat_server.specs.Serving.{IsServed}
+use Rattle.seat_server.specs.Serving.{FinishedValue, IsServed}
+use Rattle.seat_server.specs.Sessions.{VisitValue}
 use Rattle.seat_server.specs.declared.fault.ServerFault.{ServerFault}
 use Rattle.seat_server.specs.declared.fault.ServerFault.TheVariants as server
-use Rattle.seat_server.specs.declared.server.Finished.{Finished}
 use Rattle.genedit_serve.specs.Closing.{closing_text, listening_line, session_lines}
 use Rattle.genedit_serve.specs.Faults.{run_fault_of_server}
-use Rattle.genedit_serve.specs.Serving.{AreFreshSeats, IsFreshRelay, IsGivenUp, IsUnserved, Listens, Serves}
+use Rattle.genedit_serve.specs.Serving.{AreFreshSeats, IsFreshRelay, IsGivenUp, IsUnserved, Listens, ServesAt}
 
 -- fresh seats stand in the order of their numbers
 pub numbered : (rule : GenerationsRule) (room n : ℕ) (seats : List Seating) → AllFresh rule room n seats → Numbered n seats
@@ -35,18 +33,18 @@ made {A} {E} from to done bytes text is push =
 module _ {A E : Type 0} (rule : GenerationsRule) (sessions : ℕ) (from between : KnownSink) (port : ℕ) (line : List ℕ) (done : A) (is_line : line ≡ listening_line port)
     (listened : IsPush {A = A} {E = E} from between (Ok done) line) where
   -- the port was told
-  pub listens : Listens from between
-  listens = (port, made from between done line (listening_line port) is_line listened)
+  pub listens : Listens port from between
+  listens = made from between done line (listening_line port) is_line listened
 
   -- and nothing behind it
   pub unserved : (relay : Relaying) (seats : List Seating) (cause : ServerFault) (fault : RunFault) → IsFreshRelay sessions relay → AreFreshSeats rule sessions seats
-      → IsReason 1000 relay seats cause → fault ≡ run_fault_of_server cause → IsGivenUp rule sessions from between fault
-  unserved relay seats cause fault board fresh reason told = subst (λ (f : RunFault). IsGivenUp rule sessions from between f) (sym told) (by_cause cause reason)
+      → IsReason 1000 relay seats cause → fault ≡ run_fault_of_server cause → IsGivenUp rule sessions port from between fault
+  unserved relay seats cause fault board fresh reason told = subst (λ (f : RunFault). IsGivenUp rule sessions port from between f) (sym told) (by_cause cause reason)
     where
-      so : (cause : ServerFault) → IsReason 1000 relay seats cause → IsUnserved rule sessions from between (run_fault_of_server cause)
+      so : (cause : ServerFault) → IsReason 1000 relay seats cause → IsUnserved rule sessions port from between (run_fault_of_server cause)
       so cause reason = record { listens = listens; relay = relay; board = board; seats = seats; fresh = fresh; cause = cause; told = refl; reason = reason }
 
-      by_cause : (cause : ServerFault) → IsReason 1000 relay seats cause → IsGivenUp rule sessions from between (run_fault_of_server cause)
+      by_cause : (cause : ServerFault) → IsReason 1000 relay seats cause → IsGivenUp rule sessions port from between (run_fault_of_server cause)
       by_cause server.Read reason = inr listens
       by_cause (server.Turn turn.StoreFull) reason = so (server.Turn turn.StoreFull) reason
       by_cause (server.Turn turn.Memory) reason = inr listens
@@ -56,9 +54,9 @@ module _ {A E : Type 0} (rule : GenerationsRule) (sessions : ℕ) (from between 
       by_cause server.Memory reason = inr listens
 
   -- the closing lines were pushed too, or that failed
-  pub ends : {T : Type 0} (seats : List Seating) (finished : Finished) (to : KnownSink) (r : Result T RunFault) (text : List ℕ)
+  pub ends : {T : Type 0} (seats : List Seating) (finished : FinishedValue) (to : KnownSink) (r : Result T RunFault) (text : List ℕ)
       → AreFreshSeats rule sessions seats → IsServed seats finished → text ≡ closing_text finished → IsPush between to r text → IfErr r (λ fault. fault ≡ Write)
-      → Serves rule sessions from to r
+      → ServesAt rule sessions port from to r
   ends seats finished to (Ok t) text fresh served is_text pushed fault = record {
     seats = seats;
     fresh = fresh;
@@ -69,14 +67,14 @@ module _ {A E : Type 0} (rule : GenerationsRule) (sessions : ℕ) (from between 
     closes = made between to t text (closing_text finished) is_text pushed;
   }
   ends seats finished to (Err fault) text fresh served is_text pushed is =
-      subst (λ (f : RunFault). IsGivenUp rule sessions from to f) (sym is) (inr (between, listens, (pushed.pushes, pushed.failures)))
+      subst (λ (f : RunFault). IsGivenUp rule sessions port from to f) (sym is) (inr (between, listens, (pushed.pushes, pushed.failures)))
 
 -- ---- the lines of the sessions
 
 -- none is left
-pub no_line : (out all : List ℕ) (number : ℕ) (accepted : List ℕ) (ends : List (Result Served ServeFault)) → (length accepted ≡ 0) ⊎ (length ends ≡ 0)
-    → out ++ session_lines number accepted ends ≡ all → out ≡ all
-no_line out all number [] ends none so_far = sym (append-nil out) ∙ so_far
+pub no_line : (out all : List ℕ) (number : ℕ) (accepted : List ℕ) (visits : List VisitValue) → (length accepted ≡ 0) ⊎ (length visits ≡ 0)
+    → out ++ session_lines number accepted visits ≡ all → out ≡ all
+no_line out all number [] visits none so_far = sym (append-nil out) ∙ so_far
 no_line out all number (edits ∷ accepted) [] none so_far = sym (append-nil out) ∙ so_far
-no_line out all number (edits ∷ accepted) (end ∷ ends) (inl none) so_far = absurd (omega (arith, none))
-no_line out all number (edits ∷ accepted) (end ∷ ends) (inr none) so_far = absurd (omega (arith, none))
+no_line out all number (edits ∷ accepted) (v ∷ visits) (inl none) so_far = absurd (omega (arith, none))
+no_line out all number (edits ∷ accepted) (v ∷ visits) (inr none) so_far = absurd (omega (arith, none))

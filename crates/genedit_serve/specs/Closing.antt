@@ -3,7 +3,8 @@ use Rattle.std.specs.Prelude.{ℕ, ◌+◌, List, [], ◌∷◌, ◌++◌, lengt
 use Rattle.frame_service.specs.declared.fault.ServeFault.{ServeFault}
 use Rattle.frame_service.specs.declared.served.Served.{Served}
 use Rattle.frame_service.specs.ServeFault.{serve_fault_number}
-use Rattle.seat_server.specs.declared.server.Finished.{Finished}
+use Rattle.seat_server.specs.Serving.{FinishedValue}
+use Rattle.seat_server.specs.Sessions.{VisitValue}
 
 -- that it listens at a port
 abbrev pub listening_line : ℕ → List ℕ
@@ -19,13 +20,13 @@ abbrev pub session_line : ℕ → ℕ → Result Served ServeFault → List ℕ
 session_line number edits end = codes "session " ++ (decimal number ++ (codes " edits " ++ (decimal edits ++ (end_word end ++ codes "\n"))))
 
 -- the lines of the sessions of seats from a number on
-abbrev pub session_lines : ℕ → List ℕ → List (Result Served ServeFault) → List ℕ
-session_lines number (edits ∷ accepted) (end ∷ ends) = session_line number edits end ++ session_lines (number + 1) accepted ends
+abbrev pub session_lines : ℕ → List ℕ → List VisitValue → List ℕ
+session_lines number (edits ∷ accepted) (v ∷ visits) = session_line number edits v.end ++ session_lines (number + 1) accepted visits
 session_lines number _ _ = []
 
 -- how many edits were published
 abbrev pub closed_line : ℕ → List ℕ
 closed_line count = codes "closed " ++ (decimal count ++ codes "\n")
 
-abbrev pub closing_text : Finished → List ℕ
-closing_text f = session_lines 1 f.account.accepted f.ends.items ++ closed_line (f.account.before + length f.account.published)
+abbrev pub closing_text : FinishedValue → List ℕ
+closing_text f = session_lines 1 f.account.accepted f.visits ++ closed_line (f.account.before + length f.account.published)

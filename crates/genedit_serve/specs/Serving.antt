@@ -9,9 +9,8 @@ use Rattle.relay_board.specs.Seating.{AllFresh, Seating}
 use Rattle.relay_core.specs.Relaying.{Relaying}
 use Rattle.relay_core.specs.declared.fault.StartFault.TheVariants.{NoPlace}
 use Rattle.seat_server.specs.Faults.{IsReason}
-use Rattle.seat_server.specs.Serving.{IsServed}
+use Rattle.seat_server.specs.Serving.{FinishedValue, IsServed}
 use Rattle.seat_server.specs.declared.fault.ServerFault.{ServerFault}
-use Rattle.seat_server.specs.declared.server.Finished.{Finished}
 use Rattle.genedit_serve.specs.Closing.{closing_text, listening_line}
 use Rattle.genedit_serve.specs.Faults.{run_fault_of_server, run_fault_of_start}
 
@@ -23,9 +22,9 @@ Pushes from to bytes = IsPush {A = Unit {0}} {E = Unit {0}} from to (Ok tt) byte
 abbrev pub Fails : KnownSink → KnownSink → Type 0
 Fails from to = (to.pushes ≡ one_more from.pushes) × (to.failures ≡ one_more from.failures)
 
--- the line that tells the port was pushed, and nothing else
-abbrev pub Listens : KnownSink → KnownSink → Type 0
-Listens from to = (port : ℕ) × Pushes from to (listening_line port)
+-- the line that tells this port was pushed, and nothing else
+abbrev pub Listens : ℕ → KnownSink → KnownSink → Type 0
+Listens port from to = Pushes from to (listening_line port)
 
 -- so many seats that nothing was done with, over an inbox for 64 submissions
 abbrev pub AreFreshSeats : GenerationsRule → ℕ → List Seating → Type 0
@@ -33,13 +32,13 @@ AreFreshSeats r sessions seats = AllFresh r 64 0 seats × (length seats ≡ sess
 
 -- A board was served to its end: of so many seats that nothing had been done with, each was served over a stream of its
 -- own; the line that tells the port was pushed, and behind it the lines of the sessions and of the published list.
-pub record IsServedBoard (r : GenerationsRule) (sessions : ℕ) (from to : KnownSink) : Type 0 where
+pub record IsServedBoard (r : GenerationsRule) (sessions port : ℕ) (from to : KnownSink) : Type 0 where
   pub seats : List Seating
   pub fresh : AreFreshSeats r sessions seats
-  pub finished : Finished
+  pub finished : FinishedValue
   pub served : IsServed seats finished
   pub between : KnownSink
-  pub listens : Listens from between
+  pub listens : Listens port from between
   pub closes : Pushes between to (closing_text finished)
 
 -- a relay of so many seats that has taken, kept and published nothing, with room for 2^26 squares
@@ -53,8 +52,8 @@ pub record IsFreshRelay (sessions : ℕ) (relay : Relaying) : Type 0 where
 
 -- The line that tells the port was pushed, and the server of a fresh relay and its seats gave no account, for a reason
 -- that is told so.
-pub record IsUnserved (r : GenerationsRule) (sessions : ℕ) (from to : KnownSink) (fault : RunFault) : Type 0 where
-  pub listens : Listens from to
+pub record IsUnserved (r : GenerationsRule) (sessions port : ℕ) (from to : KnownSink) (fault : RunFault) : Type 0 where
+  pub listens : Listens port from to
   pub relay : Relaying
   pub board : IsFreshRelay sessions relay
   pub seats : List Seating
@@ -66,17 +65,21 @@ pub record IsUnserved (r : GenerationsRule) (sessions : ℕ) (from to : KnownSin
 -- Why a board was not served to its end, and what was pushed by then: at most the line that tells the port. A fault of
 -- the sink comes only where this push failed, or the one behind it; a full store, only of a relay that was served; a
 -- refusal, only where there was no place at the start, or where the relay did not finish.
-abbrev pub IsGivenUp : GenerationsRule → ℕ → KnownSink → KnownSink → RunFault → Type 0
-IsGivenUp r sessions from to (Script line) = ⊥
-IsGivenUp r sessions from to (Refused number place) =
-    ((Refused number place ≡ run_fault_of_start NoPlace) × (to ≡ from)) ⊎ IsUnserved r sessions from to (Refused number place)
-IsGivenUp r sessions from to Read = (to ≡ from) ⊎ Listens from to
-IsGivenUp r sessions from to Turns = ⊥
-IsGivenUp r sessions from to Write = Fails from to ⊎ ((between : KnownSink) × Listens from between × Fails between to)
-IsGivenUp r sessions from to Memory = (to ≡ from) ⊎ Listens from to
-IsGivenUp r sessions from to StoreFull = IsUnserved r sessions from to StoreFull
+abbrev pub IsGivenUp : GenerationsRule → ℕ → ℕ → KnownSink → KnownSink → RunFault → Type 0
+IsGivenUp r sessions port from to (Script line) = ⊥
+IsGivenUp r sessions port from to (Refused number place) =
+    ((Refused number place ≡ run_fault_of_start NoPlace) × (to ≡ from)) ⊎ IsUnserved r sessions port from to (Refused number place)
+IsGivenUp r sessions port from to Read = (to ≡ from) ⊎ Listens port from to
+IsGivenUp r sessions port from to Turns = ⊥
+IsGivenUp r sessions port from to Write = Fails from to ⊎ ((between : KnownSink) × Listens port from between × Fails between to)
+IsGivenUp r sessions port from to Memory = (to ≡ from) ⊎ Listens port from to
+IsGivenUp r sessions port from to StoreFull = IsUnserved r sessions port from to StoreFull
 
--- by its result
+-- by its result, where it listens at a port
+abbrev pub ServesAt : {A : Type 0} → GenerationsRule → ℕ → ℕ → KnownSink → KnownSink → Result A RunFault → Type 0
+ServesAt r sessions port from to (Ok done) = IsServedBoard r sessions port from to
+ServesAt r sessions port from to (Err fault) = IsGivenUp r sessions port from to fault
+
+-- the same at the port of its listener, of which contracts know nothing
 abbrev pub Serves : {A : Type 0} → GenerationsRule → ℕ → KnownSink → KnownSink → Result A RunFault → Type 0
-Serves r sessions from to (Ok done) = IsServedBoard r sessions from to
-Serves r sessions from to (Err fault) = IsGivenUp r sessions from to fault
+Serves r sessions from to result = (port : ℕ) × ServesAt r sessions port from to result

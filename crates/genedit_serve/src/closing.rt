@@ -3,9 +3,10 @@
 ghost use Rattle.std.specs.Prelude.{◌≡◌, ◌++◌, ◌+◌, length, OnOk, IfOk, decimal};
 ghost use Rattle.genedit_serve.specs.Closing.{listening_line, end_word, session_line, session_lines, closed_line, closing_text};
 
+use devices::{Sink, Source};
 use frame_service::{ServeFault, Served};
 use itoa::Buffer;
-use seat_server::Finished;
+use seat_server::{Finished, Visit};
 use std::alloc::{AllocError, Global};
 
 /// That the server listens at a port.
@@ -20,17 +21,20 @@ pub fn listening(alloc: Global, port: u16) -> Result<Vec<u8>, AllocError>
 }
 
 /// A line for each session, and a last one for the published list.
-pub fn closing(alloc: Global, finished: &Finished) -> Result<Vec<u8>, AllocError>
+pub fn closing<S: Source, K: Sink>(
+    alloc: Global,
+    finished: &Finished<S, K>,
+) -> Result<Vec<u8>, AllocError>
     ensures { IfOk result (λ text. text.items ≡ closing_text finished.now) }
 {
     let mut text = Vec::new(alloc);
     push_sessions(
         &mut text,
-        finished.account.accepted.as_slice(),
-        finished.ends.as_slice(),
+        finished.account().accepted.as_slice(),
+        finished.visits(),
     )?;
-    let before = u128::from(finished.account.before);
-    let published = finished.account.published.as_slice().len() as u64;
+    let before = u128::from(finished.account().before);
+    let published = finished.account().published.as_slice().len() as u64;
     push_closed(&mut text, before + u128::from(published))?;
     Ok(text)
 }
@@ -73,16 +77,16 @@ fn push_session(
 }
 
 /// The lines of all sessions, in the order of their seats.
-fn push_sessions(
+fn push_sessions<S: Source, K: Sink>(
     out: &mut Vec<u8>,
     accepted: &[u64],
-    ends: &[Result<Served, ServeFault>],
+    visits: &[Visit<S, K>],
 ) -> Result<(), AllocError>
-    ensures { OnOk result (out.new.items ≡ out.old.items ++ session_lines 1 accepted.now ends.now) }
+    ensures { OnOk result (out.new.items ≡ out.old.items ++ session_lines 1 accepted.now visits.now) }
 {
     let mut number: u64 = 1;
-    for (edits, end) in accepted.iter().zip(ends.iter()) {
-        push_session(out, number, *edits, end)?;
+    for (edits, visit) in accepted.iter().zip(visits.iter()) {
+        push_session(out, number, *edits, visit.end())?;
         number += 1;
     }
     Ok(())

@@ -3,7 +3,7 @@
 ghost use Rattle.std.specs.Prelude.{◌≡◌, ◌≤◌, ◌^◌};
 ghost use Rattle.std.specs.Arc.{arc_value};
 ghost use Rattle.crossbeam_queue.specs.Passes.{ruled_capacity};
-ghost use Rattle.genedit_serve.specs.Serving.{Serves};
+ghost use Rattle.genedit_serve.specs.Serving.{Serves, ServesAt};
 
 use crate::closing::{closing, listening};
 use crate::connections::{Connections, Knock};
@@ -121,7 +121,7 @@ fn serve<
     requires inbox { (arc_value opened.drain.queue).table.shared.table_id ≡ J.inbox }
     requires room { ruled_capacity (arc_value opened.drain.queue) ≡ 64 }
     requires squares { opened.tried.store.room ≡ 2 ^ 26 }
-    ensures { Serves opened.rule opened.count (K.known sink.old) (K.known sink.new) result }
+    ensures { ServesAt opened.rule opened.count port (K.known sink.old) (K.known sink.new) result }
 {
     let (relay, seats) = match opened.named::<J>() {
         Ok(named) => named,

@@ -10,10 +10,9 @@ use Rattle.relay_board.specs.Seating.{BeginsWithAll, Seating}
 use Rattle.relay_board.specs.declared.fault.FinishFault.{FinishFault}
 use Rattle.relay_board.specs.declared.fault.FinishFault.TheVariants as finish
 use Rattle.seat_server.specs.Faults.{Hinders}
-use Rattle.seat_server.specs.Serving.{GoesOnFrom}
+use Rattle.seat_server.specs.Serving.{FinishedValue, GoesOnFrom}
 use Rattle.seat_server.specs.Turning.{IsTurned}
 use Rattle.seat_server.specs.declared.fault.ServerFault.{ServerFault}
-use Rattle.seat_server.specs.declared.server.Finished.{Finished}
 use Rattle.seat_server.proofs.TurningLaws.{turned_adds}
 
 -- what a finish says of its refusal
@@ -25,12 +24,12 @@ hinders finish.Memory left seats after same full more = tt
 
 -- a relay that was turned up to an idle turn, and closed
 module _ (most : ℕ) (a turned closed : Relaying) (turns : IsTurned most a None turned) (is : closed ≡ record turned { closed = true }) where
-  pub goes_on_from : (r : Result Finished ServerFault) (after : List Seating) → IfOk r (λ f. IsWhole closed.list (list_of f.account.front) after f.account)
+  pub goes_on_from : (r : Result FinishedValue ServerFault) (after : List Seating) → IfOk r (λ f. IsWhole closed.list (list_of f.account.front) after f.account)
       → IfOk r (λ f. GoesOnFrom most a (list_of f.account.front))
   goes_on_from (Err fault) after whole = tt
   goes_on_from (Ok f) after whole = record { turned = turned; turns = turns; goes_on = subst (λ (r : Relaying). IsPrefix r.list (list_of f.account.front)) is whole.goes_on }
 
-  pub stays : (r : Result Finished ServerFault) (after : List Seating) → IfOk r (λ f. IsWhole closed.list (list_of f.account.front) after f.account)
+  pub stays : (r : Result FinishedValue ServerFault) (after : List Seating) → IfOk r (λ f. IsWhole closed.list (list_of f.account.front) after f.account)
       → IfOk r (λ f. IsPrefix a.list (list_of f.account.front))
   stays (Err fault) after whole = tt
   stays (Ok f) after whole =

@@ -2,3 +2,4 @@ mod SeatLaws
 mod ListLaws
 mod TurningLaws
 mod EndingLaws
+pub mod OneListLaws

@@ -1,39 +1,37 @@
 -- Seats and their sessions, one after another.
 use Rattle.std.proofs.Common.{◌≡◌, ℕ, ◌+◌, ◌<◌, ◌++◌, suc, List, [], ◌∷◌, ap, sym, ◌∙◌, refl, subst, length, length-append, arith}
 use Rattle.std.proofs.lemmas.List.{append-nil, length-map}
+use mathlib.Core.List.{IsPrefix}
 use Rattle.std.specs.Prelude.{Result, Ok, Err, IfOk, map, drop}
 use Rattle.std.specs.PromisedHandle.{KeepsAt, KeepsEach}
 use Rattle.core.specs.declared.thread.PromisedHandle.{PromisedHandle}
 use Rattle.core.specs.declared.thread.Promise as Promise
 use Rattle.board.specs.declared.entry.Entry.{Entry}
 use Rattle.board.specs.Origins.{list_of}
-use Rattle.frame_service.specs.declared.fault.ServeFault.{ServeFault}
-use Rattle.frame_service.specs.declared.served.Served.{Served}
 use Rattle.relay_board.specs.Closing.{IsWhole}
 use Rattle.relay_board.specs.Seating.{Numbered, Seating}
 use Rattle.seat_server.specs.declared.fault.ServerFault.{ServerFault}
-use Rattle.seat_server.specs.declared.server.Finished.{Finished}
-use Rattle.seat_server.specs.Serving.{IsServed}
-use Rattle.seat_server.specs.Sessions.{AreAttended, IsAttended}
-use Rattle.seat_server.proofs.SeatLaws.{place_stays}
+use Rattle.seat_server.specs.Serving.{FinishedValue, IsServed}
+use Rattle.seat_server.specs.Sessions.{AreAttended, IsFirstVisit, VisitValue, one_each}
+use Rattle.seat_server.proofs.SeatLaws.{places_stay}
 
 -- as many seats come back as were served
-pub as_many : (before after : List Seating) (ends : List (Result Served ServeFault)) → AreAttended before after ends → length after ≡ length before
-as_many [] [] [] all = refl
-as_many (a ∷ before) (b ∷ after) (e ∷ ends) all = ap suc (as_many before after ends all.1)
-as_many [] [] (e ∷ ends) all = absurd all
-as_many [] (b ∷ after) ends all = absurd all
-as_many (a ∷ before) [] ends all = absurd all
-as_many (a ∷ before) (b ∷ after) [] all = absurd all
+pub as_many : (before : List Seating) (all : List (List VisitValue)) (after : List Seating) → AreAttended before all after → length after ≡ length before
+as_many [] [] [] met = refl
+as_many (a ∷ before) (vs ∷ all) (b ∷ after) met = ap suc (as_many before all after met.1)
+as_many [] [] (b ∷ after) met = absurd met
+as_many [] (vs ∷ all) after met = absurd met
+as_many (a ∷ before) [] after met = absurd met
+as_many (a ∷ before) (vs ∷ all) [] met = absurd met
 
 -- and they stand in the order of their numbers, if they did
-pub in_order : (n : ℕ) (before after : List Seating) (ends : List (Result Served ServeFault)) → AreAttended before after ends → Numbered n before → Numbered n after
-in_order n [] [] [] all order = tt
-in_order n (a ∷ before) (b ∷ after) (e ∷ ends) all order = (place_stays a b e all.0 ∙ order.0, in_order (n + 1) before after ends all.1 order.1)
-in_order n [] [] (e ∷ ends) all order = absurd all
-in_order n [] (b ∷ after) ends all order = absurd all
-in_order n (a ∷ before) [] ends all order = absurd all
-in_order n (a ∷ before) (b ∷ after) [] all order = absurd all
+pub in_order : (n : ℕ) (before : List Seating) (all : List (List VisitValue)) (after : List Seating) → AreAttended before all after → Numbered n before → Numbered n after
+in_order n [] [] [] met order = tt
+in_order n (a ∷ before) (vs ∷ all) (b ∷ after) met order = (places_stay vs a b met.0 ∙ order.0, in_order (n + 1) before all after met.1 order.1)
+in_order n [] [] (b ∷ after) met order = absurd met
+in_order n [] (vs ∷ all) after met order = absurd met
+in_order n (a ∷ before) [] after met order = absurd met
+in_order n (a ∷ before) (vs ∷ all) [] met order = absurd met
 
 -- ---- threads that begin
 
@@ -57,6 +55,10 @@ all_begun {A} {B} f begun left left' all same rest so_far =
     let none : left ≡ [] = drop_self left (same ∙ rest) in
     sym (append-nil (map f begun)) ∙ (ap (λ (l : List B). map f begun ++ l) (sym none) ∙ so_far)
 
+-- those that have begun are the first ones
+pub still_begins : {A B : Type 0} (f : A → B) (begun begun' : List A) (left all : List B) → begun' ≡ begun → map f begun ++ left ≡ all → IsPrefix (map f begun') all
+still_begins {A} {B} f begun begun' left all same so_far = (left, ap (λ (xs : List A). map f xs ++ left) same ∙ so_far)
+
 -- where one is left, fewer than all have begun
 pub some_lack : {A B : Type 0} (f : A → B) (begun : List A) (seat : B) (left left' all : List B) → left ≡ seat ∷ left' → map f begun ++ left ≡ all
     → length begun < length all
@@ -67,11 +69,11 @@ some_lack f begun seat left left' all first so_far =
 
 -- ---- threads that are joined
 
-module _ {T P : Type 0} (g : Promise.Ghosts P T) (seat_in : P → Seating) (seat_of : T → Seating) (end_of : T → Result Served ServeFault)
-    (keeps : (p : P) (r : T) → g.kept_by p r → IsAttended (seat_in p) (seat_of r) (end_of r)) where
+module _ {T P : Type 0} (g : Promise.Ghosts P T) (seat_in : P → Seating) (seat_of : T → Seating) (visit_of : T → VisitValue)
+    (keeps : (p : P) (r : T) → g.kept_by p r → IsFirstVisit (seat_in p) (visit_of r) (seat_of r)) where
   -- what each gave is what it was promised to give
   all_ended : (hs : List (PromisedHandle T P)) (rs : List T) → length rs ≡ length hs → KeepsEach g (length hs) hs rs
-      → AreAttended (map (λ h. seat_in h.promise) hs) (map seat_of rs) (map end_of rs)
+      → AreAttended (map (λ h. seat_in h.promise) hs) (one_each (map visit_of rs)) (map seat_of rs)
   all_ended [] [] same each = tt
   all_ended [] (r ∷ rs) same each = absurd (omega (arith, same))
   all_ended (h ∷ hs) [] same each = absurd (omega (arith, same))
@@ -79,24 +81,24 @@ module _ {T P : Type 0} (g : Promise.Ghosts P T) (seat_in : P → Seating) (seat
       let first : KeepsAt g (h ∷ hs) 0 r = (each 0 r (omega arith)).1 in
       let is : first.handle ≡ h = first.handle_is in
       let kept : g.kept_by h.promise r = subst (λ (x : PromisedHandle T P). g.kept_by x.promise r) is first.kept in (
-        keeps h.promise r kept,
+        (seat_of r, keeps h.promise r kept, refl),
         all_ended hs rs (omega (arith, same)) (λ i d below.
             let next = each (suc i) d (omega (arith, below)) in
             (refl, record { handle = next.1.handle; handle_is = next.1.handle_is; kept = next.1.kept })),
       )
 
   pub each_ended : (n : ℕ) (hs : List (PromisedHandle T P)) (rs : List T) → n ≡ length hs → length rs ≡ n → KeepsEach g n hs rs
-      → AreAttended (map (λ h. seat_in h.promise) hs) (map seat_of rs) (map end_of rs)
+      → AreAttended (map (λ h. seat_in h.promise) hs) (one_each (map visit_of rs)) (map seat_of rs)
   each_ended n hs rs many same each = all_ended hs rs (same ∙ many) (subst (λ (m : ℕ). KeepsEach g m hs rs) many each)
 
 -- ---- the account
 
-pub served : (r : Result Finished ServerFault) (before after : List Seating) (ends : List (Result Served ServeFault)) (list : List Entry) → AreAttended before after ends
-    → IfOk r (λ f. f.ends.items ≡ ends) → IfOk r (λ f. IsWhole list (list_of f.account.front) after f.account) → IfOk r (IsServed before)
-served (Err fault) before after ends list attended same whole = tt
-served (Ok f) before after ends list attended same whole = record {
+pub served : (r : Result FinishedValue ServerFault) (before : List Seating) (visits : List VisitValue) (after : List Seating) (list : List Entry) → AreAttended before (one_each visits) after
+    → IfOk r (λ f. f.visits ≡ visits) → IfOk r (λ f. IsWhole list (list_of f.account.front) after f.account) → IfOk r (IsServed before)
+served (Err fault) before visits after list attended same whole = tt
+served (Ok f) before visits after list attended same whole = record {
   after = after;
-  attended = subst (AreAttended before after) (sym same) attended;
+  attended = subst (λ (vs : List VisitValue). AreAttended before (one_each vs) after) (sym same) attended;
   whole = record {
     goes_on = (list_of f.account.front, refl);
     seen = whole.seen;

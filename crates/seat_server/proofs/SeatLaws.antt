@@ -15,7 +15,7 @@ use Rattle.seat_hub.specs.SeatCalls.{IsSeatCall}
 use Rattle.session_hub.specs.HubCall.{AllowsAtMost, HubCall}
 use Rattle.session_hub.specs.Replies.{Kept, nothing_kept}
 use Rattle.session_hub.specs.Request.{Request, request_of}
-use Rattle.seat_server.specs.Sessions.{IsAttended, IsAttendedOver, number_of, rule_of, session_at}
+use Rattle.seat_server.specs.Sessions.{AreVisits, IsVisit, VisitValue, number_of, rule_of, session_at}
 
 module _ {H : Type 0} (seat_of : H → Seating) where
   abbrev allows_over : H → HubCall → H → Type 0
@@ -69,12 +69,11 @@ module _ {H : Type 0} (seat_of : H → Seating) where
   }
 
   -- a service over a hub that had the one seat first, and has the other now
-  pub attended : (before after : Seating) (end : Result Served ServeFault) (s t : SessionState H) (source source' : KnownSource) (from to : KnownSink)
-      → seen s ≡ session_at before nothing_kept → seat_of t.hub ≡ after → IsService OverHub (2 ^ 32) end s t source source' from to → IsAttendedOver source from before after end
-  attended before after end s t source source' from to begins leaves service = record {
+  pub visited : (before after : Seating) (end : Result Served ServeFault) (s t : SessionState H) (source source' : KnownSource) (from to : KnownSink)
+      → seen s ≡ session_at before nothing_kept → seat_of t.hub ≡ after → IsService OverHub (2 ^ 32) end s t source source' from to
+      → IsVisit before (record { source = source; source' = source'; from = from; to = to; end = end }) after
+  visited before after end s t source source' from to begins leaves service = record {
     kept = t.kept;
-    source' = source';
-    to = to;
     service = subst (λ (a : SessionState Seating). IsService OverSeat (2 ^ 32) end a (session_at after t.kept) source source' from to) begins
         (subst (λ (b : Seating). IsService OverSeat (2 ^ 32) end (seen s) (session_at b t.kept) source source' from to) leaves
         (seat_served (2 ^ 32) end s t source source' from to service));
@@ -89,5 +88,9 @@ numbers_stay : (xs : List Exchange) (s t : SessionState Seating) → AreAnswered
 numbers_stay [] s t same = ap (λ (u : SessionState Seating). u.hub.place) same
 numbers_stay (x ∷ xs) s t (next, first, rest) = numbers_stay xs next t rest ∙ same_place next.hub.place s.hub.place first.number
 
-pub place_stays : (a b : Seating) (end : Result Served ServeFault) → IsAttended a b end → b.place ≡ a.place
-place_stays a b end one = numbers_stay one.over.service.exchanges _ _ one.over.service.exchanged.answered
+place_stays : (a b : Seating) (v : VisitValue) → IsVisit a v b → b.place ≡ a.place
+place_stays a b v one = numbers_stay one.service.exchanges _ _ one.service.exchanged.answered
+
+pub places_stay : (visits : List VisitValue) (a b : Seating) → AreVisits a visits b → b.place ≡ a.place
+places_stay [] a b same = ap (λ (s : Seating). s.place) same
+places_stay (v ∷ visits) a b (mid, first, rest) = places_stay visits mid b rest ∙ place_stays a mid v first.visit

@@ -1,8 +1,6 @@
 -- Why a server ends without an account.
-use Rattle.std.specs.Prelude.{◌≡◌, ⊤, ℕ, true, List, None, Some, Result, codes}
+use Rattle.std.specs.Prelude.{◌≡◌, ⊤, ℕ, true, List, None, Some, codes}
 use mathlib.Core.List.{IsPrefix}
-use Rattle.frame_service.specs.declared.fault.ServeFault.{ServeFault}
-use Rattle.frame_service.specs.declared.served.Served.{Served}
 use Rattle.relay_core.specs.Faults.{turn_fault_text}
 use Rattle.relay_core.specs.Relaying.{Relaying}
 use Rattle.relay_core.specs.Same.{Same}
@@ -10,7 +8,7 @@ use Rattle.relay_board.specs.Faults.{finish_fault_text}
 use Rattle.relay_board.specs.Seating.{BeginsWithAll, Seating}
 use Rattle.relay_board.specs.declared.fault.FinishFault.{FinishFault}
 use Rattle.relay_board.specs.declared.fault.FinishFault.TheVariants as finish
-use Rattle.seat_server.specs.Sessions.{AreAttended}
+use Rattle.seat_server.specs.Sessions.{AreAttended, VisitValue, one_each}
 use Rattle.seat_server.specs.Turning.{IsTurned}
 use Rattle.seat_server.specs.declared.fault.ServerFault.{ServerFault}
 use Rattle.seat_server.specs.declared.fault.ServerFault.TheVariants.{Read, Turn, Finish, Memory}
@@ -57,8 +55,8 @@ pub record IsServedInVain (most : ℕ) (relay : Relaying) (before : List Seating
   pub turned : Relaying
   pub turns : IsTurned most relay None turned
   pub after : List Seating
-  pub ends : List (Result Served ServeFault)
-  pub attended : AreAttended before after ends
+  pub visits : List VisitValue
+  pub attended : AreAttended before (one_each visits) after
   pub unfinished : IsUnfinished (record turned { closed = true }) after fault
 
 -- Why the server of a relay and these seats gives no account. The fault of a turn is told only where too many failed,

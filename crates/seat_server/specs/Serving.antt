@@ -6,15 +6,21 @@ use Rattle.board.specs.declared.entry.Entry.{Entry}
 use Rattle.relay_core.specs.Relaying.{Relaying}
 use Rattle.relay_board.specs.Closing.{IsWhole}
 use Rattle.relay_board.specs.Seating.{Seating}
-use Rattle.seat_server.specs.declared.server.Finished.{Finished}
-use Rattle.seat_server.specs.Sessions.{AreAttended}
+use Rattle.relay_board.specs.declared.finish.Account.{Account}
+use Rattle.seat_server.specs.Sessions.{AreAttended, VisitValue, one_each}
 use Rattle.seat_server.specs.Turning.{IsTurned}
 
--- Each of these seats was served over a stream of its own, and the account is that of the seats as their sessions left
--- them: the published list has of each seat exactly what was pushed at it and accepted, in order, each once.
-pub record IsServed (before : List Seating) (f : Finished) : Type 0 where
+-- what came of the sessions, in the order of their seats, and of the board
+pub record FinishedValue : Type 0 where
+  pub visits : List VisitValue
+  pub account : Account
+
+-- Each of these seats was served over a stream of its own, which nobody had used before, and the account is that of the
+-- seats as their sessions left them: the published list has of each seat exactly what was pushed at it and accepted, in
+-- order, each once.
+pub record IsServed (before : List Seating) (f : FinishedValue) : Type 0 where
   pub after : List Seating
-  pub attended : AreAttended before after f.ends.items
+  pub attended : AreAttended before (one_each f.visits) after
   pub whole : IsWhole [] (list_of f.account.front) after f.account
 
 -- The relay took its turns up to an idle one, and the list goes on from what was published by then.

@@ -1,5 +1,5 @@
 -- What a session does to its seat.
-use Rattle.std.specs.Prelude.{⊤, ℕ, ◌+◌, ◌^◌, List, [], ◌∷◌, Result}
+use Rattle.std.specs.Prelude.{◌≡◌, ⊤, ℕ, ◌+◌, ◌^◌, List, [], ◌∷◌, map, Result}
 use Rattle.devices.specs.Source.{KnownSource}
 use Rattle.devices.specs.Sink.{KnownSink}
 use Rattle.generations_rule.specs.Rule.{GenerationsRule}
@@ -22,22 +22,48 @@ number_of s = s.place + 1
 abbrev pub session_at : Seating → Kept → SessionState Seating
 session_at s kept = record { hub = s; kept = kept }
 
--- A seat was served over a stream whose ends were so: the requests in the bytes that were pulled were answered one after
--- another, each by one call of the seat at most, and their replies pushed, up to the end.
-pub record IsAttendedOver (source : KnownSource) (from : KnownSink) (before after : Seating) (end : Result Served ServeFault) : Type 0 where
-  pub kept : Kept
-  pub source' : KnownSource
-  pub to : KnownSink
-  pub service : IsService (AnswersAs IsSeatCall rule_of number_of) (2 ^ 32) end (session_at before nothing_kept) (session_at after kept) source source' from to
-
--- a seat was served over one stream
-pub record IsAttended (before after : Seating) (end : Result Served ServeFault) : Type 0 where
+-- a stream, as it was before a session and as the session left it, and how the session ended
+pub record VisitValue : Type 0 where
   pub source : KnownSource
+  pub source' : KnownSource
   pub from : KnownSink
-  pub over : IsAttendedOver source from before after end
+  pub to : KnownSink
+  pub end : Result Served ServeFault
 
--- each of these seats was served, and its session ended as it stands at its place
-abbrev pub AreAttended : List Seating → List Seating → List (Result Served ServeFault) → Type 0
+-- A seat was served over a stream: the requests in the bytes that were pulled from it were answered one after another,
+-- each by one call of the seat at most, and their replies pushed to it, up to the end.
+pub record IsVisit (before : Seating) (v : VisitValue) (after : Seating) : Type 0 where
+  pub kept : Kept
+  pub service : IsService (AnswersAs IsSeatCall rule_of number_of) (2 ^ 32) v.end (session_at before nothing_kept) (session_at after kept) v.source v.source' v.from v.to
+
+-- nothing was pulled from a source, and it did not fail
+pub record IsUnusedSource (source : KnownSource) : Type 0 where
+  pub pulls : source.pulls ≡ 0
+  pub ends_met : source.ends_met ≡ 0
+  pub failures : source.failures ≡ 0
+
+-- nothing was pushed to a sink
+pub record IsUnusedSink (sink : KnownSink) : Type 0 where
+  pub pushes : sink.pushes ≡ 0
+  pub failures : sink.failures ≡ 0
+
+-- a seat was served over a stream that nobody had used before
+pub record IsFirstVisit (before : Seating) (v : VisitValue) (after : Seating) : Type 0 where
+  pub visit : IsVisit before v after
+  pub source : IsUnusedSource v.source
+  pub sink : IsUnusedSink v.from
+
+-- a seat was served over these streams, one after another
+abbrev pub AreVisits : Seating → List VisitValue → Seating → Type 0
+AreVisits before [] after = after ≡ before
+AreVisits before (v ∷ visits) after = (mid : Seating) × IsFirstVisit before v mid × AreVisits mid visits after
+
+-- each of these seats was served over the streams at its place
+abbrev pub AreAttended : List Seating → List (List VisitValue) → List Seating → Type 0
 AreAttended [] [] [] = ⊤
-AreAttended (a ∷ before) (b ∷ after) (e ∷ ends) = IsAttended a b e × AreAttended before after ends
+AreAttended (a ∷ before) (visits ∷ all) (b ∷ after) = AreVisits a visits b × AreAttended before all after
 AreAttended _ _ _ = ⊥
+
+-- each over one stream
+abbrev pub one_each : List VisitValue → List (List VisitValue)
+one_each visits = map (λ v. v ∷ []) visits

@@ -1,9 +1,15 @@
 //! Where streams come from.
 
+ghost use Rattle.std.specs.Prelude.{IfSome};
+ghost use Rattle.seat_server.specs.Sessions.{IsUnusedSink, IsUnusedSource};
+
+use devices::{Sink, Source};
+
 /// Gives the two ends of one stream after another.
-pub trait Accept<S, K> {
-    /// Waits for the next stream. None where that failed.
-    fn accept(&mut self) -> Option<(S, K)>;
+pub trait Accept<S: Source, K: Sink> {
+    /// Waits for the next stream, which nobody has used. None where that failed.
+    fn accept(&mut self) -> Option<(S, K)>
+        ensures { IfSome result (λ ends. IsUnusedSource (S.known ends.0) × IsUnusedSink (K.known ends.1)) };
 }
 
 /// Lets an `accept` return that waits on another thread.

@@ -6,11 +6,15 @@
 
 mod accept;
 mod fault;
+mod laws;
 mod progress;
 mod server;
 mod sessions;
 mod turns;
+mod visit;
 
 pub use accept::{Accept, Wake};
 pub use fault::ServerFault;
+pub use laws::one_list_laws;
 pub use server::{Finished, serve_seats};
+pub use visit::Visit;

@@ -6,7 +6,7 @@ ghost use denote.Param.Send.{IsSend, IsSync};
 ghost use Rattle.board.specs.Origins.{list_of};
 ghost use Rattle.relay_board.specs.Closing.{IsWhole};
 ghost use Rattle.relay_board.specs.Seating.{Numbered};
-ghost use Rattle.seat_server.specs.Sessions.{AreAttended};
+ghost use Rattle.seat_server.specs.Sessions.{AreAttended, one_each};
 ghost use Rattle.seat_server.specs.Serving.{GoesOnFrom, IsServed};
 ghost use Rattle.seat_server.specs.Faults.{IsAttendFault, IsCloseFault, IsReason};
 
@@ -15,21 +15,46 @@ use crate::fault::ServerFault;
 use crate::progress::Progress;
 use crate::sessions::{Attended, all_attended};
 use crate::turns::take_turns;
+use crate::visit::Visit;
 use devices::{Sink, Source};
-use frame_service::{ServeFault, Served};
 use relay_board::{Account, Naming, Relay, Seat};
 use std::alloc::{AllocError, Global};
 use std::collections::VecDeque;
+use std::marker::Model;
 use std::snapshot::Snapshot;
 use std::sync::{Arc, Wait};
 use std::thread;
 use std::thread::{Promise, PromisedHandle, Threads};
 
-/// How the sessions ended, in the order of their seats, and the account of the board.
+/// The sessions, in the order of their seats, and the account of the board.
 #[derive(Drop)]
-pub struct Finished {
-    pub ends: Vec<Result<Served, ServeFault>>,
-    pub account: Account,
+pub struct Finished<S: Source, K: Sink> {
+    visits: Vec<Visit<S, K>>,
+    account: Account,
+}
+
+impl<S: Source, K: Sink> Model for Finished<S, K> {
+    ghost use Rattle.seat_server.specs.Serving.{FinishedValue};
+
+    ghost Value = { FinishedValue };
+
+    ghost view = { λ f. record { visits = f.visits.items; account = f.account } };
+}
+
+impl<S: Source, K: Sink> Finished<S, K> {
+    /// The session of each seat, in the order of the seats.
+    pub fn visits(&self) -> &[Visit<S, K>]
+        ensures { result.now ≡ self.now.visits }
+    {
+        &self.visits
+    }
+
+    /// The account of the board.
+    pub fn account(&self) -> &Account
+        ensures { result.now ≡ self.now.account }
+    {
+        &self.account
+    }
 }
 
 /// That a thread serves these seats.
@@ -39,14 +64,18 @@ struct AttendingAll<J: Naming> {
 }
 
 /// The thread that serves all seats.
-type Attendance<J> = PromisedHandle<Result<Vec<Attended<J>>, ServerFault>, AttendingAll<J>>;
+type Attendance<J, S, K> = PromisedHandle<
+    Result<Vec<Attended<J, S, K>>, ServerFault>,
+    AttendingAll<J>,
+>;
 
-impl<J: Naming> Promise<Result<Vec<Attended<J>>, ServerFault>> for AttendingAll<J> {
+impl<J: Naming, S: Source, K: Sink> Promise<Result<Vec<Attended<J, S, K>>, ServerFault>>
+    for AttendingAll<J> {
     ghost use Rattle.std.specs.Prelude.{map, IfOk, IfErr};
     ghost use Rattle.seat_server.specs.Faults.{IsAttendFault};
-    ghost use Rattle.seat_server.specs.Sessions.{AreAttended};
+    ghost use Rattle.seat_server.specs.Sessions.{AreAttended, one_each};
 
-    ghost kept_by = { λ p r. IfOk r (λ v. AreAttended p.seats.value.items (map (λ a. a.seat) v.items) (map (λ a. a.end) v.items)) × IfErr r IsAttendFault };
+    ghost kept_by = { λ p r. IfOk r (λ v. AreAttended p.seats.value.items (one_each (map (λ a. a.1) v.items)) (map (λ a. a.0) v.items)) × IfErr r IsAttendFault };
 }
 
 /// Starts the thread that serves the seats. `Read` where it could not be started.
@@ -62,7 +91,7 @@ fn attending<
     progress: &Arc<Progress>,
     acceptor: A,
     seats: Vec<Seat<J>>,
-) -> Result<Attendance<J>, ServerFault>
+) -> Result<Attendance<J, S, K>, ServerFault>
     ensures seats { IfOk result (λ h. h.promise.seats.value.items ≡ seats.items) }
     ensures fault { IfErr result IsAttendFault }
 {
@@ -73,48 +102,48 @@ fn attending<
     let begun = thread::spawn_with(
         &rt,
         promise,
-        move || -> Result<Vec<Attended<J>>, ServerFault>
+        move || -> Result<Vec<Attended<J, S, K>>, ServerFault>
             requires { IsSend J.row × IsSend R.row × IsSync R.row × IsSend S.row × IsSend K.row }
-            ensures { IfOk result (λ v. AreAttended seats.items (map (λ a. a.seat) v.items) (map (λ a. a.end) v.items)) × IfErr result IsAttendFault }
+            ensures { IfOk result (λ v. AreAttended seats.items (one_each (map (λ a. a.1) v.items)) (map (λ a. a.0) v.items)) × IfErr result IsAttendFault }
         { all_attended(rt, alloc, &theirs, acceptor, seats) },
     );
     begun.ok().ok_or(ServerFault::Read)
 }
 
-/// The seats, and how their sessions ended.
-fn parted<J: Naming>(
+/// The seats, and their sessions.
+fn parted<J: Naming, S: Source, K: Sink>(
     alloc: Global,
-    attended: Vec<Attended<J>>,
-) -> Result<(Vec<Seat<J>>, Vec<Result<Served, ServeFault>>), AllocError>
-    ensures seats { IfOk result (λ p. p.0.items ≡ map (λ a. a.seat) attended.items) }
-    ensures ends { IfOk result (λ p. p.1.items ≡ map (λ a. a.end) attended.items) }
+    attended: Vec<Attended<J, S, K>>,
+) -> Result<(Vec<Seat<J>>, Vec<Visit<S, K>>), AllocError>
+    ensures seats { IfOk result (λ p. p.0.items ≡ map (λ a. a.0) attended.items) }
+    ensures visits { IfOk result (λ p. p.1.items ≡ map (λ a. a.1) attended.items) }
 {
     let mut seats = Vec::new(alloc);
-    let mut ends = Vec::new(alloc);
+    let mut visits = Vec::new(alloc);
     let mut left = VecDeque::from(attended);
-    while let Some(Attended { seat, end }) = left.pop_front() {
+    while let Some((seat, visit)) = left.pop_front() {
         seats.push(seat)?;
-        ends.push(end)?;
+        visits.push(visit)?;
     }
-    Ok((seats, ends))
+    Ok((seats, visits))
 }
 
 /// The account of a closed relay, whose seats have been served.
-fn closed<J: Naming, R: Wait + Drop>(
+fn closed<J: Naming, R: Wait + Drop, S: Source, K: Sink>(
     alloc: Global,
     relay: Relay<J, R>,
-    attended: Vec<Attended<J>>,
-) -> Result<Finished, ServerFault>
+    attended: Vec<Attended<J, S, K>>,
+) -> Result<Finished<S, K>, ServerFault>
     requires closed { relay.closed ≡ true }
-    requires all { relay.made ≡ length (map (λ a. a.seat) attended.items) }
-    requires order { Numbered 0 (map (λ a. a.seat) attended.items) }
-    ensures ends { IfOk result (λ f. f.ends.items ≡ map (λ a. a.end) attended.items) }
-    ensures whole { IfOk result (λ f. IsWhole relay.list (list_of f.account.front) (map (λ a. a.seat) attended.items) f.account) }
-    ensures fault { IfErr result (IsCloseFault relay (map (λ a. a.seat) attended.items)) }
+    requires all { relay.made ≡ length (map (λ a. a.0) attended.items) }
+    requires order { Numbered 0 (map (λ a. a.0) attended.items) }
+    ensures visits { IfOk result (λ f. f.visits ≡ map (λ a. a.1) attended.items) }
+    ensures whole { IfOk result (λ f. IsWhole relay.list (list_of f.account.front) (map (λ a. a.0) attended.items) f.account) }
+    ensures fault { IfErr result (IsCloseFault relay (map (λ a. a.0) attended.items)) }
 {
-    let (seats, ends) = parted(alloc, attended)?;
+    let (seats, visits) = parted(alloc, attended)?;
     match relay.finish(alloc, seats) {
-        Ok(account) => Ok(Finished { ends, account }),
+        Ok(account) => Ok(Finished { visits, account }),
         Err((_, _, fault)) => Err(ServerFault::Finish(fault)),
     }
 }
@@ -141,7 +170,7 @@ pub fn serve_seats<
     seats: Vec<Seat<J>>,
     acceptor: A,
     wake: &W,
-) -> Result<Finished, ServerFault>
+) -> Result<Finished<S, K>, ServerFault>
     requires all { relay.made ≡ length seats.items }
     requires order { Numbered 0 seats.items }
     ensures served { IfOk result (λ f. IsServed seats.items f) }

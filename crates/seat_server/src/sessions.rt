@@ -1,14 +1,15 @@
 //! Sessions on threads of their own.
 
-ghost use Rattle.std.specs.Prelude.{◌≡◌, ◌<◌, length, map, true, false, IfOk, IfErr};
+ghost use Rattle.std.specs.Prelude.{◌≡◌, ◌<◌, length, map, true, false, IfOk, IfErr, IfSome};
 ghost use mathlib.Core.List.{IsPrefix};
 ghost use Rattle.seat_server.specs.Faults.{IsAttendFault};
 ghost use Rattle.seat_server.specs.declared.fault.ServerFault.TheVariants.{Memory};
-ghost use Rattle.seat_server.specs.Sessions.{IsAttended, IsAttendedOver, AreAttended};
+ghost use Rattle.seat_server.specs.Sessions.{AreAttended, IsFirstVisit, IsUnusedSink, IsUnusedSource, IsVisit, one_each};
 
 use crate::accept::Accept;
 use crate::fault::ServerFault;
 use crate::progress::Progress;
+use crate::visit::Visit;
 use devices::{Sink, Source};
 use frame_service::{ServeFault, Served};
 use relay_board::{Naming, Seat};
@@ -22,12 +23,8 @@ use std::sync::Wait;
 use std::thread;
 use std::thread::{Promise, PromisedHandle, Threads};
 
-/// A seat as its session left it, and how the session ended.
-#[derive(Drop)]
-pub struct Attended<J: Naming> {
-    pub seat: Seat<J>,
-    pub end: Result<Served, ServeFault>,
-}
+/// A seat as its session left it, and the session.
+pub type Attended<J, S, K> = (Seat<J>, Visit<S, K>);
 
 /// That a thread serves a seat.
 #[derive(Drop)]
@@ -35,32 +32,79 @@ pub struct Attending<J: Naming> {
     seat: Snapshot<Seat<J>>,
 }
 
-impl<J: Naming> Promise<Attended<J>> for Attending<J> {
-    ghost use Rattle.seat_server.specs.Sessions.{IsAttended};
+impl<J: Naming, S: Source, K: Sink> Promise<Attended<J, S, K>> for Attending<J> {
+    ghost use Rattle.seat_server.specs.Sessions.{IsFirstVisit};
 
-    ghost kept_by = { λ p r. IsAttended p.seat.value r.seat r.end };
+    ghost kept_by = { λ p r. IsFirstVisit p.seat.value r.1 r.0 };
 }
 
 /// The thread of a session.
-type Thread<J> = PromisedHandle<Attended<J>, Attending<J>>;
+type Thread<J, S, K> = PromisedHandle<Attended<J, S, K>, Attending<J>>;
 
-/// Serves one session over a seat.
-fn serve_one<J: Naming, R: Threads + Wait + Sync + Copy + Drop, S: Source + Drop, K: Sink + Drop>(
+/// Serves one session over a seat and a stream: the seat as it is then, and how the session ended.
+fn serve_one<J: Naming, R: Threads + Wait + Sync + Copy + Drop, S: Source, K: Sink>(
+    rt: R,
+    alloc: Global,
+    seat: Seat<J>,
+    source: &mut S,
+    sink: &mut K,
+) -> (Seat<J>, Result<Served, ServeFault>)
+    ensures { IsVisit seat (record { source = S.known source.old; source' = S.known source.new; from = K.known sink.old; to = K.known sink.new; end = result.1 }) result.0 }
+{
+    let mut session = Session::new(rt, alloc, SeatHub::new(seat, rt));
+    let end = serve(alloc, source, sink, &mut session);
+    (session.into_hub().into_seat(), end)
+}
+
+/// Serves a seat over a stream of its own, and lets the stream go.
+fn attend<J: Naming, R: Threads + Wait + Sync + Copy + Drop, S: Source + Drop, K: Sink + Drop>(
     rt: R,
     alloc: Global,
     seat: Seat<J>,
     mut source: S,
     mut sink: K,
-) -> Attended<J>
-    ensures attended { IsAttended seat result.seat result.end }
-    ensures over { IsAttendedOver (S.known source) (K.known sink) seat result.seat result.end }
+) -> Attended<J, S, K>
+    requires source { IsUnusedSource (S.known source) }
+    requires sink { IsUnusedSink (K.known sink) }
+    ensures visit { IsFirstVisit seat result.1 result.0 }
 {
-    let mut session = Session::new(rt, alloc, SeatHub::new(seat, rt));
-    let end = serve(alloc, &mut source, &mut sink, &mut session);
-    Attended {
-        seat: session.into_hub().into_seat(),
+    let before = Snapshot::of(&source);
+    let from = Snapshot::of(&sink);
+    let (seat, end) = serve_one(rt, alloc, seat, &mut source, &mut sink);
+    let visit = Visit {
+        source: before,
+        left: Snapshot::of(&source),
+        from,
+        to: Snapshot::of(&sink),
         end,
-    }
+    };
+    (seat, visit)
+}
+
+/// Starts the thread of a session. None where it could not be started.
+fn begun<
+    J: Naming + Send + 'static,
+    R: Threads + Wait + Copy + Drop + Send + Sync + 'static,
+    S: Source + Send + Drop + 'static,
+    K: Sink + Send + Drop + 'static,
+>(rt: R, alloc: Global, seat: Seat<J>, source: S, sink: K) -> Option<Thread<J, S, K>>
+    requires source { IsUnusedSource (S.known source) }
+    requires sink { IsUnusedSink (K.known sink) }
+    ensures { IfSome result (λ h. h.promise.seat.value ≡ seat) }
+{
+    let promise = Attending {
+        seat: Snapshot::of(&seat),
+    };
+    let begun = thread::spawn_with(
+        &rt,
+        promise,
+        move || -> Attended<J, S, K>
+            requires source { IsUnusedSource (S.known source) }
+            requires sink { IsUnusedSink (K.known sink) }
+            ensures { IsFirstVisit seat result.1 result.0 }
+        { attend(rt, alloc, seat, source, sink) },
+    );
+    begun.ok()
 }
 
 /// Starts a thread for each seat once a stream for it has come, in order. False where one did not come, a
@@ -77,7 +121,7 @@ fn begin_all<
     progress: &Progress,
     mut acceptor: A,
     seats: Vec<Seat<J>>,
-) -> (Vec<Thread<J>>, bool)
+) -> (Vec<Thread<J, S, K>>, bool)
     ensures begun { IsPrefix (map (λ h. h.promise.seat.value) result.0.items) seats.items }
     ensures all { result.1 ≡ true → map (λ h. h.promise.seat.value) result.0.items ≡ seats.items }
     ensures lacks { result.1 ≡ false → length result.0.items < length seats.items }
@@ -91,15 +135,7 @@ fn begin_all<
         if progress.has_given_up() {
             return (threads, false);
         }
-        let promise = Attending {
-            seat: Snapshot::of(&seat),
-        };
-        let begun = thread::spawn_with(
-            &rt,
-            promise,
-            move || serve_one(rt, alloc, seat, source, sink),
-        );
-        let Ok(thread) = begun else {
+        let Some(thread) = begun(rt, alloc, seat, source, sink) else {
             return (threads, false);
         };
         match threads.push(thread) {
@@ -115,11 +151,11 @@ fn begin_all<
 }
 
 /// Waits for the sessions to end. What came of them, in order, where there is memory for that.
-fn ended<J: Naming, R: Threads>(
+fn ended<J: Naming, R: Threads, S: Source, K: Sink>(
     rt: &R,
-    threads: Vec<Thread<J>>,
-) -> Result<Vec<Attended<J>>, ServerFault>
-    ensures served { IfOk result (λ v. AreAttended (map (λ h. h.promise.seat.value) threads.items) (map (λ a. a.seat) v.items) (map (λ a. a.end) v.items)) }
+    threads: Vec<Thread<J, S, K>>,
+) -> Result<Vec<Attended<J, S, K>>, ServerFault>
+    ensures served { IfOk result (λ v. AreAttended (map (λ h. h.promise.seat.value) threads.items) (one_each (map (λ a. a.1) v.items)) (map (λ a. a.0) v.items)) }
     ensures want { IfErr result (λ fault. fault ≡ Memory) }
 {
     match thread::join_promised(rt, threads) {
@@ -146,8 +182,8 @@ fn attend_all<
     progress: &Progress,
     acceptor: A,
     seats: Vec<Seat<J>>,
-) -> Result<Vec<Attended<J>>, ServerFault>
-    ensures served { IfOk result (λ v. AreAttended seats.items (map (λ a. a.seat) v.items) (map (λ a. a.end) v.items)) }
+) -> Result<Vec<Attended<J, S, K>>, ServerFault>
+    ensures served { IfOk result (λ v. AreAttended seats.items (one_each (map (λ a. a.1) v.items)) (map (λ a. a.0) v.items)) }
     ensures fault { IfErr result IsAttendFault }
 {
     let (threads, is_whole) = begin_all(rt, alloc, progress, acceptor, seats);
@@ -174,8 +210,8 @@ pub fn all_attended<
     progress: &Progress,
     acceptor: A,
     seats: Vec<Seat<J>>,
-) -> Result<Vec<Attended<J>>, ServerFault>
-    ensures served { IfOk result (λ v. AreAttended seats.items (map (λ a. a.seat) v.items) (map (λ a. a.end) v.items)) }
+) -> Result<Vec<Attended<J, S, K>>, ServerFault>
+    ensures served { IfOk result (λ v. AreAttended seats.items (one_each (map (λ a. a.1) v.items)) (map (λ a. a.0) v.items)) }
     ensures fault { IfErr result IsAttendFault }
 {
     let all = attend_all(rt, alloc, progress, acceptor, seats);

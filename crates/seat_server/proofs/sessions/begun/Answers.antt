@@ -1,0 +1,7 @@
+use Rattle.std.proofs.Common.{subst, sym}
+use Rattle.relay_board.specs.Seating.{Seating}
+use Rattle.seat_server.specs.Sessions.{IsFirstVisit}
+use Rattle.seat_server.proofs.sessions.begun.Goals as goal
+
+pub spawn_with-begun-requires-clause-keeps : goal.spawn_with-begun-requires-clause-keeps
+spawn_with-begun-requires-clause-keeps g c κs within = λ r kept. subst (λ (s : Seating). IsFirstVisit s r.1 r.0) (sym c.of.ensures) kept
