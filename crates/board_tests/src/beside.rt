@@ -8,7 +8,7 @@ use std::alloc::Global;
 use std::sync::Wait;
 use std::test::Fail;
 use std::thread;
-use std::thread::Threads;
+use std::thread::{JoinHandle, Threads};
 
 const EDITS: u16 = 10_000;
 
@@ -85,25 +85,24 @@ fn publishes<R: Wait + Drop>(mut press: Press<R>, count: u16) -> Result<Press<R>
     Ok(press)
 }
 
+/// Starts the thread of a reader that has seen what is published.
+fn begin_following<R: Threads + Wait + Copy + Drop + Send + Sync + 'static>(
+    rt: R,
+    press: &mut Press<R>,
+) -> Result<JoinHandle<Follower>, Fail> {
+    let reader = press.reader()?;
+    Ok(thread::spawn(&rt, move || follows(&rt, reader, u64::from(EDITS)))?)
+}
+
 /// What three readers are handed and see, each on a thread of its own.
 fn followed<R: Threads + Wait + Copy + Drop + Send + Sync + 'static>(
     rt: R,
     alloc: Global,
-) -> Result<[Follower; 3], &'static str> {
+) -> Result<[Follower; 3], Fail> {
     let mut press = Press::new(rt, alloc, 3)?;
-    let one = press.reader()?;
-    let two = press.reader()?;
-    let three = press.reader()?;
-    let last = u64::from(EDITS);
-    let one = thread::spawn(&rt, move || follows(&rt, one, last))
-        .ok()
-        .ok_or("spawn")?;
-    let two = thread::spawn(&rt, move || follows(&rt, two, last))
-        .ok()
-        .ok_or("spawn")?;
-    let three = thread::spawn(&rt, move || follows(&rt, three, last))
-        .ok()
-        .ok_or("spawn")?;
+    let one = begin_following(rt, &mut press)?;
+    let two = begin_following(rt, &mut press)?;
+    let three = begin_following(rt, &mut press)?;
     let _press = publishes(press, EDITS)?;
     Ok([one.join(&rt), two.join(&rt), three.join(&rt)])
 }

@@ -6,7 +6,7 @@ use std::alloc::Global;
 use std::sync::Wait;
 use std::test::Fail;
 use std::thread;
-use std::thread::Threads;
+use std::thread::{JoinHandle, Threads};
 
 /// How many entries each of the two puts.
 const ENTRIES: u64 = 10_000;
@@ -82,21 +82,23 @@ fn takes<R: Wait>(rt: &R, mut drain: Drain, count: u64) -> Came {
     came
 }
 
+/// Starts the thread of a sender that puts.
+fn begin_putting<R: Threads + Wait + Copy + Drop + Send + Sync + 'static>(
+    rt: R,
+    sender: Sender,
+) -> Result<JoinHandle<u64>, Fail> {
+    Ok(thread::spawn(&rt, move || puts(&rt, sender, ENTRIES))?)
+}
+
 /// How many entries each put, and what was taken.
 fn passed<R: Threads + Wait + Copy + Drop + Send + Sync + 'static>(
     rt: R,
     alloc: Global,
-) -> Result<(u64, u64, Came), &'static str> {
+) -> Result<(u64, u64, Came), Fail> {
     let Inbox { drain, one, two } = open_inbox(alloc, 2).ok_or("inbox")?;
-    let one = thread::spawn(&rt, move || puts(&rt, one, ENTRIES))
-        .ok()
-        .ok_or("spawn")?;
-    let two = thread::spawn(&rt, move || puts(&rt, two, ENTRIES))
-        .ok()
-        .ok_or("spawn")?;
-    let taker = thread::spawn(&rt, move || takes(&rt, drain, ENTRIES))
-        .ok()
-        .ok_or("spawn")?;
+    let one = begin_putting(rt, one)?;
+    let two = begin_putting(rt, two)?;
+    let taker = thread::spawn(&rt, move || takes(&rt, drain, ENTRIES))?;
     Ok((one.join(&rt), two.join(&rt), taker.join(&rt)))
 }
 

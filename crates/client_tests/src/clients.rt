@@ -3,7 +3,7 @@
 use client_commands::command_in;
 use client_session::{Outcome, Seat, SeatFault, Telling};
 use client_tasks::{Done, carry_out, open};
-use edit_stamps::{Cell, Rect};
+use edit_stamps::Cell;
 use frame_line::Line;
 use genedit_script::{Command, PatternName, PatternText, read_script};
 use keyed_hash::HashKey;
@@ -170,16 +170,6 @@ impl Client {
 pub fn cell(alloc: Global, x: i32, y: i32, state: u8) -> Result<EditSpec, AllocError> {
     let cells = Vec::from_slice(alloc, &[Cell { x, y, state }])?;
     Ok(EditSpec::Cells(CellList::of_vec(cells)))
-}
-
-/// An area, to be cleared.
-pub fn area(x: i32, y: i32, width: u32, height: u32) -> EditSpec {
-    EditSpec::Clear(Rect {
-        x,
-        y,
-        width,
-        height,
-    })
 }
 
 /// The first name and text in a script.

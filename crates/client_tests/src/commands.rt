@@ -1,14 +1,16 @@
 //! Commands: what each prints, and what is left behind it.
 
 use crate::clients::Client;
-use crate::refusals::refuse;
+use crate::refusals::{CLOSED, NO_PLACE, refuse};
 use client_commands::FileName;
 use client_session::Telling;
 use client_tasks::Done;
 use edit_stamps::Cell;
 use memory_board::{Board, Shared};
 use std::alloc::{AllocError, Global};
+use std::process::Abort;
 use std::test::Fail;
+use std::time::Clock;
 
 /// A command, what is left behind it, and what it prints. Before it seat 2 draws the cell `0 9`, if it does.
 struct Row {
@@ -147,6 +149,20 @@ fn another_draws(board: &Shared) -> Result<(), Fail> {
     Ok(())
 }
 
+/// Obeys a line: what is left behind it, in words, and what it prints are these.
+fn obey<R: Abort + Clock>(
+    rt: &R,
+    alloc: Global,
+    client: &mut Client,
+    line: &str,
+    (left, told): (&str, &str),
+) -> Result<(), Fail> {
+    let done = client.obey(rt, alloc, line)?;
+    assert_eq!(rt; words_of(alloc, &done)?.as_str(), left, "{line}");
+    assert_eq!(rt; client.told(alloc)?.as_str(), told, "{line}");
+    Ok(())
+}
+
 #[test]
 fn each_command_once(rt: HostRuntime) -> Result<(), Fail> {
     let alloc = rt.alloc();
@@ -161,11 +177,28 @@ fn each_command_once(rt: HostRuntime) -> Result<(), Fail> {
         if row.draws {
             another_draws(&board)?;
         }
-        let done = a.obey(&rt, alloc, row.line)?;
-        assert_eq!(rt; words_of(alloc, &done)?.as_str(), row.left, "{}", row.line);
-        assert_eq!(rt; a.told(alloc)?.as_str(), row.told, "{}", row.line);
+        obey(&rt, alloc, &mut a, row.line, (row.left, row.told))?;
     }
     Ok(())
+}
+
+/// What a board holds.
+fn state_of(board: &Shared) -> Result<Vec<u8>, Fail> {
+    let board = board.try_borrow_mut().ok().ok_or("board")?;
+    Ok(board.replica().state()?)
+}
+
+/// The file and the text that a client has written.
+fn saved<C: Clock>(
+    clock: &C,
+    alloc: Global,
+    client: &mut Client,
+    line: &str,
+) -> Result<(FileName, Vec<u8>), Fail> {
+    match client.obey(clock, alloc, line)? {
+        Done::Write(file, text) => Ok((file, text)),
+        _ => Err(Fail::from("nothing is written")),
+    }
 }
 
 #[test]
@@ -174,26 +207,21 @@ fn a_board_is_saved(rt: HostRuntime) -> Result<(), Fail> {
     let board = Board::shared(alloc, 2)?;
     let mut a = Client::join(&rt, alloc, &board, 1, Telling::Edits)?;
     another_draws(&board)?;
-    let Done::Write(file, text) = a.obey(&rt, alloc, "save my.board")? else {
-        return Err(Fail::from("nothing is written"));
-    };
+    let (file, text) = saved(&rt, alloc, &mut a, "save my.board")?;
     assert_eq!(rt; file.as_bytes(), b"my.board".as_slice());
-    let held = board
-        .try_borrow_mut()
-        .ok()
-        .ok_or("board")?
-        .replica()
-        .state()?;
-    assert_eq!(rt; text, held);
+    assert_eq!(rt; text, state_of(&board)?);
     assert_eq!(rt;
         a.told(alloc)?.as_str(),
         "joined 1 /2/3\nedit 1 2 cells 0 9 1\n"
     );
-    refuse(&board, 0, false, 31)?;
-    let done = a.obey(&rt, alloc, "save my.board")?;
-    assert_eq!(rt; words_of(alloc, &done)?.as_str(), "told");
-    assert_eq!(rt; a.told(alloc)?.as_str(), "refused 31 NoPlace\n");
-    Ok(())
+    refuse(&board, NO_PLACE)?;
+    obey(
+        &rt,
+        alloc,
+        &mut a,
+        "save my.board",
+        ("told", "refused 31 NoPlace\n"),
+    )
 }
 
 #[test]
@@ -203,11 +231,9 @@ fn a_drawing_in_doubt(rt: HostRuntime) -> Result<(), Fail> {
     let mut a = Client::join(&rt, alloc, &board, 1, Telling::Edits)?;
     a.name(alloc, PATTERN)?;
     a.told(alloc)?;
-    refuse(&board, 30, false, 0)?;
+    refuse(&board, CLOSED)?;
     for (line, left) in [("copy p 0 0", "in doubt"), ("cells 0 0 1", "told")] {
-        let done = a.obey(&rt, alloc, line)?;
-        assert_eq!(rt; words_of(alloc, &done)?.as_str(), left, "{line}");
-        assert_eq!(rt; a.told(alloc)?.as_str(), "refused 30 Closed\n", "{line}");
+        obey(&rt, alloc, &mut a, line, (left, "refused 30 Closed\n"))?;
     }
     Ok(())
 }

@@ -8,6 +8,7 @@ use client_session::Telling;
 use memory_board::{Board, Shared};
 use rand_core::utils::NextWord;
 use rand_pcg::Pcg32;
+use replica_core::Replica;
 use std::alloc::{AllocError, Global};
 use std::test::Fail;
 
@@ -146,20 +147,39 @@ fn rounds(rt: &HostRuntime, random: &mut Pcg32, members: &mut [Member]) -> Resul
     Ok(())
 }
 
-/// The state of a replica that takes the edits of a board one by one, in an order by chance.
-fn shuffled_state(alloc: Global, random: &mut Pcg32, board: &Shared) -> Result<Vec<u8>, Fail> {
-    let board = board.try_borrow_mut().ok().ok_or("board")?;
+/// The state of a replica that takes the edits of a board one by one, so many, in an order by chance.
+fn shuffled_state(
+    alloc: Global,
+    random: &mut Pcg32,
+    board: &Shared,
+    edits: usize,
+) -> Result<Vec<u8>, Fail> {
     let mut fresh = replica(alloc, b"/2/3")?;
-    let mut left = places(alloc, board.replica().journal().len())?;
-    for _edit in 0..board.replica().journal().len() {
-        let count = u32::try_from(left.len()).unwrap_or(1);
-        let at = below(random, count) as usize;
-        if at < left.len() {
-            let place = left.swap_remove(at);
-            fresh.take_bytes(&board.replica().delta(place, 1)?)?;
-        }
+    for place in shuffled(alloc, random, edits)? {
+        take_edit(board, place, &mut fresh)?;
     }
     Ok(fresh.state()?)
+}
+
+/// Has a replica take the edit at a place of a board's list.
+fn take_edit(board: &Shared, place: u32, replica: &mut Replica) -> Result<(), Fail> {
+    let board = board.try_borrow_mut().ok().ok_or("board")?;
+    replica.take_bytes(&board.replica().delta(place, 1)?)?;
+    Ok(())
+}
+
+/// The numbers below a number, in an order by chance.
+fn shuffled(alloc: Global, random: &mut Pcg32, count: usize) -> Result<Vec<u32>, AllocError> {
+    let mut left = places(alloc, count)?;
+    let mut drawn = Vec::new(alloc);
+    for _ in 0..count {
+        let bound = u32::try_from(left.len()).unwrap_or(1);
+        let at = below(random, bound) as usize;
+        if at < left.len() {
+            drawn.push(left.swap_remove(at))?;
+        }
+    }
+    Ok(drawn)
 }
 
 /// The numbers below a number.
@@ -211,7 +231,7 @@ fn eight_clients_agree(rt: HostRuntime) -> Result<(), Fail> {
     let (state, edits, planes) = held(&board)?;
     assert!(rt; edits > 1024, "{edits}");
     assert_eq!(rt; planes, 2);
-    assert_eq!(rt; shuffled_state(alloc, &mut random, &board)?, state);
+    assert_eq!(rt; shuffled_state(alloc, &mut random, &board, edits)?, state);
     assert_eq!(rt; counted(&rt, &mut members, &state)?, (0, 0, 2));
     Ok(())
 }

@@ -14,6 +14,8 @@ mod many_cells;
 #[cfg(test)]
 mod opening;
 #[cfg(test)]
+mod plays;
+#[cfg(test)]
 mod refusals;
 #[cfg(test)]
 mod texts;

@@ -1,59 +1,81 @@
 //! What commands print.
 
-use crate::clients::{Client, area};
-use client_session::Telling;
-use memory_board::Board;
+use crate::plays::{A, Act, B, Party, Step, play};
+use client_session::{Outcome, Telling};
+use edit_stamps::Rect;
 use std::test::Fail;
+
+/// The first two cells of row 0.
+const TWO_CELLS: Rect = Rect {
+    x: 0,
+    y: 0,
+    width: 2,
+    height: 1,
+};
+
+static TWO_DRAW: [Step; 11] = [
+    Step::Does(A, Act::Told("joined 1 /2/3\n")),
+    Step::Does(A, Act::Dot(3, -4, 2, Outcome::Drawn)),
+    Step::Does(A, Act::Clear(TWO_CELLS, Outcome::Drawn)),
+    Step::Does(A, Act::Told("drawn 1 1\ndrawn 2 1\n")),
+    Step::Does(B, Act::Dot(3, -4, 1, Outcome::Drawn)),
+    Step::Does(B, Act::Poll),
+    Step::Does(B, Act::Obey("show 3 -4")),
+    Step::Does(
+        B,
+        Act::Told(
+            "joined 2 /2/3\nedit 1 1 cells 3 -4 2\nedit 2 1 area 0 0 2 1 cells\ndrawn 3 2\nedits 2\ncell 1 3 2\n",
+        ),
+    ),
+    Step::Does(A, Act::Poll),
+    Step::Does(A, Act::Poll),
+    Step::Does(A, Act::Told("edit 3 2 cells 3 -4 1\nedits 1\nedits 0\n")),
+];
 
 #[test]
 fn two_clients_draw(rt: HostRuntime) -> Result<(), Fail> {
-    let alloc = rt.alloc();
-    let board = Board::shared(alloc, 2)?;
-    let mut a = Client::join(&rt, alloc, &board, 1, Telling::Edits)?;
-    let mut b = Client::join(&rt, alloc, &board, 2, Telling::Edits)?;
-    assert_eq!(rt; a.told(alloc)?.as_str(), "joined 1 /2/3\n");
-    a.dot(&rt, alloc, 3, -4, 2)?;
-    a.draw(&rt, alloc, &area(0, 0, 2, 1))?;
-    assert_eq!(rt; a.told(alloc)?.as_str(), "drawn 1 1\ndrawn 2 1\n");
-    b.dot(&rt, alloc, 3, -4, 1)?;
-    b.poll(&rt, alloc)?;
-    b.obey(&rt, alloc, "show 3 -4")?;
-    assert_eq!(rt;
-        b.told(alloc)?.as_str(),
-        "joined 2 /2/3\nedit 1 1 cells 3 -4 2\nedit 2 1 area 0 0 2 1 cells\ndrawn 3 2\nedits 2\ncell 1 3 2\n"
-    );
-    a.poll(&rt, alloc)?;
-    a.poll(&rt, alloc)?;
-    assert_eq!(rt;
-        a.told(alloc)?.as_str(),
-        "edit 3 2 cells 3 -4 1\nedits 1\nedits 0\n"
-    );
-    Ok(())
+    play(
+        &rt,
+        rt.alloc(),
+        &[Telling::Edits, Telling::Edits],
+        &TWO_DRAW,
+    )
 }
+
+const ORIGIN: Rect = Rect {
+    x: 0,
+    y: 0,
+    width: 1,
+    height: 1,
+};
+
+static CHANGES: [Step; 10] = [
+    Step::Does(A, Act::Dot(1, 0, 2, Outcome::Drawn)),
+    Step::Does(A, Act::Dot(0, 0, 1, Outcome::Drawn)),
+    Step::Does(A, Act::Dot(0, 0, 1, Outcome::Drawn)),
+    Step::Does(
+        A,
+        Act::Told("joined 1 /2/3\ndrawn 1 1\nnow 1 0 2\ndrawn 2 1\nnow 0 0 1\ndrawn 3 1\n"),
+    ),
+    Step::Does(B, Act::Clear(ORIGIN, Outcome::Drawn)),
+    Step::Does(B, Act::Follow),
+    Step::Does(
+        B,
+        Act::Told("joined 2 /2/3\nnow 0 0 1 1 0 2\ndrawn 4 2\nnow 0 0 0\n"),
+    ),
+    Step::Does(A, Act::Follow),
+    Step::Does(A, Act::Poll),
+    Step::Does(A, Act::Told("now 0 0 0\nedits 1\n")),
+];
 
 #[test]
 fn cells_that_look_different(rt: HostRuntime) -> Result<(), Fail> {
-    let alloc = rt.alloc();
-    let board = Board::shared(alloc, 2)?;
-    let mut a = Client::join(&rt, alloc, &board, 1, Telling::Changes)?;
-    let mut b = Client::join(&rt, alloc, &board, 2, Telling::Changes)?;
-    a.dot(&rt, alloc, 1, 0, 2)?;
-    a.dot(&rt, alloc, 0, 0, 1)?;
-    a.dot(&rt, alloc, 0, 0, 1)?;
-    assert_eq!(rt;
-        a.told(alloc)?.as_str(),
-        "joined 1 /2/3\ndrawn 1 1\nnow 1 0 2\ndrawn 2 1\nnow 0 0 1\ndrawn 3 1\n"
-    );
-    b.draw(&rt, alloc, &area(0, 0, 1, 1))?;
-    b.follow(&rt, alloc)?;
-    assert_eq!(rt;
-        b.told(alloc)?.as_str(),
-        "joined 2 /2/3\nnow 0 0 1 1 0 2\ndrawn 4 2\nnow 0 0 0\n"
-    );
-    a.follow(&rt, alloc)?;
-    a.poll(&rt, alloc)?;
-    assert_eq!(rt; a.told(alloc)?.as_str(), "now 0 0 0\nedits 1\n");
-    Ok(())
+    play(
+        &rt,
+        rt.alloc(),
+        &[Telling::Changes, Telling::Changes],
+        &CHANGES,
+    )
 }
 
 /// A pattern of two cells, one of them dead.
@@ -62,51 +84,64 @@ const PATTERN: &str = "rule /2/3\nreplicas 1\npattern p\nx = 2, y = 1\nA.!\nend\
 /// A text that is no pattern.
 const FAULTY: &str = "rule /2/3\nreplicas 1\npattern q\nx = 3, y = 1\np!\nend\n";
 
+static NAMES: [Step; 10] = [
+    Step::Does(A, Act::Name(PATTERN)),
+    Step::Does(A, Act::Name(FAULTY)),
+    Step::Does(A, Act::Obey("copy p 5 6")),
+    Step::Does(A, Act::Obey("or p 6 6")),
+    Step::Does(A, Act::Obey("copy q 0 0")),
+    Step::Does(
+        A,
+        Act::Told(
+            "joined 1 /2/3\npattern p 2 1 1 0 0 0\nrefused 5 Tag 14\ndrawn 1 1\ndrawn 2 1\nrefused 38 NoPattern\n",
+        ),
+    ),
+    Step::Does(A, Act::Obey("export 0")),
+    Step::Does(
+        A,
+        Act::Told("#CXRLE Pos=5,6 Gen=0\nx = 2, y = 1, rule = /2/3\n2A!\n"),
+    ),
+    Step::Does(A, Act::Obey("export 536870913")),
+    Step::Does(A, Act::Told("refused 22 GenRange\n")),
+];
+
 #[test]
 fn patterns_by_name(rt: HostRuntime) -> Result<(), Fail> {
-    let alloc = rt.alloc();
-    let board = Board::shared(alloc, 1)?;
-    let mut a = Client::join(&rt, alloc, &board, 1, Telling::Edits)?;
-    a.name(alloc, PATTERN)?;
-    a.name(alloc, FAULTY)?;
-    a.obey(&rt, alloc, "copy p 5 6")?;
-    a.obey(&rt, alloc, "or p 6 6")?;
-    a.obey(&rt, alloc, "copy q 0 0")?;
-    assert_eq!(rt;
-        a.told(alloc)?.as_str(),
-        "joined 1 /2/3\npattern p 2 1 1 0 0 0\nrefused 5 Tag 14\ndrawn 1 1\ndrawn 2 1\nrefused 38 NoPattern\n"
-    );
-    a.obey(&rt, alloc, "export 0")?;
-    assert_eq!(rt;
-        a.told(alloc)?.as_str(),
-        "#CXRLE Pos=5,6 Gen=0\nx = 2, y = 1, rule = /2/3\n2A!\n"
-    );
-    a.obey(&rt, alloc, "export 536870913")?;
-    assert_eq!(rt; a.told(alloc)?.as_str(), "refused 22 GenRange\n");
+    play(&rt, rt.alloc(), &[Telling::Edits], &NAMES)
+}
+
+/// Behind 1,025 cells that A drew: B polls, and is told of two more.
+static WHOLE_PLANE: [Step; 6] = [
+    Step::Does(B, Act::Poll),
+    Step::Does(B, Act::Poll),
+    Step::Does(A, Act::Dot(7, 0, 2, Outcome::Drawn)),
+    Step::Does(A, Act::Dot(8, 0, 1, Outcome::Drawn)),
+    Step::Does(B, Act::Poll),
+    Step::Does(
+        B,
+        Act::Told("joined 2 /2/3\nwhole\nedits 0\nnow 7 0 2\nedits 2\n"),
+    ),
+];
+
+/// Has A draw so many cells of row 0, each by itself.
+fn draw_row(rt: &HostRuntime, party: &mut Party, width: i32) -> Result<(), Fail> {
+    let a = party.clients.get_mut(A).ok_or("client")?;
+    for x in 0..width {
+        a.dot(rt, rt.alloc(), x, 0, 1)?;
+    }
     Ok(())
 }
 
 #[test]
 fn a_whole_plane(rt: HostRuntime) -> Result<(), Fail> {
-    let alloc = rt.alloc();
-    let board = Board::shared(alloc, 2)?;
-    let mut a = Client::join(&rt, alloc, &board, 1, Telling::Edits)?;
-    let mut b = Client::join(&rt, alloc, &board, 2, Telling::Changes)?;
-    for x in 0..1025 {
-        a.dot(&rt, alloc, x, 0, 1)?;
-    }
-    b.poll(&rt, alloc)?;
-    b.poll(&rt, alloc)?;
-    a.dot(&rt, alloc, 7, 0, 2)?;
-    a.dot(&rt, alloc, 8, 0, 1)?;
-    b.poll(&rt, alloc)?;
-    assert_eq!(rt;
-        b.told(alloc)?.as_str(),
-        "joined 2 /2/3\nwhole\nedits 0\nnow 7 0 2\nedits 2\n"
-    );
-    let ours = a.save(&rt, alloc)?;
-    let theirs = b.save(&rt, alloc)?;
+    let mut party = Party::join(&rt, rt.alloc(), &[Telling::Edits, Telling::Changes])?;
+    draw_row(&rt, &mut party, 1025)?;
+    party.play(&rt, rt.alloc(), &WHOLE_PLANE)?;
+    let [a, b] = party.clients.as_mut_slice() else {
+        return Err(Fail::from("two clients"));
+    };
+    let ours = a.save(&rt, rt.alloc())?;
     assert!(rt; ours.is_some());
-    assert_eq!(rt; ours, theirs);
+    assert_eq!(rt; ours, b.save(&rt, rt.alloc())?);
     Ok(())
 }

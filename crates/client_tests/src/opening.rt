@@ -1,75 +1,77 @@
 //! Texts that are opened: what is drawn of them, and what is refused.
 
 use crate::clients::{Client, cell};
+use crate::plays::{A, Act, Party, Step, play};
 use crate::refusals::asked;
-use crate::texts::{first_state, replica, state_by};
+use crate::texts::{Text, replica, state_by};
 use client_session::{Outcome, Telling};
-use memory_board::Board;
+use memory_board::{Board, Shared};
 use std::alloc::Global;
+use std::process::Abort;
 use std::test::Fail;
+use std::time::Clock;
 
 /// Three columns, the middle one dead, at a position of its own.
 const PATTERN: &[u8] = b"#CXRLE Pos=5,-6 Gen=7\nx = 3, y = 1, rule = 23/3/2\nA.B!\n";
 
+static AT_ITS_POSITION: [Step; 5] = [
+    Step::Does(A, Act::Dot(6, -6, 1, Outcome::Drawn)),
+    Step::Does(A, Act::Open(Text::Bytes(PATTERN), Outcome::Drawn)),
+    Step::Does(A, Act::Obey("show 6 -6")),
+    Step::Does(A, Act::Obey("export 0")),
+    Step::Does(
+        A,
+        Act::Told(
+            "joined 1 /2/3\ndrawn 1 1\nnow 6 -6 1\ndrawn 2 1\nnow 5 -6 1 7 -6 2\ncell 1 1 1\n\
+            #CXRLE Pos=5,-6 Gen=0\nx = 3, y = 1, rule = /2/3\n2AB!\n",
+        ),
+    ),
+];
+
 #[test]
 fn a_pattern_is_drawn_at_its_position(rt: HostRuntime) -> Result<(), Fail> {
-    let alloc = rt.alloc();
-    let board = Board::shared(alloc, 1)?;
-    let mut a = Client::join(&rt, alloc, &board, 1, Telling::Changes)?;
-    a.dot(&rt, alloc, 6, -6, 1)?;
-    assert_eq!(rt; a.open(&rt, alloc, PATTERN), Ok(Outcome::Drawn));
-    a.obey(&rt, alloc, "show 6 -6")?;
-    a.obey(&rt, alloc, "export 0")?;
-    assert_eq!(rt;
-        a.told(alloc)?.as_str(),
-        "joined 1 /2/3\ndrawn 1 1\nnow 6 -6 1\ndrawn 2 1\nnow 5 -6 1 7 -6 2\ncell 1 1 1\n\
-        #CXRLE Pos=5,-6 Gen=0\nx = 3, y = 1, rule = /2/3\n2AB!\n"
-    );
-    Ok(())
+    play(&rt, rt.alloc(), &[Telling::Changes], &AT_ITS_POSITION)
 }
+
+static BOTH_VERSIONS: [Step; 5] = [
+    Step::Does(A, Act::Open(Text::First, Outcome::Drawn)),
+    Step::Does(A, Act::Obey("show 0 0")),
+    Step::Does(A, Act::Open(Text::Cell(1, -7, 8), Outcome::Drawn)),
+    Step::Does(A, Act::Obey("show -7 8")),
+    Step::Does(
+        A,
+        Act::Told("joined 1 /2/3\ndrawn 2 1\ncell 1 2 1\ndrawn 3 1\ncell 1 3 1\n"),
+    ),
+];
 
 #[test]
 fn states_of_both_versions_are_drawn(rt: HostRuntime) -> Result<(), Fail> {
-    let alloc = rt.alloc();
-    let board = Board::shared(alloc, 1)?;
-    let mut a = Client::join(&rt, alloc, &board, 1, Telling::Edits)?;
-    assert_eq!(rt;
-        a.open(&rt, alloc, &first_state(alloc)?),
-        Ok(Outcome::Drawn)
-    );
-    a.obey(&rt, alloc, "show 0 0")?;
-    let second = state_by(alloc, 1, -7, 8)?;
-    assert!(rt; second.starts_with(b"GLWS\x02\x04/2/3"));
-    assert_eq!(rt; a.open(&rt, alloc, &second), Ok(Outcome::Drawn));
-    a.obey(&rt, alloc, "show -7 8")?;
-    assert_eq!(rt;
-        a.told(alloc)?.as_str(),
-        "joined 1 /2/3\ndrawn 2 1\ncell 1 2 1\ndrawn 3 1\ncell 1 3 1\n"
-    );
-    Ok(())
+    assert!(rt; state_by(rt.alloc(), 1, -7, 8)?.starts_with(b"GLWS\x02\x04/2/3"));
+    play(&rt, rt.alloc(), &[Telling::Edits], &BOTH_VERSIONS)
 }
+
+static ABOVE_THE_FILE: [Step; 2] = [
+    Step::Does(A, Act::Dot(0, 0, 1, Outcome::Drawn)),
+    Step::Does(A, Act::Open(Text::Cell(70, 1, 0), Outcome::Drawn)),
+];
+
+/// Behind a cell that is drawn with a counter above 99.
+static ABOVE_THE_BOARD: [Step; 3] = [
+    Step::Does(A, Act::Open(Text::Cell(70, 2, 0), Outcome::Drawn)),
+    Step::Does(A, Act::Open(Text::Bytes(PATTERN), Outcome::Drawn)),
+    Step::Does(
+        A,
+        Act::Told("joined 1 /2/3\ndrawn 1 1\ndrawn 71 1\ndrawn 100 1\ndrawn 101 1\ndrawn 102 1\n"),
+    ),
+];
 
 #[test]
 fn counters_are_above_those_of_the_file_and_of_the_board(rt: HostRuntime) -> Result<(), Fail> {
-    let alloc = rt.alloc();
-    let board = Board::shared(alloc, 1)?;
-    let mut a = Client::join(&rt, alloc, &board, 1, Telling::Edits)?;
-    a.dot(&rt, alloc, 0, 0, 1)?;
-    assert_eq!(rt;
-        a.open(&rt, alloc, &state_by(alloc, 70, 1, 0)?),
-        Ok(Outcome::Drawn)
-    );
-    a.draw_after(&rt, alloc, 99, &cell(alloc, 0, 0, 2)?)?;
-    assert_eq!(rt;
-        a.open(&rt, alloc, &state_by(alloc, 70, 2, 0)?),
-        Ok(Outcome::Drawn)
-    );
-    assert_eq!(rt; a.open(&rt, alloc, PATTERN), Ok(Outcome::Drawn));
-    assert_eq!(rt;
-        a.told(alloc)?.as_str(),
-        "joined 1 /2/3\ndrawn 1 1\ndrawn 71 1\ndrawn 100 1\ndrawn 101 1\ndrawn 102 1\n"
-    );
-    Ok(())
+    let mut party = Party::join(&rt, rt.alloc(), &[Telling::Edits])?;
+    party.play(&rt, rt.alloc(), &ABOVE_THE_FILE)?;
+    let a = party.clients.get_mut(A).ok_or("client")?;
+    a.draw_after(&rt, rt.alloc(), 99, &cell(rt.alloc(), 0, 0, 2)?)?;
+    party.play(&rt, rt.alloc(), &ABOVE_THE_BOARD)
 }
 
 /// A text that is refused, and what is printed of it.
@@ -130,6 +132,23 @@ static REFUSED: [Refused; 9] = [
     },
 ];
 
+/// Opens a text that is refused.
+fn open_refused<R: Abort + Clock>(
+    rt: &R,
+    alloc: Global,
+    board: &Shared,
+    client: &mut Client,
+    row: &Refused,
+) -> Result<(), Fail> {
+    let (polls, _) = asked(board)?;
+    let outcome = client.open(rt, alloc, row.text);
+    assert_eq!(rt; outcome, Ok(Outcome::Refused), "{}", row.told);
+    assert_eq!(rt; client.told(alloc)?.as_str(), row.told);
+    let polls = polls.saturating_add(row.polls);
+    assert_eq!(rt; asked(board)?, (polls, 0), "{}", row.told);
+    Ok(())
+}
+
 #[test]
 fn texts_that_are_refused(rt: HostRuntime) -> Result<(), Fail> {
     let alloc = rt.alloc();
@@ -137,20 +156,7 @@ fn texts_that_are_refused(rt: HostRuntime) -> Result<(), Fail> {
     let mut a = Client::join(&rt, alloc, &board, 1, Telling::Edits)?;
     a.told(alloc)?;
     for row in &REFUSED {
-        let (polls, _) = asked(&board)?;
-        assert_eq!(rt;
-            a.open(&rt, alloc, row.text),
-            Ok(Outcome::Refused),
-            "{}",
-            row.told
-        );
-        assert_eq!(rt; a.told(alloc)?.as_str(), row.told);
-        assert_eq!(rt;
-            asked(&board)?,
-            (polls.saturating_add(row.polls), 0),
-            "{}",
-            row.told
-        );
+        open_refused(&rt, alloc, &board, &mut a, row)?;
     }
     Ok(())
 }
@@ -163,16 +169,17 @@ fn cleared(alloc: Global) -> Result<Vec<u8>, Fail> {
     Ok(replica.state()?)
 }
 
+static NOTHING: [Step; 3] = [
+    Step::Does(A, Act::Told("joined 1 /2/3\nrefused 9 Nothing\n")),
+    Step::Polls(2),
+    Step::Pushes(0),
+];
+
 #[test]
 fn a_cleared_board_has_nothing_to_draw(rt: HostRuntime) -> Result<(), Fail> {
-    let alloc = rt.alloc();
-    let board = Board::shared(alloc, 1)?;
-    let mut a = Client::join(&rt, alloc, &board, 1, Telling::Edits)?;
-    assert_eq!(rt; a.open(&rt, alloc, &cleared(alloc)?), Ok(Outcome::Refused));
-    assert_eq!(rt;
-        a.told(alloc)?.as_str(),
-        "joined 1 /2/3\nrefused 9 Nothing\n"
-    );
-    assert_eq!(rt; asked(&board)?, (2, 0));
-    Ok(())
+    let mut party = Party::join(&rt, rt.alloc(), &[Telling::Edits])?;
+    let a = party.clients.get_mut(A).ok_or("client")?;
+    let outcome = a.open(&rt, rt.alloc(), &cleared(rt.alloc())?);
+    assert_eq!(rt; outcome, Ok(Outcome::Refused));
+    party.play(&rt, rt.alloc(), &NOTHING)
 }

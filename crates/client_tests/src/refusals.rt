@@ -1,19 +1,14 @@
 //! What is refused.
 
-use crate::clients::{Client, area};
+use crate::plays::{A, Act, B, Party, Step, play};
 use client_session::{Outcome, SeatFault, Telling};
-use memory_board::{Board, Refusals, Shared};
+use edit_stamps::Rect;
+use memory_board::{Refusals, Shared};
 use std::test::Fail;
 
-/// Has a board refuse pushes by a number, and polls; 0 for none.
-pub fn refuse(board: &Shared, push: u8, publishes: bool, poll: u8) -> Result<(), Fail> {
-    let mut board = board.try_borrow_mut().ok().ok_or("board")?;
-    board.refusals = Refusals {
-        push,
-        passes: 0,
-        publishes,
-        poll,
-    };
+/// Has a board refuse so from now on.
+pub fn refuse(board: &Shared, refusals: Refusals) -> Result<(), Fail> {
+    board.try_borrow_mut().ok().ok_or("board")?.refusals = refusals;
     Ok(())
 }
 
@@ -23,88 +18,146 @@ pub fn asked(board: &Shared) -> Result<(u32, u32), Fail> {
     Ok((board.polls, board.pushes))
 }
 
+/// Pushes are refused by 28.
+const NOT_YOURS: Refusals = Refusals {
+    push: 28,
+    ..Refusals::NONE
+};
+
+/// Pushes are refused by 29.
+const FULL: Refusals = Refusals {
+    push: 29,
+    ..Refusals::NONE
+};
+
+/// Pushes are refused by 30.
+pub const CLOSED: Refusals = Refusals {
+    push: 30,
+    ..Refusals::NONE
+};
+
+/// The same, but their edits are published.
+const PUBLISHED: Refusals = Refusals {
+    push: 30,
+    publishes: true,
+    ..Refusals::NONE
+};
+
+/// Polls are refused by 31.
+pub const NO_PLACE: Refusals = Refusals {
+    poll: 31,
+    ..Refusals::NONE
+};
+
+/// Polls are refused by 21.
+const TOO_LONG: Refusals = Refusals {
+    poll: 21,
+    ..Refusals::NONE
+};
+
+/// One cell wider than the half of the plane that it begins.
+const TOO_WIDE: Rect = Rect {
+    x: 0,
+    y: 0,
+    width: 1_073_741_825,
+    height: 1,
+};
+
+static EDITS_AND_PUSHES: [Step; 10] = [
+    Step::Does(A, Act::Clear(TOO_WIDE, Outcome::Refused)),
+    Step::Does(A, Act::Dot(0, 0, 3, Outcome::Refused)),
+    Step::Polls(3),
+    Step::Pushes(0),
+    Step::Refuse(NOT_YOURS),
+    Step::Does(A, Act::Dot(0, 0, 1, Outcome::Refused)),
+    Step::Polls(4),
+    Step::Pushes(1),
+    Step::Does(A, Act::Obey("show 0 0")),
+    Step::Does(
+        A,
+        Act::Told(
+            "joined 1 /2/3\nrefused 10 OutOfPlane\nrefused 11 StateRange\nrefused 28 NotYours\ncell 0 0 0\n",
+        ),
+    ),
+];
+
 #[test]
 fn edits_and_pushes(rt: HostRuntime) -> Result<(), Fail> {
-    let alloc = rt.alloc();
-    let board = Board::shared(alloc, 1)?;
-    let mut a = Client::join(&rt, alloc, &board, 1, Telling::Edits)?;
-    assert_eq!(rt;
-        a.draw(&rt, alloc, &area(0, 0, 1_073_741_825, 1)),
-        Ok(Outcome::Refused)
-    );
-    assert_eq!(rt; a.dot(&rt, alloc, 0, 0, 3), Ok(Outcome::Refused));
-    assert_eq!(rt; asked(&board)?, (3, 0));
-    refuse(&board, 28, false, 0)?;
-    assert_eq!(rt; a.dot(&rt, alloc, 0, 0, 1), Ok(Outcome::Refused));
-    assert_eq!(rt; asked(&board)?, (4, 1));
-    a.obey(&rt, alloc, "show 0 0")?;
-    assert_eq!(rt;
-        a.told(alloc)?.as_str(),
-        "joined 1 /2/3\nrefused 10 OutOfPlane\nrefused 11 StateRange\nrefused 28 NotYours\ncell 0 0 0\n"
-    );
-    Ok(())
+    play(&rt, rt.alloc(), &[Telling::Edits], &EDITS_AND_PUSHES)
 }
+
+static FULL_INBOX: [Step; 9] = [
+    Step::Refuse(FULL),
+    Step::Does(A, Act::Dot(0, 0, 1, Outcome::Refused)),
+    Step::Polls(2),
+    Step::Pushes(10),
+    Step::Refuse(Refusals::NONE),
+    Step::Does(A, Act::Dot(0, 0, 1, Outcome::Drawn)),
+    Step::Polls(3),
+    Step::Pushes(11),
+    Step::Does(A, Act::Told("joined 1 /2/3\nrefused 29 Full\ndrawn 1 1\n")),
+];
 
 #[test]
 fn a_full_inbox(rt: HostRuntime) -> Result<(), Fail> {
-    let alloc = rt.alloc();
-    let board = Board::shared(alloc, 1)?;
-    let mut a = Client::join(&rt, alloc, &board, 1, Telling::Edits)?;
-    refuse(&board, 29, false, 0)?;
-    assert_eq!(rt; a.dot(&rt, alloc, 0, 0, 1), Ok(Outcome::Refused));
-    assert_eq!(rt; asked(&board)?, (2, 10));
-    refuse(&board, 0, false, 0)?;
-    assert_eq!(rt; a.dot(&rt, alloc, 0, 0, 1), Ok(Outcome::Drawn));
-    assert_eq!(rt; asked(&board)?, (3, 11));
-    assert_eq!(rt;
-        a.told(alloc)?.as_str(),
-        "joined 1 /2/3\nrefused 29 Full\ndrawn 1 1\n"
-    );
-    Ok(())
+    play(&rt, rt.alloc(), &[Telling::Edits], &FULL_INBOX)
 }
+
+static CLOSED_BOARD: [Step; 9] = [
+    Step::Refuse(PUBLISHED),
+    Step::Does(A, Act::Dot(0, 0, 1, Outcome::InDoubt)),
+    Step::Does(A, Act::Told("joined 1 /2/3\nrefused 30 Closed\n")),
+    Step::Refuse(Refusals::NONE),
+    Step::Does(B, Act::Dot(5, 5, 2, Outcome::Drawn)),
+    Step::Does(A, Act::Dot(1, 0, 1, Outcome::Refused)),
+    Step::Pushes(2),
+    Step::Does(A, Act::Poll),
+    Step::Does(
+        A,
+        Act::Told("edit 1 1 cells 0 0 1\nedit 2 2 cells 5 5 2\nrefused 30 Closed\nedits 1\n"),
+    ),
+];
 
 #[test]
 fn a_closed_board(rt: HostRuntime) -> Result<(), Fail> {
-    let alloc = rt.alloc();
-    let board = Board::shared(alloc, 2)?;
-    let mut a = Client::join(&rt, alloc, &board, 1, Telling::Edits)?;
-    let mut b = Client::join(&rt, alloc, &board, 2, Telling::Edits)?;
-    refuse(&board, 30, true, 0)?;
-    assert_eq!(rt; a.dot(&rt, alloc, 0, 0, 1), Ok(Outcome::InDoubt));
-    assert_eq!(rt;
-        a.told(alloc)?.as_str(),
-        "joined 1 /2/3\nrefused 30 Closed\n"
-    );
-    refuse(&board, 0, false, 0)?;
-    b.dot(&rt, alloc, 5, 5, 2)?;
-    assert_eq!(rt; a.dot(&rt, alloc, 1, 0, 1), Ok(Outcome::Refused));
-    assert_eq!(rt; asked(&board)?.1, 2);
-    a.poll(&rt, alloc)?;
-    assert_eq!(rt;
-        a.told(alloc)?.as_str(),
-        "edit 1 1 cells 0 0 1\nedit 2 2 cells 5 5 2\nrefused 30 Closed\nedits 1\n"
-    );
-    Ok(())
+    play(
+        &rt,
+        rt.alloc(),
+        &[Telling::Edits, Telling::Edits],
+        &CLOSED_BOARD,
+    )
 }
+
+static REFUSED_POLLS: [Step; 5] = [
+    Step::Refuse(NO_PLACE),
+    Step::Does(A, Act::Follow),
+    Step::Does(A, Act::Dot(0, 0, 1, Outcome::Refused)),
+    Step::Does(A, Act::Poll),
+    Step::Does(A, Act::Obey("export 0")),
+];
+
+/// Behind the refusal of an export and of a state.
+static REFUSED_STILL: [Step; 3] = [
+    Step::Pushes(0),
+    Step::Does(
+        A,
+        Act::Told(
+            "joined 1 /2/3\nrefused 31 NoPlace\nrefused 31 NoPlace\nrefused 31 NoPlace\nrefused 31 NoPlace\nrefused 31 NoPlace\n",
+        ),
+    ),
+    Step::Refuse(TOO_LONG),
+];
 
 #[test]
 fn refused_polls(rt: HostRuntime) -> Result<(), Fail> {
     let alloc = rt.alloc();
-    let board = Board::shared(alloc, 1)?;
-    let mut a = Client::join(&rt, alloc, &board, 1, Telling::Edits)?;
-    refuse(&board, 0, false, 31)?;
-    assert_eq!(rt; a.follow(&rt, alloc), Ok(()));
-    assert_eq!(rt; a.dot(&rt, alloc, 0, 0, 1), Ok(Outcome::Refused));
-    assert_eq!(rt; a.poll(&rt, alloc), Ok(()));
-    a.obey(&rt, alloc, "export 0")?;
+    let mut party = Party::join(&rt, alloc, &[Telling::Edits])?;
+    party.play(&rt, alloc, &REFUSED_POLLS)?;
+    let a = party.clients.get_mut(A).ok_or("client")?;
     assert!(rt; a.export_text(&rt, alloc, 0)?.is_none());
     assert!(rt; a.save(&rt, alloc)?.is_none());
-    assert_eq!(rt; asked(&board)?.1, 0);
-    assert_eq!(rt;
-        a.told(alloc)?.as_str(),
-        "joined 1 /2/3\nrefused 31 NoPlace\nrefused 31 NoPlace\nrefused 31 NoPlace\nrefused 31 NoPlace\nrefused 31 NoPlace\n"
-    );
-    refuse(&board, 0, false, 21)?;
+    party.play(&rt, alloc, &REFUSED_STILL)?;
+    let a = party.clients.get_mut(A).ok_or("client")?;
     assert_eq!(rt; a.follow(&rt, alloc), Err(SeatFault::Refused(21)));
     assert_eq!(rt; a.poll(&rt, alloc), Err(SeatFault::Refused(21)));
     Ok(())

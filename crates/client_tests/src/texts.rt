@@ -9,12 +9,34 @@ use std::alloc::{AllocError, Global};
 use std::slice;
 use std::test::Fail;
 
+/// A text that is opened.
+pub enum Text {
+    Bytes(&'static [u8]),
+    /// A state of version 1.
+    First,
+    /// The state of the cell of a column and a row that was drawn by a counter.
+    Cell(u64, i32, i32),
+    /// The state of so many rows, and of a cell below them that was drawn by a counter.
+    Rows(i32, u64),
+}
+
+impl Text {
+    pub fn made(&self, alloc: Global) -> Result<Vec<u8>, Fail> {
+        match self {
+            Text::Bytes(bytes) => Ok(Vec::from_slice(alloc, bytes)?),
+            Text::First => Ok(first_state(alloc)?),
+            Text::Cell(counter, x, y) => state_by(alloc, *counter, *x, *y),
+            Text::Rows(rows, counter) => rows_and_a_cell(alloc, *rows, *counter),
+        }
+    }
+}
+
 /// The head of a state of version 1 under `/2/3`.
 const FIRST_HEAD: &[u8] = b"GLWS\x01\x04/2/3";
 
 /// The state of version 1 of the map whose origin has state 1 by the first stamp, as docs/FORMATS.md says:
 /// the squares of levels 31 to 4 about the origin, a leaf, and the blanks of those squares.
-pub fn first_state(alloc: Global) -> Result<Vec<u8>, AllocError> {
+fn first_state(alloc: Global) -> Result<Vec<u8>, AllocError> {
     let mut text = Vec::from_slice(alloc, FIRST_HEAD)?;
     text.push(2)?;
     text.extend_from_slice(&[0; 27])?;
@@ -54,7 +76,7 @@ const ROW: &[u8] = b"x = 1048576, y = 1\n1048576A!";
 
 /// The state of so many rows of 2^20 cells, one below the other, and one cell below them that was drawn by a
 /// counter.
-pub fn rows_and_a_cell(alloc: Global, rows: i32, counter: u64) -> Result<Vec<u8>, Fail> {
+fn rows_and_a_cell(alloc: Global, rows: i32, counter: u64) -> Result<Vec<u8>, Fail> {
     let mut replica = replica(alloc, b"/2/3")?;
     let row = pattern(alloc, ROW)?;
     for y in 0..rows {

@@ -84,10 +84,14 @@ fn polled(
     a.dot(rt, alloc, 0, 0, 1)?;
     answer_by(&board, announces_plane, text)?;
     let ended = a.poll(rt, alloc);
-    let is_as_before = a.seat.replica.state()? == state_behind(alloc, ORIGIN)?
-        && a.seat.replica.journal().len() == 1
-        && a.told(alloc)?.as_str() == "joined 1 /2/3\ndrawn 1 1\nnow 0 0 1\n";
-    Ok((ended, is_as_before))
+    Ok((ended, is_as_before(alloc, &mut a)?))
+}
+
+/// Whether a client holds and told the origin alone.
+fn is_as_before(alloc: Global, client: &mut Client) -> Result<bool, Fail> {
+    let replica = &client.seat.replica;
+    let is_held = replica.state()? == state_behind(alloc, ORIGIN)? && replica.journal().len() == 1;
+    Ok(is_held && client.told(alloc)?.as_str() == "joined 1 /2/3\ndrawn 1 1\nnow 0 0 1\n")
 }
 
 /// The edit of seat 1 that writes state 1 at the origin, as docs/FORMATS.md says.

@@ -3,6 +3,7 @@
 use std::alloc::Global;
 use std::io::{self, Read, Write};
 use std::net::{Net, TcpStream};
+use std::test::Fail;
 
 /// The requests of a session, in their frames.
 pub const HELLO: &[u8] = b"\x00\x00\x00\x01\x01";
@@ -24,6 +25,24 @@ pub fn connected<R: Net<Stream = TcpStream>>(rt: &R, port: u16) -> io::Result<Tc
     let stream = TcpStream::connect(rt, ("127.0.0.1", port))?;
     stream.set_nodelay(true)?;
     Ok(stream)
+}
+
+/// A connection over which a greeting was replied to with this seat's number.
+pub fn greeted<R: Net<Stream = TcpStream>>(
+    rt: &R,
+    alloc: Global,
+    port: u16,
+    number: u8,
+) -> Result<TcpStream, Fail> {
+    let stream = connected(rt, port)?;
+    send(&stream, HELLO)?;
+    let mut reply = *b"\x00\x00\x00\x08\x00\x00\x00\x04/2/3";
+    reply[6] = number;
+    if gets(alloc, &stream, &reply)? {
+        Ok(stream)
+    } else {
+        Err(Fail::from("another greeting"))
+    }
 }
 
 /// Sends bytes.

@@ -1,8 +1,7 @@
 //! Connections that are lost.
 
-use crate::clients::{BYE, HELLO, PUSH, connected, gets, send};
+use crate::clients::{BYE, PUSH, connected, gets, greeted, send};
 use crate::served::Served;
-use std::alloc::Global;
 use std::io;
 use std::net::{Net, TcpStream};
 use std::test::Fail;
@@ -13,35 +12,21 @@ fn leave<R: Net<Stream = TcpStream>>(rt: &R, port: u16, bytes: &[u8]) -> io::Res
     send(&stream, bytes)
 }
 
-/// Sends bytes over a connection of its own, and drops it once a greeting was replied to.
-fn leave_late<R: Net<Stream = TcpStream>>(
-    rt: &R,
-    alloc: Global,
-    port: u16,
-    number: u8,
-    bytes: &[u8],
-) -> io::Result<bool> {
-    let stream = connected(rt, port)?;
-    send(&stream, HELLO)?;
-    let mut reply = *b"\x00\x00\x00\x08\x00\x00\x00\x04/2/3";
-    reply[6] = number;
-    let greeted = gets(alloc, &stream, &reply)?;
-    send(&stream, bytes)?;
-    Ok(greeted)
-}
-
 #[test]
 fn lost_between_two_frames_amid_one_and_at_a_length(rt: HostRuntime) -> Result<(), Fail> {
     let alloc = rt.alloc();
     let server = Served::start(rt, alloc, 5)?;
-    assert!(&rt; leave_late(&rt, alloc, server.port, 1, b"")?);
-    assert!(&rt; leave_late(&rt, alloc, server.port, 2, &PUSH[..20])?);
-    assert!(&rt; leave_late(&rt, alloc, server.port, 3, b"\x00\x00")?);
-    assert!(&rt; leave_late(&rt, alloc, server.port, 4, b"\x01\x00\x00\x01")?);
+    let lost: [(u8, &[u8]); 4] = [
+        (1, b""),
+        (2, &PUSH[..20]),
+        (3, b"\x00\x00"),
+        (4, b"\x01\x00\x00\x01"),
+    ];
+    for (number, bytes) in lost {
+        send(&greeted(&rt, alloc, server.port, number)?, bytes)?;
+    }
     // the others hold nobody up
-    let last = connected(&rt, server.port)?;
-    send(&last, HELLO)?;
-    assert!(&rt; gets(alloc, &last, b"\x00\x00\x00\x08\x00\x00\x05\x04/2/3")?);
+    let last = greeted(&rt, alloc, server.port, 5)?;
     send(&last, BYE)?;
     let told = server.told(&rt, alloc)?;
     assert_eq!(&rt;

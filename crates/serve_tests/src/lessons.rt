@@ -1,11 +1,13 @@
 //! Sessions over connections, as the protocol tells them.
 
-use crate::clients::{BYE, EDIT, HELLO, POLL, PUSH, connected, gets, is_ended, send};
+use crate::clients::{BYE, EDIT, HELLO, POLL, PUSH, connected, gets, greeted, is_ended, send};
 use crate::served::Served;
 use std::alloc::Global;
 use std::io;
-use std::net::{Net, TcpStream};
+use std::net::{Net, TcpListener, TcpStream};
+use std::sync::Wait;
 use std::test::Fail;
+use std::thread::Threads;
 
 /// Whether a session of seat 1 that greets, pushes an edit, polls it back and ends gets the replies of the
 /// protocol.
@@ -20,21 +22,17 @@ fn draws(alloc: Global, stream: &TcpStream) -> io::Result<bool> {
 }
 
 /// Whether a session of seat 2 that greets and ends gets its replies.
-fn looks<R: Net<Stream = TcpStream>>(rt: &R, alloc: Global, port: u16) -> io::Result<bool> {
-    let stream = connected(rt, port)?;
-    send(&stream, HELLO)?;
-    let greeted = gets(alloc, &stream, b"\x00\x00\x00\x08\x00\x00\x02\x04/2/3")?;
+fn looks<R: Net<Stream = TcpStream>>(rt: &R, alloc: Global, port: u16) -> Result<bool, Fail> {
+    let stream = greeted(rt, alloc, port, 2)?;
     send(&stream, BYE)?;
-    Ok(greeted && gets(alloc, &stream, b"\x00\x00\x00\x01\x00")? && is_ended(&stream)?)
+    Ok(gets(alloc, &stream, b"\x00\x00\x00\x01\x00")? && is_ended(&stream)?)
 }
 
 #[test]
 fn two_sessions_and_the_closing_lines(rt: HostRuntime) -> Result<(), Fail> {
     let alloc = rt.alloc();
     let server = Served::start(rt, alloc, 2)?;
-    let first = connected(&rt, server.port)?;
-    send(&first, HELLO)?;
-    assert!(&rt; gets(alloc, &first, b"\x00\x00\x00\x08\x00\x00\x01\x04/2/3")?);
+    let first = greeted(&rt, alloc, server.port, 1)?;
     assert!(&rt; looks(&rt, alloc, server.port)?);
     assert!(&rt; draws(alloc, &first)?);
     let told = server.told(&rt, alloc)?;
@@ -70,27 +68,49 @@ fn bytes_that_come_one_by_one(rt: HostRuntime) -> Result<(), Fail> {
     Ok(())
 }
 
+/// A server with one seat, and a connection to it.
+#[derive(Drop)]
+struct Lesson {
+    server: Served,
+    stream: TcpStream,
+}
+
+fn begin<
+    R: Net<Listener = TcpListener, Stream = TcpStream>
+        + Threads
+        + Wait
+        + Copy
+        + Drop
+        + Send
+        + Sync
+        + 'static,
+>(rt: R, alloc: Global) -> Result<Lesson, Fail> {
+    let server = Served::start(rt, alloc, 1)?;
+    let stream = connected(&rt, server.port)?;
+    Ok(Lesson { server, stream })
+}
+
+/// Whether a session that polls and ends gets its replies: no edit, and the end.
+fn polls_nothing(alloc: Global, stream: &TcpStream) -> io::Result<bool> {
+    send(stream, POLL)?;
+    let polled = gets(alloc, stream, b"\x00\x00\x00\x05\x00\x00\x00\x00\x00")?;
+    send(stream, BYE)?;
+    Ok(polled && gets(alloc, stream, b"\x00\x00\x00\x01\x00")?)
+}
+
 #[test]
 fn two_servers_at_a_time(rt: HostRuntime) -> Result<(), Fail> {
     let alloc = rt.alloc();
-    let one = Served::start(rt, alloc, 1)?;
-    let other = Served::start(rt, alloc, 1)?;
-    let drawing = connected(&rt, one.port)?;
-    let looking = connected(&rt, other.port)?;
-    assert!(&rt; draws(alloc, &drawing)?);
-    send(&looking, POLL)?;
-    assert!(&rt;
-        gets(alloc, &looking, b"\x00\x00\x00\x05\x00\x00\x00\x00\x00")?,
-        "a board of its own"
-    );
-    send(&looking, BYE)?;
-    assert!(&rt; gets(alloc, &looking, b"\x00\x00\x00\x01\x00")?);
+    let one = begin(rt, alloc)?;
+    let other = begin(rt, alloc)?;
+    assert!(&rt; draws(alloc, &one.stream)?);
+    assert!(&rt; polls_nothing(alloc, &other.stream)?, "a board of its own");
     assert_eq!(&rt;
-        one.told(&rt, alloc)?.as_str(),
+        one.server.told(&rt, alloc)?.as_str(),
         "session 1 edits 1\nclosed 1\n"
     );
     assert_eq!(&rt;
-        other.told(&rt, alloc)?.as_str(),
+        other.server.told(&rt, alloc)?.as_str(),
         "session 1 edits 0\nclosed 0\n"
     );
     Ok(())

@@ -4,6 +4,7 @@ use relay_board::{Account, Bell, Naming, Relay, Seat, Turn, is_whole};
 use std::alloc::Global;
 use std::sync::atomic::{AtomicBool, Ordering};
 use std::sync::{Arc, Wait};
+use std::test::Fail;
 use std::thread;
 use std::thread::{JoinHandle, Threads};
 use std::time::Duration;
@@ -23,13 +24,11 @@ pub struct Relaying<J: Naming, R: Wait + Drop> {
 pub fn begin_relaying<
     J: Naming + Send + 'static,
     R: Threads + Wait + Copy + Drop + Send + Sync + 'static,
->(rt: R, alloc: Global, relay: Relay<J, R>) -> Result<Relaying<J, R>, &'static str> {
-    let bell = relay.bell().ok().ok_or("bell")?;
-    let is_over = Arc::new(alloc, AtomicBool::new(false)).ok().ok_or("over")?;
-    let theirs = Arc::try_clone(&is_over).ok().ok_or("over")?;
-    let thread = thread::spawn(&rt, move || relays(&rt, relay, &theirs))
-        .ok()
-        .ok_or("thread")?;
+>(rt: R, alloc: Global, relay: Relay<J, R>) -> Result<Relaying<J, R>, Fail> {
+    let bell = relay.bell()?;
+    let is_over = Arc::new(alloc, AtomicBool::new(false))?;
+    let theirs = Arc::try_clone(&is_over)?;
+    let thread = thread::spawn(&rt, move || relays(&rt, relay, &theirs))?;
     Ok(Relaying {
         thread,
         is_over,
@@ -66,7 +65,7 @@ impl<J: Naming, R: Wait + Drop> Relaying<J, R> {
         rt: &H,
         alloc: Global,
         seats: Vec<Seat<J>>,
-    ) -> Result<Account, &'static str> {
+    ) -> Result<Account, Fail> {
         let Relaying {
             thread,
             is_over,
@@ -74,15 +73,23 @@ impl<J: Naming, R: Wait + Drop> Relaying<J, R> {
         } = self;
         is_over.store(true, Ordering::SeqCst);
         bell.ring();
-        let mut relay = thread.join(rt).ok_or("turn")?;
-        relay.close();
-        if !is_whole(&relay, seats.as_slice()) {
-            return Err("whole");
-        }
-        match relay.finish(alloc, seats) {
-            Ok(account) => Ok(account),
-            Err(_) => Err("finish"),
-        }
+        account(alloc, thread.join(rt).ok_or("turn")?, seats)
+    }
+}
+
+/// What a relay comes to that is closed, with all its seats.
+fn account<J: Naming, R: Wait + Drop>(
+    alloc: Global,
+    mut relay: Relay<J, R>,
+    seats: Vec<Seat<J>>,
+) -> Result<Account, Fail> {
+    relay.close();
+    if !is_whole(&relay, seats.as_slice()) {
+        return Err(Fail::from("whole"));
+    }
+    match relay.finish(alloc, seats) {
+        Ok(account) => Ok(account),
+        Err((_, _, fault)) => Err(Fail::from(fault)),
     }
 }
 

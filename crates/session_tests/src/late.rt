@@ -129,10 +129,11 @@ fn poll<J: Naming, R: Threads + Wait + Drop + Sync>(
 /// What seat 2 gets behind the first edit and behind the last, and seat 3 behind the last, each once more.
 fn polls<J: Naming, R: Threads + Wait + Drop + Sync>(
     alloc: Global,
-    one: &mut SeatSession<J, R>,
-    two: &mut SeatSession<J, R>,
-    three: &mut SeatSession<J, R>,
+    sessions: &mut [SeatSession<J, R>],
 ) -> Result<[Polled; 5], Fail> {
+    let [one, two, three] = sessions else {
+        return Err(Fail::from("three sessions"));
+    };
     if !pushed(alloc, one, 1, 1)? {
         return Ok([Polled::Other; 5]);
     }
@@ -158,18 +159,11 @@ fn late<J: Naming + Send + 'static, R: Threads + Wait + Copy + Drop + Send + Syn
     requires origin { opened.publisher.origin ≡ J.origin }
     requires inbox { (arc_value opened.drain.queue).table.shared.table_id ≡ J.inbox }
 {
-    let (relay, seats) = opened.named::<J>().ok().ok_or("named")?;
+    let (relay, seats) = opened.named::<J>()?;
     let relaying = begin_relaying(rt, alloc, relay)?;
-    let mut all = sessions(rt, alloc, seats)?;
-    let mut three = all.pop().ok_or("three")?;
-    let mut two = all.pop().ok_or("two")?;
-    let mut one = all.pop().ok_or("one")?;
-    let polls = polls(alloc, &mut one, &mut two, &mut three)?;
-    all.push(one).ok().ok_or("one")?;
-    all.push(two).ok().ok_or("two")?;
-    all.push(three).ok().ok_or("three")?;
-    let board = summed(&closed(rt, alloc, relaying, all)?);
-    Ok((polls, board))
+    let mut sessions = sessions(rt, alloc, seats)?;
+    let polls = polls(alloc, &mut sessions)?;
+    Ok((polls, summed(&closed(rt, alloc, relaying, sessions)?)))
 }
 
 /// All edits of seat 1, the first of which is no longer kept.
@@ -183,7 +177,7 @@ const ALL: Summary = Summary {
 #[test]
 fn who_is_1025_edits_behind_gets_a_plane(rt: HostRuntime) -> Result<(), Fail> {
     let rule = Rule::parse(b"/2/3")?;
-    let opened = start(rt, rt.alloc(), rule, 3, 2).ok().ok_or("start")?;
+    let opened = start(rt, rt.alloc(), rule, 3, 2)?;
     let (polls, board) = late::<Brand, _>(rt, rt.alloc(), opened)?;
     assert_eq!(rt;
         polls,

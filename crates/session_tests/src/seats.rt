@@ -23,11 +23,10 @@ pub fn sessions<J: Naming, R: Threads + Wait + Copy + Drop + Sync>(
     rt: R,
     alloc: Global,
     seats: Vec<Seat<J>>,
-) -> Result<Vec<SeatSession<J, R>>, &'static str> {
+) -> Result<Vec<SeatSession<J, R>>, Fail> {
     let mut sessions = Vec::new(alloc);
     for seat in seats {
-        let session = Session::new(rt, alloc, SeatHub::new(seat, rt));
-        sessions.push(session).ok().ok_or("sessions")?;
+        sessions.push(Session::new(rt, alloc, SeatHub::new(seat, rt)))?;
     }
     Ok(sessions)
 }
@@ -38,11 +37,10 @@ pub fn closed<J: Naming, R: Threads + Wait + Copy + Drop + Sync>(
     alloc: Global,
     relaying: Relaying<J, R>,
     sessions: Vec<SeatSession<J, R>>,
-) -> Result<Account, &'static str> {
+) -> Result<Account, Fail> {
     let mut seats = Vec::new(alloc);
     for session in sessions {
-        let seat = session.into_hub().into_seat();
-        seats.push(seat).ok().ok_or("seats")?;
+        seats.push(session.into_hub().into_seat())?;
     }
     relaying.finish(&rt, alloc, seats)
 }
@@ -150,16 +148,15 @@ fn talks<J: Naming + Send + 'static, R: Threads + Wait + Copy + Drop + Send + Sy
     rt: R,
     alloc: Global,
     opened: Opened<R>,
-) -> Result<(String, String, Summary), Fail>
+) -> Result<((String, String), Summary), Fail>
     requires origin { opened.publisher.origin ≡ J.origin }
     requires inbox { (arc_value opened.drain.queue).table.shared.table_id ≡ J.inbox }
 {
-    let (relay, seats) = opened.named::<J>().ok().ok_or("named")?;
+    let (relay, seats) = opened.named::<J>()?;
     let relaying = begin_relaying(rt, alloc, relay)?;
     let mut sessions = sessions(rt, alloc, seats)?;
-    let (replies, expected) = talked(alloc, &mut sessions)?;
-    let board = summed(&closed(rt, alloc, relaying, sessions)?);
-    Ok((replies, expected, board))
+    let talked = talked(alloc, &mut sessions)?;
+    Ok((talked, summed(&closed(rt, alloc, relaying, sessions)?)))
 }
 
 /// The edits of both, of which one is seat 1's.
@@ -173,8 +170,8 @@ const BOTH: Summary = Summary {
 #[test]
 fn seats_are_handed_what_others_push(rt: HostRuntime) -> Result<(), Fail> {
     let rule = Rule::parse(b"/2/3")?;
-    let opened = start(rt, rt.alloc(), rule, 3, 2).ok().ok_or("start")?;
-    let (replies, expected, board) = talks::<Brand, _>(rt, rt.alloc(), opened)?;
+    let opened = start(rt, rt.alloc(), rule, 3, 2)?;
+    let ((replies, expected), board) = talks::<Brand, _>(rt, rt.alloc(), opened)?;
     assert_eq!(rt; replies.as_str(), expected.as_str());
     assert_eq!(rt; board, BOTH);
     Ok(())

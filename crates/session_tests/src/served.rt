@@ -5,13 +5,12 @@ ghost use Rattle.std.specs.Arc.{arc_value};
 
 use crate::boards::{Summary, begin_relaying, summed};
 use crate::failing::{Keeper, Pieces};
+use crate::seats::{SeatSession, closed, sessions};
 use crate::streams::REQUESTS;
 use crate::texts::bytes_of;
 use frame_service::{ServeFault, Served};
 use generations_rule::Rule;
 use relay_board::{Naming, Opened, start};
-use replica_sessions::Session;
-use seat_hub::SeatHub;
 use session_service::serve;
 use std::alloc::{AllocError, Global};
 use std::marker::Brand;
@@ -67,6 +66,20 @@ fn replied(alloc: Global, bytes: &[u8]) -> Result<Option<usize>, AllocError> {
     Ok(if is_front { Some(bytes.len()) } else { None })
 }
 
+/// How a service of the requests ends over a session, how often it pushed, and how many bytes were taken, where
+/// they are the first of the replies.
+fn served<J: Naming, R: Threads + Wait + Drop + Sync>(
+    alloc: Global,
+    session: &mut SeatSession<J, R>,
+    devices: Devices,
+) -> Result<(Result<Served, ServeFault>, u64, Option<usize>), AllocError> {
+    let requests = bytes_of(alloc, REQUESTS)?;
+    let mut source = Pieces::of(&requests, devices.size, devices.pull);
+    let mut sink = Keeper::new(alloc, devices.push, devices.part);
+    let end = serve(alloc, &mut source, &mut sink, session);
+    Ok((end, sink.pushes, replied(alloc, &sink.bytes)?))
+}
+
 /// The requests, served over the one seat.
 fn serves<J: Naming + Send + 'static, R: Threads + Wait + Copy + Drop + Send + Sync + 'static>(
     rt: R,
@@ -77,23 +90,18 @@ fn serves<J: Naming + Send + 'static, R: Threads + Wait + Copy + Drop + Send + S
     requires origin { opened.publisher.origin ≡ J.origin }
     requires inbox { (arc_value opened.drain.queue).table.shared.table_id ≡ J.inbox }
 {
-    let (relay, mut seats) = opened.named::<J>().ok().ok_or("named")?;
-    let seat = seats.pop().ok_or("seat")?;
+    let (relay, seats) = opened.named::<J>()?;
     let relaying = begin_relaying(rt, alloc, relay)?;
-    let requests = bytes_of(alloc, REQUESTS)?;
-    let mut session = Session::new(rt, alloc, SeatHub::new(seat, rt));
-    let mut source = Pieces::of(&requests, devices.size, devices.pull);
-    let mut sink = Keeper::new(alloc, devices.push, devices.part);
-    let end = serve(alloc, &mut source, &mut sink, &mut session);
-    seats
-        .push(session.into_hub().into_seat())
-        .ok()
-        .ok_or("seats")?;
-    let board = summed(&relaying.finish(&rt, alloc, seats)?);
+    let mut sessions = sessions(rt, alloc, seats)?;
+    let [session] = sessions.as_mut_slice() else {
+        return Err(Fail::from("one session"));
+    };
+    let (end, pushes, taken) = served(alloc, session, devices)?;
+    let board = summed(&closed(rt, alloc, relaying, sessions)?);
     Ok(Outcome {
         end,
-        pushes: sink.pushes,
-        taken: replied(alloc, &sink.bytes)?,
+        pushes,
+        taken,
         board,
     })
 }
@@ -105,7 +113,7 @@ fn outcome_by<R: Threads + Wait + Copy + Drop + Send + Sync + 'static>(
     devices: Devices,
 ) -> Result<Outcome, Fail> {
     let rule = Rule::parse(b"/2/3")?;
-    let opened = start(rt, alloc, rule, 1, 2).ok().ok_or("start")?;
+    let opened = start(rt, alloc, rule, 1, 2)?;
     serves::<Brand, R>(rt, alloc, opened, devices)
 }
 
