@@ -1,11 +1,8 @@
 //! A session over the one seat of a board, whose relay takes turns on a thread of its own.
 
-use crate::memory::rows::{
-    BYE, EXPORT, HELLO, MANY, POLL_ONE, PUSH_ONE, PUSH_OTHER, PUSH_STATE, PUSH_UNSTAMPED, Row,
-    WHOLE,
-};
-use crate::memory::seats::{Ended, finishes};
+use crate::memory::rows::Row;
 use crate::memory::sessions::asked;
+use crate::memory::ways::{Table, Way};
 use relay_board::{Bell, Naming, Relay, Seat, Turn};
 use replica_sessions::Session;
 use seat_hub::SeatHub;
@@ -18,15 +15,6 @@ use std::time::Duration;
 
 /// For how many milliseconds at most the relay sleeps where the inbox is empty.
 const REST: u64 = 10;
-
-/// The requests of a session, from a greeting to a farewell, in steps.
-static STEPS: [&[Row]; 5] = [
-    &[HELLO],
-    &[PUSH_ONE, PUSH_OTHER, PUSH_UNSTAMPED, PUSH_STATE],
-    &[POLL_ONE],
-    &[WHOLE, EXPORT, MANY],
-    &[BYE],
-];
 
 /// Takes turns until the inbox is empty and all is over. Where memory is refused the next turn tries the same
 /// entry.
@@ -82,19 +70,8 @@ fn relayed<J: Naming, R: Threads + Wait + Drop>(rt: &R, relaying: Relaying<J, R>
     thread.join(rt)
 }
 
-/// How many steps of a session are answered as they are meant to be.
-fn asked_all<J: Naming, R: Threads + Wait + Sync + Drop>(
-    session: &mut Session<SeatHub<J, R>, R>,
-) -> usize {
-    for (place, rows) in STEPS.iter().enumerate() {
-        if !asked_step(session, rows) {
-            return place;
-        }
-    }
-    STEPS.len()
-}
-
-fn asked_step<J: Naming, R: Threads + Wait + Sync + Drop>(
+/// Whether requests of a session are answered as they are meant to be.
+fn are_asked<J: Naming, R: Threads + Wait + Sync + Drop>(
     session: &mut Session<SeatHub<J, R>, R>,
     rows: &[Row],
 ) -> bool {
@@ -106,30 +83,28 @@ fn asked_step<J: Naming, R: Threads + Wait + Sync + Drop>(
     true
 }
 
-/// How many steps of a session over a board's one seat are as they are meant to be, and one more where the board
-/// is accounted for; `None` where there was no memory to begin.
+/// How many calls of a session over a board's one seat, in order, are answered as they are meant to be, and one more
+/// where the board is accounted for; `None` where there was no memory to begin.
 pub fn asks<J: Naming + Send + 'static, R: Threads + Wait + Copy + Drop + Send + Sync + 'static>(
     rt: R,
     alloc: Global,
     relay: Relay<J, R>,
     mut seats: Vec<Seat<J>>,
+    way: &Way,
 ) -> Option<usize> {
     let seat = seats.pop()?;
     let relaying = begin_relaying(rt, alloc, relay)?;
     let mut session = Session::new(rt, alloc, SeatHub::new(seat, rt));
-    let met = asked_all(&mut session);
-    let mut relay = relayed(&rt, relaying);
-    relay.close();
-    let meant = Ended {
-        before: 0,
-        published: 1,
-        accepted: &[1],
-    };
-    let is_seated = seats.push(session.into_hub().into_seat()).is_ok();
-    let is_accounted = is_seated && finishes(alloc, relay, seats, &meant);
-    Some(if met == STEPS.len() && is_accounted {
-        met + 1
-    } else {
-        met
-    })
+    let mut met = 0_usize;
+    for rows in way.requests {
+        if !are_asked(&mut session, rows) {
+            break;
+        }
+        met = met.wrapping_add(1);
+    }
+    let relay = relayed(&rt, relaying);
+    if seats.push(session.into_hub().into_seat()).is_err() {
+        return Some(0);
+    }
+    Some(Table::new(rt, alloc, relay, seats).ends(way, met))
 }

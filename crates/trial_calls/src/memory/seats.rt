@@ -1,7 +1,6 @@
 //! Calls of relays and seats, once more where memory is refused, and what comes of them.
 
-use crate::memory::edits;
-use edit_stamps::{Cell, Edit, Stamp, Write};
+use edit_stamps::{Cell, Edit};
 use relay_board::{
     Account, FinishFault, Naming, News, Pending, Receipt, Relay, Seat, SeatFault, SubmitFault,
     Turn, TurnFault, is_whole,
@@ -13,13 +12,6 @@ use std::sync::Wait;
 /// The number of the first stamp: counter 1, replica 1.
 pub const FIRST: u64 = 65537;
 
-/// The edit of replica 1 that writes a live cell in the column of row 0 whose number is one less than the counter.
-pub fn drawn<J: Naming>(alloc: Global, seat: &Seat<J>, counter: u16) -> Option<Edit> {
-    let stamp = Stamp::new(u64::from(counter), 1)?;
-    let cells = [cell!(i32::from(counter) - 1, 0, 1)];
-    edits::drawn(alloc, &seat.rule(), stamp, &cells)
-}
-
 /// What tells an edit from the others here: the number of its stamp, and its first cell.
 fn told(edit: &Edit) -> (u64, Option<Cell>) {
     (edit.stamp().number(), edit.listed_cells().first().copied())
@@ -27,7 +19,7 @@ fn told(edit: &Edit) -> (u64, Option<Cell>) {
 
 /// Submits an edit. Where it is refused nothing was accepted and the edit comes back; where memory is, it is
 /// submitted once more.
-fn submitted<J: Naming, R: Wait>(
+pub fn submitted<J: Naming, R: Wait>(
     rt: &R,
     seat: &mut Seat<J>,
     edit: Edit,
@@ -50,30 +42,6 @@ fn submitted<J: Naming, R: Wait>(
     }
 }
 
-/// Submits a seat's edit of a counter.
-pub fn submits<J: Naming, R: Wait>(
-    rt: &R,
-    alloc: Global,
-    seat: &mut Seat<J>,
-    counter: u16,
-) -> Option<Pending<J>> {
-    let edit = drawn(alloc, seat, counter)?;
-    submitted(rt, seat, edit).ok()
-}
-
-/// Whether an edit is refused by a fault, comes back, and was not accepted.
-pub fn is_refused<J: Naming, R: Wait>(
-    rt: &R,
-    seat: &mut Seat<J>,
-    edit: Option<Edit>,
-    fault: SubmitFault,
-) -> bool {
-    match edit {
-        Some(edit) => submitted(rt, seat, edit).is_err_and(|told| told == Some(fault)),
-        None => false,
-    }
-}
-
 /// Takes a turn. Where memory is refused a seat sees at the origin what it saw, and the next turn tries the
 /// same entry.
 pub fn turned<J: Naming, R: Wait + Drop>(relay: &mut Relay<J, R>, seat: &mut Seat<J>) -> Turn {
@@ -83,17 +51,6 @@ pub fn turned<J: Naming, R: Wait + Drop>(relay: &mut Relay<J, R>, seat: &mut Sea
         return relay.turn();
     }
     turn
-}
-
-/// Waits for the receipt, and learns it.
-pub fn received<J: Naming, R: Wait>(
-    rt: &R,
-    seat: &mut Seat<J>,
-    pending: Pending<J>,
-) -> Option<Receipt<J>> {
-    let receipt = seat.receive(rt, pending).ok()?;
-    seat.learn(&receipt);
-    Some(receipt)
 }
 
 /// Polls. Where memory is refused, the next poll gives what this one would have given.
@@ -121,12 +78,6 @@ fn are_from(edits: &[Edit], first: u64, count: usize) -> bool {
     edits.len() == count
 }
 
-/// Whether a seat sees a write at the origin.
-pub fn sees<J: Naming>(seat: &mut Seat<J>, stamp: u64, state: u8) -> bool {
-    seat.view(0, 0)
-        .is_ok_and(|write| write == Write { stamp, state })
-}
-
 /// Whether a seat reads a plane of so many columns.
 pub fn reads<J: Naming>(seat: &mut Seat<J>, columns: usize) -> bool {
     again!(SeatFault::Memory, seat.plane()).is_ok_and(|plane| has_row(&plane, columns))
@@ -147,16 +98,10 @@ pub fn has_row(plane: &Plane, count: usize) -> bool {
     cells.len() == count
 }
 
-/// What a relay comes to: replica 1's edits with the counters from 1 on.
+/// What a relay comes to: how many of replica 1's edits, with the counters from 1 on, came before those that the account
+/// has, how many it has, and how many submissions of each seat were accepted.
 #[derive(Drop)]
-pub struct Ended {
-    /// How many published edits came before those that the account has.
-    pub before: u16,
-    /// How many it has.
-    pub published: u16,
-    /// How many submissions of each seat were accepted.
-    pub accepted: &'static [u64],
-}
+pub struct Ended(pub u16, pub u16, pub &'static [u64]);
 
 /// How a closed relay finishes; `None` where it is not whole.
 fn attempted<J: Naming, R: Wait + Drop>(
@@ -176,7 +121,7 @@ fn counted<J: Naming>(seats: &[Seat<J>]) -> (usize, u64) {
 }
 
 /// How it finishes, at the second time where memory is refused: all its seats come back then.
-fn finished<J: Naming, R: Wait + Drop>(
+pub fn finished<J: Naming, R: Wait + Drop>(
     alloc: Global,
     relay: Relay<J, R>,
     seats: Vec<Seat<J>>,
@@ -198,42 +143,14 @@ fn finished<J: Naming, R: Wait + Drop>(
     }
 }
 
-/// Whether a closed relay finishes with this account.
-pub fn finishes<J: Naming, R: Wait + Drop>(
-    alloc: Global,
-    relay: Relay<J, R>,
-    seats: Vec<Seat<J>>,
-    meant: &Ended,
-) -> bool {
-    match finished(alloc, relay, seats) {
-        Some(Ok(account)) => is_account(&account, meant),
-        _ => false,
-    }
-}
-
-fn is_account(account: &Account, meant: &Ended) -> bool {
-    let (before, published) = (u64::from(meant.before), usize::from(meant.published));
+pub fn is_account(account: &Account, meant: &Ended) -> bool {
+    let (before, published) = (u64::from(meant.0), usize::from(meant.1));
     account.before == before
         && are_from(
             account.published.as_slice(),
             before.wrapping_add(1),
             published,
         )
-        && account.accepted.as_slice() == meant.accepted
-        && has_row(
-            &account.plane,
-            published.wrapping_add(usize::from(meant.before)),
-        )
-}
-
-/// Whether a closed relay with a full store does not finish.
-pub fn stays_full<J: Naming, R: Wait + Drop>(
-    alloc: Global,
-    relay: Relay<J, R>,
-    seats: Vec<Seat<J>>,
-) -> bool {
-    matches!(
-        finished(alloc, relay, seats),
-        Some(Err(FinishFault::StoreFull))
-    )
+        && account.accepted.as_slice() == meant.2
+        && has_row(&account.plane, published.wrapping_add(usize::from(meant.0)))
 }
