@@ -3,6 +3,7 @@
 use crate::memory::client::{Client, command_of};
 use crate::memory::steps::{Act, Left, Step};
 use crate::memory::{Verdict, replicas};
+use client_commands::ClientCommand;
 use client_session::{Outcome, SeatFault, Telling, leave};
 use client_tasks::{Done, carry_out, open};
 use memory_board::{Board, Shared};
@@ -77,8 +78,15 @@ impl World {
         step: &Step,
     ) -> Result<bool, SeatFault> {
         match step.act {
-            Act::Join => self.join(clock, out),
-            Act::Command(lines) => self.carry_out(clock, out, lines, &step.left),
+            Act::Join => {
+                let joined = Client::join(clock, self.alloc, &self.board, 1, out, self.telling)?;
+                self.client = Some(joined);
+                Ok(true)
+            }
+            Act::Command(lines) => match command_of(self.alloc, lines) {
+                Some(command) => self.carry_out(clock, out, command, &step.left),
+                None => Ok(false),
+            },
             Act::Open(text) => self.open(clock, out, text, &step.left),
             Act::OpenSaved => {
                 let saved = std::mem::replace(&mut self.saved, Vec::new(self.alloc));
@@ -86,34 +94,28 @@ impl World {
                 self.saved = saved;
                 opened
             }
-            Act::Leave => self.leave(),
+            Act::Leave => match &mut self.client {
+                Some(client) => match leave(self.alloc, &mut client.line) {
+                    Ok(_) => Ok(true),
+                    Err(fault) => Err(SeatFault::Client(fault)),
+                },
+                None => Ok(false),
+            },
         }
-    }
-
-    fn join<C: Clock>(&mut self, clock: &C, out: &mut Vec<u8>) -> Result<bool, SeatFault> {
-        let client = Client::join(clock, self.alloc, &self.board, 1, out, self.telling)?;
-        self.client = Some(client);
-        Ok(true)
     }
 
     fn carry_out<C: Clock>(
         &mut self,
         clock: &C,
         out: &mut Vec<u8>,
-        lines: &[&[u8]],
+        command: ClientCommand,
         left: &Left,
     ) -> Result<bool, SeatFault> {
-        let Some(command) = command_of(self.alloc, lines) else {
+        let Some(Client { line, seat }) = &mut self.client else {
             return Ok(false);
         };
-        let Some(client) = &mut self.client else {
-            return Ok(false);
-        };
-        let (line, seat) = (&mut client.line, &mut client.seat);
-        match carry_out(clock, self.alloc, line, seat, out, command, 5) {
-            Ok(done) => Ok(self.leaves(done, left)),
-            Err(fault) => Err(fault),
-        }
+        let done = carry_out(clock, self.alloc, line, seat, out, command, 5)?;
+        Ok(self.leaves(done, left))
     }
 
     fn open<C: Clock>(
@@ -123,25 +125,13 @@ impl World {
         text: &[u8],
         left: &Left,
     ) -> Result<bool, SeatFault> {
-        let Some(client) = &mut self.client else {
+        let Some(Client { line, seat }) = &mut self.client else {
             return Ok(false);
         };
-        let (line, seat) = (&mut client.line, &mut client.seat);
-        match open(clock, self.alloc, line, seat, out, text) {
-            Ok(Outcome::Drawn) => Ok(matches!(left, Left::Drawn)),
-            Ok(Outcome::Refused) => Ok(matches!(left, Left::Refused)),
-            Ok(Outcome::InDoubt) => Ok(false),
-            Err(fault) => Err(fault),
-        }
-    }
-
-    fn leave(&mut self) -> Result<bool, SeatFault> {
-        let Some(client) = &mut self.client else {
-            return Ok(false);
-        };
-        match leave(self.alloc, &mut client.line) {
-            Ok(_) => Ok(true),
-            Err(fault) => Err(SeatFault::Client(fault)),
+        match open(clock, self.alloc, line, seat, out, text)? {
+            Outcome::Drawn => Ok(matches!(left, Left::Drawn)),
+            Outcome::Refused => Ok(matches!(left, Left::Refused)),
+            Outcome::InDoubt => Ok(false),
         }
     }
 
