@@ -71,7 +71,7 @@ pub fn push_head(
 }
 
 /// The kinds of messages.
-#[derive(Clone, Copy, Debug, PartialEq, Eq)]
+#[derive(Clone, Copy)]
 pub enum Kind {
     Delta,
     FirstState,

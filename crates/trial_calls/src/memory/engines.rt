@@ -30,9 +30,23 @@ const CORNER: [Cell; 3] = cells![
     (1_073_741_823, -1_073_741_822, 1)
 ];
 
-/// What it is written as.
-const UPRIGHT: &str =
+/// What these are exported as.
+const DEAD_SOON: &str = "#CXRLE Pos=0,0 Gen=1\nx = 1, y = 1, rule = 345/2/4\nC!\n";
+
+const PAIR_0: &str = "#CXRLE Pos=0,0 Gen=0\nx = 2, y = 1, rule = /2/3\n2A!\n";
+
+const PAIR_1: &str = "#CXRLE Pos=0,-1 Gen=1\nx = 2, y = 3, rule = /2/3\n2A$2B$2A!\n";
+
+const PAIR_2: &str = "#CXRLE Pos=-1,-2 Gen=2\nx = 4, y = 5, rule = /2/3\n.2A$.2B$A2.A$.2B$.2A!\n";
+
+const CORNER_0: &str =
     "#CXRLE Pos=1073741823,-1073741824 Gen=0\nx = 1, y = 3, rule = 23/3/2\no$o$o!\n";
+
+const CORNER_1: &str =
+    "#CXRLE Pos=1073741822,-1073741823 Gen=1\nx = 3, y = 1, rule = 23/3/2\n3o!\n";
+
+const CORNER_3: &str =
+    "#CXRLE Pos=1073741822,-1073741823 Gen=3\nx = 3, y = 1, rule = 23/3/2\n3o!\n";
 
 /// One past the last generation.
 pub const PAST: u32 = 536_870_913;
@@ -42,34 +56,14 @@ type Export = (u32, Option<u64>, Result<&'static str, ExportFault>);
 
 /// A rule, cells and exports of them.
 static EXPORTS: [(&[u8], &[Cell], &[Export]); 3] = [
-    (
-        b"345/2/4",
-        &DYING,
-        &[(
-            1,
-            None,
-            Ok("#CXRLE Pos=0,0 Gen=1\nx = 1, y = 1, rule = 345/2/4\nC!\n"),
-        )],
-    ),
+    (b"345/2/4", &DYING, &[(1, None, Ok(DEAD_SOON))]),
     (
         b"/2/3",
         &PAIR,
         &[
-            (
-                0,
-                None,
-                Ok("#CXRLE Pos=0,0 Gen=0\nx = 2, y = 1, rule = /2/3\n2A!\n"),
-            ),
-            (
-                1,
-                None,
-                Ok("#CXRLE Pos=0,-1 Gen=1\nx = 2, y = 3, rule = /2/3\n2A$2B$2A!\n"),
-            ),
-            (
-                2,
-                None,
-                Ok("#CXRLE Pos=-1,-2 Gen=2\nx = 4, y = 5, rule = /2/3\n.2A$.2B$A2.A$.2B$.2A!\n"),
-            ),
+            (0, None, Ok(PAIR_0)),
+            (1, None, Ok(PAIR_1)),
+            (2, None, Ok(PAIR_2)),
             (PAST, None, Err(ExportFault::GenRange)),
         ],
     ),
@@ -77,19 +71,11 @@ static EXPORTS: [(&[u8], &[Cell], &[Export]); 3] = [
         b"23/3/2",
         &CORNER,
         &[
-            (0, None, Ok(UPRIGHT)),
-            (
-                1,
-                None,
-                Ok("#CXRLE Pos=1073741822,-1073741823 Gen=1\nx = 3, y = 1, rule = 23/3/2\n3o!\n"),
-            ),
-            (
-                3,
-                None,
-                Ok("#CXRLE Pos=1073741822,-1073741823 Gen=3\nx = 3, y = 1, rule = 23/3/2\n3o!\n"),
-            ),
+            (0, None, Ok(CORNER_0)),
+            (1, None, Ok(CORNER_1)),
+            (3, None, Ok(CORNER_3)),
             (0, Some(2), Err(ExportFault::TooManyCells)),
-            (0, Some(3), Ok(UPRIGHT)),
+            (0, Some(3), Ok(CORNER_0)),
             (PAST, Some(2), Err(ExportFault::GenRange)),
         ],
     ),

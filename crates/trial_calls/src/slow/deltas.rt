@@ -12,7 +12,7 @@ const BEYOND: u32 = 0x8000_0000;
 const MOST_CELLS: u32 = 1 << 20;
 
 /// A cell by its place words.
-#[derive(Clone, Copy, Debug, PartialEq, Eq)]
+#[derive(Clone, Copy, PartialEq, Eq)]
 pub struct SlowCell {
     pub x: u32,
     pub y: u32,
@@ -20,7 +20,7 @@ pub struct SlowCell {
 }
 
 /// An area by its place words and sides.
-#[derive(Clone, Copy, Debug, PartialEq, Eq)]
+#[derive(Clone, Copy, PartialEq, Eq)]
 pub struct SlowArea {
     pub x: u32,
     pub y: u32,

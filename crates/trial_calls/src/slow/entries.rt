@@ -7,7 +7,7 @@ use delta_exchange::ReadFault;
 use std::alloc::Global;
 
 /// A quarter of an entry.
-#[derive(Clone, Copy, Debug, PartialEq, Eq)]
+#[derive(Clone, Copy, PartialEq, Eq)]
 pub enum Quarter {
     Blank(u64),
     Entry(usize),

@@ -6,7 +6,7 @@ use crate::slow::squares::Piece;
 use crate::slow::writes::{NOTHING, SlowWrite};
 
 /// A column and a row, counted from the plane's corner.
-#[derive(Clone, Copy, Debug, PartialEq, Eq)]
+#[derive(Clone, Copy, PartialEq, Eq)]
 pub struct Place {
     pub column: u32,
     pub row: u32,

@@ -57,7 +57,7 @@ static COMMANDS: [(&[u8], &[Word]); 12] = [
 ];
 
 /// Why a text is no script: its first line with a fault, counted from 1.
-#[derive(Clone, Copy, Debug, PartialEq, Eq)]
+#[derive(Clone, Copy, PartialEq, Eq)]
 pub enum Amiss {
     Line(u64),
     Memory,

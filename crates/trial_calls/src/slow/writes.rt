@@ -4,7 +4,7 @@ use crate::fields::Fields;
 use delta_exchange::ReadFault;
 
 /// A stamp's number and a state.
-#[derive(Clone, Copy, Debug, PartialEq, Eq)]
+#[derive(Clone, Copy, PartialEq, Eq)]
 pub struct SlowWrite {
     pub stamp: u64,
     pub state: u8,
