@@ -1,5 +1,5 @@
-//! Bytes by chance, good and changed, fed to each call that reads what others send: each answer beside that of a slow
-//! reader of this program's own.
+//! Bytes by chance, good and changed, fed to each call that reads what others send: each answer beside that
+//! of a slow reader of this program's own.
 
 use crate::chance::Chance;
 use crate::draw::messages::{BRAIN, Kind, RULES, message};
@@ -43,8 +43,8 @@ pub struct Asked {
     pub seed: u64,
 }
 
-/// Runs all rounds of each call, tells how many answers were accepted, refused and different, and fails where one
-/// differs.
+/// Runs all rounds of each call, tells how many answers were accepted, refused and different, and fails
+/// where one differs.
 pub fn run_all<R: Threads + AllocGlobal + Print + Copy + Drop + Sync>(
     rt: R,
     alloc: Global,
@@ -65,8 +65,8 @@ pub fn run_all<R: Threads + AllocGlobal + Print + Copy + Drop + Sync>(
     Ok(())
 }
 
-/// All rounds of a call. Each draws from a stream of its own, so that it does not depend on the rounds before; the
-/// bytes on which two answers differ are told.
+/// All rounds of a call. Each draws from a stream of its own, so that it does not depend on the rounds
+/// before; the bytes on which two answers differ are told.
 fn run<R: Threads + AllocGlobal + Print + Copy + Drop + Sync>(
     rt: R,
     alloc: Global,
@@ -141,7 +141,8 @@ fn drawn(
     }
 }
 
-/// The verdict on the bytes of a call but a session; those of a message are read under another rule in a few cases.
+/// The verdict on the bytes of a call but a session; those of a message are read under another rule in a
+/// few cases.
 fn judged(
     alloc: Global,
     chance: &mut Chance,

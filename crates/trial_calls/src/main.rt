@@ -1,5 +1,5 @@
-//! Tries the calls of the libraries: those that take memory, each once more where it was refused, and those that read
-//! what others send, on bytes by chance.
+//! Tries the calls of the libraries: those that take memory, each once more where it was refused, and those
+//! that read what others send, on bytes by chance.
 #![tactic(auto)]
 
 /// A call, made once more where it wants memory, if what it is to leave alone is as it was.
@@ -108,9 +108,9 @@ fn tell_parts<R: Threads + Wait + Clock + Print + Copy + Drop + Send + Sync + 's
     alloc: Global,
     words: &[String],
 ) -> Result<()> {
-    for (name, part) in PARTS {
-        if words.is_empty() {
-            tell_part(rt, alloc, part)?;
+    if words.is_empty() {
+        for (_, part) in &PARTS {
+            tell_part(rt, alloc, *part)?;
         }
     }
     for word in words {
@@ -128,7 +128,7 @@ fn part_of(word: &str) -> Result<Part> {
 }
 
 fn name_parts(rt: &impl Print) -> Result<()> {
-    for (name, _) in PARTS {
+    for (name, _) in &PARTS {
         println!(rt; "{name}")?;
     }
     Ok(())

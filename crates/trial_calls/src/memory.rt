@@ -1,5 +1,5 @@
-//! Calls that take memory, each made once more where it was refused. With any one allocation refused the lines have
-//! to be the same.
+//! Calls that take memory, each made once more where it was refused. With any one allocation refused the
+//! lines have to be the same.
 
 mod board;
 mod client;
@@ -73,7 +73,8 @@ pub static PARTS: [(&str, Part); 15] = [
     ("clients", Part::Clients),
 ];
 
-/// What a call is named, and whether it answers as it is meant to; `None` where what it is made of is missing.
+/// What a call is named, and whether it answers as it is meant to; `None` where what it is made of is
+/// missing.
 type Answer = (&'static str, Option<bool>);
 
 /// Makes the calls of a part.
@@ -136,17 +137,18 @@ fn behind<'a>(text: &'a [u8], front: &[u8]) -> Option<&'a [u8]> {
 enum Verdict {
     /// As it is meant to be.
     Meant,
-    /// There was no memory for it, or for one place of many, beside which the others are as they are meant to be.
-    /// What a board replied by then was heard whole.
+    /// There was no memory for it, or for one place of many, beside which the others are as they are meant
+    /// to be. What a board replied by then was heard whole.
     Want,
-    /// There was no memory for it, and what a board replied may not have been heard: the line is of no further use.
+    /// There was no memory for it, and what a board replied may not have been heard: the line is of no
+    /// further use.
     Lost,
     Neither,
 }
 
 impl Verdict {
-    /// The verdict with one place more, which wants memory or is as it is meant to be, or neither. No second place
-    /// wants memory where one allocation is refused.
+    /// The verdict with one place more, which wants memory or is as it is meant to be, or neither. No
+    /// second place wants memory where one allocation is refused.
     fn beside(self, is_want: bool, is_meant: bool) -> Verdict {
         match self {
             Verdict::Meant if is_want => Verdict::Want,

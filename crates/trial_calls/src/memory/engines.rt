@@ -5,6 +5,7 @@ ghost use Rattle.edit_stamps.specs.PlaneMap.{HasStatesBelow};
 ghost use Rattle.stamped_tree.specs.Plane.{map_of};
 
 use crate::memory::{Answer, planes, states};
+use export::ExportFault::{GenRange, TooManyCells};
 use export::{ExportFault, export, export_within};
 use generation_engine::{Engine, EngineFault, StoreFault};
 use generations_rule::Rule;
@@ -51,34 +52,28 @@ const CORNER_3: &str =
 /// One past the last generation.
 pub const PAST: u32 = 536_870_913;
 
-/// The generation of an export, how many cells at most where that is told, and what is exported.
-type Export = (u32, Option<u64>, Result<&'static str, ExportFault>);
+/// An export: the rule and the cells, the generation, how many cells at most where that is told, and what
+/// is exported.
+type Export = (
+    &'static [u8],
+    &'static [Cell],
+    u32,
+    Option<u64>,
+    Result<&'static str, ExportFault>,
+);
 
-/// A rule, cells and exports of them.
-static EXPORTS: [(&[u8], &[Cell], &[Export]); 3] = [
-    (b"345/2/4", &DYING, &[(1, None, Ok(DEAD_SOON))]),
-    (
-        b"/2/3",
-        &PAIR,
-        &[
-            (0, None, Ok(PAIR_0)),
-            (1, None, Ok(PAIR_1)),
-            (2, None, Ok(PAIR_2)),
-            (PAST, None, Err(ExportFault::GenRange)),
-        ],
-    ),
-    (
-        b"23/3/2",
-        &CORNER,
-        &[
-            (0, None, Ok(CORNER_0)),
-            (1, None, Ok(CORNER_1)),
-            (3, None, Ok(CORNER_3)),
-            (0, Some(2), Err(ExportFault::TooManyCells)),
-            (0, Some(3), Ok(CORNER_0)),
-            (PAST, Some(2), Err(ExportFault::GenRange)),
-        ],
-    ),
+static EXPORTS: [Export; 11] = [
+    (b"345/2/4", &DYING, 1, None, Ok(DEAD_SOON)),
+    (b"/2/3", &PAIR, 0, None, Ok(PAIR_0)),
+    (b"/2/3", &PAIR, 1, None, Ok(PAIR_1)),
+    (b"/2/3", &PAIR, 2, None, Ok(PAIR_2)),
+    (b"/2/3", &PAIR, PAST, None, Err(GenRange)),
+    (b"23/3/2", &CORNER, 0, None, Ok(CORNER_0)),
+    (b"23/3/2", &CORNER, 1, None, Ok(CORNER_1)),
+    (b"23/3/2", &CORNER, 3, None, Ok(CORNER_3)),
+    (b"23/3/2", &CORNER, 0, Some(2), Err(TooManyCells)),
+    (b"23/3/2", &CORNER, 0, Some(3), Ok(CORNER_0)),
+    (b"23/3/2", &CORNER, PAST, Some(2), Err(GenRange)),
 ];
 
 pub fn answers(alloc: Global) -> [Answer; 6] {
@@ -88,7 +83,7 @@ pub fn answers(alloc: Global) -> [Answer; 6] {
         ("Engine::run again", blinker_blinks(alloc, None)),
         ("Engine::with_room", blinker_blinks(alloc, Some(0x10_0000))),
         ("Engine::load refused", room_is_too_small(alloc)),
-        ("export, export_within", Some(are_exported(alloc))),
+        ("export, export_within", are_exported(alloc)),
     ]
 }
 
@@ -201,36 +196,33 @@ fn room_is_too_small(alloc: Global) -> Option<bool> {
     Some(end == Err(StoreFault::StoreFull) && has(&engine, 0, &[]))
 }
 
-fn are_exported(alloc: Global) -> bool {
-    EXPORTS.iter().all(|(rule, cells, exports)| {
-        match Rule::parse(rule) {
-            Ok(rule) => exports
-                .iter()
-                .all(|export| is_exported(alloc, &rule, cells, export)),
-            Err(_) => false,
+fn are_exported(alloc: Global) -> Option<bool> {
+    for row in &EXPORTS {
+        if !is_exported(alloc, row)? {
+            return None;
         }
-    })
+    }
+    Some(true)
 }
 
 fn exported(alloc: Global, rule: &Rule, plane: &Plane, row: &Export) -> Result<Vec<u8>, ExportFault>
     requires { HasStatesBelow rule.now.states (map_of plane.now) }
 {
-    match row.1 {
-        None => export(alloc, rule, plane, row.0),
-        Some(limit) => export_within(alloc, rule, plane, row.0, limit),
+    match row.3 {
+        None => export(alloc, rule, plane, row.2),
+        Some(limit) => export_within(alloc, rule, plane, row.2, limit),
     }
 }
 
-fn is_exported(alloc: Global, rule: &Rule, cells: &[Cell], row: &Export) -> bool {
-    let Some(plane) = planes::plane(alloc, rule, cells) else {
-        return false;
-    };
+fn is_exported(alloc: Global, row: &Export) -> Option<bool> {
+    let rule = Rule::parse(row.0).ok()?;
+    let plane = planes::plane(alloc, &rule, row.1)?;
     match (
-        again!(ExportFault::Memory, exported(alloc, rule, &plane, row)),
-        &row.2,
+        again!(ExportFault::Memory, exported(alloc, &rule, &plane, row)),
+        &row.4,
     ) {
-        (Ok(text), Ok(expected)) => text.as_slice() == expected.as_bytes(),
-        (Err(fault), Err(expected)) => fault == *expected,
-        _ => false,
+        (Ok(text), Ok(expected)) => Some(text.as_slice() == expected.as_bytes()),
+        (Err(fault), Err(expected)) => Some(fault == *expected),
+        _ => None,
     }
 }

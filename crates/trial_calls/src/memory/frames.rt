@@ -43,8 +43,8 @@ fn have_bodies(frames: &mut Frames) -> Result<bool, FrameFault> {
     Ok(frames.next()?.is_none())
 }
 
-/// Whether that is so of the stream in pieces. Where memory is refused for a body, frames say so for ever, and
-/// others are fed.
+/// Whether that is so of the stream in pieces. Where memory is refused for a body, frames say so for ever,
+/// and others are fed.
 fn is_taken(alloc: Global, size: usize) -> Option<bool> {
     let mut frames = fed(alloc, size).ok()?;
     let answer = match have_bodies(&mut frames) {

@@ -16,8 +16,8 @@ use std::time::Duration;
 /// For how many milliseconds at most the relay sleeps where the inbox is empty.
 const REST: u64 = 10;
 
-/// Takes turns until the inbox is empty and all is over. Where memory is refused the next turn tries the same
-/// entry.
+/// Takes turns until the inbox is empty and all is over. Where memory is refused the next turn tries the
+/// same entry.
 fn relays<J: Naming, R: Wait + Drop>(
     rt: &R,
     mut relay: Relay<J, R>,
@@ -83,8 +83,8 @@ fn are_asked<J: Naming, R: Threads + Wait + Sync + Drop>(
     true
 }
 
-/// How many calls of a session over a board's one seat, in order, are answered as they are meant to be, and one more
-/// where the board is accounted for; `None` where there was no memory to begin.
+/// How many calls of a session over a board's one seat, in order, are answered as they are meant to be, and
+/// one more where the board is accounted for; `None` where there was no memory to begin.
 pub fn asks<J: Naming + Send + 'static, R: Threads + Wait + Copy + Drop + Send + Sync + 'static>(
     rt: R,
     alloc: Global,

@@ -58,7 +58,8 @@ pub const PUSH_UNSTAMPED: Row = row!(
 
 pub const PUSH_STATE: Row = row!(b"\x02GLWS\x01\x04/2/3\0\0\0\0\0\0\0\0\0", &[33]);
 
-/// Polls that hand out nothing, one edit, both, or the plane with one cell in place of more edits than are kept.
+/// Polls that hand out nothing, one edit, both, or the plane with one cell in place of more edits than are
+/// kept.
 pub const POLL_NONE: Row = row!(&[3], &[0, 0, 0, 0, 0]);
 
 pub const POLL_ONE: Row = row!(&[3], &[0, 0, 0, 0, 1], DELTA_ONE);

@@ -15,8 +15,8 @@ use std::io;
 /// A script whose third line is at fault.
 const FAULTY: &str = "rule /2/3\nreplicas 1\ncells 1 0 0\n";
 
-/// Texts, and what the canonical form of each under `/2/3` is or why it has none: a column has not 32 bits with
-/// a sign, or the rule does not have a state.
+/// Texts, and what the canonical form of each under `/2/3` is or why it has none: a column has not 32 bits
+/// with a sign, or the rule does not have a state.
 static FORMS: [(&str, Result<&str, RunFault>); 3] = [
     (
         "#C note\n#CXRLE Pos=-1,2 Gen=7\nx = 3, y = 2\n 2 b o$ ! end",
@@ -123,7 +123,8 @@ fn bring(alloc: Global, rule: &Rule, text: &str, out: &mut Vec<u8>) -> Result<()
     rle_text(alloc, rule, &mut source, &mut WriteSink::new(out))
 }
 
-/// Whether a text is brought into its form. A call that wants memory has to push nothing, and is made again.
+/// Whether a text is brought into its form. A call that wants memory has to push nothing, and is made
+/// again.
 fn is_brought(alloc: Global, text: &str, form: Result<&str, RunFault>) -> Option<bool> {
     let rule = Rule::parse(b"/2/3").ok()?;
     let mut out = sink(alloc)?;

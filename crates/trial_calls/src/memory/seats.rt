@@ -17,8 +17,8 @@ fn told(edit: &Edit) -> (u64, Option<Cell>) {
     (edit.stamp().number(), edit.listed_cells().first().copied())
 }
 
-/// Submits an edit. Where it is refused nothing was accepted and the edit comes back; where memory is, it is
-/// submitted once more.
+/// Submits an edit. Where it is refused nothing was accepted and the edit comes back; where memory is, it
+/// is submitted once more.
 pub fn submitted<J: Naming, R: Wait>(
     rt: &R,
     seat: &mut Seat<J>,
@@ -98,8 +98,8 @@ pub fn has_row(plane: &Plane, count: usize) -> bool {
     cells.len() == count
 }
 
-/// What a relay comes to: how many of replica 1's edits, with the counters from 1 on, came before those that the account
-/// has, how many it has, and how many submissions of each seat were accepted.
+/// What a relay comes to: how many of replica 1's edits, with the counters from 1 on, came before those
+/// that the account has, how many it has, and how many submissions of each seat were accepted.
 #[derive(Drop)]
 pub struct Ended(pub u16, pub u16, pub &'static [u64]);
 

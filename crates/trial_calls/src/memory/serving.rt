@@ -10,8 +10,8 @@ use session_service::serve;
 use std::alloc::Global;
 use std::thread::Threads;
 
-/// The requests of a service in their frames, and their rows. Where the second request found no memory, the third
-/// is answered by another row.
+/// The requests of a service in their frames, and their rows. Where the second request found no memory, the
+/// third is answered by another row.
 pub struct Service {
     requests: &'static [u8],
     rows: [Row; 4],
@@ -78,8 +78,8 @@ fn answered(out: &[u8], service: &Service) -> Option<(usize, Option<usize>)> {
     }
 }
 
-/// How a service met its rows. A farewell that found no memory does not end it: the input does. Where there is no
-/// memory for what is pulled, it ends behind whole replies.
+/// How a service met its rows. A farewell that found no memory does not end it: the input does. Where there
+/// is no memory for what is pulled, it ends behind whole replies.
 fn met(end: Result<Served, ServeFault>, out: &[u8], service: &Service) -> Verdict {
     let Some((requests, wanted)) = answered(out, service) else {
         return Verdict::Neither;

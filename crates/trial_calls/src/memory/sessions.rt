@@ -158,7 +158,8 @@ fn pushes<R: Threads + Sync + Drop>(rt: R, alloc: Global) -> Option<bool> {
     Some(session.into_hub().fresh() == 1)
 }
 
-/// Polls, pushes an edit and polls again: where the first poll wants memory, the second gives what both would.
+/// Polls, pushes an edit and polls again: where the first poll wants memory, the second gives what both
+/// would.
 fn polls_by<R: Threads + Sync + Drop>(
     session: &mut Session<MemoryHub, R>,
     first: &Row,

@@ -5,17 +5,17 @@ use delta_exchange::{Message, ReadFault, read, write_state};
 use generations_rule::Rule;
 use std::alloc::{AllocError, Global};
 
-/// How many bytes the 29 entries of a state of one leaf have: of the leaf its level and 64 writes, of each square
-/// its level, three blanks and the entry before.
+/// How many bytes the 29 entries of a state of one leaf have: of the leaf its level and 64 writes, of each
+/// square its level, three blanks and the entry before.
 pub const ENTRIES: usize = 1501;
 
 const LEAF: usize = 577;
 
 const SQUARE: usize = 33;
 
-/// The entries of the state of one leaf that begins with some writes and is the plane's first one beside the
-/// middle: squares whose first quarter is the entry before; of the plane it is the last one. All else was not
-/// written.
+/// The entries of the state of one leaf that begins with some writes and is the plane's first one beside
+/// the middle: squares whose first quarter is the entry before; of the plane it is the last one. All else
+/// was not written.
 pub fn entries(writes: &[u8]) -> [u8; 1501] {
     let mut text = [0; ENTRIES];
     text[0] = 3;
@@ -35,7 +35,7 @@ pub fn entries(writes: &[u8]) -> [u8; 1501] {
 }
 
 /// The head of a state, and the number of its entries.
-const HEAD: &[u8] = b"GLWS\x02\x07345/2/4\0\0\0\x1d";
+const HEAD: [u8; 17] = *b"GLWS\x02\x07345/2/4\0\0\0\x1d";
 
 /// The writes of the row of states 2, 3 and 0.
 const WRITES: &[u8] = b"\0\0\0\0\0\x01\0\x01\x02\0\0\0\0\0\x01\0\x01\x03\0\0\0\0\0\x01\0\x01\0";
@@ -43,7 +43,7 @@ const WRITES: &[u8] = b"\0\0\0\0\0\x01\0\x01\x02\0\0\0\0\0\x01\0\x01\x03\0\0\0\0
 /// The state of that row.
 fn text() -> [u8; 1518] {
     let mut text = [0; 1518];
-    text[..17].copy_from_slice(HEAD);
+    text[..17].copy_from_slice(&HEAD);
     text[17..].copy_from_slice(&entries(WRITES));
     text
 }
@@ -129,7 +129,12 @@ fn faults_are_told(alloc: Global) -> Option<bool> {
 
 /// Whether each text that ends before this one is too short.
 fn are_short(alloc: Global, rule: &Rule, text: &[u8]) -> bool {
-    (0..text.len()).all(|end| is_fault(alloc, rule, &text[..end], ReadFault::Short))
+    for end in 0..text.len() {
+        if !is_fault(alloc, rule, &text[..end], ReadFault::Short) {
+            return false;
+        }
+    }
+    true
 }
 
 fn short_texts_are_refused(alloc: Global) -> Option<bool> {

@@ -37,8 +37,8 @@ const SHEET: Sheet = Sheet {
     cells: marks![(2, 0, 1), (0, 1, 1), (1, 1, 3)],
 };
 
-/// Texts of patterns, and what each is read as or why it is none: blanks and line ends are dropped, and all from
-/// the first `!` on; states above 24 have two letters.
+/// Texts of patterns, and what each is read as or why it is none: blanks and line ends are dropped, and all
+/// from the first `!` on; states above 24 have two letters.
 static TEXTS: [(&str, Result<Sheet, RleFault>); 8] = [
     (THREE, Ok(SHEET)),
     (

@@ -56,8 +56,8 @@ enum Step {
     Close,
 }
 
-/// What is done at a board: calls, each with the steps behind which it answers as it is meant to, in order; and how
-/// its relay finishes, once it is closed, which is the last call.
+/// What is done at a board: calls, each with the steps behind which it answers as it is meant to, in order;
+/// and how its relay finishes, once it is closed, which is the last call.
 pub struct Way {
     pub seats: u16,
     /// The requests of each call, where a session is over the one seat.
@@ -91,7 +91,8 @@ const PAIR: Way = Way {
     end: ("Relay::finish", Ok(Ended(0, 1, &[1, 0]))),
 };
 
-/// A third edit, where an inbox has room for two; one of another replica; and one whose state the rule does not have.
+/// A third edit, where an inbox has room for two; one of another replica; and one whose state the rule does
+/// not have.
 const THIRD: Drawing = Drawing {
     rule: b"/2/3",
     counter: 3,
@@ -110,8 +111,8 @@ const BEYOND: Drawing = Drawing {
     ..THIRD
 };
 
-/// Submissions are refused: of another replica and of a state that the rule does not have, of a third, and behind the
-/// close. What is queued is published then.
+/// Submissions are refused: of another replica and of a state that the rule does not have, of a third, and
+/// behind the close. What is queued is published then.
 const REFUSED: Way = Way {
     seats: 2,
     requests: &[],
@@ -157,8 +158,8 @@ const CRAMPED: Way = Way {
 
 pub static WAYS: [Way; 3] = [PAIR, REFUSED, CRAMPED];
 
-/// One edit more is published than a board keeps: so many calls are made before those that it is for that it is tried
-/// only where it is asked for.
+/// One edit more is published than a board keeps: so many calls are made before those that it is for that
+/// it is tried only where it is asked for.
 pub static LATE: [Way; 1] = [Way {
     seats: 3,
     requests: &[],
