@@ -1,7 +1,7 @@
 //! Calls that take memory, each made once more where it was refused. With any one allocation refused the
 //! lines have to be the same.
 
-mod board;
+mod boards;
 mod client;
 mod clients;
 mod clocks;
@@ -95,9 +95,9 @@ pub fn tell_part<R: Threads + Wait + Clock + Print + Copy + Drop + Send + Sync +
         Part::Scripts => tell_all(&rt, "scripts", &scripts::answers(alloc)),
         Part::Runs => scripts::tell_runs(&rt, alloc),
         Part::Worlds => scripts::tell_replays(&rt, alloc),
-        Part::Board => board::tell_ways(rt, alloc, "board", &ways::WAYS),
+        Part::Board => boards::tell_ways(rt, alloc, "board", &ways::WAYS),
         Part::Sessions => sessions::tell_all(rt, alloc),
-        Part::Seats => board::tell_ways(rt, alloc, "seats", &ways::SESSION),
+        Part::Seats => boards::tell_ways(rt, alloc, "seats", &ways::SESSION),
         Part::Clients => clients::tell_all(&rt, alloc),
     }
 }
@@ -107,7 +107,7 @@ pub fn tell_late<R: Threads + Wait + Print + Copy + Drop + Send + Sync + 'static
     rt: R,
     alloc: Global,
 ) -> io::Result<()> {
-    board::tell_ways(rt, alloc, "late", &ways::LATE)
+    boards::tell_ways(rt, alloc, "late", &ways::LATE)
 }
 
 fn tell_all(rt: &impl Print, part: &str, answers: &[Answer]) -> io::Result<()> {

@@ -1,5 +1,5 @@
 use Rattle.std.specs.Arc.{arc_value}
-use Rattle.trial_calls.proofs.memory.board.tried.Given as goal
+use Rattle.trial_calls.proofs.memory.boards.tried.Given as goal
 
 -- the board and the inbox that were just started
 abbrev pub ghosts-named : goal.ghosts-named
