@@ -42,7 +42,7 @@ fn brought<C: Clock>(clock: &C, alloc: Global, telling: Telling, calls: usize) -
 
 /// The world behind a call that found no memory, once it is made again, if it is answered then as it is
 /// meant to be: by the same client where that can be, and else in a session of its own.
-fn again<C: Clock>(
+fn made_again<C: Clock>(
     clock: &C,
     mut world: World,
     place: usize,
@@ -67,8 +67,8 @@ fn behind<C: Clock>(clock: &C, mut world: World, place: usize, step: &Step) -> O
     world.prepare(step)?;
     match world.make(clock, step) {
         Verdict::Meant => Some(world),
-        Verdict::Want => again(clock, world, place, step, false),
-        Verdict::Lost => again(clock, world, place, step, true),
+        Verdict::Want => made_again(clock, world, place, step, false),
+        Verdict::Lost => made_again(clock, world, place, step, true),
         Verdict::Neither => None,
     }
 }
