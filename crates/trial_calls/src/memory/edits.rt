@@ -105,13 +105,10 @@ fn is_pasted(alloc: Global, is_whole: bool) -> Option<bool> {
     Some(edit.area() == area && edit.listed_cells() == PLACED.as_slice())
 }
 
-pub fn copy_of(edit: &Edit) -> Option<Edit> {
-    again!(AllocError, edit.copy()).ok()
-}
-
 fn edit_is_copied(alloc: Global) -> Option<bool> {
     let edit = row(alloc, 1)?;
-    Some(copy_of(&edit)?.same(&edit))
+    let copy = again!(AllocError, edit.copy()).ok()?;
+    Some(copy.same(&edit))
 }
 
 fn delta_is_written(alloc: Global) -> Option<bool> {

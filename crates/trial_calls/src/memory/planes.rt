@@ -74,21 +74,15 @@ fn begun(alloc: Global, nodes: u32) -> Option<Plane>
     again!(AllocError, Plane::with_room(alloc, nodes)).ok()
 }
 
-pub fn answers(alloc: Global) -> [Answer; 10] {
+pub fn answers(alloc: Global) -> [Answer; 7] {
     [
-        (
-            "Plane::of_edit",
-            row(alloc).map(|plane| shown(&plane) == ROW),
-        ),
+        ("Plane::of_edit, walk, same", row_is_drawn(alloc)),
+        ("Plane::copy", plane_is_copied(alloc)),
         ("join", row_is_joined(alloc)),
         ("join of two writes", greater_write_wins(alloc)),
         ("join of a clear", clear_wins(alloc)),
         ("join refused", stores_are_full(alloc)),
-        ("same_remembered", rows_are_same(alloc)),
-        ("Plane::walk", plane_is_walked(alloc)),
-        ("Plane::copy", plane_is_copied(alloc)),
-        ("Journal::push", edit_is_noted(alloc)),
-        ("Journal::note", edits_are_noted(alloc)),
+        ("Journal::push, note", edits_are_noted(alloc)),
     ]
 }
 
@@ -144,14 +138,11 @@ fn stores_are_full(alloc: Global) -> Option<bool> {
     )
 }
 
-fn rows_are_same(alloc: Global) -> Option<bool> {
-    are_same(alloc, &row(alloc)?, &row(alloc)?)
-}
-
-fn plane_is_walked(alloc: Global) -> Option<bool> {
+/// The plane of the row is the one that is drawn again; it has two cells that are not dead.
+fn row_is_drawn(alloc: Global) -> Option<bool> {
     let plane = row(alloc)?;
     let cells = again!(AllocError, plane.walk()).ok()?;
-    Some(cells.len() == 2)
+    Some(cells.len() == 2 && shown(&plane) == ROW && are_same(alloc, &plane, &row(alloc)?)?)
 }
 
 fn plane_is_copied(alloc: Global) -> Option<bool> {
@@ -160,23 +151,12 @@ fn plane_is_copied(alloc: Global) -> Option<bool> {
     Some(shown(&copy) == ROW)
 }
 
-/// A journal of the edit of that row.
-fn journal(alloc: Global) -> Option<Journal> {
-    let row = edits::row(alloc, 1)?;
-    let mut journal = Journal::new(alloc);
-    again!(AllocError, journal.push(edits::copy_of(&row)?)).ok()?;
-    Some(journal)
-}
-
-fn edit_is_noted(alloc: Global) -> Option<bool> {
-    let journal = journal(alloc)?;
-    Some(journal.contains(&edits::row(alloc, 1)?) && journal.as_slice().len() == 1)
-}
-
 /// An edit that was noted before is not noted again.
 fn edits_are_noted(alloc: Global) -> Option<bool> {
     let edits = [edits::row(alloc, 2)?, edits::row(alloc, 1)?];
-    let mut journal = journal(alloc)?;
+    let mut journal = Journal::new(alloc);
+    again!(AllocError, journal.push(edits::row(alloc, 1)?)).ok()?;
+    let is_noted = journal.contains(&edits[1]) && journal.as_slice().len() == 1;
     again!(AllocError, journal.note(&edits)).ok()?;
-    Some(journal.as_slice().len() == 2)
+    Some(is_noted && journal.as_slice().len() == 2)
 }
