@@ -98,7 +98,9 @@ fn run<R: Threads + Wait + Clock + AllocGlobal + Print + Copy + Drop + Send + Sy
             let seed = seed.parse::<u64>().context("which seed")?;
             run_all(rt, alloc, Asked { rounds, seed })
         }
-        _ => bail!("the words are: memory [PART..], parts, late, fuzz [ROUNDS SEED], or none"),
+        _ => bail!(
+            "{word} is not asked so; there are: memory [PART..], parts, late, fuzz [ROUNDS SEED]"
+        ),
     }
 }
 
@@ -114,17 +116,27 @@ fn tell_parts<R: Threads + Wait + Clock + Print + Copy + Drop + Send + Sync + 's
         }
     }
     for word in words {
-        tell_part(rt, alloc, part_of(word.as_str())?)?;
+        tell_part(rt, alloc, part_of(alloc, word.as_str())?)?;
     }
     Ok(())
 }
 
 /// The part of a word.
-fn part_of(word: &str) -> Result<Part> {
+fn part_of(alloc: Global, word: &str) -> Result<Part> {
     match PARTS.iter().find(|(name, _)| *name == word) {
         Some((_, part)) => Ok(*part),
-        None => bail!("there is no part {word}: `parts` tells those that there are"),
+        None => bail!("{word} is no part; there are:{}", part_names(alloc)?),
     }
+}
+
+/// All parts, each behind a blank.
+fn part_names(alloc: Global) -> Result<String> {
+    let mut names = String::new(alloc);
+    for (name, _) in &PARTS {
+        names.push_str(" ")?;
+        names.push_str(name)?;
+    }
+    Ok(names)
 }
 
 fn name_parts(rt: &impl Print) -> Result<()> {
