@@ -4,12 +4,12 @@
 #![tactic(auto)]
 
 mod bench;
-mod board;
 mod drawing;
 mod exports;
 mod frames;
 mod kernel;
 mod leaves;
+mod running;
 mod server;
 mod store;
 mod texts;
@@ -65,7 +65,7 @@ fn run<R: Machine>(bench: &Bench<R>, part: &str) -> Result<()> {
         "texts" => texts::run(bench),
         "frames" => frames::run(bench),
         "sessions" => frames::run_sessions(bench),
-        "board" => board::run(bench),
+        "board" => running::run(bench),
         "exports" => exports::run(bench),
         _ => server::run(bench),
     }
