@@ -4,7 +4,7 @@ use anyhow::Result;
 use std::alloc::Global;
 use std::io;
 use std::net::{Net, TcpListener, TcpStream};
-use std::rt::{Clock, Files};
+use std::rt::Clock;
 use std::sync::Wait;
 use std::thread::Threads;
 use std::time::{Duration, Instant};
@@ -14,8 +14,6 @@ pub trait Machine: Net<Listener = TcpListener, Stream = TcpStream>
     + Threads
     + Wait
     + Clock
-    + Files
-    + Alloc
     + Print
     + Copy
     + Drop
@@ -28,8 +26,6 @@ impl<
         + Threads
         + Wait
         + Clock
-        + Files
-        + Alloc
         + Print
         + Copy
         + Drop

@@ -19,14 +19,13 @@ use std::thread::JoinHandle;
 use std::time::{Duration, Instant};
 use std::{fs, thread};
 
-/// How many clients there are at once.
+/// How many clients there are at once, where it is timed and else.
 const CLIENTS: u16 = 64;
+
+const FEW: u16 = 8;
 
 /// After how many pushes a client polls.
 const POLL_EACH: u32 = 16;
-
-/// How many pushes are made in turn.
-const TURNS: usize = 200;
 
 pub fn run<R: Machine>(bench: &Bench<R>) -> Result<()> {
     run_turns(bench)?;
@@ -90,10 +89,10 @@ fn run_turns<R: Machine>(bench: &Bench<R>) -> Result<()> {
     let mut client = Client::connected(&bench.rt, bench.alloc, server.port, 1)?;
     let mut times = times_of_pushes(bench, &mut client)?;
     client.leave()?;
-    server.tell_end(bench, "200 pushes in turn")?;
+    server.tell_end(bench, "pushes in turn")?;
     times.sort()?;
-    if bench.is_timed && times.len() == TURNS {
-        let (median, late) = (times[TURNS / 2], times[TURNS / 100 * 99 - 1]);
+    if bench.is_timed && times.len() == 200 {
+        let (median, late) = (times[100], times[197]);
         println!(&bench.rt; "  median {median} us, 99th of a hundred {late} us")?;
     }
     Ok(())
@@ -103,7 +102,7 @@ fn run_turns<R: Machine>(bench: &Bench<R>) -> Result<()> {
 fn times_of_pushes<R: Machine>(bench: &Bench<R>, client: &mut Client) -> Result<Vec<u128>> {
     let pause = Duration::from_millis(u64::from(bench.much(5, 0)));
     let mut times = Vec::new(bench.alloc);
-    for _ in 0..TURNS {
+    for _ in 0..bench.much(200, 50) {
         thread::sleep(&bench.rt, pause);
         let start = Instant::now(&bench.rt)?;
         client.push()?;
@@ -117,38 +116,36 @@ fn run_plain<R: Machine>(bench: &Bench<R>) -> Result<()> {
     let (rt, alloc) = (bench.rt, bench.alloc);
     let listener = listen(&rt, 0).ok().context("a port")?;
     let port = listener.local_addr()?.port();
+    let clients = usize::from(client_count(bench));
     let relaying = thread::spawn(
         &rt,
-        move || plain::relay(&rt, alloc, &listener, usize::from(CLIENTS)).unwrap_or(0),
+        move || plain::relay(&rt, alloc, &listener, clients).unwrap_or(0),
     )?;
-    let time = work_all(bench, crowd(bench, port)?, false)?;
+    let time = work_all(bench, port, false)?;
     let relayed = relaying.join(&rt);
-    println!(&rt; "{CLIENTS} clients at a plain relay: {relayed} relayed")?;
+    println!(&rt; "{clients} clients at a plain relay: {relayed} relayed")?;
     tell_rate(bench, time)
 }
 
 /// Clients push and poll at the server.
 fn run_crowd<R: Machine>(bench: &Bench<R>) -> Result<()> {
-    let server = Server::start(bench, CLIENTS)?;
-    let clients = crowd(bench, server.port)?;
-    let before = kilobytes(bench)?;
-    let time = work_all(bench, clients, true)?;
-    let after = kilobytes(bench)?;
-    server.tell_end(bench, "64 clients that push and poll")?;
-    tell_rate(bench, time)?;
-    if bench.is_timed {
-        println!(&bench.rt; "  {before} kB before them, {after} kB behind")?;
-    }
-    Ok(())
+    let server = Server::start(bench, client_count(bench))?;
+    let time = work_all(bench, server.port, true)?;
+    server.tell_end(bench, "as many that push and poll at the server")?;
+    tell_rate(bench, time)
 }
 
 /// Clients of the seats from 1 on.
 fn crowd<R: Machine>(bench: &Bench<R>, port: u16) -> Result<Vec<Client>> {
     let mut clients = Vec::new(bench.alloc);
-    for place in 0..CLIENTS {
-        clients.push(Client::connected(&bench.rt, bench.alloc, port, place + 1)?)?;
+    for place in 0..client_count(bench) {
+        clients.push(Client::connected(&bench.rt, bench.alloc, port, place.saturating_add(1))?)?;
     }
     Ok(clients)
+}
+
+fn client_count<R: Machine>(bench: &Bench<R>) -> u16 {
+    if bench.is_timed { CLIENTS } else { FEW }
 }
 
 /// How many edits each client pushes.
@@ -157,11 +154,8 @@ fn pushes<R: Machine>(bench: &Bench<R>) -> u32 {
 }
 
 /// Lets each client work in a thread of its own; the time until all have done.
-fn work_all<R: Machine>(
-    bench: &Bench<R>,
-    mut clients: Vec<Client>,
-    is_polling: bool,
-) -> Result<Duration> {
+fn work_all<R: Machine>(bench: &Bench<R>, port: u16, is_polling: bool) -> Result<Duration> {
+    let mut clients = crowd(bench, port)?;
     let pushes = pushes(bench);
     let work = |_: usize, client: &mut Client| {
         let _ = work(client, pushes, is_polling);
@@ -184,15 +178,8 @@ fn work(client: &mut Client, pushes: u32, is_polling: bool) -> Result<()> {
 
 fn tell_rate<R: Machine>(bench: &Bench<R>, time: Duration) -> Result<()> {
     if bench.is_timed {
-        let pushed = f64::from(u32::from(CLIENTS).saturating_mul(pushes(bench)));
+        let pushed = f64::from(u32::from(client_count(bench)).saturating_mul(pushes(bench)));
         println!(&bench.rt; "  {:.0} pushes a second", pushed / time.as_secs_f64())?;
     }
     Ok(())
-}
-
-/// How many kilobytes of memory this process has, of pages of 4.
-fn kilobytes<R: Machine>(bench: &Bench<R>) -> Result<u64> {
-    let text = fs::read_to_string(&bench.rt, "/proc/self/statm")?;
-    let pages = text.split(' ').nth(1).context("a number of pages")?;
-    Ok(pages.parse::<u64>()?.saturating_mul(4))
 }
