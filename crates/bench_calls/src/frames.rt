@@ -3,7 +3,7 @@
 
 use crate::bench::{Bench, Row};
 use crate::drawing::brain;
-use anyhow::Result;
+use anyhow::{Result, ensure};
 use devices::{ReadSource, WriteSink};
 use memory_hub::MemoryHub;
 use message_frames::{FrameFault, Frames, frame};
@@ -49,7 +49,7 @@ fn run_bodies<R: Threads + Clock + Print + Copy + Drop + Sync>(
         "frames of {} bytes: {bodies} bodies, {bytes} bytes",
         body.len()
     )?;
-    bench.measure(16, count, &FRAME, |call| make(bench, call, &stream))
+    bench.measure(16, count, &FRAME, |call| make(bench, call, &stream, count))
 }
 
 /// Pushes.
@@ -60,18 +60,21 @@ pub fn run_sessions<R: Threads + Clock + Print + Copy + Drop + Sync>(
     let stream = repeated(bench.alloc, count, PUSH)?;
     let (requests, edits) = served(bench.rt, bench.alloc, &stream)?;
     println!(&bench.rt; "{count} pushes: {requests} requests, {edits} edits pushed")?;
-    bench.measure(8, count, &PUSHES, |call| make(bench, call, &stream))
+    bench.measure(8, count, &PUSHES, |call| make(bench, call, &stream, count))
 }
 
+/// Takes or serves so many frames.
 fn make<R: Threads + Copy + Drop + Sync>(
     bench: &Bench<R>,
     call: Call,
     stream: &[u8],
+    count: u32,
 ) -> Result<()> {
-    match call {
-        Call::Take => taken(bench.alloc, stream).map(|_| ())?,
-        Call::Serve => served(bench.rt, bench.alloc, stream).map(|_| ())?,
-    }
+    let done = match call {
+        Call::Take => taken(bench.alloc, stream)?.0,
+        Call::Serve => served(bench.rt, bench.alloc, stream)?.1 as u64,
+    };
+    ensure!(done == u64::from(count), "a frame was lost");
     Ok(())
 }
 

@@ -99,7 +99,9 @@ impl Pairs {
                 Call::Copy => {}
                 Call::Merge => pair.merged = Leaf::merge(&pair.first, &pair.second),
                 Call::Hash => self.hashed ^= key.hash_one(&pair.first),
-                Call::Insert => self.set.insert(pair.first).map(|_| ())?,
+                Call::Insert => {
+                    self.set.insert(pair.first)?;
+                }
             }
         }
         Ok(())

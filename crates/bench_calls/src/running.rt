@@ -188,8 +188,8 @@ fn run_polls<J: Naming, R: Machine>(bench: &Bench<R>, seats: &mut [Seat<J>]) -> 
     )?;
     bench.measure(u32::from(READERS) - 1, 1, &POLLS, |read| {
         match read {
-            Read::OfBoard => polled(seats.next().context("a seat")?).map(|_| ())?,
-            Read::Elsewhere => copies(bench.alloc, edits.as_slice()).map(|_| ())?,
+            Read::OfBoard => drop(polled(seats.next().context("a seat")?)?),
+            Read::Elsewhere => drop(copies(bench.alloc, edits.as_slice())?),
         }
         Ok(())
     })

@@ -9,6 +9,7 @@ use crate::drawing::{brain, replica_of_square};
 use anyhow::Result;
 use delta_exchange::read;
 use replica_core::Replica;
+use std::alloc::Global;
 use std::rt::Clock;
 
 /// What is sent of a replica.
@@ -52,21 +53,26 @@ fn run_kind<R: Clock + Print>(
 ) -> Result<()> {
     let rule = brain()?;
     let text = written(replica, kind)?;
-    let mut other = Replica::new(bench.alloc, rule, 2)?;
-    other.take_bytes(&text)?;
-    let is_same = written(&other, kind)?.as_slice() == text.as_slice();
+    let is_same = is_written_again(bench.alloc, kind, &text)?;
     println!(&bench.rt;
         "{what}: {} bytes, written again the same: {is_same}",
         text.len()
     )?;
     bench.measure(16, 1, &CALLS, |call| {
         match call {
-            Call::Copy => Vec::from_slice(bench.alloc, &text).map(|_| ())?,
-            Call::Write => written(replica, kind).map(|_| ())?,
-            Call::Read => read(bench.alloc, &rule, &text).map(|_| ())?,
+            Call::Copy => drop(Vec::from_slice(bench.alloc, &text)?),
+            Call::Write => drop(written(replica, kind)?),
+            Call::Read => drop(read(bench.alloc, &rule, &text)?),
         }
         Ok(())
     })
+}
+
+/// Whether a replica that takes a text has this very text.
+fn is_written_again(alloc: Global, kind: Kind, text: &[u8]) -> Result<bool> {
+    let mut replica = Replica::new(alloc, brain()?, 2)?;
+    replica.take_bytes(text)?;
+    Ok(written(&replica, kind)?.as_slice() == text)
 }
 
 /// The state, or the delta of the first edit.
