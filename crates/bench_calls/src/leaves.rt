@@ -81,16 +81,15 @@ impl Pairs {
             pairs,
             set: IndexSet::with_hasher(alloc, HashKey::fixed()),
             bytes: vec![in alloc; 0_u8; length]?,
-            copied: vec![in alloc; 1_u8; length]?,
+            copied: Vec::new(alloc),
             hashed: 0,
         })
     }
 
     fn make(&mut self, call: Call) -> Result<()> {
-        if let Call::Copy = call
-            && self.copied.len() == self.bytes.len()
-        {
-            self.copied.copy_from_slice(&self.bytes);
+        if matches!(call, Call::Copy) {
+            self.copied.clear();
+            self.copied.extend_from_slice(&self.bytes)?;
             return Ok(());
         }
         let key = HashKey::fixed();

@@ -15,13 +15,14 @@ use genedit_serve::{listen, serve_on};
 use generations_rule::Rule;
 use std::alloc::Global;
 use std::net::TcpListener;
+use std::thread;
 use std::thread::JoinHandle;
 use std::time::{Duration, Instant};
-use std::{fs, thread};
 
-/// How many clients there are at once, where it is timed and else.
+/// How many clients there are at once where it is timed.
 const CLIENTS: u16 = 64;
 
+/// How many there are else.
 const FEW: u16 = 8;
 
 /// After how many pushes a client polls.
