@@ -5,11 +5,12 @@ use crate::bench::{Bench, Row};
 use crate::drawing::brain;
 use anyhow::{Result, ensure};
 use devices::{ReadSource, WriteSink};
+use edit_stamps::Cell;
 use memory_hub::MemoryHub;
 use message_frames::{FrameFault, Frames, frame};
 use replica_sessions::Session;
+use samples::plane_of;
 use session_service::serve;
-use stamped_tree::Plane;
 use std::alloc::{AllocError, Global};
 use std::rt::Clock;
 use std::thread::Threads;
@@ -20,6 +21,13 @@ const PIECE: usize = 4096;
 /// A push of an edit of one cell by seat 1, in its frame.
 const PUSH: &[u8] =
     b"\0\0\0\x25\x02GLWD\x01\x04/2/3\0\0\0\x01\0\0\0\0\0\x01\0\x01\0\0\0\0\x01\x40\0\0\0\x40\0\0\0\x01";
+
+/// What the hub's plane has.
+const CELL: Cell = Cell {
+    x: 0,
+    y: 0,
+    state: 1,
+};
 
 #[derive(Clone, Copy)]
 enum Call {
@@ -112,8 +120,9 @@ fn take_next(frames: &mut Frames, bodies: &mut (u64, u64)) -> Result<(), FrameFa
 
 /// Serves all of a stream: how many requests there were, and how many edits were pushed.
 fn served<R: Threads + Drop + Sync>(rt: R, alloc: Global, stream: &[u8]) -> Result<(u64, usize)> {
-    let hub = MemoryHub::new(alloc, brain()?, 1, Plane::new(alloc)?, 0);
-    let mut session = Session::new(rt, alloc, hub);
+    let rule = brain()?;
+    let plane = plane_of(alloc, &rule, &[CELL])?;
+    let mut session = Session::new(rt, alloc, MemoryHub::new(alloc, rule, 1, plane, 0));
     let mut replies = Vec::new(alloc);
     let mut sink = WriteSink::new(&mut replies);
     let end = serve(alloc, &mut ReadSource::new(stream), &mut sink, &mut session)?;
