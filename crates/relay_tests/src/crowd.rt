@@ -257,8 +257,8 @@ fn draws_together<
     requires origin { opened.publisher.origin ≡ J.origin }
     requires inbox { (arc_value opened.drain.queue).table.shared.table_id ≡ J.inbox }
 {
-    let (relay, seats) = opened.named::<J>()?;
     let ended = Arc::new(alloc, AtomicU64::new(0))?;
+    let (relay, seats) = opened.named::<J>()?;
     let threads = spawned(rt, alloc, seats, &ended)?;
     let _relay = turns(&rt, relay, &ended, u64::from(DRAWERS));
     let mut right = 0usize;

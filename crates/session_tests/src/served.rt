@@ -25,7 +25,7 @@ const REPLIES: &str = "00000008 00 0001 04 2f322f33 00000001 00 00000005 00 0000
 
 /// How many bytes a pull gives at most, which pull fails, which push fails, and how many bytes it takes
 /// before. 0 for none.
-#[derive(Clone, Copy, Debug)]
+#[derive(Clone, Copy)]
 struct Devices {
     size: usize,
     pull: u64,
