@@ -1,7 +1,6 @@
 //! Which relays start.
 
-use crate::drawn::BRIANS_BRAIN;
-use generations_rule::Rule;
+use crate::drawn::{BRIANS_BRAIN, rule};
 use relay_board::{MOST_INBOX, MOST_SESSIONS, StartFault, start};
 use std::alloc::Global;
 use std::sync::Wait;
@@ -13,8 +12,11 @@ fn refused<R: Wait + Drop>(
     alloc: Global,
     sessions: u16,
     inbox: u16,
-) -> Result<Option<StartFault>, Fail> {
-    Ok(start(rt, alloc, Rule::parse(BRIANS_BRAIN)?, sessions, inbox).err())
+) -> Result<Option<StartFault>, &'static str> {
+    match start(rt, alloc, rule(BRIANS_BRAIN)?, sessions, inbox) {
+        Ok(_) => Ok(None),
+        Err(fault) => Ok(Some(fault)),
+    }
 }
 
 /// Sessions, room, and why they are refused.
