@@ -1,6 +1,7 @@
 //! The writer of the board: it adds entries to the list, one at a time, and publishes each.
 
-ghost use Rattle.std.specs.Prelude.{◌≡◌, ◌∷◌, ◌++◌, ◌^◌, ◌<◌, [], length, drop, true, None, IfOk, MatchBool, MatchResult, IfSome, IfNone, OnErr};
+ghost use Rattle.std.specs.Prelude.{◌≡◌, ◌⊎◌, ◌↔◌, ◌∷◌, ◌++◌, ◌^◌, ◌<◌, IsTrue, [], length, drop, true, None, IfOk, MatchBool, MatchResult, IfSome, IfNone, OnErr};
+ghost use mathlib.Core.List.{IsPrefix};
 ghost use Rattle.left_right.specs.Sides.{view};
 ghost use Rattle.edit_stamps.specs.Edit.{has_states_below};
 ghost use Rattle.board.specs.Sights.{sight, IsWhole, Keeps};
@@ -116,6 +117,17 @@ impl Publisher {
         ensures { result.now.list ≡ self.now.list }
     {
         self.writer.published()
+    }
+
+    /// Whether the published list begins a front of its history; else the front begins the list.
+    pub fn begins(&self, front: &Front) -> bool
+        requires { origin front.now ≡ self.now.origin }
+        ensures exact { IsTrue result ↔ IsPrefix self.now.list (list_of front.now) }
+        ensures one { IsPrefix self.now.list (list_of front.now) ⊎ IsPrefix (list_of front.now) self.now.list }
+    {
+        // For the proof alone: what was announced begins with what is published, and begins the front or is begun by it.
+        let _one = self.front.begins(front);
+        self.board().len() <= front.len()
     }
 
     /// A place among the readers, for one that has seen what is published. Both want of memory and of a

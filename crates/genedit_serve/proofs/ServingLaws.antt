@@ -2,6 +2,7 @@
 use Rattle.std.proofs.Common.{◌≡◌, ◌∙◌, ◌++◌, ◌+◌, ◌⊎◌, ℕ, List, [], ◌∷◌, ap, refl, sym, subst, inl, inr, arith}
 use Rattle.std.proofs.lemmas.List.{append-nil}
 use Rattle.std.specs.Prelude.{Result, Ok, Err, IfErr, length}
+use Rattle.board.specs.Showing.{Origin}
 use Rattle.devices.specs.Sink.{IsPush, KnownSink}
 use Rattle.generations_rule.specs.Rule.{GenerationsRule}
 use Rattle.genedit_io.specs.declared.fault.RunFault.{RunFault}
@@ -54,10 +55,12 @@ module _ {A E : Type 0} (rule : GenerationsRule) (sessions : ℕ) (from between 
       by_cause server.Memory reason = inr listens
 
   -- the closing lines were pushed too, or that failed
-  pub ends : {T : Type 0} (seats : List Seating) (finished : FinishedValue) (to : KnownSink) (r : Result T RunFault) (text : List ℕ)
-      → AreFreshSeats rule sessions seats → IsServed seats finished → text ≡ closing_text finished → IsPush between to r text → IfErr r (λ fault. fault ≡ Write)
+  pub ends : {T : Type 0} (board : Origin) (seats : List Seating) (finished : FinishedValue) (to : KnownSink) (r : Result T RunFault) (text : List ℕ)
+      → board.states ≡ rule.states → AreFreshSeats rule sessions seats → IsServed board seats finished → text ≡ closing_text finished → IsPush between to r text → IfErr r (λ fault. fault ≡ Write)
       → ServesAt rule sessions port from to r
-  ends seats finished to (Ok t) text fresh served is_text pushed fault = record {
+  ends board seats finished to (Ok t) text states fresh served is_text pushed fault = record {
+    board = board;
+    states = states;
     seats = seats;
     fresh = fresh;
     finished = finished;
@@ -66,7 +69,7 @@ module _ {A E : Type 0} (rule : GenerationsRule) (sessions : ℕ) (from between 
     listens = listens;
     closes = made between to t text (closing_text finished) is_text pushed;
   }
-  ends seats finished to (Err fault) text fresh served is_text pushed is =
+  ends board seats finished to (Err fault) text states fresh served is_text pushed is =
       subst (λ (f : RunFault). IsGivenUp rule sessions port from to f) (sym is) (inr (between, listens, (pushed.pushes, pushed.failures)))
 
 -- ---- the lines of the sessions

@@ -1,5 +1,6 @@
 -- What a server does.
 use Rattle.std.specs.Prelude.{◌≡◌, ◌^◌, ◌⊎◌, ℕ, List, [], false, length, Result, Ok, Err}
+use Rattle.board.specs.Showing.{Origin}
 use Rattle.devices.specs.Count.{one_more}
 use Rattle.devices.specs.Sink.{IsPush, KnownSink}
 use Rattle.generations_rule.specs.Rule.{GenerationsRule}
@@ -30,13 +31,16 @@ Listens port from to = Pushes from to (listening_line port)
 abbrev pub AreFreshSeats : GenerationsRule → ℕ → List Seating → Type 0
 AreFreshSeats r sessions seats = AllFresh r 64 0 seats × (length seats ≡ sessions)
 
--- A board was served to its end: of so many seats that nothing had been done with, each was served over a stream of its
--- own; the line that tells the port was pushed, and behind it the lines of the sessions and of the published list.
+-- A board under the rule was served to its end: of so many seats that nothing had been done with, each was served over a
+-- stream of its own; the line that tells the port was pushed, and behind it the lines of the sessions and of the published
+-- list.
 pub record IsServedBoard (r : GenerationsRule) (sessions port : ℕ) (from to : KnownSink) : Type 0 where
+  pub board : Origin
+  pub states : board.states ≡ r.states
   pub seats : List Seating
   pub fresh : AreFreshSeats r sessions seats
   pub finished : FinishedValue
-  pub served : IsServed seats finished
+  pub served : IsServed board seats finished
   pub between : KnownSink
   pub listens : Listens port from between
   pub closes : Pushes between to (closing_text finished)

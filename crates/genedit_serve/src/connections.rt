@@ -1,5 +1,6 @@
 //! Connections as streams of sessions.
 
+use crate::address::address;
 use devices::{ReadSource, WriteSink};
 use seat_server::{Accept, Wake};
 use std::net::{Net, TcpListener, TcpStream};
@@ -38,6 +39,6 @@ pub struct Knock<'a, R> {
 impl<R: Net> Wake for Knock<'_, R> {
     /// Where no connection is made, nobody listens any more, and so nobody waits.
     fn wake(&self) {
-        let _ = TcpStream::connect(self.rt, ("127.0.0.1", self.port));
+        let _ = TcpStream::connect(self.rt, address(self.port));
     }
 }

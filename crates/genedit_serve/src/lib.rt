@@ -1,6 +1,7 @@
 //! The server: a board whose seats are served to connections over the loopback of this machine.
 #![tactic(auto)]
 
+mod address;
 mod closing;
 mod connections;
 mod fault;

@@ -5,6 +5,7 @@ ghost use Rattle.std.specs.Arc.{arc_value};
 ghost use Rattle.crossbeam_queue.specs.Passes.{ruled_capacity};
 ghost use Rattle.genedit_serve.specs.Serving.{Serves, ServesAt};
 
+use crate::address::address;
 use crate::closing::{closing, listening};
 use crate::connections::{Connections, Knock};
 use crate::fault::{server_fault, start_fault};
@@ -23,12 +24,13 @@ use std::thread::Threads;
 /// How many submissions the inbox of a served board has room for. A session has one at a time.
 pub const INBOX: u16 = 64;
 
-/// Listens at a port of this machine's loopback; at any free one for 0. `Read` where that cannot be had.
+/// Listens at a port of this machine's loopback, where nobody comes in from outside; at any free one for 0.
+/// `Read` where that cannot be had.
 pub fn listen<R: Net<Listener = TcpListener, Stream = TcpStream>>(
     rt: &R,
     port: u16,
 ) -> Result<TcpListener, RunFault> {
-    TcpListener::bind(rt, ("127.0.0.1", port)).map_err(|_| RunFault::Read)
+    TcpListener::bind(rt, address(port)).map_err(|_| RunFault::Read)
 }
 
 /// Serves a board of so many seats, 1 to 64, under a rule, to the first so many connections, each on a

@@ -8,6 +8,7 @@ use Rattle.board.specs.declared.rule.Label.{Label}
 use Rattle.inbox.specs.declared.submission.Submission.{Submission}
 use Rattle.inbox.specs.declared.rule.Hand.{Hand}
 use Rattle.inbox.specs.Counts.{HasLast}
+use Rattle.receipts.specs.Ends.{channel_to}
 use Rattle.inbox.specs.Hands.{entries_of, receiver, sender, nobody, IsSender, IsReceiver, after_put, after_take, after_hire, after_retire, after_bind, Fits, Delivers, IsAll}
 use Rattle.inbox.specs.Books.{label_in, Books, Holds}
 use Rattle.inbox.proofs.Moves as moves
@@ -53,9 +54,9 @@ begins = (
 
 -- a sender puts an entry of its seat, for its board
 pub puts : (n pass : ℕ) (v : Hand) (s : Submission)
-    → IsSender s.entry.seat v → label_in s ≡ v.label → Pushes Holds n pass v s (λ w. w ≡ after_put v s.entry)
+    → IsSender s.entry.seat v → label_in s ≡ v.label → Pushes Holds n pass v s (λ w. w ≡ after_put v s.entry (channel_to s.answering))
 puts n pass v s may sb items views room h at =
-    let w : Hand = after_put v s.entry in
+    let w : Hand = after_put v s.entry (channel_to s.answering) in
     let vb : v.bound ≡ true = may.3 in
     let p = moves.puts n pass v s may items views room h.0 at in
     let b = h.1 in (
@@ -94,11 +95,11 @@ takes pass v may s items views h at =
     )
 
 -- the receiver makes the next sender, for its board
-pub hires : (pass : ℕ) (v : Hand) → IsReceiver v → Forks Holds pass v (after_hire v) (sender v.label v.made [])
+pub hires : (pass : ℕ) (v : Hand) → IsReceiver v → Forks Holds pass v (after_hire v) (sender v.label v.made)
 hires pass v may items views h at =
     let w : Hand = after_hire v in
     let vb : v.bound ≡ true = may.2 in
-    let new : Hand = sender v.label v.made [] in
+    let new : Hand = sender v.label v.made in
     let b = h.1 in (
       moves.hires pass v may items views h.0 at,
       record {

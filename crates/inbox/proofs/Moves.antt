@@ -12,6 +12,7 @@ use Rattle.board.specs.declared.entry.Entry.{Entry}
 use Rattle.inbox.specs.declared.submission.Submission.{Submission}
 use Rattle.inbox.specs.declared.rule.Hand.{Hand}
 use Rattle.inbox.specs.Counts.{HasLast}
+use Rattle.receipts.specs.Ends.{channel_to}
 use Rattle.inbox.specs.Hands.{of, entries_of, receiver, sender, nobody, IsSender, IsReceiver, after_put, after_take, after_hire, after_retire, Fits, Delivers, IsAll}
 
 -- what stands in a list with one more stands in the list, or is that one at its end
@@ -77,10 +78,10 @@ begins = record {
 
 -- a sender puts an entry of its seat
 pub puts : (n pass : ℕ) (v : Hand) (s : Submission)
-    → IsSender s.entry.seat v → Pushes Delivers n pass v s (λ w. w ≡ after_put v s.entry)
+    → IsSender s.entry.seat v → Pushes Delivers n pass v s (λ w. w ≡ after_put v s.entry (channel_to s.answering))
 puts n pass v sub may items views room h at =
     let x : Entry = sub.entry in
-    let w : Hand = after_put v x in
+    let w : Hand = after_put v x (channel_to sub.answering) in
     let not : v.gets ≡ false = may.1 in
     let mine : x.seat ≡ v.seat = sym may.2 in
     let own = (h.each pass v at).0 may.0 in
@@ -132,7 +133,7 @@ takes pass v may sub items views h at =
     )
 
 -- the receiver makes the next sender
-pub hires : (pass : ℕ) (v : Hand) → IsReceiver v → Forks Delivers pass v (after_hire v) (sender v.label v.made [])
+pub hires : (pass : ℕ) (v : Hand) → IsReceiver v → Forks Delivers pass v (after_hire v) (sender v.label v.made)
 hires pass v may items views h at =
     let w : Hand = after_hire v in
     let vs : List Hand = set views pass w in
@@ -162,8 +163,8 @@ hires pass v may items views h at =
       sent = h.sent;
       out = h.out;
       all = h.all;
-      each = λ j u e. ⊎_elim (stays j u) (λ (t : (j ≡ length vs) × (sender v.label v.made [] ≡ u)). subst (λ (y : ℕ × Hand). Fits h.reader seat h.sent h.out y.0 y.1) (λ i. (sym t.0 i, t.1 i))
-          ((λ yes. (new, sym free.1)), (λ yes. absurd (true≢false (sym yes))))) (at_end vs (sender v.label v.made []) u j e);
+      each = λ j u e. ⊎_elim (stays j u) (λ (t : (j ≡ length vs) × (sender v.label v.made ≡ u)). subst (λ (y : ℕ × Hand). Fits h.reader seat h.sent h.out y.0 y.1) (λ i. (sym t.0 i, t.1 i))
+          ((λ yes. (new, sym free.1)), (λ yes. absurd (true≢false (sym yes))))) (at_end vs (sender v.label v.made) u j e);
     }
 
 -- what is known of earlier seats stays

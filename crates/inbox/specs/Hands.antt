@@ -25,15 +25,15 @@ entries_of items = map (λ (s : Submission). s.entry) items
 
 -- the view of who takes, before it is bound: what it took, how many senders it made, and what those put that it took in
 abbrev pub receiver : List Entry → ℕ → List (List Entry) → Hand
-receiver out made known = record { sends = false; seat = 0; put = []; gets = true; out = out; made = made; known = known; bound = false; label = label_of no_origin }
+receiver out made known = record { sends = false; seat = 0; put = []; channels = []; gets = true; out = out; made = made; known = known; bound = false; label = label_of no_origin }
 
--- the view of who puts as one seat, for a board: what it put
-abbrev pub sender : Label → ℕ → List Entry → Hand
-sender label seat put = record { sends = true; seat = seat; put = put; gets = false; out = []; made = 0; known = []; bound = true; label = label }
+-- the view of who puts as one seat, for a board, and has put nothing
+abbrev pub sender : Label → ℕ → Hand
+sender label seat = record { sends = true; seat = seat; put = []; channels = []; gets = false; out = []; made = 0; known = []; bound = true; label = label }
 
 -- the view of a pass that neither puts nor takes
 abbrev pub nobody : Hand
-nobody = record { sends = false; seat = 0; put = []; gets = false; out = []; made = 0; known = []; bound = false; label = label_of no_origin }
+nobody = record { sends = false; seat = 0; put = []; channels = []; gets = false; out = []; made = 0; known = []; bound = false; label = label_of no_origin }
 
 -- a view of who puts as one seat and does not take, for a board that it knows
 abbrev pub IsSender : ℕ → Hand → Type 0
@@ -49,9 +49,9 @@ IsReceiver v = (v.gets ≡ true) × (v.sends ≡ false) × (v.bound ≡ true)
 abbrev pub after_bind : Label → Hand → Hand
 after_bind b v = record v { bound = true; label = b }
 
--- a sender has put an entry
-abbrev pub after_put : Hand → Entry → Hand
-after_put v x = record v { put = v.put ++ x ∷ [] }
+-- a sender has put an entry, to be answered by a channel
+abbrev pub after_put : Hand → Entry → ℕ → Hand
+after_put v x channel = record v { put = v.put ++ x ∷ []; channels = v.channels ++ channel ∷ [] }
 
 -- the receiver has taken an entry
 abbrev pub after_take : Hand → Entry → Hand

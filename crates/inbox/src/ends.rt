@@ -8,6 +8,7 @@ ghost use Rattle.edit_stamps.specs.Edit.{has_states_below};
 ghost use Rattle.board.specs.Origins.{origin};
 ghost use Rattle.board.specs.Sights.{label_of};
 ghost use Rattle.receipts.specs.About.{known_by};
+ghost use Rattle.receipts.specs.Ends.{channel_of};
 ghost use Rattle.receipts.specs.Topics.{topic};
 ghost use Rattle.inbox.specs.Books.{label_in};
 ghost use Rattle.inbox.specs.Counts.{counted, Risen, WasFull, Denies};
@@ -72,7 +73,7 @@ impl Post {
     }
 
     /// Puts an edit as the next entry of this seat, for the board of a front, which is the inbox's, and gives the
-    /// end at which it will be answered. Entries are numbered from 1; the number stays at 2^64 - 1. A refusal
+    /// end at which it will be answered: of the very channel that goes along with the entry. Entries are numbered from 1; the number stays at 2^64 - 1. A refusal
     /// hands the edit back, and nothing was put: `Full` only where the inbox was full at one moment of the call.
     pub fn put<R: Wait>(
         &mut self,
@@ -89,6 +90,8 @@ impl Post {
             ≡ topic (entry self.old.seat (counted (length (view self.old.pass).put + 1)) edit) (origin front.now)) }
         ensures put { IfOk result (λ p. (view self.new.pass).put
             ≡ (view self.old.pass).put ++ (claim p.pass).entry ∷ []) }
+        ensures channel { IfOk result (λ p. (view self.new.pass).channels
+            ≡ (view self.old.pass).channels ++ channel_of p ∷ []) }
         ensures refused { IfErr result (λ r. (r.0 ≡ edit) × (view self.new.pass ≡ view self.old.pass)) }
         ensures full { MatchResult result (λ _. self.new.full ≡ self.old.full)
             (λ r. Denies r.1 self.old.full self.new.full
@@ -150,7 +153,7 @@ impl Drain {
     pub fn post(&mut self, seat: u64) -> Result<Post, AllocError>
         requires seat { seat ≡ (view self.old.pass).made }
         ensures same { self.new.queue ≡ self.old.queue }
-        ensures made { IfOk result (λ p. (p.seat ≡ seat) × ((view p.pass).put ≡ [])
+        ensures made { IfOk result (λ p. (p.seat ≡ seat) × ((view p.pass).put ≡ []) × ((view p.pass).channels ≡ [])
             × ((view p.pass).label ≡ (view self.old.pass).label)
             × (arc_value p.queue ≡ arc_value self.old.queue)
             × (p.full ≡ 0) × ((view self.new.pass).made ≡ seat + 1)) }

@@ -6,13 +6,14 @@ use crossbeam_queue::protocol::{Join, Lesson, Outcome, Protocol, Split};
 use std::collections::LinkedList;
 use std::marker::{Brand, PhantomData};
 
-/// What a pass knows. A sender, which puts: its seat, and what it put. The receiver, which takes: what it took,
-/// how many senders it made, and what each of those put that it has taken in. Once bound, which board the inbox
-/// is for. No value of it is made.
+/// What a pass knows. A sender, which puts: its seat, what it put, and by which channel each of these is to be
+/// answered. The receiver, which takes: what it took, how many senders it made, and what each of those put that
+/// it has taken in. Once bound, which board the inbox is for. No value of it is made.
 pub struct Hand {
     pub sends: bool,
     pub seat: u64,
     pub put: LinkedList<Entry>,
+    pub channels: LinkedList<u64>,
     pub gets: bool,
     pub out: LinkedList<Entry>,
     pub made: u64,
@@ -35,14 +36,16 @@ impl Protocol<Submission, Hand> for InboxRule {
     ghost first = { receiver [] 0 [] };
 }
 
-/// A put. Where the inbox is full, it tells that of this seat the inbox has the last entries that it put.
+/// A put: the submission's entry, to be answered by its channel. Where the inbox is full, it tells that of this
+/// seat the inbox has the last entries that it put.
 pub struct Puts;
 
 impl Outcome<Submission, Hand> for Puts {
     ghost use Rattle.std.specs.Prelude.{◌≡◌};
+    ghost use Rattle.receipts.specs.Ends.{channel_to};
     ghost use Rattle.inbox.specs.Hands.{after_put};
 
-    ghost then = { λ v x w. w ≡ after_put v x.entry };
+    ghost then = { λ v x w. w ≡ after_put v x.entry (channel_to x.answering) };
 }
 
 impl Lesson<Submission, Hand> for Puts {
@@ -74,11 +77,10 @@ pub struct Hires;
 
 impl Split<Hand> for Hires {
     ghost use Rattle.inbox.specs.Hands.{after_hire, sender};
-    ghost use Rattle.std.specs.Prelude.{[]};
 
     ghost left = { after_hire };
 
-    ghost right = { λ v. sender v.label v.made [] };
+    ghost right = { λ v. sender v.label v.made };
 }
 
 /// The receiver takes in the sender that is next.

@@ -7,7 +7,7 @@ use Rattle.atomic_table.proofs.Lists.{at_set, at_snoc}
 use Rattle.receipts.specs.Topics.{Topic, no_topic}
 use Rattle.receipts.specs.declared.rule.Answer.{Answer}
 use Rattle.receipts.specs.declared.rule.About.{About}
-use Rattle.receipts.specs.About.{told_by, known_by, about, unbound, after_receipt, Fits, IsOfOne}
+use Rattle.receipts.specs.About.{told_by, known_by, about, unbound, after_sending, after_receipt, Fits, IsOfOne}
 
 -- an empty list has nothing anywhere
 at_none : {A : Type 0} (k : ℕ) (x : A) → get_elem? [] k ≢ some x
@@ -78,14 +78,14 @@ stays views items more e port v w is_bound stays_bound same at each j u there = 
 
 -- a bound pass sends an answer of what it knows
 pub sends : (n port : ℕ) (v : About) (x : Answer)
-    → v.bound ≡ true → told_by x ≡ known_by v → Pushes IsOfOne n port v x (λ w. (w ≡ v) × (told_by x ≡ known_by v))
+    → v.bound ≡ true → told_by x ≡ known_by v → Pushes IsOfOne n port v x (λ w. (w ≡ after_sending v) × (told_by x ≡ known_by v))
 sends n port v x is_bound is items views room h at =
     let mine = (h.each port v at).0 is_bound in (
-      v,
+      after_sending v,
       record {
         of = h.of;
         all = λ k y there. ⊎_elim (h.all k y) (λ (same : x ≡ y). subst (λ (z : Answer). told_by z ≡ h.of) same (is ∙ mine)) (at_snoc items x y k there);
-        each = stays views items (items ++ x ∷ []) h.of port v v is_bound is_bound refl at h.each;
+        each = stays views items (items ++ x ∷ []) h.of port v (after_sending v) is_bound is_bound refl at h.each;
       },
       (refl, is),
     )

@@ -23,11 +23,15 @@ known_by v = topic v.entry (origin_in v.label)
 
 -- the view of a pass that is bound to a topic
 abbrev pub about : Topic → About
-about t = record { bound = true; entry = t.entry; label = label_of t.origin; received = 0 }
+about t = record { bound = true; entry = t.entry; label = label_of t.origin; sent = 0; received = 0 }
 
 -- the view of the one pass of a channel that is not bound yet
 abbrev pub unbound : About
-unbound = record { bound = false; entry = no_topic.entry; label = label_of no_topic.origin; received = 0 }
+unbound = record { bound = false; entry = no_topic.entry; label = label_of no_topic.origin; sent = 0; received = 0 }
+
+-- one answer more was sent
+abbrev pub after_sending : About → About
+after_sending v = record v { sent = v.sent + 1 }
 
 -- one answer more was received
 abbrev pub after_receipt : About → About

@@ -5,10 +5,11 @@
 //! of each end.
 #![tactic(auto)]
 
+mod bell;
 mod ends;
 mod opening;
 mod rule;
 
-pub use ends::{Answering, NoAnswer, Pending};
+pub use ends::{Answered, Answering, NoAnswer, Pending};
 pub use opening::open;
 pub use rule::{About, Answer, Binds, ReceiptRule, Receives, Sends, Submitted};

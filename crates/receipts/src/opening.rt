@@ -5,14 +5,13 @@ ghost use Rattle.board.specs.Origins.{origin};
 ghost use Rattle.receipts.specs.Ends.{IsOneChannel};
 ghost use Rattle.receipts.specs.Topics.{topic};
 
+use crate::bell::Bell;
 use crate::ends::{Answering, Pending};
 use crate::rule::{Binds, ReceiptRule, Submitted};
 use board::{Entry, Front};
 use crossbeam_channel::bounded_with;
 use std::alloc::{AllocError, Global};
 use std::marker::Brand;
-use std::sync::Arc;
-use std::thread::Parker;
 
 /// The two ends of a channel for the answer of one entry, which is for the board of a front. The channel has
 /// room for that answer. Only memory may be wanting.
@@ -31,8 +30,7 @@ fn opened<J: Submitted>(
     requires { J.topic ≡ topic entry.now (origin front.now) }
     ensures { IfOk result (λ r. IsOneChannel (topic entry.now (origin front.now)) r.0 r.1) }
 {
-    let bell = Arc::new(alloc, Parker::new())?;
-    let their_bell = Arc::try_clone(&bell)?;
+    let (bell, their_bell) = Bell::pair(alloc)?;
     let (sender, receiver, mut pass) = bounded_with::<_, _, ReceiptRule, _>(alloc, 1)?;
     let other = sender.another::<Binds<J>>(&mut pass);
     let answering = Answering {

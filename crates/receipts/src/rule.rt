@@ -20,11 +20,13 @@ pub struct Answer {
 }
 
 /// What a pass of a channel knows: the entry that the channel is for, and which board that entry is for; and
-/// how many answers were received by it. Before the pass is bound it knows nothing. No value of it is made.
+/// how many answers were sent and received by it. Before the pass is bound it knows nothing. No value of it is
+/// made.
 pub struct About {
     pub bound: bool,
     pub entry: Entry,
     pub label: Label,
+    pub sent: u64,
     pub received: u64,
 }
 
@@ -66,14 +68,14 @@ impl<J: Submitted> Split<About> for Binds<J> {
     ghost right = { λ v. about J.topic };
 }
 
-/// A send: the answer is of what the pass knows.
+/// A send: the answer is of what the pass knows, and one more was sent.
 pub struct Sends;
 
 impl Outcome<Answer, About> for Sends {
     ghost use Rattle.std.specs.Prelude.{◌≡◌};
-    ghost use Rattle.receipts.specs.About.{told_by, known_by};
+    ghost use Rattle.receipts.specs.About.{told_by, known_by, after_sending};
 
-    ghost then = { λ v x w. (w ≡ v) × (told_by x ≡ known_by v) };
+    ghost then = { λ v x w. (w ≡ after_sending v) × (told_by x ≡ known_by v) };
 }
 
 impl Lesson<Answer, About> for Sends {

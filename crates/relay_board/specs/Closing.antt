@@ -1,14 +1,22 @@
 -- The account of a list.
-use Rattle.std.specs.Prelude.{◌≡◌, ℕ, ◌-◌, ◌<◌, ◌^◌, List, [], length, map, slice_index_or}
+use Rattle.std.specs.Prelude.{◌≡◌, ◌⊎◌, ℕ, ◌-◌, ◌<◌, ◌^◌, List, [], length, map, slice_index_or, None, Some}
 use mathlib.Core.List.{IsPrefix}
-use Rattle.edit_stamps.specs.Edit.{greatest}
+use Rattle.edit_stamps.specs.Edit.{HaveStatesBelow, greatest}
+use Rattle.edit_stamps.specs.PlaneMap.{HasStatesBelow}
 use Rattle.stamped_writes.specs.Write.{AreSame}
 use Rattle.stamped_tree.specs.Plane.{map_of}
 use Rattle.board.specs.declared.entry.Entry.{Entry}
 use Rattle.board.specs.Entries.{edits_of, last_of}
+use Rattle.board.specs.Origins.{origin}
+use Rattle.board.specs.Showing.{Origin}
 use Rattle.inbox.specs.Settled.{IsOf}
 use Rattle.relay_board.specs.Seating.{Seating, mines_of, BeginsWithAll}
 use Rattle.relay_board.specs.declared.finish.Account.{Account}
+use Rattle.relay_board.specs.declared.fault.FinishFault.{FinishFault}
+use Rattle.relay_board.specs.declared.fault.FinishFault.TheVariants.{Closed, StoreFull, Memory}
+use Rattle.relay_core.specs.Relaying.{Relaying}
+use Rattle.relay_core.specs.Turns.{Takes}
+use Rattle.relay_core.specs.declared.fault.TurnFault.TheVariants as turns
 
 -- the last 1,024 edits of a list, how many come before them, and the plane of them all
 pub record IsAccount (list : List Entry) (a : Account) : Type 0 where
@@ -21,10 +29,21 @@ abbrev pub AreCountable : List (List Entry) → Type 0
 AreCountable puts = (k : ℕ) → k < length puts → length (slice_index_or puts k []) < 2 ^ 64
 
 -- The list that was published in the end begins with what was published before, and with what each seat has seen;
--- restricted to each seat, it is what that seat put, in order, each once, and nothing else. The account is of it.
-pub record IsWhole (before list : List Entry) (seats : List Seating) (a : Account) : Type 0 where
+-- restricted to each seat, it is what that seat put, in order, each once, and nothing else. The account is of it, and of
+-- the board; the states in its edits, and so those of its plane, are below the board's number of states.
+pub record IsWhole (board : Origin) (before list : List Entry) (seats : List Seating) (a : Account) : Type 0 where
+  pub of : origin a.front ≡ board
+  pub below : HaveStatesBelow board.states (edits_of list)
+  pub states : 0 < board.states → HasStatesBelow board.states (map_of a.plane)
   pub goes_on : IsPrefix before list
   pub seen : BeginsWithAll list seats
   pub whole : IsOf list (mines_of seats)
   pub account : IsAccount list a
   pub accepted : a.accepted ≡ map (λ (s : Seating). length s.mine) seats
+
+-- Some turns were taken, none of which failed, and all that was accepted is published. A seat had seen more than that; or
+-- a further turn failed for want of room; or one failed for want of memory, or memory was wanting for the account.
+abbrev pub IsLeft : FinishFault → Relaying → List Seating → Relaying → Type 0
+IsLeft Closed a seats b = Takes a None b × (b.kept ≡ []) × ¬ (BeginsWithAll b.list seats)
+IsLeft StoreFull a seats b = Takes a (Some turns.StoreFull) b
+IsLeft Memory a seats b = Takes a (Some turns.Memory) b ⊎ (Takes a None b × (b.kept ≡ []))

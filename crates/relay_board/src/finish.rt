@@ -1,10 +1,11 @@
 //! The end of a relay: what is left is published, and the account of it all is made.
 
-ghost use Rattle.std.specs.Prelude.{◌≡◌, ◌≢◌, ◌≤◌, ◌<◌, ◌+◌, ◌-◌, ◌^◌, [], ◌++◌, length, map, true, List, IsTrue, ◌↔◌, IfOk, IfErr, MatchOption, Some, slice_get, slice_index_or};
+ghost use Rattle.std.specs.Prelude.{◌≡◌, ◌≢◌, ◌≤◌, ◌<◌, ◌+◌, ◌-◌, ◌^◌, [], ◌++◌, length, map, true, List, IsTrue, ◌↔◌, IfOk, IfErr, IfNone, Some, slice_get, slice_index_or};
 ghost use mathlib.Core.List.{IsPrefix};
 ghost use Rattle.std.specs.Arc.{arc_value};
 ghost use Rattle.crossbeam_queue.specs.Passes.{view};
-ghost use Rattle.edit_stamps.specs.Edit.{greatest};
+ghost use Rattle.edit_stamps.specs.Edit.{HaveStatesBelow, greatest};
+ghost use Rattle.edit_stamps.specs.PlaneMap.{HasStatesBelow};
 ghost use Rattle.stamped_writes.specs.Write.{AreSame};
 ghost use Rattle.stamped_tree.specs.Plane.{map_of};
 ghost use Rattle.board.specs.Entries.{edits_of, last_of};
@@ -13,8 +14,9 @@ ghost use Rattle.inbox.specs.Counts.{counted};
 ghost use Rattle.inbox.specs.Hands.{of};
 ghost use Rattle.inbox.specs.Settled.{HasAsMany, IsOf};
 ghost use Rattle.relay_core.specs.Same.{Same};
+ghost use Rattle.relay_core.specs.Turns.{Takes};
 ghost use Rattle.relay_board.specs.Seating.{mines_of, Numbered, BeginsWithAll};
-ghost use Rattle.relay_board.specs.Closing.{IsAccount, IsWhole, AreCountable};
+ghost use Rattle.relay_board.specs.Closing.{IsAccount, IsWhole, IsLeft, AreCountable};
 
 use crate::fault::{FinishFault, finish_fault};
 use crate::naming::Naming;
@@ -24,7 +26,7 @@ use board::{Board, Front};
 use edit_stamps::EditList;
 use inbox::Drain;
 use lists::ListOf;
-use relay_core::{RelayCore, Turn};
+use relay_core::{RelayCore, Turn, TurnFault};
 use stamped_tree::Plane;
 use std::alloc::{AllocError, Global};
 use std::collections::VecDeque;
@@ -100,7 +102,7 @@ fn begins_with_all<J: Naming>(front: &Front, seats: &[Seat<J>]) -> bool
     ensures { IsTrue result ↔ BeginsWithAll (list_of front.now) seats.now }
 {
     for k in 0..seats.len() {
-        if !seats[k].begins(front) {
+        if !seats[k].is_within(front) {
             return false;
         }
     }
@@ -162,19 +164,20 @@ fn drained<J: Naming, R: Wait>(
     rt: &R,
     mut core: RelayCore,
     seats: &[Seat<J>],
-) -> (RelayCore, Option<FinishFault>)
+) -> (RelayCore, Option<TurnFault>)
     ensures same { Same core result.0 }
     ensures grows { IsPrefix core.list result.0.list }
-    ensures done { MatchOption result.1
-        (HasAsMany result.0.list (mines_of seats.now) × AreCountable (mines_of seats.now) × (result.0.kept ≡ []) × (result.0.out ≡ result.0.list))
-        (λ f. (f ≡ FinishFault.StoreFull → result.0.stored ≡ result.0.room) × (f ≢ FinishFault.Closed)) }
+    ensures takes { Takes core result.1 result.0 }
+    ensures done { IfNone result.1 (HasAsMany result.0.list (mines_of seats.now) × AreCountable (mines_of seats.now) × (result.0.kept ≡ []) × (result.0.out ≡ result.0.list)) }
 {
     for _ in rt.forever() {
         if core.is_settled() && has_all(&core, seats) {
             return (core, None);
         }
-        if let Turn::Failed(fault) = core.turn(rt) {
-            return (core, Some(finish_fault(fault)));
+        match core.turn(rt) {
+            Turn::Idle => {}
+            Turn::Published(_) => {}
+            Turn::Failed(fault) => return (core, Some(fault)),
         }
     }
     unreachable!()
@@ -190,6 +193,9 @@ fn closing<J: Naming>(
     requires origin { core.now.origin ≡ J.origin }
     requires countable { AreCountable (mines_of seats.now) }
     ensures list { IfOk result (λ a. list_of a.front ≡ core.now.list) }
+    ensures of { IfOk result (λ a. origin a.front ≡ core.now.origin) }
+    ensures below { IfOk result (λ a. HaveStatesBelow (origin a.front).states (edits_of (list_of a.front))) }
+    ensures states { IfOk result (λ a. 0 < (origin a.front).states → HasStatesBelow (origin a.front).states (map_of a.plane)) }
     ensures seen { IfOk result (λ a. BeginsWithAll (list_of a.front) seats.now) }
     ensures account { IfOk result (λ a. IsAccount (list_of a.front) a) }
     ensures accepted { IfOk result (λ a. a.accepted ≡ map (λ s. length s.mine) seats.now) }
@@ -220,6 +226,7 @@ fn retired<J: Naming, R: Wait>(rt: &R, core: RelayCore, seats: Vec<Seat<J>>)
         mut drain,
         kept: _,
         told: _,
+        answered: _,
         tried: _,
         counts: _,
         door: _,
@@ -242,13 +249,14 @@ impl<J: Naming, R: Wait + Drop> Relay<J, R> {
         requires closed { self.closed ≡ true }
         requires all { self.made ≡ length seats.items }
         requires order { Numbered 0 seats.items }
-        ensures whole { IfOk result (λ a. IsWhole self.list (list_of a.front) seats.items a) }
+        ensures whole { IfOk result (λ a. IsWhole self.origin self.list (list_of a.front) seats.items a) }
         ensures err { IfErr result (λ r. (r.1.items ≡ seats.items) × Same self r.0 × IsPrefix self.list r.0.list × (r.2 ≡ FinishFault.StoreFull → r.0.stored ≡ r.0.room) × (r.2 ≡ FinishFault.Closed → ¬ (BeginsWithAll r.0.list r.1.items))) }
+        ensures left { IfErr result (λ r. IsLeft r.2 self r.1.items r.0) }
     {
         let (core, rt) = self.into_parts();
         let (core, fault) = drained(&rt, core, seats.as_slice());
         match fault {
-            Some(fault) => Err((Relay::new(core, rt), seats, fault)),
+            Some(fault) => Err((Relay::new(core, rt), seats, finish_fault(fault))),
             None => match closing(alloc, &core, seats.as_slice()) {
                 Err(fault) => Err((Relay::new(core, rt), seats, fault)),
                 Ok(account) => {

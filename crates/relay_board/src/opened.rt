@@ -173,6 +173,7 @@ impl<R: Wait + Drop> Opened<R> {
         requires origin { self.publisher.origin ≡ J.origin }
         requires inbox { (arc_value self.drain.queue).table.shared.table_id ≡ J.inbox }
         ensures relay { IfOk result (λ r. (r.0.list ≡ []) × (r.0.out ≡ []) × (r.0.kept ≡ []) × (r.0.made ≡ self.count) × (r.0.closed ≡ false) × (r.0.empties ≡ 0) × (r.0.room ≡ self.tried.store.room)) }
+        ensures states { IfOk result (λ r. r.0.origin.states ≡ self.rule.states) }
         ensures seats { IfOk result (λ r. AllFresh self.rule (ruled_capacity (arc_value self.drain.queue)) 0 r.1.items × (length r.1.items ≡ self.count)) }
         ensures err { IfErr result (λ f. f ≢ StartFault.Size) }
     {
@@ -205,6 +206,7 @@ impl<R: Wait + Drop> Opened<R> {
             drain,
             kept: None,
             told: false,
+            answered: None,
             tried,
             counts,
             door,

@@ -1,10 +1,12 @@
 //! The relay of the board and the inbox that its type names.
 
-ghost use Rattle.std.specs.Prelude.{◌≡◌, [], true};
+ghost use Rattle.std.specs.Prelude.{◌≡◌, ◌⊎◌, ◌↔◌, [], true, IsTrue};
+ghost use mathlib.Core.List.{IsPrefix};
 ghost use Rattle.relay_core.specs.Same.{Same};
 ghost use Rattle.relay_core.specs.Turns.{Turns};
 
 use crate::naming::Naming;
+use crate::seat::Seat;
 use relay_core::{Bell, RelayCore, Turn};
 use std::alloc::AllocError;
 use std::marker::{Model, PhantomData};
@@ -87,6 +89,15 @@ impl<J: Naming, R: Wait + Drop> Relay<J, R> {
         ensures { result.now ≡ self.now }
     {
         &self.core
+    }
+
+    /// Whether the published list begins what a seat of the board has seen. If not, what the seat has seen begins
+    /// the published list.
+    pub fn begins(&self, seat: &Seat<J>) -> bool
+        ensures exact { IsTrue result ↔ IsPrefix self.now.list seat.now.seen }
+        ensures one { IsPrefix self.now.list seat.now.seen ⊎ IsPrefix seat.now.seen self.now.list }
+    {
+        self.core.begins(seat.front())
     }
 
     /// From now on new submissions are refused; one that is under way may still be accepted.

@@ -1,6 +1,6 @@
 //! A seat of the board and the inbox that its type names.
 
-ghost use Rattle.std.specs.Prelude.{◌≡◌, ◌+◌, ◌++◌, ◌∷◌, ◌≤◌, ◌<◌, ◌==◌, ◌↔◌, [], length, take, List, IsTrue, IfOk, IfErr, IfSome, OnErr};
+ghost use Rattle.std.specs.Prelude.{◌≡◌, ◌⊎◌, ◌+◌, ◌++◌, ◌∷◌, ◌≤◌, ◌<◌, ◌==◌, ◌↔◌, [], length, take, List, IsTrue, IfOk, IfErr, IfSome, OnErr};
 ghost use mathlib.Core.List.{IsPrefix};
 ghost use Rattle.std.specs.Arc.{arc_value};
 ghost use Rattle.crossbeam_queue.specs.Passes.{view};
@@ -190,8 +190,33 @@ impl<J: Naming> Seat<J> {
         self.chair.reader.plane()
     }
 
+    /// Whether what this seat has seen begins what another seat of the board has seen. Of any two seats one has
+    /// seen the beginning of what the other has: there is one published list.
+    pub fn begins(&self, other: &Seat<J>) -> bool
+        ensures exact { IsTrue result ↔ IsPrefix self.now.seen other.now.seen }
+        ensures one { IsPrefix self.now.seen other.now.seen ⊎ IsPrefix other.now.seen self.now.seen }
+    {
+        self.front().begins(other.front())
+    }
+
+    /// Whether this seat has seen a receipt's list. If not, what it has seen begins that list.
+    pub fn has(&self, receipt: &Receipt<J>) -> bool
+        ensures exact { IsTrue result ↔ IsPrefix receipt.now.list self.now.seen }
+        ensures one { IsPrefix receipt.now.list self.now.seen ⊎ IsPrefix self.now.seen receipt.now.list }
+    {
+        receipt.answer().front.begins(self.front())
+    }
+
+    /// What this seat has seen, under the board's name.
+    pub(crate) fn front(&self) -> &Front
+        ensures list { list_of result.now ≡ self.now.seen }
+        ensures origin { origin result.now ≡ J.origin }
+    {
+        &self.chair.reader.window.front
+    }
+
     /// Whether the front begins with what this seat has seen.
-    pub(crate) fn begins(&self, front: &Front) -> bool
+    pub(crate) fn is_within(&self, front: &Front) -> bool
         requires { origin front.now ≡ J.origin }
         ensures { IsTrue result ↔ IsPrefix self.now.seen (list_of front.now) }
     {

@@ -1,6 +1,7 @@
 -- A turn, from its steps.
 use Rattle.std.proofs.Common.{◌≡◌, ℕ, List, [], ◌∷◌, ◌++◌, length, map, sym, refl, ap, ◌∙◌, arith}
 use Rattle.board.specs.declared.entry.Entry.{Entry}
+use Rattle.receipts.specs.Topics.{topic}
 use Rattle.relay_core.specs.Relaying.{Relaying}
 use Rattle.relay_core.specs.declared.fault.TurnFault.{TurnFault}
 use Rattle.relay_core.specs.declared.fault.TurnFault.TheVariants.{StoreFull}
@@ -24,16 +25,16 @@ is_next a b d e f kept went same = record {
 
 -- a turn that published what was fetched
 pub published : (a b d : Relaying) (s : ℕ) → b.list ≡ a.list → IsFetched a b → d.out ≡ b.out → d.empties ≡ b.empties
-    → (d.kept ≡ []) × (d.list ≡ b.list ++ b.kept) × (map (λ (e : Entry). e.edit.stamp) b.kept ≡ s ∷ []) → Turns a (Published s) d
+    → (d.kept ≡ []) × (d.list ≡ b.list ++ b.kept) × (map (λ (e : Entry). e.edit.stamp) b.kept ≡ s ∷ []) × (d.answered ≡ map (λ (e : Entry). topic e d.origin) b.kept) → Turns a (Published s) d
 published a b d s list f went same done =
     let one = single b.kept f.one in
     let e : Entry = one.0 in
     let stamps : e.edit.stamp ∷ [] ≡ s ∷ [] = ap (map (λ (x : Entry). x.edit.stamp)) (sym one.1) ∙ done.2 in
     let stamp : e.edit.stamp ≡ s = cc in
-    (e, stamp, is_next a b d e f one.1 went same, done.1 ∙ (ap (λ l. l ++ b.kept) list ∙ ap (λ l. a.list ++ l) one.1), done.0)
+    (e, stamp, is_next a b d e f one.1 went same, done.1 ∙ (ap (λ l. l ++ b.kept) list ∙ ap (λ l. a.list ++ l) one.1), done.0, done.3 ∙ ap (map (λ (x : Entry). topic x d.origin)) one.1)
 
 -- a turn that kept what was fetched
 pub failed : (a b d : Relaying) (fault : TurnFault) → b.list ≡ a.list → IsFetched a b → d.out ≡ b.out → d.empties ≡ b.empties
-    → d.list ≡ b.list → d.kept ≡ b.kept → (fault ≡ StoreFull → d.stored ≡ d.room) → Turns a (Failed fault) d
-failed a b d fault list f went same stays kept full =
-    let one = single b.kept f.one in (one.0, is_next a b d one.0 f one.1 went same, stays ∙ list, kept ∙ one.1, full)
+    → d.list ≡ b.list → d.kept ≡ b.kept → (fault ≡ StoreFull → d.stored ≡ d.room) → d.answered ≡ a.answered → Turns a (Failed fault) d
+failed a b d fault list f went same stays kept full quiet =
+    let one = single b.kept f.one in (one.0, is_next a b d one.0 f one.1 went same, stays ∙ list, kept ∙ one.1, full, quiet)

@@ -11,6 +11,9 @@ use Rattle.board.specs.declared.rule.Label.{Label}
 use Rattle.board.specs.Sights.{label_of}
 use Rattle.inbox.specs.declared.submission.Submission.{Submission}
 use Rattle.inbox.specs.Books.{label_in}
+use Rattle.receipts.specs.About.{known_by}
+use Rattle.receipts.specs.Topics.{Topic}
+use Rattle.receipts.specs.declared.rule.About.{About}
 use Rattle.relay_core.specs.declared.relay.RelayCore.TheInside.{Inside}
 use Rattle.relay_core.specs.Relaying.{Relaying}
 use Rattle.relay_core.specs.Tallies.{Tallies}
@@ -23,6 +26,11 @@ EndsWith list e = (before : List Entry) × (list ≡ before ++ e ∷ [])
 abbrev pub kept_of : Option Submission → List Entry
 kept_of None = []
 kept_of (Some s) = s.entry ∷ []
+
+-- of what the last answer was, if there was one
+abbrev pub answered_of : Option About → List Topic
+answered_of None = []
+answered_of (Some v) = known_by v ∷ []
 
 -- whether the kept entry was announced
 abbrev pub IsTold : Bool → Option Submission → List Entry → List Entry → Type 0
@@ -45,6 +53,7 @@ relaying_of r = record {
   list = r.publisher.list;
   announced = r.publisher.announced;
   kept = kept_of r.kept;
+  answered = answered_of r.answered;
   out = (view r.drain.pass).out;
   known = (view r.drain.pass).known;
   made = (view r.drain.pass).made;

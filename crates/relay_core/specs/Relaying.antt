@@ -3,14 +3,16 @@ use Rattle.std.specs.Prelude.{ℕ, Bool, List}
 use Rattle.atomic_table.specs.Seated.{TableId}
 use Rattle.board.specs.declared.entry.Entry.{Entry}
 use Rattle.board.specs.Showing.{Origin}
+use Rattle.receipts.specs.Topics.{Topic}
 
 -- The published list, the list once what was announced is published, the entry that was taken and is not published
--- yet, what was taken in all, and what the inbox knows; how often the inbox was empty; the squares of the relay's own
--- store, and its room.
+-- yet, the last one that was answered, what was taken in all, and what the inbox knows; how often the inbox was empty; the
+-- squares of the relay's own store, and its room.
 pub record Relaying : Type 0 where
   pub list : List Entry
   pub announced : List Entry
   pub kept : List Entry
+  pub answered : List Topic
   pub out : List Entry
   pub known : List (List Entry)
   pub made : ℕ

@@ -12,6 +12,7 @@ ghost use Rattle.board.specs.Sights.{label_of};
 ghost use Rattle.inbox.specs.Counts.{counted, WasFull};
 ghost use Rattle.inbox.specs.Hands.{entry};
 ghost use Rattle.receipts.specs.About.{known_by, told_by};
+ghost use Rattle.receipts.specs.Ends.{channel_of};
 ghost use Rattle.receipts.specs.Topics.{topic};
 ghost use Rattle.relay_core.specs.Refusals.{Passes};
 
@@ -70,6 +71,7 @@ impl Chair {
         ensures same { IsSameSeat self.old self.new }
         ensures pending { IfOk result (λ p. known_by (claim p.pass) ≡ topic (entry self.old.post.seat (counted (length (view self.old.post.pass).put + 1)) edit) (origin self.old.reader.window.front)) }
         ensures put { IfOk result (λ p. (view self.new.post.pass).put ≡ (view self.old.post.pass).put ++ (claim p.pass).entry ∷ []) }
+        ensures channel { IfOk result (λ p. (view self.new.post.pass).channels ≡ (view self.old.post.pass).channels ++ channel_of p ∷ []) }
         ensures passes { IfOk result (λ _. Passes (replica_in edit.stamp == self.old.number) (has_states_below self.old.rule.states edit)) }
         ensures denied { IfErr result (λ r. (r.0 ≡ edit) × (view self.new.post.pass ≡ view self.old.post.pass)) }
         ensures refused { IfErr result (λ r. RefusesEdit edit self.old self.new r.1) }

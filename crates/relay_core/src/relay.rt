@@ -1,10 +1,12 @@
 //! The relay: it takes what seats submit, one entry a turn, publishes it, and answers it.
 
-ghost use Rattle.std.specs.Prelude.{◌≡◌, ◌++◌, ◌∷◌, ◌-◌, [], List, length, map, true, false, None, Some, Err, IfOk, OnOk, OnErr, IfErr, IsTrue, ◌↔◌, MatchBool, MatchResult};
+ghost use Rattle.std.specs.Prelude.{◌≡◌, ◌⊎◌, ◌++◌, ◌∷◌, ◌-◌, [], List, length, map, true, false, None, Some, Err, IfOk, OnOk, OnErr, IfErr, IsTrue, ◌↔◌, MatchBool, MatchResult};
+ghost use mathlib.Core.List.{IsPrefix};
 ghost use Rattle.board.specs.declared.entry.Entry.{Entry};
 ghost use Rattle.board.specs.Origins.{origin, list_of};
 ghost use Rattle.edit_stamps.specs.Edit.{has_states_below};
-ghost use Rattle.receipts.specs.About.{entry_of};
+ghost use Rattle.receipts.specs.About.{entry_of, known_by};
+ghost use Rattle.receipts.specs.Topics.{topic};
 ghost use Rattle.board.specs.Sights.{label_of};
 ghost use Rattle.inbox.specs.Books.{label_in};
 ghost use Rattle.relay_core.specs.Kept.{EndsWith, kept_of, IsFor};
@@ -21,7 +23,7 @@ use core::mem::replace_with;
 use edit_stamps::Stamp;
 use held_plane::{Added, HeldPlane};
 use inbox::{Drain, Submission};
-use receipts::Answer;
+use receipts::{Answer, Answered};
 use std::alloc::{AllocError, Global};
 use std::marker::Model;
 use std::slice;
@@ -38,6 +40,8 @@ pub struct RelayCore {
     pub kept: Option<Submission>,
     /// Whether that was announced to the publisher.
     pub told: bool,
+    /// That the last published entry was answered.
+    pub answered: Option<Answered>,
     /// A plane of its own, with the room that was asked for: what does not fit there is not published.
     pub tried: HeldPlane,
     /// How many entries were published of each seat.
@@ -93,17 +97,14 @@ fn answer_of(entry: &Entry, front: Front) -> Answer
     Answer { at, front }
 }
 
-/// Answers what was published, and tells whose it was, and its stamp.
-fn answered<R: Wait>(rt: &R, kept: Submission, front: Front) -> (u64, Stamp)
+/// Answers what was published.
+fn answered<R: Wait>(rt: &R, kept: Submission, front: Front) -> Answered
     requires list { EndsWith (list_of front) kept.entry }
     requires label { label_in kept ≡ label_of (origin front) }
-    ensures { (result.0 ≡ kept.entry.seat) × (result.1 ≡ kept.entry.edit.stamp) }
+    ensures { known_by result ≡ topic kept.entry (origin front) }
 {
     let Submission { entry, answering } = kept;
-    let stamp = entry.edit.stamp();
-    let seat = entry.seat;
-    answering.answer(rt, answer_of(&entry, front));
-    (seat, stamp)
+    answering.answer(rt, answer_of(&entry, front))
 }
 
 /// A copy of the entry that is kept.
@@ -122,6 +123,7 @@ impl RelayCore {
     fn fetch<R: Wait>(&mut self, rt: &R) -> bool
         ensures same { Same self.old self.new }
         ensures list { self.new.list ≡ self.old.list }
+        ensures answered { self.new.answered ≡ self.old.answered }
         ensures fetched { MatchBool result (IsFetched self.old self.new) (Idles self.old self.new) }
     {
         if self.kept.is_some() {
@@ -140,7 +142,7 @@ impl RelayCore {
     /// Tries what is kept on the relay's own plane, and announces it.
     fn prepare(&mut self) -> Result<(), TurnFault>
         requires { length self.old.kept ≡ 1 }
-        ensures same { Same self.old self.new × (self.new.list ≡ self.old.list) × (self.new.kept ≡ self.old.kept) × (self.new.out ≡ self.old.out) × (self.new.empties ≡ self.old.empties) }
+        ensures same { Same self.old self.new × (self.new.list ≡ self.old.list) × (self.new.kept ≡ self.old.kept) × (self.new.out ≡ self.old.out) × (self.new.empties ≡ self.old.empties) × (self.new.answered ≡ self.old.answered) }
         ensures announced { OnOk result (self.new.announced ≡ self.old.list ++ self.old.kept) }
         ensures full { result ≡ Err TurnFault.StoreFull → self.new.stored ≡ self.new.room }
     {
@@ -165,13 +167,14 @@ impl RelayCore {
         requires kept { length self.kept ≡ 1 }
         requires announced { self.announced ≡ self.list ++ self.kept }
         ensures same { Same self result.0 × (result.0.out ≡ self.out) × (result.0.empties ≡ self.empties) }
-        ensures shown { MatchResult result.1 (λ s. (result.0.kept ≡ []) × (result.0.list ≡ self.list ++ self.kept) × (map (λ e. e.edit.stamp) self.kept ≡ s ∷ [])) (λ _. (result.0.list ≡ self.list) × (result.0.kept ≡ self.kept)) }
+        ensures shown { MatchResult result.1 (λ s. (result.0.kept ≡ []) × (result.0.list ≡ self.list ++ self.kept) × (map (λ e. e.edit.stamp) self.kept ≡ s ∷ []) × (result.0.answered ≡ map (λ e. topic e result.0.origin) self.kept)) (λ _. (result.0.list ≡ self.list) × (result.0.kept ≡ self.kept) × (result.0.answered ≡ self.answered)) }
     {
         let RelayCore {
             publisher,
             drain,
             kept,
             told: _,
+            answered: last,
             tried,
             counts,
             door,
@@ -186,6 +189,7 @@ impl RelayCore {
                     drain,
                     kept: Some(kept),
                     told: true,
+                    answered: last,
                     tried,
                     counts,
                     door,
@@ -194,12 +198,14 @@ impl RelayCore {
                 (relay, Err(AllocError))
             }
             Ok(()) => {
-                let (seat, stamp) = answered(rt, kept, publisher.front());
+                let (seat, stamp) = (kept.entry.seat, kept.entry.edit.stamp());
+                let answered = answered(rt, kept, publisher.front());
                 let relay = RelayCore {
                     publisher,
                     drain,
                     kept: None,
                     told: false,
+                    answered: Some(answered),
                     tried,
                     counts: tallied(counts, seat),
                     door,
@@ -244,6 +250,7 @@ impl RelayCore {
             drain: _,
             kept: _,
             told: _,
+            answered: _,
             tried: _,
             counts: _,
             door,
@@ -290,6 +297,15 @@ impl RelayCore {
         ensures origin { origin result ≡ self.now.origin }
     {
         self.publisher.front()
+    }
+
+    /// Whether the published list begins a front of its board; else the front begins the list.
+    pub fn begins(&self, front: &Front) -> bool
+        requires { origin front.now ≡ self.now.origin }
+        ensures exact { IsTrue result ↔ IsPrefix self.now.list (list_of front.now) }
+        ensures one { IsPrefix self.now.list (list_of front.now) ⊎ IsPrefix (list_of front.now) self.now.list }
+    {
+        self.publisher.begins(front)
     }
 
     /// From now on new submissions are refused; one that is under way may still be accepted.

@@ -1,18 +1,18 @@
 //! Bodies of frames.
 
-ghost use Rattle.std.specs.Prelude.{◌≡◌, ◌≤◌, ◌∷◌, ◌++◌, [], length, map, IfOk, OnOk};
+ghost use Rattle.std.specs.Prelude.{◌≡◌, ◌≤◌, ◌∷◌, ◌++◌, [], length, map, unwrap_or, None, Ok, IfOk, OnOk};
 ghost use Rattle.std.specs.Int.{w16, w32, to_be_bytes};
 ghost use Rattle.generations_rule.specs.Rule.{IsRule};
 ghost use Rattle.delta_exchange.specs.Spelling.{delta_text};
 ghost use Rattle.message_frames.specs.Frames.{most_body};
-ghost use Rattle.session_hub.specs.Replies.{hello_body, text_body};
+ghost use Rattle.session_hub.specs.Replies.{hello_body, refusal, text_body};
 
 use crate::fault::SessionFault;
 use delta_exchange::write_delta;
 use edit_stamps::Edit;
 use frame_service::FrameList;
 use generations_rule::Rule;
-use message_frames::{FrameFault, Framed};
+use message_frames::{FrameFault, Framed, MOST_BODY};
 use std::alloc::{AllocError, Global};
 use std::slice;
 
@@ -59,6 +59,19 @@ pub fn text_frame(alloc: Global, text: &[u8]) -> Result<Framed, AllocError>
         Err(FrameFault::FrameTooLong) => framed(alloc, &[SessionFault::FrameTooLong.number()]),
         Err(FrameFault::Memory) => Err(AllocError),
     }
+}
+
+/// The frame of a text behind a 0, copied once. None where that is too long for a frame: no memory is wanted
+/// then.
+pub fn text_frames(alloc: Global, text: &[u8]) -> Result<Option<FrameList>, AllocError>
+    ensures frames { IfOk result (λ frames. unwrap_or frames (refusal 21) ≡ text_body text.now ∷ []) }
+    ensures long { most_body ≤ length text.now → result ≡ Ok None }
+{
+    if text.len() >= MOST_BODY {
+        return Ok(None);
+    }
+    let frame = text_frame(alloc, text)?;
+    Ok(Some(one_frame(alloc, frame)?))
 }
 
 /// 0 and a number of two bytes.

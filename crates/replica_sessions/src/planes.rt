@@ -1,15 +1,15 @@
 //! Requests that need the hub's plane.
 
-ghost use Rattle.std.specs.Prelude.{◌≡◌, ◌⊎◌, ◌+◌, ◌*◌, ◌≤◌, ◌++◌, length, map, IfOk, OnOk, drop};
+ghost use Rattle.std.specs.Prelude.{◌≡◌, ◌⊎◌, ◌+◌, ◌*◌, ◌≤◌, ◌∷◌, ◌++◌, [], length, map, unwrap_or, IfOk, OnOk, drop};
 ghost use Rattle.std.specs.Int.{w32, from_be_bytes};
 ghost use Rattle.edit_stamps.specs.PlaneMap.{HasStatesBelow};
 ghost use Rattle.stamped_tree.specs.Plane.{map_of};
 ghost use Rattle.message_frames.specs.Frames.{most_body};
 ghost use Rattle.session_hub.specs.Request.{Export as AsksExport, Many as AsksMany, Whole as AsksWhole, numbers};
-ghost use Rattle.session_hub.specs.Replies.{Kept, export_body, IsPlaneReply, IsExportReply, AreExportReplies};
+ghost use Rattle.session_hub.specs.Replies.{Kept, export_body, refusal, IsPlaneReply, IsExportReply, AreExportReplies};
 ghost use Rattle.replica_sessions.specs.Answer.{IsAnswer};
 
-use crate::bodies::{framed, one_frame, short_count, text_frame};
+use crate::bodies::{framed, one_frame, short_count, text_frame, text_frames};
 use crate::fault::SessionFault;
 use crate::room::Room;
 use delta_exchange::write_state;
@@ -37,7 +37,8 @@ pub fn plane_reply<H: Hub>(alloc: Global, hub: &mut H, room: Room) -> FrameList
         Err(fault) => room.refusal(fault.number()),
         Ok(plane) => match plane_frames(alloc, &rule, &plane) {
             Err(_) => room.refusal(SessionFault::Memory.number()),
-            Ok(frames) => frames,
+            Ok(None) => room.refusal(SessionFault::FrameTooLong.number()),
+            Ok(Some(frames)) => frames,
         },
     }
 }
@@ -53,7 +54,8 @@ pub fn export_reply<H: Hub>(alloc: Global, hub: &mut H, room: Room, generation: 
         Err(fault) => room.refusal(fault.number()),
         Ok(plane) => match export_frames(alloc, &rule, &plane, generation) {
             Err(_) => room.refusal(SessionFault::Memory.number()),
-            Ok(frames) => frames,
+            Ok(None) => room.refusal(SessionFault::FrameTooLong.number()),
+            Ok(Some(frames)) => frames,
         },
     }
 }
@@ -86,27 +88,42 @@ pub fn many_reply<H: Hub, R: Threads + Sync>(
     }
 }
 
-fn plane_frames(alloc: Global, rule: &Rule, plane: &Plane) -> Result<FrameList, AllocError>
-    ensures { IfOk result (IsPlaneReply rule.now plane.now) }
+/// The frame of a plane's text; none where it is too long for one.
+fn plane_frames(alloc: Global, rule: &Rule, plane: &Plane) -> Result<Option<FrameList>, AllocError>
+    ensures { IfOk result (λ frames. IsPlaneReply rule.now plane.now (unwrap_or frames (refusal 21))) }
 {
     let text = write_state(alloc, rule, plane)?;
-    one_frame(alloc, text_frame(alloc, &text)?)
+    text_frames(alloc, &text)
 }
 
+/// The frame of an export; none where its text is too long for one.
 fn export_frames(
     alloc: Global,
     rule: &Rule,
     plane: &Plane,
     generation: u32,
-) -> Result<FrameList, AllocError>
+) -> Result<Option<FrameList>, AllocError>
     requires { HasStatesBelow rule.now.states (map_of plane.now) }
-    ensures { IfOk result (IsExportReply rule.now plane.now generation) }
+    ensures { IfOk result (λ frames. IsExportReply rule.now plane.now generation (unwrap_or frames (refusal 21))) }
 {
     let answer = match export(alloc, rule, plane, generation) {
         Ok(text) => Ok(Text::of_vec(text)),
         Err(fault) => Err(fault),
     };
-    one_frame(alloc, export_frame(alloc, answer)?)
+    answer_frames(alloc, answer)
+}
+
+/// The frame of an export's answer; none where its text is too long for one.
+fn answer_frames(alloc: Global, answer: Export) -> Result<Option<FrameList>, AllocError>
+    ensures { IfOk result (λ frames. unwrap_or frames (refusal 21) ≡ export_body answer ∷ []) }
+{
+    match answer {
+        Ok(text) => text_frames(alloc, text.as_slice()),
+        Err(fault) => {
+            let frame = framed(alloc, &[fault.number()])?;
+            Ok(Some(one_frame(alloc, frame)?))
+        }
+    }
 }
 
 fn many_frames<R: Threads + Sync>(

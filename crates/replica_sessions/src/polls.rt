@@ -1,9 +1,10 @@
 //! Polls.
 
-ghost use Rattle.std.specs.Prelude.{◌≡◌, ◌⊎◌, ◌+◌, ◌≤◌, ◌++◌, length, unwrap_or, Some, None, IfOk};
+ghost use Rattle.std.specs.Prelude.{◌≡◌, ◌⊎◌, ◌+◌, ◌<◌, ◌≤◌, ◌++◌, length, unwrap_or, Some, None, Ok, IfOk};
 ghost use Rattle.generations_rule.specs.Rule.{IsRule};
 ghost use Rattle.session_hub.specs.Request.{Poll};
-ghost use Rattle.session_hub.specs.Replies.{edits_frames as edits_frames_of, edits_left, edits_reply, most_edits, nothing_kept, refusal, IsWholeReply};
+ghost use Rattle.message_frames.specs.Frames.{most_body};
+ghost use Rattle.session_hub.specs.Replies.{edits_frames as edits_frames_of, edits_left, edits_reply, most_edits, nothing_kept, refusal, whole_frames as whole_frames_of, IsWholeReply};
 ghost use Rattle.replica_sessions.specs.Answer.{IsAnswer};
 ghost use Rattle.replica_sessions.specs.KeptNews.{kept_of};
 
@@ -122,11 +123,19 @@ fn plane_text(alloc: Global, rule: &Rule, plane: &Plane) -> Result<Option<FrameL
     ensures { IfOk result (λ frames. IsWholeReply rule.now plane.now (unwrap_or frames (refusal 21))) }
 {
     let text = write_state(alloc, rule, plane)?;
+    whole_frames(alloc, &text)
+}
+
+/// The mark and a text. None where the text is too long for a frame: no memory is wanted then.
+fn whole_frames(alloc: Global, text: &[u8]) -> Result<Option<FrameList>, AllocError>
+    ensures frames { IfOk result (λ frames. unwrap_or frames (refusal 21) ≡ whole_frames_of text.now) }
+    ensures long { most_body < length text.now → result ≡ Ok None }
+{
     if text.len() > MOST_BODY {
         return Ok(None);
     }
     let mut frames = Vec::new(alloc);
     frames.push(framed(alloc, &long_count(alloc, WHOLE)?)?)?;
-    frames.push(framed(alloc, &text)?)?;
+    frames.push(framed(alloc, text)?)?;
     Ok(Some(FrameList::of_vec(frames)))
 }

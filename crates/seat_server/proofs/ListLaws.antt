@@ -7,7 +7,12 @@ use Rattle.std.specs.PromisedHandle.{KeepsAt, KeepsEach}
 use Rattle.core.specs.declared.thread.PromisedHandle.{PromisedHandle}
 use Rattle.core.specs.declared.thread.Promise as Promise
 use Rattle.board.specs.declared.entry.Entry.{Entry}
+use Rattle.board.specs.Entries.{edits_of}
 use Rattle.board.specs.Origins.{list_of}
+use Rattle.board.specs.Showing.{Origin}
+use Rattle.edit_stamps.specs.Edit.{HaveStatesBelow}
+use Rattle.edit_stamps.specs.PlaneMap.{HasStatesBelow}
+use Rattle.stamped_tree.specs.Plane.{map_of}
 use Rattle.relay_board.specs.Closing.{IsWhole}
 use Rattle.relay_board.specs.Seating.{Numbered, Seating}
 use Rattle.seat_server.specs.declared.fault.ServerFault.{ServerFault}
@@ -93,13 +98,16 @@ module _ {T P : Type 0} (g : Promise.Ghosts P T) (seat_in : P → Seating) (seat
 
 -- ---- the account
 
-pub served : (r : Result FinishedValue ServerFault) (before : List Seating) (visits : List VisitValue) (after : List Seating) (list : List Entry) → AreAttended before (one_each visits) after
-    → IfOk r (λ f. f.visits ≡ visits) → IfOk r (λ f. IsWhole list (list_of f.account.front) after f.account) → IfOk r (IsServed before)
-served (Err fault) before visits after list attended same whole = tt
-served (Ok f) before visits after list attended same whole = record {
+pub served : (r : Result FinishedValue ServerFault) (board closed : Origin) (before : List Seating) (visits : List VisitValue) (after : List Seating) (list : List Entry) → closed ≡ board → AreAttended before (one_each visits) after
+    → IfOk r (λ f. f.visits ≡ visits) → IfOk r (λ f. IsWhole closed list (list_of f.account.front) after f.account) → IfOk r (IsServed board before)
+served (Err fault) board closed before visits after list of attended same whole = tt
+served (Ok f) board closed before visits after list of attended same whole = record {
   after = after;
   attended = subst (λ (vs : List VisitValue). AreAttended before (one_each vs) after) (sym same) attended;
   whole = record {
+    of = whole.of ∙ of;
+    below = subst (λ (o : Origin). HaveStatesBelow o.states (edits_of (list_of f.account.front))) of whole.below;
+    states = subst (λ (o : Origin). 0 < o.states → HasStatesBelow o.states (map_of f.account.plane)) of whole.states;
     goes_on = (list_of f.account.front, refl);
     seen = whole.seen;
     whole = whole.whole;

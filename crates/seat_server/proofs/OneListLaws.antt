@@ -553,7 +553,7 @@ counts_all : (list : List Entry) → length list - 1024 + length (last_of (edits
 counts_all list = omega (arith, length-drop (length (edits_of list) - 1024) (edits_of list), length-map list (λ (e : Entry). e.edit))
 
 pub tells_of_one_list : TellsOfOneList
-tells_of_one_list seats f handed served = record {
+tells_of_one_list board seats f handed served = record {
   long = ap (λ n. n + length f.account.published) served.whole.account.before
       ∙ (ap (λ (es : List PlaneEdit). length (list_of f.account.front) - 1024 + length es) served.whole.account.published ∙ counts_all (list_of f.account.front));
   told = seats_told (list_of f.account.front) seats (one_each f.visits) served.after handed served.attended served.whole.seen;

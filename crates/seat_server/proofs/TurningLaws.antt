@@ -6,10 +6,12 @@ use mathlib.Core.List.{IsPrefix}
 use Rattle.board.proofs.Fronts.{prefix_self, prefix_trans}
 use Rattle.relay_core.proofs.Ending.{turns_prefix}
 use Rattle.relay_core.specs.Relaying.{Relaying}
+use Rattle.relay_core.specs.Same.{Same}
 use Rattle.relay_core.specs.declared.fault.TurnFault.{TurnFault}
 use Rattle.relay_core.specs.declared.relay.Turn.{Turn}
 use Rattle.relay_core.specs.declared.relay.Turn.TheVariants.{Idle, Published, Failed}
-use Rattle.seat_server.specs.Turning.{Closes, Fails, GoesWell, IsStep, IsTurn, IsTurned, Works}
+use Rattle.relay_core.specs.Turns.{GoesWell, IsTurn}
+use Rattle.seat_server.specs.Turning.{Closes, Fails, IsStep, IsTurned, Works}
 
 -- amid the turns: behind some steps so many turns in a row failed
 pub record IsAmid (most turns : ℕ) (a b : Relaying) : Type 0 where
@@ -19,9 +21,15 @@ pub record IsAmid (most turns : ℕ) (a b : Relaying) : Type 0 where
   pub few : turns < most
   pub failed : Fails turns mid b
 
--- and no seat was made
+-- it is of the same board, of which no seat was made
+abbrev pub IsOfSame : Relaying → Relaying → Type 0
+IsOfSame a b = (b.made ≡ a.made) × (b.origin ≡ a.origin)
+
+pub of_same : (a b c : Relaying) → IsOfSame a b → Same b c → IsOfSame a c
+of_same a b c so same = (same.made ∙ so.0, same.origin ∙ so.1)
+
 abbrev pub StandsAmid : ℕ → ℕ → Relaying → Relaying → Type 0
-StandsAmid most turns a b = (b.made ≡ a.made) × IsAmid most turns a b
+StandsAmid most turns a b = IsOfSame a b × IsAmid most turns a b
 
 pub nothing_done : (most : ℕ) (a : Relaying) → 0 < most → IsAmid most 0 a a
 nothing_done most a some = record { steps = 0; mid = a; worked = refl; few = some; failed = refl }
@@ -56,9 +64,12 @@ fails_on most turns a b c fault amid turn few = record {
   failed = subst (λ k. Fails k amid.mid c) (sym (add-one turns)) (b, fault, amid.failed, turn);
 }
 
--- a close makes no seat
-pub makes_none : (a b : Relaying) → b ≡ record a { closed = true } → b.made ≡ a.made
-makes_none a b closed = ap (λ (r : Relaying). r.made) closed
+-- a close leaves it so
+pub closes_same : (a b : Relaying) → b ≡ record a { closed = true } → IsOfSame a b
+closes_same a b closed = (ap (λ (r : Relaying). r.made) closed, ap (λ (r : Relaying). r.origin) closed)
+
+pub same_closed : (a b c : Relaying) → IsOfSame a b → c ≡ record b { closed = true } → IsOfSame a c
+same_closed a b c so closed = let shut = closes_same b c closed in (shut.0 ∙ so.0, shut.1 ∙ so.1)
 
 -- a turn that failed keeps its entry, so none that follows is idle
 none_failed : (turns : ℕ) (a b c : Relaying) → Fails turns a b → IsTurn b Idle c → turns ≡ 0

@@ -5,9 +5,9 @@ use Rattle.relay_core.specs.Faults.{turn_fault_text}
 use Rattle.relay_core.specs.Relaying.{Relaying}
 use Rattle.relay_core.specs.Same.{Same}
 use Rattle.relay_board.specs.Faults.{finish_fault_text}
-use Rattle.relay_board.specs.Seating.{BeginsWithAll, Seating}
+use Rattle.relay_board.specs.Closing.{IsLeft}
+use Rattle.relay_board.specs.Seating.{Seating}
 use Rattle.relay_board.specs.declared.fault.FinishFault.{FinishFault}
-use Rattle.relay_board.specs.declared.fault.FinishFault.TheVariants as finish
 use Rattle.seat_server.specs.Sessions.{AreAttended, VisitValue, one_each}
 use Rattle.seat_server.specs.Turning.{IsTurned}
 use Rattle.seat_server.specs.declared.fault.ServerFault.{ServerFault}
@@ -27,20 +27,13 @@ IsAttendFault (Turn fault) = ⊥
 IsAttendFault (Finish fault) = ⊥
 IsAttendFault Memory = ⊤
 
--- what keeps a relay from an account of these seats: a seat has seen more than is published, or the relay's store is
--- full; of want of memory nothing is told
-abbrev pub Hinders : FinishFault → Relaying → List Seating → Type 0
-Hinders finish.Closed relay seats = ¬ (BeginsWithAll relay.list seats)
-Hinders finish.StoreFull relay seats = relay.stored ≡ relay.room
-Hinders finish.Memory relay seats = ⊤
-
 -- A closed relay was to finish with these seats, and was refused so. It is the same relay still; its list goes on from
 -- what was published before.
 pub record IsUnfinished (relay : Relaying) (seats : List Seating) (fault : FinishFault) : Type 0 where
   pub left : Relaying
   pub same : Same relay left
   pub goes_on : IsPrefix relay.list left.list
-  pub hinders : Hinders fault left seats
+  pub is_left : IsLeft fault relay seats left
 
 -- why there is no account of seats that were served
 abbrev pub IsCloseFault : Relaying → List Seating → ServerFault → Type 0

@@ -16,6 +16,7 @@ use Rattle.frame_service.specs.Service.{EndsAs}
 use Rattle.board.specs.declared.entry.Entry.{Entry}
 use Rattle.board.specs.Entries.{edits_of}
 use Rattle.board.specs.Origins.{list_of}
+use Rattle.board.specs.Showing.{Origin}
 use Rattle.relay_board.specs.Seating.{Seating}
 use Rattle.session_hub.specs.Request.{Request, Export, Many, Poll, Push, request_of}
 use Rattle.session_hub.specs.Replies.{done, edits_frames, export_body, hello_body, pushed_of, refusal, text_body, whole_frames}
@@ -145,4 +146,4 @@ pub record IsToldOfOneList (seats : List Seating) (f : FinishedValue) : Type 0 w
   pub told : AreToldSeats (list_of f.account.front) seats (one_each f.visits)
 
 abbrev pub TellsOfOneList : Type 0
-TellsOfOneList = (seats : List Seating) (f : FinishedValue) → HaveSeenHanded seats → IsServed seats f → IsToldOfOneList seats f
+TellsOfOneList = (board : Origin) (seats : List Seating) (f : FinishedValue) → HaveSeenHanded seats → IsServed board seats f → IsToldOfOneList seats f

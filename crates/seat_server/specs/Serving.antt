@@ -2,6 +2,7 @@
 use Rattle.std.specs.Prelude.{ℕ, List, [], None}
 use mathlib.Core.List.{IsPrefix}
 use Rattle.board.specs.Origins.{list_of}
+use Rattle.board.specs.Showing.{Origin}
 use Rattle.board.specs.declared.entry.Entry.{Entry}
 use Rattle.relay_core.specs.Relaying.{Relaying}
 use Rattle.relay_board.specs.Closing.{IsWhole}
@@ -15,13 +16,13 @@ pub record FinishedValue : Type 0 where
   pub visits : List VisitValue
   pub account : Account
 
--- Each of these seats was served over a stream of its own, which nobody had used before, and the account is that of the
--- seats as their sessions left them: the published list has of each seat exactly what was pushed at it and accepted, in
--- order, each once.
-pub record IsServed (before : List Seating) (f : FinishedValue) : Type 0 where
+-- Each of these seats of a board was served over a stream of its own, which nobody had used before, and the account is that
+-- of the seats as their sessions left them: the published list has of each seat exactly what was pushed at it and accepted,
+-- in order, each once.
+pub record IsServed (board : Origin) (before : List Seating) (f : FinishedValue) : Type 0 where
   pub after : List Seating
   pub attended : AreAttended before (one_each f.visits) after
-  pub whole : IsWhole [] (list_of f.account.front) after f.account
+  pub whole : IsWhole board [] (list_of f.account.front) after f.account
 
 -- The relay took its turns up to an idle one, and the list goes on from what was published by then.
 pub record GoesOnFrom (most : ℕ) (relay : Relaying) (list : List Entry) : Type 0 where

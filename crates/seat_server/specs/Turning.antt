@@ -1,27 +1,15 @@
 -- What taking turns does to a relay, where so many in a row may fail at most.
 use Rattle.std.specs.Prelude.{◌≡◌, ◌⊎◌, ℕ, zero, suc, ◌<◌, true, false, Option, Some, None}
 use Rattle.relay_core.specs.Relaying.{Relaying}
-use Rattle.relay_core.specs.Same.{Same}
-use Rattle.relay_core.specs.Turns.{Turns}
+use Rattle.relay_core.specs.Turns.{GoesWell, IsTurn}
 use Rattle.relay_core.specs.declared.fault.TurnFault.{TurnFault}
 use Rattle.relay_core.specs.declared.relay.Turn.{Turn}
-use Rattle.relay_core.specs.declared.relay.Turn.TheVariants.{Idle, Published, Failed}
-
--- one turn of the same relay: whether it is closed stays as it was
-pub record IsTurn (a : Relaying) (turn : Turn) (b : Relaying) : Type 0 where
-  pub same : Same a b
-  pub turned : Turns a turn b
+use Rattle.relay_core.specs.declared.relay.Turn.TheVariants.{Idle, Failed}
 
 -- so many turns in a row, each of which failed
 abbrev pub Fails : ℕ → Relaying → Relaying → Type 0
 Fails zero a b = b ≡ a
 Fails (suc turns) a b = (mid : Relaying) × (fault : TurnFault) × Fails turns a mid × IsTurn mid (Failed fault) b
-
--- one turn, which did not fail
-abbrev pub GoesWell : Relaying → Turn → Relaying → Type 0
-GoesWell a Idle b = IsTurn a Idle b
-GoesWell a (Published stamp) b = IsTurn a (Published stamp) b
-GoesWell a (Failed fault) b = ⊥
 
 -- a relay that was open is closed; no turn opens it again, so this comes once at most
 abbrev pub Closes : Relaying → Relaying → Type 0

@@ -138,7 +138,7 @@ fn closed<J: Naming, R: Wait + Drop, S: Source, K: Sink>(
     requires all { relay.made ≡ length (map (λ a. a.0) attended.items) }
     requires order { Numbered 0 (map (λ a. a.0) attended.items) }
     ensures visits { IfOk result (λ f. f.visits ≡ map (λ a. a.1) attended.items) }
-    ensures whole { IfOk result (λ f. IsWhole relay.list (list_of f.account.front) (map (λ a. a.0) attended.items) f.account) }
+    ensures whole { IfOk result (λ f. IsWhole relay.origin relay.list (list_of f.account.front) (map (λ a. a.0) attended.items) f.account) }
     ensures fault { IfErr result (IsCloseFault relay (map (λ a. a.0) attended.items)) }
 {
     let (seats, visits) = parted(alloc, attended)?;
@@ -173,7 +173,7 @@ pub fn serve_seats<
 ) -> Result<Finished<S, K>, ServerFault>
     requires all { relay.made ≡ length seats.items }
     requires order { Numbered 0 seats.items }
-    ensures served { IfOk result (λ f. IsServed seats.items f) }
+    ensures served { IfOk result (λ f. IsServed relay.origin seats.items f) }
     ensures stays { IfOk result (λ f. IsPrefix relay.list (list_of f.account.front)) }
     ensures goes_on { IfOk result (λ f. GoesOnFrom 1000 relay (list_of f.account.front)) }
     ensures reason { IfErr result (IsReason 1000 relay seats.items) }

@@ -26,20 +26,23 @@ use std::thread::{Promise, PromisedHandle, Threads};
 /// A seat as its session left it, and the session.
 pub type Attended<J, S, K> = (Seat<J>, Visit<S, K>);
 
-/// That a thread serves a seat.
+/// That a thread serves a seat over a stream.
 #[derive(Drop)]
-pub struct Attending<J: Naming> {
+pub struct Attending<J: Naming, S: Source, K: Sink> {
     seat: Snapshot<Seat<J>>,
+    source: Snapshot<S>,
+    sink: Snapshot<K>,
 }
 
-impl<J: Naming, S: Source, K: Sink> Promise<Attended<J, S, K>> for Attending<J> {
+impl<J: Naming, S: Source, K: Sink> Promise<Attended<J, S, K>> for Attending<J, S, K> {
+    ghost use Rattle.std.specs.Prelude.{◌≡◌};
     ghost use Rattle.seat_server.specs.Sessions.{IsFirstVisit};
 
-    ghost kept_by = { λ p r. IsFirstVisit p.seat.value r.1 r.0 };
+    ghost kept_by = { λ p r. IsFirstVisit p.seat.value r.1 r.0 × (r.1.source ≡ S.known p.source.value) × (r.1.from ≡ K.known p.sink.value) };
 }
 
 /// The thread of a session.
-type Thread<J, S, K> = PromisedHandle<Attended<J, S, K>, Attending<J>>;
+type Thread<J, S, K> = PromisedHandle<Attended<J, S, K>, Attending<J, S, K>>;
 
 /// Serves one session over a seat and a stream: the seat as it is then, and how the session ended.
 fn serve_one<J: Naming, R: Threads + Wait + Sync + Copy + Drop, S: Source, K: Sink>(
@@ -67,6 +70,7 @@ fn attend<J: Naming, R: Threads + Wait + Sync + Copy + Drop, S: Source + Drop, K
     requires source { IsUnusedSource (S.known source) }
     requires sink { IsUnusedSink (K.known sink) }
     ensures visit { IsFirstVisit seat result.1 result.0 }
+    ensures stream { (result.1.source ≡ S.known source) × (result.1.from ≡ K.known sink) }
 {
     let before = Snapshot::of(&source);
     let from = Snapshot::of(&sink);
@@ -90,10 +94,13 @@ fn begun<
 >(rt: R, alloc: Global, seat: Seat<J>, source: S, sink: K) -> Option<Thread<J, S, K>>
     requires source { IsUnusedSource (S.known source) }
     requires sink { IsUnusedSink (K.known sink) }
-    ensures { IfSome result (λ h. h.promise.seat.value ≡ seat) }
+    ensures seat { IfSome result (λ h. h.promise.seat.value ≡ seat) }
+    ensures stream { IfSome result (λ h. (S.known h.promise.source.value ≡ S.known source) × (K.known h.promise.sink.value ≡ K.known sink)) }
 {
     let promise = Attending {
         seat: Snapshot::of(&seat),
+        source: Snapshot::of(&source),
+        sink: Snapshot::of(&sink),
     };
     let begun = thread::spawn_with(
         &rt,
@@ -101,7 +108,7 @@ fn begun<
         move || -> Attended<J, S, K>
             requires source { IsUnusedSource (S.known source) }
             requires sink { IsUnusedSink (K.known sink) }
-            ensures { IsFirstVisit seat result.1 result.0 }
+            ensures { IsFirstVisit seat result.1 result.0 × (result.1.source ≡ S.known source) × (result.1.from ≡ K.known sink) }
         { attend(rt, alloc, seat, source, sink) },
     );
     begun.ok()

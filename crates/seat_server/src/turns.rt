@@ -26,7 +26,7 @@ pub fn take_turns<J: Naming, R: Wait + Drop, H: Wait>(
     relay: &mut Relay<J, R>,
     progress: &Progress,
 ) -> Option<TurnFault>
-    ensures made { relay.new.made ≡ relay.old.made }
+    ensures same { (relay.new.made ≡ relay.old.made) × (relay.new.origin ≡ relay.old.origin) }
     ensures turned { IsTurned 1000 relay.old result relay.new }
     ensures full { IfSome result (λ fault. fault ≡ StoreFull → relay.new.stored ≡ relay.new.room) }
 {

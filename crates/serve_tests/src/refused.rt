@@ -4,6 +4,7 @@ use devices::{Failed, Sink};
 use genedit_io::RunFault;
 use genedit_serve::{listen, serve_on};
 use generations_rule::Rule;
+use std::net::TcpStream;
 use std::test::Fail;
 
 /// Takes nothing.
@@ -35,6 +36,16 @@ fn a_port_that_is_taken(rt: HostRuntime) -> Result<(), Fail> {
         listen(&rt, port).is_ok(),
         "once it is free it may be had again"
     );
+    Ok(())
+}
+
+#[test]
+fn another_address_of_this_machine(rt: HostRuntime) -> Result<(), Fail> {
+    let listener = listen(&rt, 0)?;
+    let port = listener.local_addr()?.port();
+    assert!(&rt; TcpStream::connect(&rt, ("127.0.0.1", port)).is_ok());
+    assert!(&rt; TcpStream::connect(&rt, ("127.0.0.2", port)).is_err());
+    drop(listener);
     Ok(())
 }
 

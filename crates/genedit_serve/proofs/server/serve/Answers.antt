@@ -27,8 +27,8 @@ returns-in-Err-serve_seats g c =
 pub returns : goal.returns
 returns g c =
     ends c.args.opened.rule c.args.opened.count _ _ c.args.port c.deref.result.now c.in_ok-push_output.field-0 (c.deref.ensures.value ∙ c.in_ok-line.ensures) c.in_ok-push_output.ensures.pushed
-    c.in-Ok.named.1.items c.in-Ok-serve_seats.finished _
-    c.push_output-in-Ok-serve_seats.result c.deref-in-Ok-serve_seats.result.now
+    c.in-Ok.named.0.origin c.in-Ok.named.1.items c.in-Ok-serve_seats.finished _
+    c.push_output-in-Ok-serve_seats.result c.deref-in-Ok-serve_seats.result.now c.in-Ok.ensures.states
     (subst (λ (room : ℕ). AllFresh c.args.opened.rule room 0 c.in-Ok.named.1.items) c.requires.room c.in-Ok.ensures.seats.0, c.in-Ok.ensures.seats.1)
     c.in-Ok-serve_seats.ensures.served
     (c.deref-in-Ok-serve_seats.ensures.value ∙ c.in_ok-text-in-Ok-serve_seats.ensures) c.push_output-in-Ok-serve_seats.ensures.pushed c.push_output-in-Ok-serve_seats.ensures.fault

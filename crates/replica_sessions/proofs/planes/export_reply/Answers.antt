@@ -1,6 +1,7 @@
-use Rattle.std.proofs.Common.{◌∙◌, ap}
+use Rattle.std.proofs.Common.{◌∙◌, ap, sym, subst}
+use Rattle.std.specs.Prelude.{unwrap_or}
 use Rattle.session_hub.specs.HubCall.{Shows}
-use Rattle.session_hub.specs.Replies.{refusal}
+use Rattle.session_hub.specs.Replies.{IsExportReply, refusal}
 use Rattle.replica_sessions.proofs.AnswerLaws.{by_call, refused_export, shown_export, wanting_export}
 use Rattle.replica_sessions.proofs.planes.export_reply.Goals as goal
 
@@ -12,6 +13,13 @@ pub returns-in-Err-export_frames-clause-answer : goal.returns-in-Err-export_fram
 returns-in-Err-export_frames-clause-answer g c =
     λ kept. by_call _ _ _ _ _ Shows _ _ _ kept kept _ c.in-Ok.is c.plane.ensures.allowed (wanting_export (g.H.Hub.rule_of c.args.hub.now) (g.H.Hub.number_of c.args.hub.now) kept c.in-Ok.plane _ c.args.generation (c.refusal-in-Err-export_frames.ensures ∙ ap refusal c.number-in-Err-export_frames.ensures))
 
-pub returns-in-Ok-export_frames-clause-answer : goal.returns-in-Ok-export_frames-clause-answer
-returns-in-Ok-export_frames-clause-answer g c =
-    λ kept. by_call _ _ _ _ _ Shows _ _ _ kept kept _ c.in-Ok.is c.plane.ensures.allowed (shown_export (g.H.Hub.rule_of c.args.hub.now) (g.H.Hub.number_of c.args.hub.now) kept c.in-Ok.plane _ c.args.generation (rw c.rule-rule.ensures.value at c.in-Ok-export_frames.ensures))
+pub returns-in-Ok-None-clause-answer : goal.returns-in-Ok-None-clause-answer
+returns-in-Ok-None-clause-answer g c =
+    let reply = subst (λ o. IsExportReply c.rule-rule.result c.in-Ok.plane c.args.generation (unwrap_or o (refusal 21))) c.in-Ok-None.field-0-is c.in-Ok-None.ensures in
+    let told = subst (λ out. IsExportReply c.rule-rule.result c.in-Ok.plane c.args.generation out) (sym (c.refusal-in-Ok-None.ensures ∙ ap refusal c.number-in-Ok-None.ensures)) reply in
+    λ kept. by_call _ _ _ _ _ Shows _ _ _ kept kept _ c.in-Ok.is c.plane.ensures.allowed (shown_export (g.H.Hub.rule_of c.args.hub.now) (g.H.Hub.number_of c.args.hub.now) kept c.in-Ok.plane _ c.args.generation (rw c.rule-rule.ensures.value at told))
+
+pub returns-in-Ok-Some-clause-answer : goal.returns-in-Ok-Some-clause-answer
+returns-in-Ok-Some-clause-answer g c =
+    let told = subst (λ o. IsExportReply c.rule-rule.result c.in-Ok.plane c.args.generation (unwrap_or o (refusal 21))) c.in-Ok-Some.field-0-is c.in-Ok-Some.ensures in
+    λ kept. by_call _ _ _ _ _ Shows _ _ _ kept kept _ c.in-Ok.is c.plane.ensures.allowed (shown_export (g.H.Hub.rule_of c.args.hub.now) (g.H.Hub.number_of c.args.hub.now) kept c.in-Ok.plane _ c.args.generation (rw c.rule-rule.ensures.value at told))

@@ -5,7 +5,7 @@ use Rattle.seat_server.proofs.sessions.begin_all.Goals as goal
 pub loop-seat-preserved : goal.loop-seat-preserved
 loop-seat-preserved g c =
     begins (λ h. h.promise.seat.value) c.loop-seat.threads.items c.push.new.self.items c.in-Some-begun.thread c.in-Some.seat c.loop-seat.left.items c.pop_front.new.self.items c.args.seats.items
-    c.in-Ok.ensures.items c.in-Some-begun.ensures c.in-Some.ensures.items c.loop-seat.invariant
+    c.in-Ok.ensures.items c.in-Some-begun.ensures.seat c.in-Some.ensures.items c.loop-seat.invariant
 
 pub returns-clause-all : goal.returns-clause-all
 returns-clause-all g c = λ whole. all_begun (λ h. h.promise.seat.value) c.loop-seat.threads.items c.loop-seat.left.items c.pop_front.new.self.items c.args.seats.items

@@ -44,7 +44,7 @@ invariant_of-relay-in-Ok g c =
     let list : p.list ≡ s.publisher.announced = rw c.in-Ok.is at c.show-publisher.ensures.list in
     let origin : p.origin ≡ s.publisher.origin = c.show-publisher.ensures.origin in
     let counts : c.tallied.result.items ≡ set s.counts.items e.seat (counted (slice_index_or s.counts.items e.seat 0 + 1)) =
-    c.tallied.ensures ∙ ap (λ k. set s.counts.items k (counted (slice_index_or s.counts.items k 0 + 1))) c.answered-seat.ensures.0 in record {
+    c.tallied.ensures in record {
       out = i.out ∙ (ap (λ l. s.publisher.list ++ l) one ∙ (sym (list ∙ told) ∙ sym (append-nil p.list)));
       told = c.show-publisher.ensures.announced ∙ sym list;
       tried = inl (λ k. tried k ∙ ap (λ (l : List Entry). greatest (edits_of l) k) (ap (λ l. s.publisher.list ++ l) one ∙ sym (list ∙ told)));
