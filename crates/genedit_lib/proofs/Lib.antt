@@ -1,3 +1,2 @@
-mod NameLaws
 pub mod PlanLaws
 pub mod OutputLaws

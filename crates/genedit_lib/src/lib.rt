@@ -9,7 +9,7 @@ mod run;
 mod step;
 
 pub use genedit_io::RunFault;
-pub use laws::{name_laws, output_laws};
+pub use laws::output_laws;
 pub use output::{no_pattern_text, pattern_text, push_line, push_text, text_refusal};
 pub use patterns::Patterns;
 pub use plan::{Plan, PlannedLine, planned};

@@ -179,6 +179,8 @@ fn a_source_without_an_end_is_left(rt: HostRuntime) -> Result<(), Fail> {
     assert_eq!(rt; greeted(rt, rt.alloc(), 5, 1000)?, (left, 1000));
     assert_eq!(rt; greeted(rt, rt.alloc(), 1, 1000)?, (left, 200));
     assert_eq!(rt; greeted(rt, rt.alloc(), 4096, 3)?, (left, 2457));
+    // No pull asks for more than 4,096 bytes, whatever the source has.
+    assert_eq!(rt; greeted(rt, rt.alloc(), 8192, 3)?, (left, 2457));
     assert_eq!(rt; greeted(rt, rt.alloc(), 5, 0)?, (left, 0));
     Ok(())
 }

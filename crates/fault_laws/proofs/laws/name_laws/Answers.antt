@@ -1,5 +1,5 @@
-use Rattle.genedit_lib.proofs.NameLaws.{names_agree, names_are_distinct}
-use Rattle.genedit_lib.proofs.laws.name_laws.Goals as goal
+use Rattle.fault_laws.proofs.NameLaws.{names_agree, names_are_distinct}
+use Rattle.fault_laws.proofs.laws.name_laws.Goals as goal
 
 pub returns-clause-agree : goal.returns-clause-agree
 returns-clause-agree c = names_agree

@@ -34,7 +34,26 @@ use Rattle.replica_core.specs.declared.fault.Fault.TheVariants.{Edit, StoreFull,
 use Rattle.replica_core.specs.declared.event.Stop.{Stop}
 use Rattle.replica_core.specs.declared.event.Stop.TheVariants as stops
 use Rattle.replica_core.specs.Fault.{replica_fault_number, replica_fault_text, stop_number, stop_text}
-use Rattle.genedit_lib.specs.Laws.{IsNamed, NamesAgree, NamesAreDistinct}
+use Rattle.board.specs.declared.fault.SeatFault.{SeatFault}
+use Rattle.board.specs.declared.fault.SeatFault.TheVariants as reading
+use Rattle.board.specs.Faults.{seat_fault_number, seat_fault_text}
+use Rattle.relay_core.specs.declared.fault.SubmitFault.{SubmitFault}
+use Rattle.relay_core.specs.declared.fault.SubmitFault.TheVariants as submissions
+use Rattle.relay_core.specs.declared.fault.TurnFault.{TurnFault}
+use Rattle.relay_core.specs.declared.fault.TurnFault.TheVariants as turns
+use Rattle.relay_core.specs.declared.fault.StartFault.{StartFault}
+use Rattle.relay_core.specs.declared.fault.StartFault.TheVariants as starts
+use Rattle.relay_core.specs.Faults.{start_fault_number, start_fault_text, submit_fault_number, submit_fault_text, turn_fault_number, turn_fault_text}
+use Rattle.relay_board.specs.declared.fault.FinishFault.{FinishFault}
+use Rattle.relay_board.specs.declared.fault.FinishFault.TheVariants as finishes
+use Rattle.relay_board.specs.Faults.{finish_fault_number, finish_fault_text}
+use Rattle.session_hub.specs.declared.fault.HubFault.{HubFault}
+use Rattle.session_hub.specs.declared.fault.HubFault.TheVariants as hubs
+use Rattle.session_hub.specs.HubFault.{hub_fault_number, hub_fault_text}
+use Rattle.frame_service.specs.declared.fault.ServeFault.{ServeFault}
+use Rattle.frame_service.specs.declared.fault.ServeFault.TheVariants as services
+use Rattle.frame_service.specs.ServeFault.{serve_fault_number, serve_fault_text}
+use Rattle.fault_laws.specs.Names.{IsNamed, NamesAgree, NamesAreDistinct}
 use Rattle.genedit_io.specs.RunFault.{names}
 
 rule_names : (fault : RuleFault) → IsNamed (rule_fault_number fault) (rule_fault_place fault) (rule_fault_text fault)
@@ -107,8 +126,67 @@ stop_names : (stop : Stop) → IsNamed (stop_number stop) None (stop_text stop)
 stop_names stops.StoreFull refused = refl
 stop_names stops.Memory refused = absurd (refused refl)
 
+read_of_board_names : (fault : SeatFault) → IsNamed (seat_fault_number fault) None (seat_fault_text fault)
+read_of_board_names reading.Closed refused = refl
+read_of_board_names reading.Memory refused = absurd (refused refl)
+
+submit_names : (fault : SubmitFault) → IsNamed (submit_fault_number fault) None (submit_fault_text fault)
+submit_names submissions.NotYours refused = refl
+submit_names submissions.StateRange refused = refl
+submit_names submissions.Closed refused = refl
+submit_names submissions.Memory refused = absurd (refused refl)
+submit_names submissions.Full refused = refl
+
+turn_names : (fault : TurnFault) → IsNamed (turn_fault_number fault) None (turn_fault_text fault)
+turn_names turns.StoreFull refused = refl
+turn_names turns.Memory refused = absurd (refused refl)
+
+start_names : (fault : StartFault) → IsNamed (start_fault_number fault) None (start_fault_text fault)
+start_names starts.Size refused = refl
+start_names starts.NoPlace refused = refl
+start_names starts.Memory refused = absurd (refused refl)
+
+finish_names : (fault : FinishFault) → IsNamed (finish_fault_number fault) None (finish_fault_text fault)
+finish_names finishes.Closed refused = refl
+finish_names finishes.StoreFull refused = refl
+finish_names finishes.Memory refused = absurd (refused refl)
+
+hub_names : (fault : HubFault) → IsNamed (hub_fault_number fault) None (hub_fault_text fault)
+hub_names hubs.NotYours refused = refl
+hub_names hubs.StateRange refused = refl
+hub_names hubs.Full refused = refl
+hub_names hubs.Closed refused = refl
+hub_names hubs.StoreFull refused = refl
+hub_names hubs.Memory refused = absurd (refused refl)
+
+service_names : (fault : ServeFault) → IsNamed (serve_fault_number fault) None (serve_fault_text fault)
+service_names services.FrameTooLong refused = refl
+service_names services.Cut refused = refl
+service_names services.Turns refused = refl
+service_names services.Read refused = refl
+service_names services.Write refused = refl
+service_names services.Memory refused = absurd (refused refl)
+
 pub names_agree : NamesAgree
-names_agree = record { rules = rule_names; texts = text_names; edits = edit_names; stores = store_names; engines = engine_names; reads = read_names; frames = frame_names; exports = export_names; replicas = replica_names; stops = stop_names }
+names_agree = record {
+  rules = rule_names;
+  texts = text_names;
+  edits = edit_names;
+  stores = store_names;
+  engines = engine_names;
+  reads = read_names;
+  frames = frame_names;
+  exports = export_names;
+  replicas = replica_names;
+  stops = stop_names;
+  reading = read_of_board_names;
+  submissions = submit_names;
+  turns = turn_names;
+  starts = start_names;
+  finishes = finish_names;
+  hubs = hub_names;
+  services = service_names;
+}
 
 -- as many numbers, and as many names, differ as stand in the table
 pub names_are_distinct : NamesAreDistinct
