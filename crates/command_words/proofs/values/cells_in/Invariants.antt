@@ -1,8 +1,8 @@
 use Rattle.std.proofs.Common.{◌≡◌, ◌++◌, length}
 use Rattle.std.specs.Prelude.{option_map}
 use Rattle.multistate_rle.specs.Position.{words}
-use Rattle.genedit_script.specs.Script.{cells_spelled}
-use Rattle.genedit_script.proofs.spelling.cells_in.Given as goal
+use Rattle.command_words.specs.Values.{cells_spelled}
+use Rattle.command_words.proofs.values.cells_in.Given as goal
 
 -- the cells so far, and those of the rest behind them
 abbrev pub invariant-loop-x : goal.invariant-loop-x

@@ -2,8 +2,8 @@ use Rattle.std.proofs.Common.{◌≡◌, ◌∙◌, sym, ap, refl, List, [], ◌
 use Rattle.std.specs.Prelude.{Option, Some, None, option_map}
 use Rattle.multistate_rle.specs.Position.{words}
 use Rattle.pattern_cells.specs.declared.cell.Cell.{Cell}
-use Rattle.genedit_script.specs.Script.{cells_spelled}
-use Rattle.genedit_script.proofs.spelling.cells_in.Goals as goal
+use Rattle.command_words.specs.Values.{cells_spelled}
+use Rattle.command_words.proofs.values.cells_in.Goals as goal
 
 -- a cell at the end of those so far stands in front of those to come
 cell_between : (cells : List Cell) (cell : Cell) (more : Option (List Cell)) →
