@@ -1,6 +1,7 @@
 -- At a keyword that a client has from scripts, a client asks for what a script asks of replica 1.
 use Rattle.std.proofs.Common.{◌≡◌, ℕ, List, [], ◌∷◌, refl, sym, ◌∙◌, ap, subst}
-use Rattle.std.specs.Prelude.{Bool, true, false, codes, Option, Some, None, option_map}
+use Rattle.std.specs.Prelude.{true, false, codes, Option, Some, None, option_map}
+use Rattle.std.specs.Option.{option_map_or}
 use Rattle.std.specs.Str.{bytes_eq}
 use Rattle.multistate_rle.specs.Bytes.{◌>=>◌}
 use Rattle.pattern_cells.specs.declared.cell.Cell.{Cell}
@@ -17,7 +18,7 @@ use Rattle.command_words.proofs.SpelledLaws.{both_read, keyword_of, name_no_repl
 use Rattle.genedit_script.specs.declared.command.Command.{Command}
 use Rattle.genedit_script.specs.declared.command.Command.TheVariants.{Does}
 use Rattle.genedit_script.specs.Script.{is_spoken, opening_spelled, command_asked, command_spelled}
-use Rattle.genedit_script.proofs.WordLaws.{keyword_says, opened_words, spelled_says}
+use Rattle.genedit_script.proofs.WordLaws.{keyword_says, opened_words, opens_no_block, spelled_says}
 use Rattle.client_commands.specs.declared.command.ClientCommand.{ClientCommand}
 use Rattle.client_commands.specs.declared.command.ClientCommand.TheVariants as client
 use Rattle.client_commands.specs.Commands.{client_command_asked, client_command_spelled}
@@ -95,19 +96,6 @@ exported generation (Some n) is = rw is (both refl)
 
 -- ---- a line
 
-opens_by : (name : List ℕ) (ws : List (List ℕ)) (opened : Option (List ℕ)) → bytes_eq name (codes "pattern") ≡ false → opening_spelled (name ∷ ws) ≡ opened →
-    opening_spelled (name ∷ ws) ≡ None
-opens_by name ws None other is = is
-opens_by name ws (Some opened) other is =
-    let first = opened_words (name ∷ ws) opened is in
-    let same : name ≡ codes "pattern" = cc in
-    let pattern : bytes_eq name (codes "pattern") ≡ true = ap (λ (n : List ℕ). bytes_eq n (codes "pattern")) same in
-    absurd (cc)
-
--- a line with another first word than `pattern` opens no block
-pub opens_no_block : (name : List ℕ) (ws : List (List ℕ)) → bytes_eq name (codes "pattern") ≡ false → opening_spelled (name ∷ ws) ≡ None
-opens_no_block name ws other = opens_by name ws (opening_spelled (name ∷ ws)) other refl
-
 -- what is known of a line that a client has from scripts, and of the line of a script beside it
 pub record IsCommandLine (ws : List (List ℕ)) : Type 0 where
   pub says : is_spoken ws ≡ true
@@ -128,10 +116,10 @@ command_line k ws known = record {
 known_line : (name : List ℕ) (ws : List (List ℕ)) (found : Option Keyword) → keyword_spelled Client name ≡ found →
     is_shared_line (name ∷ ws) ≡ true → IsCommandLine (name ∷ ws)
 known_line name ws None found is =
-    let none : is_shared_line (name ∷ ws) ≡ false = rw found refl in
+    let none : is_shared_line (name ∷ ws) ≡ false = ap (λ (k : Option Keyword). option_map_or is_shared k false) found in
     absurd (cc)
 known_line name ws (Some k) found is =
-    let here : is_shared_line (name ∷ ws) ≡ is_shared k = rw found refl in
+    let here : is_shared_line (name ∷ ws) ≡ is_shared k = ap (λ (k : Option Keyword). option_map_or is_shared k false) found in
     let word : name ≡ keyword_name k = named Client name k found in
     let spelled : keyword_spelled Client (keyword_name k) ≡ Some k = ap (keyword_spelled Client) (sym word) ∙ found in
     subst (λ (n : List ℕ). IsCommandLine (n ∷ ws)) (sym word) (command_line k ws (shared k (sym here ∙ is) spelled))

@@ -1,5 +1,6 @@
 -- What a client's commands are beside those of a script, and what its lines come to from the first on.
 use Rattle.std.specs.Prelude.{◌≡◌, ◌↔◌, ℕ, ◌+◌, ◌<◌, ◌^◌, Bool, true, false, ◌&&◌, List, [], ◌∷◌, ◌++◌, length, map, codes, Option, Some, None, Result, Ok, Err}
+use Rattle.std.specs.Option.{option_map_or}
 use Rattle.std.specs.Str.{bytes_eq}
 use Rattle.std.specs.Str.Lines.{strip_carriage_return}
 use Rattle.multistate_rle.specs.Bytes.{◌>=>◌}
@@ -58,7 +59,7 @@ is_shared keyword = take_replica (script_arguments keyword) && is_empty (optiona
 -- whether a line of a client begins with such a keyword
 abbrev pub is_shared_line : List (List ℕ) → Bool
 is_shared_line [] = false
-is_shared_line (name ∷ words) = elim (keyword_spelled Client name) [ Some keyword ↦ is_shared keyword | None ↦ false ]
+is_shared_line (name ∷ words) = option_map_or is_shared (keyword_spelled Client name) false
 
 -- at such a keyword a client asks for what a script asks of replica 1, and neither for anything where the other does not
 abbrev pub SpellTheSame : Type 0

@@ -8,12 +8,12 @@ use Rattle.std.proofs.lemmas.Slice.Eq.{bytes_eq-Decides}
 use Rattle.multistate_rle.specs.Bytes.{◌>=>◌}
 use Rattle.multistate_rle.specs.Position.{signed_number}
 use Rattle.command_words.specs.declared.argument.Argument.{Argument}
-use Rattle.command_words.specs.declared.argument.Argument.TheVariants.{Rule, Replicas, Name, Replica, OtherReplica, X, Y, State, Width, Height, Message, From, Count, Generation, File, Edits, Milliseconds}
+use Rattle.command_words.specs.declared.argument.Argument.TheVariants.{Rule, Replicas, Name, Replica, OneReplica, X, Y, State, File}
 use Rattle.command_words.specs.declared.dialect.Dialect.{Dialect}
 use Rattle.command_words.specs.declared.keyword.Keyword.{Keyword}
 use Rattle.command_words.specs.Arguments.{arguments_of, optional_of}
 use Rattle.command_words.specs.Keywords.{keyword_name, keyword_spelled, keywords_of}
-use Rattle.command_words.specs.Spelled.{SpelledValue, begun, with_number, with_word, with_first, with_next, with_all, is_empty, with_optional, is_whole, if_whole, line_spelled}
+use Rattle.command_words.specs.Spelled.{SpelledValue, begun, with_word, with_first, with_next, with_all, is_empty, with_optional, is_whole, if_whole, line_spelled}
 use Rattle.command_words.specs.Values.{name_spelled, number_spelled, replicas_spelled, rule_text_spelled, state_spelled}
 
 -- what is seen of a line stays as it is where a word is read as an argument
@@ -37,24 +37,17 @@ keyword_stays X word line next is = made (λ l. l.keyword) line.keyword (signed_
 keyword_stays Y word line next is = made (λ l. l.keyword) line.keyword (signed_number word) _ next (λ a. refl) is
 keyword_stays State word line next is = made (λ l. l.keyword) line.keyword (state_spelled word) _ next (λ a. refl) is
 keyword_stays File word line next is = made (λ l. l.keyword) line.keyword (Some word) (λ w. record line { file = Some w }) next (λ a. refl) is
-keyword_stays Replica word line next is = made (λ l. l.keyword) line.keyword (number_spelled word) _ next (λ a. refl) is
-keyword_stays OtherReplica word line next is = made (λ l. l.keyword) line.keyword (number_spelled word) _ next (λ a. refl) is
-keyword_stays Width word line next is = made (λ l. l.keyword) line.keyword (number_spelled word) _ next (λ a. refl) is
-keyword_stays Height word line next is = made (λ l. l.keyword) line.keyword (number_spelled word) _ next (λ a. refl) is
-keyword_stays Message word line next is = made (λ l. l.keyword) line.keyword (number_spelled word) _ next (λ a. refl) is
-keyword_stays From word line next is = made (λ l. l.keyword) line.keyword (number_spelled word) _ next (λ a. refl) is
-keyword_stays Count word line next is = made (λ l. l.keyword) line.keyword (number_spelled word) _ next (λ a. refl) is
-keyword_stays Generation word line next is = made (λ l. l.keyword) line.keyword (number_spelled word) _ next (λ a. refl) is
-keyword_stays Edits word line next is = made (λ l. l.keyword) line.keyword (number_spelled word) _ next (λ a. refl) is
-keyword_stays Milliseconds word line next is = made (λ l. l.keyword) line.keyword (number_spelled word) _ next (λ a. refl) is
+keyword_stays number word line next is = made (λ l. l.keyword) line.keyword (number_spelled word) _ next (λ a. refl) is
 
 -- the replica's number stays where no other is read
 abbrev pub names_replica : Argument → Bool
 names_replica Replica = true
+names_replica OneReplica = true
 names_replica argument = false
 
 pub replica_stays : (argument : Argument) → names_replica argument ≡ false → Keeps (λ line. line.replica) argument
 replica_stays Replica other word line next is = absurd (cc)
+replica_stays OneReplica other word line next is = absurd (cc)
 replica_stays Rule other word line next is = made (λ l. l.replica) line.replica (rule_text_spelled word) _ next (λ a. refl) is
 replica_stays Replicas other word line next is = made (λ l. l.replica) line.replica (replicas_spelled word) _ next (λ a. refl) is
 replica_stays Name other word line next is = made (λ l. l.replica) line.replica (name_spelled word) _ next (λ a. refl) is
@@ -62,15 +55,7 @@ replica_stays X other word line next is = made (λ l. l.replica) line.replica (s
 replica_stays Y other word line next is = made (λ l. l.replica) line.replica (signed_number word) _ next (λ a. refl) is
 replica_stays State other word line next is = made (λ l. l.replica) line.replica (state_spelled word) _ next (λ a. refl) is
 replica_stays File other word line next is = made (λ l. l.replica) line.replica (Some word) (λ w. record line { file = Some w }) next (λ a. refl) is
-replica_stays OtherReplica other word line next is = made (λ l. l.replica) line.replica (number_spelled word) _ next (λ a. refl) is
-replica_stays Width other word line next is = made (λ l. l.replica) line.replica (number_spelled word) _ next (λ a. refl) is
-replica_stays Height other word line next is = made (λ l. l.replica) line.replica (number_spelled word) _ next (λ a. refl) is
-replica_stays Message other word line next is = made (λ l. l.replica) line.replica (number_spelled word) _ next (λ a. refl) is
-replica_stays From other word line next is = made (λ l. l.replica) line.replica (number_spelled word) _ next (λ a. refl) is
-replica_stays Count other word line next is = made (λ l. l.replica) line.replica (number_spelled word) _ next (λ a. refl) is
-replica_stays Generation other word line next is = made (λ l. l.replica) line.replica (number_spelled word) _ next (λ a. refl) is
-replica_stays Edits other word line next is = made (λ l. l.replica) line.replica (number_spelled word) _ next (λ a. refl) is
-replica_stays Milliseconds other word line next is = made (λ l. l.replica) line.replica (number_spelled word) _ next (λ a. refl) is
+replica_stays number other word line next is = made (λ l. l.replica) line.replica (number_spelled word) _ next (λ a. refl) is
 
 -- ---- all arguments
 
@@ -109,6 +94,10 @@ optional_if see blind arguments keep line next false some is =
     let read : with_optional arguments line ≡ with_all arguments line = rw some refl in
     all_keep see blind arguments keep line next (sym read ∙ is)
 
+optional_keep : {A : Type 0} (see : SpelledValue → A) → SeesNoWords see → (arguments : List Argument) → AllKeep see arguments →
+    (line next : SpelledValue) → with_optional arguments line ≡ Some next → see next ≡ see line
+optional_keep see blind arguments keep line next is = optional_if see blind arguments keep line next (is_empty line.behind) refl is
+
 -- ---- whole lines
 
 whole_if : (line next : SpelledValue) (b : Bool) → is_whole line ≡ b → if_whole line ≡ Some next → next ≡ line
@@ -119,6 +108,15 @@ whole_if line next false whole is =
     let read : if_whole line ≡ None = rw whole refl in
     absurd (cc)
 
+whole_line : (line next : SpelledValue) → if_whole line ≡ Some next → next ≡ line
+whole_line line next is = whole_if line next (is_whole line) refl is
+
+all_read : {A : Type 0} (see : SpelledValue → A) → SeesNoWords see → (arguments optional : List Argument) → AllKeep see arguments → AllKeep see optional →
+    (begun read more line : SpelledValue) → with_all arguments begun ≡ Some read → with_optional optional read ≡ Some more → if_whole more ≡ Some line →
+    see line ≡ see begun
+all_read see blind arguments optional keep keep_optional begun read more line first then last =
+    ap see (whole_line more line last) ∙ optional_keep see blind optional keep_optional read more then ∙ all_keep see blind arguments keep begun read first
+
 -- what is left as it is by all that is read behind a keyword is as it was when the line began
 pub stays : {A : Type 0} (see : SpelledValue → A) → SeesNoWords see → (dialect : Dialect) (name : List ℕ) (behind : List (List ℕ)) (keyword : Keyword) (line : SpelledValue) →
     keyword_spelled dialect name ≡ Some keyword → AllKeep see (arguments_of dialect keyword) → AllKeep see (optional_of dialect keyword) →
@@ -128,9 +126,7 @@ stays see blind dialect name behind keyword line named keep keep_optional is =
     let same : found.0 ≡ keyword = cc in
     let read = both_read (with_all (arguments_of dialect keyword) (begun keyword behind)) _ line (rw same at found.1.1) in
     let more = both_read (with_optional (optional_of dialect keyword) read.0) if_whole line read.1.1 in
-    ap see (whole_if more.0 line (is_whole more.0) refl more.1.1)
-    ∙ optional_if see blind (optional_of dialect keyword) keep_optional read.0 more.0 (is_empty read.0.behind) refl more.1.0
-    ∙ all_keep see blind (arguments_of dialect keyword) keep (begun keyword behind) read.0 read.1.0
+    all_read see blind (arguments_of dialect keyword) (optional_of dialect keyword) keep keep_optional (begun keyword behind) read.0 more.0 line read.1.0 more.1.0 more.1.1
 
 all_keep_keyword : (arguments : List Argument) → AllKeep (λ line. line.keyword) arguments
 all_keep_keyword [] = tt
@@ -153,7 +149,7 @@ found_passes test (x ∷ xs) found is = passes_first test x xs found (test x) re
 -- a word is the keyword that it spells
 pub named : (dialect : Dialect) (word : List ℕ) (keyword : Keyword) → keyword_spelled dialect word ≡ Some keyword → word ≡ keyword_name keyword
 named dialect word keyword is =
-    sym ((bytes_eq-Decides (keyword_name keyword) word).0 (found_passes (λ keyword. bytes_eq (keyword_name keyword) word) (keywords_of dialect) keyword is))
+    (bytes_eq-Decides word (keyword_name keyword)).0 (found_passes (λ keyword. bytes_eq word (keyword_name keyword)) (keywords_of dialect) keyword is)
 
 -- the keyword of a line is the one that its first word is
 pub keyword_of : (dialect : Dialect) (name : List ℕ) (behind : List (List ℕ)) (keyword : Keyword) (line : SpelledValue) →

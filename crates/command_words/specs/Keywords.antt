@@ -37,4 +37,4 @@ keywords_of Client = Cells ∷ Clear ∷ Pattern ∷ End ∷ Copy ∷ Or ∷ Sho
 
 -- the one of them that a word is
 abbrev pub keyword_spelled : Dialect → List ℕ → Option Keyword
-keyword_spelled dialect word = find (λ keyword. bytes_eq (keyword_name keyword) word) (keywords_of dialect)
+keyword_spelled dialect word = find (λ keyword. bytes_eq word (keyword_name keyword)) (keywords_of dialect)

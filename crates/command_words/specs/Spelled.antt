@@ -89,6 +89,7 @@ begun keyword behind = record {
 -- with a number of 32 bits as an argument that is one
 abbrev pub with_number : Argument → ℕ → SpelledValue → SpelledValue
 with_number argument.Replica number line = record line { replica = number }
+with_number argument.OneReplica number line = record line { replica = number }
 with_number argument.OtherReplica number line = record line { other_replica = number }
 with_number argument.Width number line = record line { width = number }
 with_number argument.Height number line = record line { height = number }

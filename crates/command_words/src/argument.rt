@@ -14,7 +14,9 @@ pub enum Argument {
     Name,
     /// The number of a replica.
     Replica,
-    /// The number of the other of two replicas.
+    /// The number of one of two replicas.
+    OneReplica,
+    /// The number of the other.
     OtherReplica,
     /// A coordinate: 32 bits with a sign.
     X,
@@ -57,7 +59,7 @@ impl Argument {
             Argument::Rule => "the rule",
             Argument::Replicas => "the number of replicas",
             Argument::Name => "the pattern's name",
-            Argument::Replica => "the replica's number",
+            Argument::Replica | Argument::OneReplica => "the replica's number",
             Argument::OtherReplica => "the other replica's number",
             Argument::X => "x",
             Argument::Y => "y",
@@ -71,6 +73,29 @@ impl Argument {
             Argument::File => "the file's name",
             Argument::Edits => "the number of awaited edits",
             Argument::Milliseconds => "the number of milliseconds",
+        }
+    }
+
+    /// How it is written in the form of a line.
+    pub fn sign(self) -> &'static str {
+        match self {
+            Argument::Rule => "S/B/C",
+            Argument::Replicas | Argument::Edits => "N",
+            Argument::Name => "NAME",
+            Argument::Replica => "R",
+            Argument::OneReplica => "A",
+            Argument::OtherReplica => "B",
+            Argument::X => "x",
+            Argument::Y => "y",
+            Argument::State => "state",
+            Argument::Width => "w",
+            Argument::Height => "h",
+            Argument::Message => "M",
+            Argument::From => "FROM",
+            Argument::Count => "COUNT",
+            Argument::Generation => "G",
+            Argument::File => "FILE",
+            Argument::Milliseconds => "MS",
         }
     }
 

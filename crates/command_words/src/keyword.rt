@@ -5,6 +5,7 @@ ghost use Rattle.command_words.specs.Arguments.{without_replica};
 
 use crate::argument::Argument;
 use crate::dialect::Dialect;
+use std::alloc::{AllocError, Global};
 
 /// A word with which a line of a script or of a client begins, `end` among them.
 #[derive(Clone, Copy, Debug, PartialEq, Eq)]
@@ -69,56 +70,22 @@ impl Keyword {
 
     /// Whether the word is this one.
     pub fn is_named(self, word: &[u8]) -> bool
-        ensures { result ≡ bytes_eq (keyword_name self) word.now }
+        ensures { result ≡ bytes_eq word.now (keyword_name self) }
     {
-        self.name().as_bytes() == word
+        word == self.name().as_bytes()
     }
 
-    /// How a line with it is written.
-    pub fn form(self, dialect: Dialect) -> &'static str {
-        match dialect {
-            Dialect::Script => self.form_with_replica(),
-            Dialect::Client => self.form_without_replica(),
+    /// How a line with it is written: the word and the signs of its arguments, with `..` behind those
+    /// that are repeated, and with brackets round those that may be left out.
+    pub fn form(self, alloc: Global, dialect: Dialect) -> Result<String, AllocError> {
+        let mut form = String::from_str(alloc, self.name())?;
+        push_signs(&mut form, " ", self.arguments(dialect), "")?;
+        push_signs(&mut form, " ", self.repeated(), "")?;
+        if !self.repeated().is_empty() {
+            form.push_str(" ..")?;
         }
-    }
-
-    fn form_with_replica(self) -> &'static str {
-        match self {
-            Keyword::Rule => "rule S/B/C",
-            Keyword::Replicas => "replicas N",
-            Keyword::Cells => "cells R x y state ..",
-            Keyword::Clear => "clear R x y w h",
-            Keyword::Pattern => "pattern NAME",
-            Keyword::End => "end",
-            Keyword::Copy => "copy R NAME x y",
-            Keyword::Or => "or R NAME x y",
-            Keyword::State => "state R",
-            Keyword::Delta => "delta R FROM COUNT",
-            Keyword::Deliver => "deliver M R",
-            Keyword::Show => "show R x y",
-            Keyword::Same => "same A B",
-            Keyword::Dump => "dump M",
-            Keyword::Export => "export R G",
-            Keyword::Poll => "poll",
-            Keyword::Wait => "wait N [MS]",
-            Keyword::Sleep => "sleep MS",
-            Keyword::Save => "save FILE",
-            Keyword::Open => "open FILE",
-            Keyword::Bye => "bye",
-        }
-    }
-
-    /// A client is one replica, so that its lines name none.
-    fn form_without_replica(self) -> &'static str {
-        match self {
-            Keyword::Cells => "cells x y state ..",
-            Keyword::Clear => "clear x y w h",
-            Keyword::Copy => "copy NAME x y",
-            Keyword::Or => "or NAME x y",
-            Keyword::Show => "show x y",
-            Keyword::Export => "export G [FILE]",
-            _ => self.form_with_replica(),
-        }
+        push_signs(&mut form, " [", self.optional(dialect), "]")?;
+        Ok(form)
     }
 
     /// What stands behind it. A client is one replica, so that its lines do not begin with one.
@@ -157,7 +124,7 @@ impl Keyword {
             Keyword::Delta => &[Argument::Replica, Argument::From, Argument::Count],
             Keyword::Deliver => &[Argument::Message, Argument::Replica],
             Keyword::Show => &[Argument::Replica, Argument::X, Argument::Y],
-            Keyword::Same => &[Argument::Replica, Argument::OtherReplica],
+            Keyword::Same => &[Argument::OneReplica, Argument::OtherReplica],
             Keyword::Dump => &[Argument::Message],
             Keyword::Export => &[Argument::Replica, Argument::Generation],
             Keyword::Wait => &[Argument::Edits],
@@ -217,4 +184,19 @@ fn without_replica(arguments: &[Argument]) -> &[Argument]
         Some((Argument::Replica, behind)) => behind,
         _ => arguments,
     }
+}
+
+/// Puts the signs of arguments behind a form, each between these.
+fn push_signs(
+    form: &mut String,
+    before: &str,
+    arguments: &[Argument],
+    behind: &str,
+) -> Result<(), AllocError> {
+    for argument in arguments {
+        form.push_str(before)?;
+        form.push_str(argument.sign())?;
+        form.push_str(behind)?;
+    }
+    Ok(())
 }

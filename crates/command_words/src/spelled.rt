@@ -167,7 +167,7 @@ impl<'a> Spelled<'a> {
     {
         let mut spelled = *self;
         match argument {
-            Argument::Replica => spelled.replica = number,
+            Argument::Replica | Argument::OneReplica => spelled.replica = number,
             Argument::OtherReplica => spelled.other_replica = number,
             Argument::Width => spelled.width = number,
             Argument::Height => spelled.height = number,

@@ -1,6 +1,7 @@
 -- A line that spells something says something, and spells only one thing.
-use Rattle.std.proofs.Common.{◌≡◌, ℕ, List, ◌∷◌, refl, sym, ◌∙◌, ap}
-use Rattle.std.specs.Prelude.{true, codes, Option, Some, None}
+use Rattle.std.proofs.Common.{◌≡◌, ℕ, List, ◌∷◌, refl, ◌∙◌, ap}
+use Rattle.std.specs.Prelude.{true, false, codes, Option, Some, None}
+use Rattle.std.specs.Str.{bytes_eq}
 use Rattle.generations_rule.specs.Rule.{GenerationsRule}
 use Rattle.multistate_rle.specs.Bytes.{◌>=>◌}
 use Rattle.command_words.specs.declared.dialect.Dialect.{Dialect}
@@ -9,7 +10,7 @@ use Rattle.command_words.specs.declared.keyword.Keyword.{Keyword}
 use Rattle.command_words.specs.declared.keyword.Keyword.TheVariants as keyword
 use Rattle.command_words.specs.Keywords.{keyword_name}
 use Rattle.command_words.specs.Spelled.{SpelledValue, line_spelled}
-use Rattle.command_words.proofs.SpelledLaws.{both_read, begins}
+use Rattle.command_words.proofs.SpelledLaws.{both_read, begins, keyword_of}
 use Rattle.genedit_script.specs.declared.command.Command.{Command}
 use Rattle.genedit_script.specs.Script.{is_spoken, asked_by, rule_asked, replicas_asked, opening_asked, command_asked, rule_spelled, replicas_spelled, opening_spelled, command_spelled}
 
@@ -122,3 +123,27 @@ pub command_opens_none : (ws : List (List ℕ)) (command : Command) → command_
 command_opens_none ws command is =
     let read = asked_line command_asked ws command is in
     ap (λ (line : Option SpelledValue). line >=> opening_asked) read.1.0 ∙ no_pattern read.0 command read.1.1
+
+opens_by : (name : List ℕ) (ws : List (List ℕ)) (opened : Option (List ℕ)) → bytes_eq name (codes "pattern") ≡ false → opening_spelled (name ∷ ws) ≡ opened →
+    opening_spelled (name ∷ ws) ≡ None
+opens_by name ws None other is = is
+opens_by name ws (Some opened) other is =
+    let first = opened_words (name ∷ ws) opened is in
+    let same : name ≡ codes "pattern" = cc in
+    let pattern : bytes_eq name (codes "pattern") ≡ true = ap (λ (n : List ℕ). bytes_eq n (codes "pattern")) same in
+    absurd (cc)
+
+-- a line with another first word than `pattern` opens no block
+pub opens_no_block : (name : List ℕ) (ws : List (List ℕ)) → bytes_eq name (codes "pattern") ≡ false → opening_spelled (name ∷ ws) ≡ None
+opens_no_block name ws other = opens_by name ws (opening_spelled (name ∷ ws)) other refl
+
+pattern_asks : (line : SpelledValue) → line.keyword ≡ keyword.Pattern → command_asked line ≡ None
+pattern_asks line is = rw is refl
+
+pattern_by : (behind : List (List ℕ)) (line : Option SpelledValue) → line_spelled Script (codes "pattern" ∷ behind) ≡ line → line >=> command_asked ≡ None
+pattern_by behind None is = refl
+pattern_by behind (Some line) is = pattern_asks line (keyword_of Script (codes "pattern") behind keyword.Pattern line refl is)
+
+-- a line whose first word is `pattern` is no command
+pub pattern_is_none : (behind : List (List ℕ)) → command_spelled (codes "pattern" ∷ behind) ≡ None
+pattern_is_none behind = pattern_by behind (line_spelled Script (codes "pattern" ∷ behind)) refl

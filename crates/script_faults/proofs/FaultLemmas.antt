@@ -11,6 +11,7 @@ use Rattle.multistate_rle.specs.Position.{words}
 use Rattle.genedit_script.specs.declared.command.Command.{Command}
 use Rattle.genedit_script.specs.declared.command.Command.TheVariants.{Names}
 use Rattle.genedit_script.specs.Script.{NumberedLine, ScriptValue, Head, PatternBlock, numbered_lines, lines_from, is_spoken, past_skipped, first_line, onto, rule_spelled, replicas_spelled, opening_spelled, command_spelled, commands_spelled, head_spelled, script_of}
+use Rattle.genedit_script.proofs.WordLaws as word
 use Rattle.genedit_script.proofs.WordLaws.{rule_words, replicas_words}
 use Rattle.script_faults.specs.declared.due.Closing.TheVariants.{Exact}
 use Rattle.script_faults.specs.declared.due.Due.{Due}
@@ -71,18 +72,12 @@ pub pattern_is_none : (ws : List (List ℕ)) → begins_with (codes "pattern") w
 pattern_is_none [] is = absurd (cc)
 pattern_is_none (w ∷ ws) is =
     let same : w ≡ codes "pattern" = (bytes_eq-Decides w (codes "pattern")).0 is in
-    ap (λ (v : List ℕ). command_spelled (v ∷ ws)) same
+    ap (λ (v : List ℕ). command_spelled (v ∷ ws)) same ∙ word.pattern_is_none ws
 
 -- a line that opens a block begins with `pattern`
-other_begin : (w a : List ℕ) (b : Bool) → bytes_eq w (codes "pattern") ≡ b → b ≡ false → opening_spelled (w ∷ a ∷ []) ≡ None
-other_begin w a true test differs = absurd (cc)
-other_begin w a false test differs = rw test refl
-
 pub no_opening : (ws : List (List ℕ)) → begins_with (codes "pattern") ws ≡ false → opening_spelled ws ≡ None
 no_opening [] is = refl
-no_opening (w ∷ []) is = refl
-no_opening (w ∷ a ∷ []) is = other_begin w a (bytes_eq w (codes "pattern")) refl is
-no_opening (w ∷ a ∷ v ∷ ws) is = refl
+no_opening (w ∷ ws) is = word.opens_no_block w ws is
 
 -- ---- commands
 
