@@ -19,26 +19,7 @@ use Rattle.genedit_script.specs.Script.{is_spoken, asked_by, rule_asked, replica
 -- no keyword begins a comment
 pub keyword_says : (k : Keyword) (behind : List (List ℕ)) → is_spoken (keyword_name k ∷ behind) ≡ true
 keyword_says keyword.Rule behind = refl
-keyword_says keyword.Replicas behind = refl
-keyword_says keyword.Cells behind = refl
-keyword_says keyword.Clear behind = refl
-keyword_says keyword.Pattern behind = refl
-keyword_says keyword.End behind = refl
-keyword_says keyword.Copy behind = refl
-keyword_says keyword.Or behind = refl
-keyword_says keyword.State behind = refl
-keyword_says keyword.Delta behind = refl
-keyword_says keyword.Deliver behind = refl
-keyword_says keyword.Show behind = refl
-keyword_says keyword.Same behind = refl
-keyword_says keyword.Dump behind = refl
-keyword_says keyword.Export behind = refl
-keyword_says keyword.Poll behind = refl
-keyword_says keyword.Wait behind = refl
-keyword_says keyword.Sleep behind = refl
-keyword_says keyword.Save behind = refl
-keyword_says keyword.Open behind = refl
-keyword_says keyword.Bye behind = refl
+keyword_says other behind = refl
 
 -- what spells something says something
 pub spelled_says : (dialect : Dialect) (ws : List (List ℕ)) (line : SpelledValue) → line_spelled dialect ws ≡ Some line → is_spoken ws ≡ true

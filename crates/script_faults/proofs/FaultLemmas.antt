@@ -1,8 +1,7 @@
 -- The faulty lines begin with the first fault, and stand in order.
 use Rattle.std.proofs.Common.{◌≡◌, ℕ, zero, suc, ◌+◌, ◌<◌, ◌≤◌, List, [], ◌∷◌, ◌++◌, refl, sym, ◌∙◌, ap, subst, arith, length, add-one, append_assoc}
-use Rattle.std.specs.Prelude.{⊤, ◌&&◌, ◌||◌, Bool, true, false, codes, Option, Some, None, Result, Ok, Err, slice_index}
-use Rattle.std.specs.Option.{ok_or, is_none}
-use Rattle.std.specs.Str.{bytes_eq}
+use Rattle.std.specs.Prelude.{⊤, ◌&&◌, ◌||◌, Bool, true, false, codes, Option, Some, None, option_map, Result, Ok, Err, slice_index}
+use Rattle.std.specs.Option.{ok_or, is_none, is_some}
 use Rattle.std.specs.Str.Lines.{lines}
 use Rattle.std.proofs.lemmas.Slice.Eq.{bytes_eq-Decides}
 use Rattle.generations_rule.specs.Refusal.{◌>>=◌}
@@ -260,3 +259,8 @@ same_after (due.End closing) line begins ends is = refl
 pub due_is : (d next : Due) (line : List ℕ) (behind : List NumberedLine) (closed : Bool) → closed ≡ (opens d line && has_end behind) → next ≡ due_after d line closed → next ≡ due_behind d line behind
 due_is d next line behind closed closed_is next_is =
     next_is ∙ ap (due_after d line) closed_is ∙ same_after d line (begins_with (codes "pattern") (words line)) (has_end behind) refl
+
+-- where nothing was found, nothing was meant
+pub none_meant : {A B : Type 0} (f : A → B) (found : Option A) (meant : Option B) → option_map f found ≡ meant → is_some found ≡ false → is_none meant ≡ true
+none_meant f None meant is none = ap is_none (sym is)
+none_meant f (Some a) meant is none = absurd (cc)
