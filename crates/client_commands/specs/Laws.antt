@@ -1,10 +1,18 @@
 -- What a client's commands are beside those of a script, and what its lines come to from the first on.
-use Rattle.std.specs.Prelude.{◌≡◌, ◌↔◌, ℕ, ◌+◌, ◌<◌, ◌^◌, Bool, true, false, ◌||◌, List, [], ◌∷◌, ◌++◌, length, map, codes, Option, Some, None, Result, Ok, Err}
+use Rattle.std.specs.Prelude.{◌≡◌, ◌↔◌, ℕ, ◌+◌, ◌<◌, ◌^◌, Bool, true, false, ◌&&◌, List, [], ◌∷◌, ◌++◌, length, map, codes, Option, Some, None, Result, Ok, Err}
+use Rattle.std.specs.Option.{option_map_or}
 use Rattle.std.specs.Str.{bytes_eq}
 use Rattle.std.specs.Str.Lines.{strip_carriage_return}
 use Rattle.multistate_rle.specs.Bytes.{◌>=>◌}
 use Rattle.multistate_rle.specs.Position.{words}
 use Rattle.replica_events.specs.declared.event.Event.TheVariants as event
+use Rattle.command_words.specs.declared.argument.Argument.{Argument}
+use Rattle.command_words.specs.declared.argument.Argument.TheVariants.{Replica}
+use Rattle.command_words.specs.declared.dialect.Dialect.TheVariants.{Client}
+use Rattle.command_words.specs.declared.keyword.Keyword.{Keyword}
+use Rattle.command_words.specs.Arguments.{optional_of, script_arguments}
+use Rattle.command_words.specs.Keywords.{keyword_spelled}
+use Rattle.command_words.specs.Spelled.{is_empty}
 use Rattle.genedit_script.specs.declared.command.Command.{Command}
 use Rattle.genedit_script.specs.declared.command.Command.TheVariants.{Does, Names, Copies, Ors}
 use Rattle.genedit_script.specs.Script.{opening_spelled, command_spelled, numbered_lines, commands_spelled, onto}
@@ -39,17 +47,21 @@ abbrev pub with_replica_1 : List (List ℕ) → List (List ℕ)
 with_replica_1 [] = []
 with_replica_1 (name ∷ words) = name ∷ codes "1" ∷ words
 
--- the names of the commands that a client has from scripts, with all that stands behind them
-abbrev pub is_shared : List ℕ → Bool
-is_shared name =
-    bytes_eq name (codes "cells") || (bytes_eq name (codes "clear") || (bytes_eq name (codes "copy") || (bytes_eq name (codes "or") || bytes_eq name (codes "show"))))
+-- the arguments begin with a replica
+abbrev pub take_replica : List Argument → Bool
+take_replica (Replica ∷ arguments) = true
+take_replica arguments = false
 
--- whether a line has such a name
+-- Scripts have the same behind this keyword of a client, but for the replica in front.
+abbrev pub is_shared : Keyword → Bool
+is_shared keyword = take_replica (script_arguments keyword) && is_empty (optional_of Client keyword)
+
+-- whether a line of a client begins with such a keyword
 abbrev pub is_shared_line : List (List ℕ) → Bool
 is_shared_line [] = false
-is_shared_line (name ∷ words) = is_shared name
+is_shared_line (name ∷ words) = option_map_or is_shared (keyword_spelled Client name) false
 
--- at such a name a client asks for what a script asks of replica 1, and neither for anything where the other does not
+-- at such a keyword a client asks for what a script asks of replica 1, and neither for anything where the other does not
 abbrev pub SpellTheSame : Type 0
 SpellTheSame = (words : List (List ℕ)) → is_shared_line words ≡ true →
     client_command_spelled words >=> at_replica_1 ≡ command_spelled (with_replica_1 words)

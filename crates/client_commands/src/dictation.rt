@@ -1,12 +1,12 @@
 //! The lines of a client, one by one.
 
-ghost use Rattle.std.specs.Prelude.{◌≡◌, ◌↔◌, IsTrue, IsSome, Some, None, IfOk, OnErr, option_map, codes};
-ghost use Rattle.std.specs.Str.{bytes_eq};
+ghost use Rattle.std.specs.Prelude.{◌≡◌, ◌↔◌, IsTrue, IsSome, Some, None, IfOk, OnErr, option_map};
 ghost use Rattle.client_commands.specs.Dictation.{inside_heard, outside_heard, line_heard, heard_by};
 
 use crate::block::OpenBlock;
 use crate::command::ClientCommand;
 use crate::spelling::command_in;
+use command_words::Keyword;
 use genedit_script::{opened_in, says_something, without_return};
 use std::alloc::{AllocError, Global};
 use std::marker::Model;
@@ -110,20 +110,13 @@ fn hear_inside(
     ensures heard { IfOk result (λ heard. (heard, block.new) ≡ inside_heard current line.now) }
     ensures kept { OnErr result (block.new ≡ Some current) }
 {
-    if closes_block(line) {
+    if Keyword::End.is_named(line) {
         return Ok(Heard::Command(current.into_command()));
     }
     let pushed = current.push(line);
     *block = Some(current);
     pushed?;
     Ok(Heard::Nothing)
-}
-
-/// Whether the line is exactly `end`.
-fn closes_block(line: &[u8]) -> bool
-    ensures { result ≡ bytes_eq line.now (codes "end") }
-{
-    line == b"end".as_slice()
 }
 
 /// What a line outside of a block comes to, and the block that it opens.

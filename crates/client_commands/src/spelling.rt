@@ -1,14 +1,16 @@
-//! What the words of a client's line spell.
+//! What the words of a client's line ask for.
 
 ghost use Rattle.std.specs.Prelude.{◌≡◌, IfOk, option_map};
 ghost use Rattle.multistate_rle.specs.Position.{words};
-ghost use Rattle.client_commands.specs.Commands.{client_command_spelled, session_spelled, cells_asked, clear_asked, placement_spelled, show_asked, export_asked, wait_asked, most_milliseconds, sleep_asked, file_spelled, alone};
+ghost use Rattle.replica_events.specs.declared.edit_spec.EditSpec.TheVariants.{Cells};
+ghost use Rattle.command_words.specs.Spelled.{spelled_of};
+ghost use Rattle.command_words.specs.Values.{cells_spelled};
+ghost use Rattle.client_commands.specs.declared.command.ClientCommand.TheVariants.{Draw};
+ghost use Rattle.client_commands.specs.Commands.{client_command_asked, client_command_spelled, placement_of, session_asked, wait_of};
 
 use crate::command::{ClientCommand, FileName, Placement, Wait};
-use genedit_script::{
-    PatternName, area_in, cells_in, ends, name_in, only_word, three_words, two_words, unsigned,
-};
-use multistate_rle::{signed, split_word};
+use command_words::{Dialect, Keyword, Spelled, cells_in, read_line};
+use genedit_script::{PatternName, area_of};
 use replica_events::{CellList, EditSpec};
 use std::alloc::{AllocError, Global};
 
@@ -19,183 +21,84 @@ const MILLISECONDS: u32 = 10_000;
 pub fn command_in(alloc: Global, line: &[u8]) -> Result<Option<ClientCommand>, AllocError>
     ensures { IfOk result (λ command. command ≡ client_command_spelled (words line.now)) }
 {
-    let Some((name, arguments)) = split_word(line) else {
-        return Ok(None);
-    };
-    if name == b"cells".as_slice() {
-        cells_in_words(alloc, arguments)
-    } else if name == b"clear".as_slice() {
-        Ok(clear_in(arguments))
-    } else if name == b"copy".as_slice() {
-        let placement = placement_in(alloc, arguments)?;
-        Ok(placement.map(ClientCommand::Copy))
-    } else if name == b"or".as_slice() {
-        let placement = placement_in(alloc, arguments)?;
-        Ok(placement.map(ClientCommand::Or))
-    } else if name == b"show".as_slice() {
-        Ok(show_in(arguments))
-    } else if name == b"export".as_slice() {
-        export_in(alloc, arguments)
-    } else {
-        session_command_in(alloc, name, arguments)
+    match read_line(Dialect::Client, line) {
+        Some(spelled) => command_asked(alloc, &spelled),
+        None => Ok(None),
     }
 }
 
-/// The command of a name that no script has, unless it is none.
-fn session_command_in(
-    alloc: Global,
-    name: &[u8],
-    arguments: &[u8],
-) -> Result<Option<ClientCommand>, AllocError>
-    ensures { IfOk result (λ command. command ≡ session_spelled name.now (words arguments.now)) }
+/// The command of what a line spells, unless it is none.
+fn command_asked(alloc: Global, spelled: &Spelled<'_>) -> Result<Option<ClientCommand>, AllocError>
+    ensures { IfOk result (λ command. command ≡ client_command_asked (spelled_of spelled.now)) }
 {
-    if name == b"poll".as_slice() {
-        Ok(alone_in(ClientCommand::Poll, arguments))
-    } else if name == b"wait".as_slice() {
-        Ok(wait_in(arguments))
-    } else if name == b"sleep".as_slice() {
-        Ok(sleep_in(arguments))
-    } else if name == b"save".as_slice() {
-        let file = file_in(alloc, arguments)?;
-        Ok(file.map(ClientCommand::Save))
-    } else if name == b"open".as_slice() {
-        let file = file_in(alloc, arguments)?;
-        Ok(file.map(ClientCommand::Open))
-    } else if name == b"bye".as_slice() {
-        Ok(alone_in(ClientCommand::Bye, arguments))
-    } else {
-        Ok(None)
+    let command = match spelled.keyword {
+        Keyword::Cells => return drawing_asked(alloc, spelled),
+        Keyword::Clear => ClientCommand::Draw(EditSpec::Clear(area_of(spelled))),
+        Keyword::Copy => ClientCommand::Copy(placement_of(alloc, spelled)?),
+        Keyword::Or => ClientCommand::Or(placement_of(alloc, spelled)?),
+        Keyword::Show => ClientCommand::Show(spelled.x, spelled.y),
+        _ => return session_asked(alloc, spelled),
+    };
+    Ok(Some(command))
+}
+
+/// The command that draws nothing, unless it is none.
+fn session_asked(alloc: Global, spelled: &Spelled<'_>) -> Result<Option<ClientCommand>, AllocError>
+    ensures { IfOk result (λ command. command ≡ session_asked (spelled_of spelled.now)) }
+{
+    match spelled.keyword {
+        Keyword::Export => {
+            let file = file_of(alloc, spelled)?;
+            Ok(Some(ClientCommand::Export(spelled.generation, file)))
+        }
+        Keyword::Poll => Ok(Some(ClientCommand::Poll)),
+        Keyword::Wait => Ok(Some(ClientCommand::Wait(wait_of(spelled)))),
+        Keyword::Sleep => Ok(spelled.milliseconds.map(ClientCommand::Sleep)),
+        Keyword::Save => Ok(file_of(alloc, spelled)?.map(ClientCommand::Save)),
+        Keyword::Open => Ok(file_of(alloc, spelled)?.map(ClientCommand::Open)),
+        Keyword::Bye => Ok(Some(ClientCommand::Bye)),
+        _ => Ok(None),
     }
 }
 
-/// `x y s ..`
-fn cells_in_words(alloc: Global, arguments: &[u8]) -> Result<Option<ClientCommand>, AllocError>
-    ensures { IfOk result (λ command. command ≡ cells_asked (words arguments.now)) }
+/// `cells x y state ..`
+fn drawing_asked(alloc: Global, spelled: &Spelled<'_>) -> Result<Option<ClientCommand>, AllocError>
+    ensures { IfOk result (λ command. command ≡ option_map (λ cells. Draw (Cells cells)) (cells_spelled (words spelled.now.behind.now))) }
 {
-    if ends(arguments) {
-        return Ok(None);
-    }
-    let Some(cells) = cells_in(alloc, arguments)? else {
+    let Some(cells) = cells_in(alloc, spelled.behind)? else {
         return Ok(None);
     };
-    Ok(Some(ClientCommand::Draw(EditSpec::Cells(CellList::of_vec(cells)))))
+    let drawn = EditSpec::Cells(CellList::of_vec(cells));
+    Ok(Some(ClientCommand::Draw(drawn)))
 }
 
-/// `x y w h`
-fn clear_in(arguments: &[u8]) -> Option<ClientCommand>
-    ensures { result ≡ clear_asked (words arguments.now) }
+/// Which pattern is drawn, and where.
+fn placement_of(alloc: Global, spelled: &Spelled<'_>) -> Result<Placement, AllocError>
+    ensures { IfOk result (λ placement. placement ≡ placement_of (spelled_of spelled.now)) }
 {
-    let (x, rest) = split_word(arguments)?;
-    let (y, width, height) = three_words(rest)?;
-    let area = area_in(x, y, width, height)?;
-    Some(ClientCommand::Draw(EditSpec::Clear(area)))
-}
-
-/// `NAME x y`
-fn placement_in(alloc: Global, arguments: &[u8]) -> Result<Option<Placement>, AllocError>
-    ensures { IfOk result (λ placement. placement ≡ placement_spelled (words arguments.now)) }
-{
-    let Some(spelled) = spelled_placement(arguments) else {
-        return Ok(None);
-    };
-    Ok(Some(Placement {
+    Ok(Placement {
         name: PatternName::of(alloc, spelled.name)?,
         x: spelled.x,
         y: spelled.y,
-    }))
+    })
 }
 
-/// A placement whose name still stands in the text.
-#[derive(Clone, Copy, Debug)]
-struct SpelledPlacement<'a> {
-    name: &'a [u8],
-    x: i32,
-    y: i32,
-}
-
-/// `NAME x y`
-fn spelled_placement(arguments: &[u8]) -> Option<SpelledPlacement<'_>>
-    ensures { option_map (λ placement. record { name = placement.name.now; x = placement.x; y = placement.y }) result ≡ placement_spelled (words arguments.now) }
+/// How many edits are waited for, and how long.
+fn wait_of(spelled: &Spelled<'_>) -> Wait
+    ensures { result ≡ wait_of (spelled_of spelled.now) }
 {
-    let (name, x, y) = three_words(arguments)?;
-    let name = name_in(name)?;
-    let x = signed(x)?;
-    let y = signed(y)?;
-    Some(SpelledPlacement { name, x, y })
-}
-
-/// `x y`
-fn show_in(arguments: &[u8]) -> Option<ClientCommand>
-    ensures { result ≡ show_asked (words arguments.now) }
-{
-    let (x, y) = two_words(arguments)?;
-    Some(ClientCommand::Show(signed(x)?, signed(y)?))
-}
-
-/// `G [FILE]`
-fn export_in(alloc: Global, arguments: &[u8]) -> Result<Option<ClientCommand>, AllocError>
-    ensures { IfOk result (λ command. command ≡ export_asked (words arguments.now)) }
-{
-    let Some((generation, rest)) = split_word(arguments) else {
-        return Ok(None);
-    };
-    let Some(generation) = unsigned(generation) else {
-        return Ok(None);
-    };
-    if ends(rest) {
-        return Ok(Some(ClientCommand::Export(generation, None)));
+    Wait {
+        edits: spelled.edits,
+        milliseconds: spelled.milliseconds.unwrap_or(MILLISECONDS),
     }
-    let Some(file) = file_in(alloc, rest)? else {
-        return Ok(None);
-    };
-    Ok(Some(ClientCommand::Export(generation, Some(file))))
 }
 
-/// `N [MS]`
-fn wait_in(arguments: &[u8]) -> Option<ClientCommand>
-    ensures { result ≡ wait_asked (words arguments.now) }
+/// The file that is named, if one is.
+fn file_of(alloc: Global, spelled: &Spelled<'_>) -> Result<Option<FileName>, AllocError>
+    ensures { IfOk result (λ file. file ≡ option_map (λ word. word.now) spelled.now.file) }
 {
-    let (edits, rest) = split_word(arguments)?;
-    let edits = unsigned(edits)?;
-    let milliseconds = milliseconds_in(rest)?;
-    Some(ClientCommand::Wait(Wait {
-        edits,
-        milliseconds,
-    }))
-}
-
-/// `[MS]`
-fn milliseconds_in(arguments: &[u8]) -> Option<u32>
-    ensures { result ≡ most_milliseconds (words arguments.now) }
-{
-    if ends(arguments) {
-        return Some(MILLISECONDS);
+    match spelled.file {
+        Some(word) => Ok(Some(FileName::of(alloc, word)?)),
+        None => Ok(None),
     }
-    unsigned(only_word(arguments)?)
-}
-
-/// `MS`
-fn sleep_in(arguments: &[u8]) -> Option<ClientCommand>
-    ensures { result ≡ sleep_asked (words arguments.now) }
-{
-    let milliseconds = only_word(arguments)?;
-    Some(ClientCommand::Sleep(unsigned(milliseconds)?))
-}
-
-/// `FILE`
-fn file_in(alloc: Global, arguments: &[u8]) -> Result<Option<FileName>, AllocError>
-    ensures { IfOk result (λ file. file ≡ file_spelled (words arguments.now)) }
-{
-    let Some(word) = only_word(arguments) else {
-        return Ok(None);
-    };
-    let file = FileName::of(alloc, word)?;
-    Ok(Some(file))
-}
-
-/// A command that takes no words.
-fn alone_in(command: ClientCommand, arguments: &[u8]) -> Option<ClientCommand>
-    ensures { result ≡ alone command (words arguments.now) }
-{
-    if ends(arguments) { Some(command) } else { None }
 }

@@ -109,3 +109,14 @@ found None command n more is = absurd (cc)
 found (Some other) command n more is =
     let same : other ≡ command = cc in
     ap (λ c. onto c more) same
+
+-- a fault of what is read first is the fault of all
+pub first_fault : {A B : Type 0} (fault : ScriptFault) (first : Result A ℕ) (rest : A → Result B ℕ) → IsFaultOf fault first → IsFaultOf fault (first >>= rest)
+first_fault (Line n) first rest is = ap (λ f. f >>= rest) is
+first_fault Memory first rest is = tt
+
+-- a fault of what is read behind it is the fault of all
+pub later_fault : {A B : Type 0} (fault : ScriptFault) (first : Result A ℕ) (rest : A → Result B ℕ) (read : A) → first ≡ Ok read →
+    IsFaultOf fault (rest read) → IsFaultOf fault (first >>= rest)
+later_fault (Line n) first rest read is told = ap (λ f. f >>= rest) is ∙ told
+later_fault Memory first rest read is told = tt

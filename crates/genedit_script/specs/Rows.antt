@@ -6,7 +6,8 @@ use Rattle.multistate_rle.specs.Position.{words, signed_number}
 use Rattle.replica_events.specs.declared.event.Event.TheVariants.{Draw, SendState, Deliver, Show}
 use Rattle.replica_events.specs.declared.edit_spec.EditSpec.TheVariants.{Cells, Clear}
 use Rattle.genedit_script.specs.declared.command.Command.TheVariants.{Does, Names, Copies, Ors}
-use Rattle.genedit_script.specs.Script.{script_of, number_spelled, event_spelled, name_spelled, command_spelled, replicas_spelled}
+use Rattle.command_words.specs.Values.{number_spelled, name_spelled}
+use Rattle.genedit_script.specs.Script.{script_of, event_spelled, command_spelled, replicas_spelled}
 
 -- ---- lines and words
 

@@ -1,7 +1,5 @@
--- Scripts: a text's lines, their words, and the commands that they spell; or the line of the first fault.
-use Rattle.std.specs.Prelude.{ℕ, ◌+◌, Bool, false, not, ◌&&◌, ◌==◌, nat_le, if◌then◌else◌, List, [], ◌∷◌, ◌++◌, length, codes, Option, Some, None, option_map, Result, Ok, Err}
-use Rattle.std.specs.Char.{is_ascii_alphanumeric}
-use Rattle.std.specs.List.{list_all}
+-- Scripts: a text's lines, the commands that their words spell, or the line of the first fault.
+use Rattle.std.specs.Prelude.{ℕ, ◌+◌, Bool, false, not, ◌==◌, if◌then◌else◌, List, [], ◌∷◌, ◌++◌, length, codes, Option, Some, None, option_map, Result, Ok, Err}
 use Rattle.std.specs.Option.{ok_or}
 use Rattle.std.specs.Result.{result_ok}
 use Rattle.std.specs.Str.{bytes_eq}
@@ -9,13 +7,16 @@ use Rattle.std.specs.Str.Lines.{lines}
 use Rattle.generations_rule.specs.Refusal.{◌>>=◌}
 use Rattle.generations_rule.specs.Rule.{GenerationsRule}
 use Rattle.generations_rule.specs.RuleText.{parsed}
-use Rattle.multistate_rle.specs.Bytes.{◌>=>◌, decimal_number}
-use Rattle.multistate_rle.specs.Position.{words, signed_number}
-use Rattle.pattern_cells.specs.declared.cell.Cell.{Cell}
+use Rattle.multistate_rle.specs.Bytes.{◌>=>◌}
+use Rattle.multistate_rle.specs.Position.{words}
 use Rattle.edit_stamps.specs.declared.rect.Rect.{Rect}
 use Rattle.replica_events.specs.declared.event.Event.{Event}
 use Rattle.replica_events.specs.declared.event.Event.TheVariants.{Draw, SendDelta, SendState, Deliver, Show, Same, Dump, Export}
 use Rattle.replica_events.specs.declared.edit_spec.EditSpec.TheVariants.{Cells, Clear}
+use Rattle.command_words.specs.declared.dialect.Dialect.TheVariants.{Script}
+use Rattle.command_words.specs.declared.keyword.Keyword.TheVariants as keyword
+use Rattle.command_words.specs.Spelled.{SpelledValue, line_spelled}
+use Rattle.command_words.specs.Values.{cells_spelled}
 use Rattle.genedit_script.specs.declared.command.Command.{Command}
 use Rattle.genedit_script.specs.declared.command.Command.TheVariants.{Does, Names, Copies, Ors}
 use Rattle.genedit_script.specs.declared.command.Paste.{Paste}
@@ -26,130 +27,69 @@ pub record ScriptValue : Type 0 where
   pub replicas : ℕ
   pub commands : List Command
 
--- ---- words
+-- ---- what a line asks for, by what its words spell
 
--- a number of 32 bits
-abbrev pub number_spelled : List ℕ → Option ℕ
-number_spelled word = decimal_number 4294967295 word
+-- what is wanted of words that spell something
+abbrev pub asked_by : {A : Type 0} → (SpelledValue → Option A) → List (List ℕ) → Option A
+asked_by asked words = line_spelled Script words >=> asked
 
--- a coordinate and a state
-abbrev pub cell_spelled : List ℕ → List ℕ → List ℕ → Option Cell
-cell_spelled x y state = signed_number x >=> λ x. signed_number y >=> λ y. decimal_number 255 state >=> λ state. Some (record { x = x; y = y; state = state })
+-- `rule S/B/C`
+abbrev pub rule_asked : SpelledValue → Option GenerationsRule
+rule_asked line = elim line.keyword [ keyword.Rule ↦ result_ok (parsed line.rule) | _ ↦ None ]
+
+-- `replicas N`
+abbrev pub replicas_asked : SpelledValue → Option ℕ
+replicas_asked line = elim line.keyword [ keyword.Replicas ↦ Some line.replicas | _ ↦ None ]
+
+-- `pattern NAME`
+abbrev pub opening_asked : SpelledValue → Option (List ℕ)
+opening_asked line = elim line.keyword [ keyword.Pattern ↦ Some line.name | _ ↦ None ]
 
 -- a corner and two sides
-abbrev pub area_spelled : List ℕ → List ℕ → List ℕ → List ℕ → Option Rect
-area_spelled x y width height =
-    signed_number x >=> λ x. signed_number y >=> λ y. number_spelled width >=> λ width. number_spelled height >=> λ height.
-    Some (record { x = x; y = y; width = width; height = height })
+abbrev pub area_of : SpelledValue → Rect
+area_of line = record { x = line.x; y = line.y; width = line.width; height = line.height }
 
--- each three words are a cell
-abbrev pub cells_spelled : List (List ℕ) → Option (List Cell)
-cells_spelled [] = Some []
-cells_spelled (x ∷ y ∷ state ∷ words) = cell_spelled x y state >=> λ cell. option_map (λ cells. cell ∷ cells) (cells_spelled words)
-cells_spelled (x ∷ y ∷ []) = None
-cells_spelled (x ∷ []) = None
+abbrev pub paste_of : SpelledValue → Paste
+paste_of line = record { replica = line.replica; name = line.name; x = line.x; y = line.y }
 
--- ---- commands, by the words behind their names
+-- what happens
+abbrev pub event_asked : SpelledValue → Option Event
+event_asked line = elim line.keyword [
+  | keyword.Cells ↦ option_map (λ cells. Draw line.replica (Cells cells)) (cells_spelled line.behind)
+  | keyword.Clear ↦ Some (Draw line.replica (Clear (area_of line)))
+  | keyword.State ↦ Some (SendState line.replica)
+  | keyword.Delta ↦ Some (SendDelta line.replica line.from line.count)
+  | keyword.Deliver ↦ Some (Deliver line.message line.replica)
+  | keyword.Show ↦ Some (Show line.replica line.x line.y)
+  | keyword.Same ↦ Some (Same line.replica line.other_replica)
+  | keyword.Dump ↦ Some (Dump line.message)
+  | keyword.Export ↦ Some (Export line.replica line.generation)
+  | _ ↦ None
+]
 
--- R x y s ..
-abbrev pub draw_spelled : List (List ℕ) → Option Event
-draw_spelled [] = None
-draw_spelled (replica ∷ []) = None
-draw_spelled (replica ∷ x ∷ words) = number_spelled replica >=> λ replica. option_map (λ cells. Draw replica (Cells cells)) (cells_spelled (x ∷ words))
+-- a paste, or what happens
+abbrev pub command_asked : SpelledValue → Option Command
+command_asked line = elim line.keyword [
+  | keyword.Copy ↦ Some (Copies (paste_of line))
+  | keyword.Or ↦ Some (Ors (paste_of line))
+  | _ ↦ option_map Does (event_asked line)
+]
 
--- R
-abbrev pub sending_spelled : List (List ℕ) → Option Event
-sending_spelled (replica ∷ []) = option_map SendState (number_spelled replica)
-sending_spelled _ = None
+abbrev pub rule_spelled : List (List ℕ) → Option GenerationsRule
+rule_spelled words = asked_by rule_asked words
 
--- R FROM COUNT
-abbrev pub delta_spelled : List (List ℕ) → Option Event
-delta_spelled (replica ∷ from ∷ count ∷ []) = number_spelled replica >=> λ replica. number_spelled from >=> λ from. option_map (SendDelta replica from) (number_spelled count)
-delta_spelled _ = None
+abbrev pub replicas_spelled : List (List ℕ) → Option ℕ
+replicas_spelled words = asked_by replicas_asked words
 
--- M R
-abbrev pub delivery_spelled : List (List ℕ) → Option Event
-delivery_spelled (message ∷ replica ∷ []) = number_spelled message >=> λ message. option_map (Deliver message) (number_spelled replica)
-delivery_spelled _ = None
+abbrev pub opening_spelled : List (List ℕ) → Option (List ℕ)
+opening_spelled words = asked_by opening_asked words
 
--- R x y
-abbrev pub show_spelled : List (List ℕ) → Option Event
-show_spelled (replica ∷ x ∷ y ∷ []) = number_spelled replica >=> λ replica. signed_number x >=> λ x. option_map (Show replica x) (signed_number y)
-show_spelled _ = None
-
--- A B
-abbrev pub same_spelled : List (List ℕ) → Option Event
-same_spelled (one ∷ other ∷ []) = number_spelled one >=> λ one. option_map (Same one) (number_spelled other)
-same_spelled _ = None
-
--- M
-abbrev pub dump_spelled : List (List ℕ) → Option Event
-dump_spelled (message ∷ []) = option_map Dump (number_spelled message)
-dump_spelled _ = None
-
--- R G
-abbrev pub export_spelled : List (List ℕ) → Option Event
-export_spelled (replica ∷ generation ∷ []) = number_spelled replica >=> λ replica. option_map (Export replica) (number_spelled generation)
-export_spelled _ = None
-
--- R x y w h
-abbrev pub clear_spelled : List (List ℕ) → Option Event
-clear_spelled (replica ∷ x ∷ y ∷ width ∷ height ∷ []) = number_spelled replica >=> λ replica. option_map (λ area. Draw replica (Clear area)) (area_spelled x y width height)
-clear_spelled _ = None
-
--- the event of a command
 abbrev pub event_spelled : List (List ℕ) → Option Event
-event_spelled [] = None
-event_spelled (name ∷ words) =
-    if bytes_eq name (codes "cells") then draw_spelled words
-    else (if bytes_eq name (codes "state") then sending_spelled words
-    else (if bytes_eq name (codes "deliver") then delivery_spelled words
-    else (if bytes_eq name (codes "show") then show_spelled words
-    else (if bytes_eq name (codes "clear") then clear_spelled words
-    else (if bytes_eq name (codes "same") then same_spelled words
-    else (if bytes_eq name (codes "delta") then delta_spelled words
-    else (if bytes_eq name (codes "dump") then dump_spelled words
-    else (if bytes_eq name (codes "export") then export_spelled words else None))))))))
-
--- 1 to 16 ASCII letters and digits
-abbrev pub is_pattern_name : List ℕ → Bool
-is_pattern_name word = nat_le 1 (length word) && nat_le (length word) 16 && list_all is_ascii_alphanumeric word
-
--- the word, if it is a name
-abbrev pub name_spelled : List ℕ → Option (List ℕ)
-name_spelled word = if is_pattern_name word then Some word else None
-
--- R NAME x y
-abbrev pub paste_spelled : List (List ℕ) → Option Paste
-paste_spelled (replica ∷ name ∷ x ∷ y ∷ []) =
-    number_spelled replica >=> λ replica. name_spelled name >=> λ name. signed_number x >=> λ x. signed_number y >=> λ y.
-    Some (record { replica = replica; name = name; x = x; y = y })
-paste_spelled _ = None
+event_spelled words = asked_by event_asked words
 
 -- the command of one line
 abbrev pub command_spelled : List (List ℕ) → Option Command
-command_spelled [] = None
-command_spelled (name ∷ words) =
-    if bytes_eq name (codes "copy") then option_map Copies (paste_spelled words)
-    else (if bytes_eq name (codes "or") then option_map Ors (paste_spelled words)
-    else option_map Does (event_spelled (name ∷ words)))
-
--- the one word behind a name
-abbrev pub argument_behind : List ℕ → List (List ℕ) → Option (List ℕ)
-argument_behind name (first ∷ argument ∷ []) = if bytes_eq first name then Some argument else None
-argument_behind name _ = None
-
--- `rule TEXT`
-abbrev pub rule_spelled : List (List ℕ) → Option GenerationsRule
-rule_spelled words = argument_behind (codes "rule") words >=> λ text. result_ok (parsed text)
-
--- `replicas N`
-abbrev pub replicas_spelled : List (List ℕ) → Option ℕ
-replicas_spelled words = argument_behind (codes "replicas") words >=> λ n. decimal_number 64 n
-
--- `pattern NAME`
-abbrev pub opening_spelled : List (List ℕ) → Option (List ℕ)
-opening_spelled words = argument_behind (codes "pattern") words >=> name_spelled
+command_spelled words = asked_by command_asked words
 
 -- ---- lines
 

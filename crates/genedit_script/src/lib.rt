@@ -14,7 +14,4 @@ pub use fault::ScriptFault;
 pub use laws::script_laws;
 pub use line::{Line, Lines, says_something, without_return};
 pub use script::{Script, read_script};
-pub use spelling::{
-    area_in, cells_in, command_in, ends, name_in, only_word, opened_in, replicas_in, rule_in,
-    three_words, two_words, unsigned,
-};
+pub use spelling::{area_of, command_in, opened_in, replicas_in, rule_in};

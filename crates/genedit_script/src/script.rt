@@ -9,6 +9,7 @@ use crate::command::{Command, PatternName, PatternText};
 use crate::fault::ScriptFault;
 use crate::line::{Line, Lines};
 use crate::spelling::{command_in, opened_in, replicas_in, rule_in};
+use command_words::Keyword;
 use generations_rule::Rule;
 use std::alloc::Global;
 use std::marker::Model;
@@ -61,13 +62,10 @@ impl Script {
 
 /// The script of a text, which is checked to its end, or the first line with a fault.
 ///
-/// Lines end with LF, and a CR before it is dropped; words stand between spaces and tabs. Lines
-/// without a word, and those whose first word begins with `#`, are skipped. The first line that is
-/// not skipped is `rule TEXT`, the second `replicas N` with N up to 64, and each later one is a
-/// command: `cells R x y s ..`, `clear R x y w h`, `copy R NAME x y`, `or R NAME x y`, `state R`,
-/// `delta R FROM COUNT`, `deliver M R`, `show R x y`, `same A B`, `dump M` or `export R G`, or it
-/// opens a block: `pattern NAME`. R, A, B, M, w, h, FROM, COUNT and G have 32 bits, coordinates 32
-/// bits with a sign, states are up to 255, and a NAME is 1 to 16 ASCII letters and digits.
+/// Lines end with LF, and a CR before it is dropped. Lines without a word, and those whose first word
+/// begins with `#`, are skipped. The first line that is not skipped is `rule S/B/C`, the second
+/// `replicas N`, and each later one is a command, or it opens a block: `pattern NAME`. How the words of
+/// a line are written says `command_words`.
 ///
 /// A block's text is the lines behind its `pattern` line up to the first that is exactly `end`,
 /// none of them skipped, each with one LF behind it. A block without its `end` has its fault at its
@@ -168,7 +166,7 @@ fn block_in(
 {
     let mut text = Vec::new(alloc);
     while let Some(line) = lines.next_line() {
-        if line.text == b"end".as_slice() {
+        if Keyword::End.is_named(line.text) {
             let name = PatternName::of(alloc, name)?;
             return Ok(Command::Names(name, PatternText::of_vec(text)));
         }

@@ -9,7 +9,8 @@ ghost use Rattle.genedit_words.specs.Words.{check_shape, every_option, file_argu
 use clap::{Arg, ArgAction, Command, value_parser};
 use std::alloc::{AllocError, Global};
 
-const SCRIPT_HELP: &str = "\
+/// What `genedit run --help` tells of scripts: a line for each of their keywords, and what it does.
+pub const SCRIPT_HELP: &str = "\
 The script has a line for each step. A line whose first word begins with # is a comment; within a
 pattern's block it is part of the pattern's text.
 Replicas and messages are numbered from 1. A pattern is drawn where the line says: the position, the
@@ -91,7 +92,8 @@ Examples:
 
 From another machine: ssh -L 7020:127.0.0.1:7020 HOST, and connect to port 7020 there.";
 
-const JOIN_HELP: &str = "\
+/// What `genedit join --help` tells of clients: a line for each of their keywords, and what it does.
+pub const JOIN_HELP: &str = "\
 Joins a board that `genedit serve` publishes on this machine, and carries out commands from standard
 input, one a line. It prints `joined SEAT RULE`, then what each command prints. Before a drawing it
 polls, so that the drawing goes over all that others drew by then.

@@ -7,6 +7,7 @@ mod ending;
 mod task;
 mod words;
 
+pub use commands::{JOIN_HELP, SCRIPT_HELP};
 pub use ending::Ending;
 pub use task::{Client, Server, Task, Viewing};
 pub use words::{asked, given};

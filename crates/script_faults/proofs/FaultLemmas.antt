@@ -1,8 +1,7 @@
 -- The faulty lines begin with the first fault, and stand in order.
 use Rattle.std.proofs.Common.{◌≡◌, ℕ, zero, suc, ◌+◌, ◌<◌, ◌≤◌, List, [], ◌∷◌, ◌++◌, refl, sym, ◌∙◌, ap, subst, arith, length, add-one, append_assoc}
-use Rattle.std.specs.Prelude.{⊤, ◌&&◌, ◌||◌, Bool, true, false, codes, Option, Some, None, Result, Ok, Err, slice_index}
-use Rattle.std.specs.Option.{ok_or, is_none}
-use Rattle.std.specs.Str.{bytes_eq}
+use Rattle.std.specs.Prelude.{⊤, ◌&&◌, ◌||◌, Bool, true, false, codes, Option, Some, None, option_map, Result, Ok, Err, slice_index}
+use Rattle.std.specs.Option.{ok_or, is_none, is_some}
 use Rattle.std.specs.Str.Lines.{lines}
 use Rattle.std.proofs.lemmas.Slice.Eq.{bytes_eq-Decides}
 use Rattle.generations_rule.specs.Refusal.{◌>>=◌}
@@ -11,6 +10,7 @@ use Rattle.multistate_rle.specs.Position.{words}
 use Rattle.genedit_script.specs.declared.command.Command.{Command}
 use Rattle.genedit_script.specs.declared.command.Command.TheVariants.{Names}
 use Rattle.genedit_script.specs.Script.{NumberedLine, ScriptValue, Head, PatternBlock, numbered_lines, lines_from, is_spoken, past_skipped, first_line, onto, rule_spelled, replicas_spelled, opening_spelled, command_spelled, commands_spelled, head_spelled, script_of}
+use Rattle.genedit_script.proofs.WordLaws as word
 use Rattle.genedit_script.proofs.WordLaws.{rule_words, replicas_words}
 use Rattle.script_faults.specs.declared.due.Closing.TheVariants.{Exact}
 use Rattle.script_faults.specs.declared.due.Due.{Due}
@@ -71,18 +71,12 @@ pub pattern_is_none : (ws : List (List ℕ)) → begins_with (codes "pattern") w
 pattern_is_none [] is = absurd (cc)
 pattern_is_none (w ∷ ws) is =
     let same : w ≡ codes "pattern" = (bytes_eq-Decides w (codes "pattern")).0 is in
-    ap (λ (v : List ℕ). command_spelled (v ∷ ws)) same
+    ap (λ (v : List ℕ). command_spelled (v ∷ ws)) same ∙ word.pattern_is_none ws
 
 -- a line that opens a block begins with `pattern`
-other_begin : (w a : List ℕ) (b : Bool) → bytes_eq w (codes "pattern") ≡ b → b ≡ false → opening_spelled (w ∷ a ∷ []) ≡ None
-other_begin w a true test differs = absurd (cc)
-other_begin w a false test differs = rw test refl
-
 pub no_opening : (ws : List (List ℕ)) → begins_with (codes "pattern") ws ≡ false → opening_spelled ws ≡ None
 no_opening [] is = refl
-no_opening (w ∷ []) is = refl
-no_opening (w ∷ a ∷ []) is = other_begin w a (bytes_eq w (codes "pattern")) refl is
-no_opening (w ∷ a ∷ v ∷ ws) is = refl
+no_opening (w ∷ ws) is = word.opens_no_block w ws is
 
 -- ---- commands
 
@@ -265,3 +259,8 @@ same_after (due.End closing) line begins ends is = refl
 pub due_is : (d next : Due) (line : List ℕ) (behind : List NumberedLine) (closed : Bool) → closed ≡ (opens d line && has_end behind) → next ≡ due_after d line closed → next ≡ due_behind d line behind
 due_is d next line behind closed closed_is next_is =
     next_is ∙ ap (due_after d line) closed_is ∙ same_after d line (begins_with (codes "pattern") (words line)) (has_end behind) refl
+
+-- where nothing was found, nothing was meant
+pub none_meant : {A B : Type 0} (f : A → B) (found : Option A) (meant : Option B) → option_map f found ≡ meant → is_some found ≡ false → is_none meant ≡ true
+none_meant f None meant is none = ap is_none (sym is)
+none_meant f (Some a) meant is none = absurd (cc)

@@ -1,6 +1,5 @@
 pub mod Faults
 pub mod Findings
-pub mod Keywords
 pub mod Laws
 pub mod Rows
 pub mod Warnings

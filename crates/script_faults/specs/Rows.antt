@@ -1,9 +1,6 @@
 -- Worked values of the definitions.
-use Rattle.std.specs.Prelude.{◌≡◌, [], ◌∷◌, codes, refl, Some, None}
+use Rattle.std.specs.Prelude.{◌≡◌, [], ◌∷◌, codes, refl}
 use Rattle.script_faults.specs.Faults.{faulty_lines}
-use Rattle.script_faults.specs.Keywords.{keyword_spelled}
-use Rattle.script_faults.specs.declared.dialect.Dialect.TheVariants.{Script, Client}
-use Rattle.script_faults.specs.declared.keyword.Keyword.TheVariants.{Poll, Show}
 
 pub none : faulty_lines (codes "rule /2/3\nreplicas 1\npattern a\nbo!\nend\ncopy 1 a 0 0\n") ≡ []
 none = refl
@@ -31,16 +28,3 @@ open_block = refl
 
 pub no_block : faulty_lines (codes "rule /2/3\nreplicas 1\nend\nend\n") ≡ 3 ∷ 4 ∷ []
 no_block = refl
-
--- a client polls, and a script does not
-pub polling : keyword_spelled Client (codes "poll") ≡ Some Poll
-polling = refl
-
-pub polling_script : keyword_spelled Script (codes "poll") ≡ None
-polling_script = refl
-
-pub showing : keyword_spelled Script (codes "show") ≡ Some Show
-showing = refl
-
-pub misspelt : keyword_spelled Client (codes "shwo") ≡ None
-misspelt = refl

@@ -2,10 +2,12 @@
 
 ghost use Rattle.std.specs.Prelude.{◌≡◌, ◌&&◌, codes, true, false};
 ghost use Rattle.multistate_rle.specs.Position.{words};
-ghost use Rattle.genedit_script.specs.Script.{is_spoken, lines_from};
+ghost use Rattle.command_words.specs.Keywords.{keyword_name};
+ghost use Rattle.genedit_script.specs.Script.{lines_from};
 ghost use Rattle.script_faults.specs.Faults.{are_only, begins_with, has_end, opens};
 
-use genedit_script::Lines;
+use command_words::Keyword;
+use genedit_script::{Lines, says_something};
 use multistate_rle::split_word;
 
 /// What closes a block.
@@ -51,7 +53,7 @@ impl Closing {
         ensures { result ≡ closes self line.now }
     {
         match self {
-            Closing::Exact => line == b"end".as_slice(),
+            Closing::Exact => Keyword::End.is_named(line),
             Closing::Blank => is_only_end(line),
         }
     }
@@ -78,7 +80,7 @@ impl Due {
     {
         match self {
             Due::End(_) => false,
-            Due::Rule | Due::Replicas | Due::Command => begins_with(b"pattern", line),
+            Due::Rule | Due::Replicas | Due::Command => begins_with(Keyword::Pattern, line),
         }
     }
 
@@ -89,10 +91,10 @@ impl Due {
         match self {
             Due::End(closing) if closing.is_met_by(line) => Due::Command,
             Due::End(closing) => Due::End(closing),
-            _ if begins_with(b"pattern", line) => Due::End(Closing::of_block(closed)),
-            Due::Rule if begins_with(b"replicas", line) => Due::Command,
+            _ if begins_with(Keyword::Pattern, line) => Due::End(Closing::of_block(closed)),
+            Due::Rule if begins_with(Keyword::Replicas, line) => Due::Command,
             Due::Rule => Due::Replicas,
-            Due::Replicas if begins_with(b"rule", line) => Due::Replicas,
+            Due::Replicas if begins_with(Keyword::Rule, line) => Due::Replicas,
             Due::Replicas | Due::Command => Due::Command,
         }
     }
@@ -119,11 +121,11 @@ pub fn opens_closed(due: Due, line: &[u8], lines: Lines<'_>, ends: &mut Ends) ->
 }
 
 /// Whether the line's first word is this one.
-pub fn begins_with(name: &[u8], line: &[u8]) -> bool
-    ensures { result ≡ begins_with name.now (words line.now) }
+pub fn begins_with(keyword: Keyword, line: &[u8]) -> bool
+    ensures { result ≡ begins_with (keyword_name keyword) (words line.now) }
 {
     match split_word(line) {
-        Some((word, _)) => word == name,
+        Some((word, _)) => keyword.is_named(word),
         None => false,
     }
 }
@@ -154,17 +156,7 @@ fn is_only_end(line: &[u8]) -> bool
     ensures { result ≡ are_only (codes "end") (words line.now) }
 {
     match split_word(line) {
-        Some((word, rest)) => word == b"end".as_slice() && split_word(rest).is_none(),
-        None => false,
-    }
-}
-
-/// Whether some word stands there, and the first begins no comment.
-fn says_something(line: &[u8]) -> bool
-    ensures { result ≡ is_spoken (words line.now) }
-{
-    match split_word(line) {
-        Some((word, _)) => word.first() != Some(&b'#'),
+        Some((word, rest)) => Keyword::End.is_named(word) && split_word(rest).is_none(),
         None => false,
     }
 }

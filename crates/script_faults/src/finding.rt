@@ -3,11 +3,11 @@
 ghost use Rattle.std.specs.Prelude.{IfOk, IfSome, ◌≡◌, ◌+◌, ◌<◌, ◌≤◌, length};
 ghost use Rattle.script_faults.specs.Findings.{StandsIn};
 
-use crate::dialect::Dialect;
-use crate::keyword::Keyword;
+use crate::misfit::misfit;
 use crate::nearest::nearest;
 use crate::reason::Reason;
 use crate::word::{Word, Words};
+use command_words::{Argument, Dialect, Keyword};
 use generations_rule::RuleFault;
 use std::alloc::{AllocError, Global};
 
@@ -131,8 +131,7 @@ pub fn opening_finding(line: &[u8], almost_end: Option<u64>, closed: bool) -> Fi
 /// Whether just a name follows.
 fn is_opening(mut words: Words<'_>) -> bool {
     match words.next_word() {
-        Some(word) => crate::argument::Argument::Name.fits(word.text)
-            && words.next_word().is_none(),
+        Some(word) => Argument::Name.fits(word.text) && words.next_word().is_none(),
         None => false,
     }
 }
@@ -168,7 +167,7 @@ fn arguments_finding(dialect: Dialect, keyword: Keyword, mut words: Words<'_>) -
             return word.finding(surplus(word, keyword));
         };
         if !argument.fits(word.text) {
-            return misfit_finding(argument.misfit(word.text), word);
+            return misfit_finding(misfit(argument, word.text), word);
         }
         place = place.saturating_add(1);
     }

@@ -2,12 +2,10 @@
 //! and those of a client's lines, one by one.
 #![tactic(auto)]
 
-mod argument;
-mod dialect;
 mod due;
 mod finding;
-mod keyword;
 mod laws;
+mod misfit;
 mod nearest;
 mod note;
 mod notes;
@@ -17,10 +15,8 @@ mod texts;
 mod warning;
 mod word;
 
-pub use argument::Argument;
-pub use dialect::Dialect;
+pub use command_words::{Argument, Dialect, Keyword};
 pub use finding::{Finding, client_finding};
-pub use keyword::Keyword;
 pub use laws::fault_laws;
 pub use note::{Note, Place};
 pub use notes::{Notes, notes_in};

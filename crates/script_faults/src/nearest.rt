@@ -1,7 +1,6 @@
 //! The keyword that a misspelt word may mean.
 
-use crate::dialect::Dialect;
-use crate::keyword::Keyword;
+use command_words::{Dialect, Keyword};
 use std::alloc::{AllocError, Global};
 use strsim::jaro;
 

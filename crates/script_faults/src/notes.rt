@@ -15,6 +15,7 @@ use crate::finding::{
 use crate::note::{Note, Place};
 use crate::reason::Reason;
 use crate::warning::header_warning;
+use command_words::Keyword;
 use genedit_script::{Line, Lines, command_in, opened_in, replicas_in, rule_in};
 use generations_rule::Rule;
 use std::alloc::{AllocError, Global};
@@ -128,7 +129,7 @@ fn note_at(
             Some(_) => Ok(None),
             None => Ok(Some(fault_at(line, replicas_finding(alloc, line.text)?))),
         },
-        Due::Command if begins_with(b"pattern", line.text) => Ok(block_note(
+        Due::Command if begins_with(Keyword::Pattern, line.text) => Ok(block_note(
             told, line, behind, closed,
         )),
         Due::Command => match command_in(alloc, line.text)? {

@@ -1,7 +1,6 @@
 //! What is wrong with a line, and what may be.
 
-use crate::argument::Argument;
-use crate::keyword::Keyword;
+use command_words::{Argument, Keyword};
 use generations_rule::RuleFault;
 
 /// What is wrong with a line of a script or of a client.

@@ -1,9 +1,7 @@
 //! What notes say.
 
-use crate::argument::Argument;
-use crate::dialect::Dialect;
-use crate::keyword::Keyword;
 use crate::reason::{Reason, Warning};
+use command_words::{Argument, Dialect, Keyword};
 use generations_rule::{Rule, RuleFault};
 use header_rules::spelled_rule;
 use std::alloc::{AllocError, Global};
@@ -25,7 +23,7 @@ pub fn reason_text(
         Reason::OtherDialect => other_dialect_text(alloc, dialect, word),
         Reason::Missing(argument, keyword) => missing_text(alloc, dialect, argument, keyword),
         Reason::Surplus(keyword) => {
-            format!(in alloc; "a word too many: `{}`", keyword.form(dialect))
+            format!(in alloc; "a word too many: `{}`", keyword.form(alloc, dialect)?)
         }
         Reason::Remark => String::from_str(
             alloc,
@@ -112,7 +110,7 @@ fn order_text(alloc: Global, dialect: Dialect, reason: Reason) -> Result<String,
         Reason::RuleAgain(line) => again_text(alloc, "the rule", "first", line),
         Reason::ReplicasAgain(line) => again_text(alloc, "the number of replicas", "second", line),
         Reason::NoForm(keyword) => {
-            format!(in alloc; "the line is written `{}`", keyword.form(dialect))
+            format!(in alloc; "the line is written `{}`", keyword.form(alloc, dialect)?)
         }
         _ => Ok(String::new(alloc)),
     }
@@ -175,7 +173,7 @@ fn missing_text(
     format!(in alloc;
         "{} is missing: `{}`",
         argument.name(),
-        keyword.form(dialect)
+        keyword.form(alloc, dialect)?
     )
 }
 

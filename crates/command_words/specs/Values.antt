@@ -1,0 +1,44 @@
+-- What single words say.
+use Rattle.std.specs.Prelude.{ℕ, Bool, ◌&&◌, nat_le, if◌then◌else◌, List, [], ◌∷◌, length, Option, Some, None, option_map}
+use Rattle.std.specs.Char.{is_ascii_alphanumeric}
+use Rattle.std.specs.List.{list_all}
+use Rattle.std.specs.Result.{is_ok}
+use Rattle.generations_rule.specs.RuleText.{parsed}
+use Rattle.multistate_rle.specs.Bytes.{◌>=>◌, decimal_number}
+use Rattle.multistate_rle.specs.Position.{signed_number}
+use Rattle.pattern_cells.specs.declared.cell.Cell.{Cell}
+
+-- a number of 32 bits
+abbrev pub number_spelled : List ℕ → Option ℕ
+number_spelled word = decimal_number 4294967295 word
+
+-- the word, if it is the text of a rule
+abbrev pub rule_text_spelled : List ℕ → Option (List ℕ)
+rule_text_spelled word = if is_ok (parsed word) then Some word else None
+
+-- a number of replicas
+abbrev pub replicas_spelled : List ℕ → Option ℕ
+replicas_spelled word = decimal_number 64 word
+
+-- a state
+abbrev pub state_spelled : List ℕ → Option ℕ
+state_spelled word = decimal_number 255 word
+
+-- 1 to 16 ASCII letters and digits
+abbrev pub is_pattern_name : List ℕ → Bool
+is_pattern_name word = nat_le 1 (length word) && nat_le (length word) 16 && list_all is_ascii_alphanumeric word
+
+-- the word, if it is a name
+abbrev pub name_spelled : List ℕ → Option (List ℕ)
+name_spelled word = if is_pattern_name word then Some word else None
+
+-- a coordinate and a state
+abbrev pub cell_spelled : List ℕ → List ℕ → List ℕ → Option Cell
+cell_spelled x y state = signed_number x >=> λ x. signed_number y >=> λ y. state_spelled state >=> λ state. Some (record { x = x; y = y; state = state })
+
+-- each three words are a cell
+abbrev pub cells_spelled : List (List ℕ) → Option (List Cell)
+cells_spelled [] = Some []
+cells_spelled (x ∷ y ∷ state ∷ words) = cell_spelled x y state >=> λ cell. option_map (λ cells. cell ∷ cells) (cells_spelled words)
+cells_spelled (x ∷ y ∷ []) = None
+cells_spelled (x ∷ []) = None

@@ -1,0 +1,114 @@
+//! What stands behind the first word of a line.
+
+use crate::keyword::Keyword;
+use crate::spelled::Spelled;
+
+/// What a word behind the first one stands for.
+#[derive(Clone, Copy, Debug, PartialEq, Eq)]
+pub enum Argument {
+    /// A rule's text: survival/birth/states.
+    Rule,
+    /// How many replicas there are: 0 to 64.
+    Replicas,
+    /// The name of a pattern: 1 to 16 ASCII letters and digits.
+    Name,
+    /// The number of a replica.
+    Replica,
+    /// The number of one of two replicas.
+    OneReplica,
+    /// The number of the other.
+    OtherReplica,
+    /// A coordinate: 32 bits with a sign.
+    X,
+    /// A coordinate: 32 bits with a sign.
+    Y,
+    /// The state of a cell: 0 to 255.
+    State,
+    Width,
+    Height,
+    /// The number of a message.
+    Message,
+    /// The place of an edit in a journal, from 0.
+    From,
+    /// How many edits of a journal.
+    Count,
+    Generation,
+    /// The name of a file: any word.
+    File,
+    /// How many edits are waited for.
+    Edits,
+    Milliseconds,
+}
+
+impl Argument {
+    ghost use Rattle.std.specs.Prelude.{◌≡◌};
+    ghost use Rattle.command_words.specs.Spelled.{fits};
+
+    /// Whether a word can stand for it.
+    pub fn fits(self, word: &[u8]) -> bool
+        ensures { result ≡ fits self word.now }
+    {
+        Spelled::begun(Keyword::End, b"")
+            .with_word(self, word)
+            .is_some()
+    }
+
+    /// What it is called, as the subject of a sentence.
+    pub fn name(self) -> &'static str {
+        match self {
+            Argument::Rule => "the rule",
+            Argument::Replicas => "the number of replicas",
+            Argument::Name => "the pattern's name",
+            Argument::Replica | Argument::OneReplica => "the replica's number",
+            Argument::OtherReplica => "the other replica's number",
+            Argument::X => "x",
+            Argument::Y => "y",
+            Argument::State => "the state",
+            Argument::Width => "the width",
+            Argument::Height => "the height",
+            Argument::Message => "the message's number",
+            Argument::From => "the place of the first edit",
+            Argument::Count => "the number of edits",
+            Argument::Generation => "the generation",
+            Argument::File => "the file's name",
+            Argument::Edits => "the number of awaited edits",
+            Argument::Milliseconds => "the number of milliseconds",
+        }
+    }
+
+    /// How it is written in the form of a line.
+    pub fn sign(self) -> &'static str {
+        match self {
+            Argument::Rule => "S/B/C",
+            Argument::Replicas | Argument::Edits => "N",
+            Argument::Name => "NAME",
+            Argument::Replica => "R",
+            Argument::OneReplica => "A",
+            Argument::OtherReplica => "B",
+            Argument::X => "x",
+            Argument::Y => "y",
+            Argument::State => "state",
+            Argument::Width => "w",
+            Argument::Height => "h",
+            Argument::Message => "M",
+            Argument::From => "FROM",
+            Argument::Count => "COUNT",
+            Argument::Generation => "G",
+            Argument::File => "FILE",
+            Argument::Milliseconds => "MS",
+        }
+    }
+
+    /// What can stand for it, in words.
+    pub fn range(self) -> &'static str {
+        match self {
+            Argument::Rule => "survival/birth/states, as 23/3/2",
+            Argument::Replicas => "0 to 64",
+            Argument::Name => "1 to 16 letters and digits",
+            Argument::X | Argument::Y => "-2147483648 to 2147483647",
+            Argument::State => "0 to 255",
+            Argument::File => "any word",
+            _ => "0 to 4294967295",
+        }
+    }
+}

@@ -1,0 +1,15 @@
+//! The words of commands: which words the lines of a script and of a client begin with, what stands
+//! behind each, and what the words of a line spell.
+#![tactic(auto)]
+
+mod argument;
+mod dialect;
+mod keyword;
+mod spelled;
+mod values;
+
+pub use argument::Argument;
+pub use dialect::Dialect;
+pub use keyword::Keyword;
+pub use spelled::{Spelled, read_line};
+pub use values::cells_in;

@@ -1,0 +1,33 @@
+//! Why a word cannot stand for an argument.
+
+use crate::reason::Reason;
+use command_words::Argument;
+use generations_rule::Rule;
+use header_rules::golly_rule;
+
+/// Why a word, which does not fit, cannot stand for the argument.
+pub fn misfit(argument: Argument, word: &[u8]) -> Reason {
+    match argument {
+        Argument::Rule => rule_misfit(word),
+        Argument::Name => Reason::NoName,
+        _ if word.first() == Some(&b'#') => Reason::Remark,
+        _ if is_whole_number(word) => Reason::OutOfRange(argument),
+        _ => Reason::NoNumber(argument),
+    }
+}
+
+/// Digits, behind a `-` or nothing.
+fn is_whole_number(word: &[u8]) -> bool {
+    let digits = match word.split_first() {
+        Some((b'-', digits)) => digits,
+        _ => word,
+    };
+    !digits.is_empty() && digits.iter().all(|byte| byte.is_ascii_digit())
+}
+
+fn rule_misfit(word: &[u8]) -> Reason {
+    match Rule::parse(word) {
+        Err(fault) if golly_rule(word).is_none() => Reason::NoRule(fault),
+        _ => Reason::GollyRule,
+    }
+}

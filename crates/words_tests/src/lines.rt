@@ -1,0 +1,101 @@
+//! Lines, and what their words spell.
+
+use command_words::{Argument, Dialect, Keyword, cells_in, read_line};
+use std::alloc::AllocError;
+
+/// A line, and whether a script and a client have it.
+struct Row {
+    line: &'static [u8],
+    in_script: bool,
+    in_client: bool,
+}
+
+static ROWS: [Row; 8] = [
+    Row {
+        line: b"show 1 0 -1",
+        in_script: true,
+        in_client: false,
+    },
+    Row {
+        line: b"show 0 -1",
+        in_script: false,
+        in_client: true,
+    },
+    Row {
+        line: b"export 4 2",
+        in_script: true,
+        in_client: true,
+    },
+    Row {
+        line: b"export 4 a.rle",
+        in_script: false,
+        in_client: true,
+    },
+    Row {
+        line: b" \tpattern  Glider7 ",
+        in_script: true,
+        in_client: true,
+    },
+    Row {
+        line: b"rule 23/3/2",
+        in_script: true,
+        in_client: false,
+    },
+    Row {
+        line: b"bye now",
+        in_script: false,
+        in_client: false,
+    },
+    Row {
+        line: b"",
+        in_script: false,
+        in_client: false,
+    },
+];
+
+#[test]
+fn lines_of_both_dialects(rt: HostRuntime) {
+    for row in &ROWS {
+        assert_eq!(rt;
+            read_line(Dialect::Script, row.line).is_some(),
+            row.in_script
+        );
+        assert_eq!(rt;
+            read_line(Dialect::Client, row.line).is_some(),
+            row.in_client
+        );
+    }
+}
+
+#[test]
+fn what_a_line_spells(rt: HostRuntime) {
+    match read_line(Dialect::Script, b"clear 2 -3 4 5 6") {
+        Some(spelled) => {
+            assert_eq!(rt; spelled.keyword, Keyword::Clear);
+            assert_eq!(rt; spelled.replica, 2);
+            assert_eq!(rt; spelled.x, -3);
+            assert_eq!(rt; spelled.height, 6);
+        }
+        None => assert!(rt; false),
+    }
+}
+
+#[test]
+fn cells_of_a_line(rt: HostRuntime) -> Result<(), AllocError> {
+    match read_line(Dialect::Client, b"cells 0 -1 2 3 4 5") {
+        Some(spelled) => {
+            let cells = cells_in(rt.alloc(), spelled.behind)?;
+            assert!(rt; cells.is_some_and(|cells| cells.len() == 2));
+        }
+        None => assert!(rt; false),
+    }
+    Ok(())
+}
+
+#[test]
+fn what_arguments_take(rt: HostRuntime) {
+    assert!(rt; Argument::Replicas.fits(b"64") && !Argument::Replicas.fits(b"65"));
+    assert!(rt; Argument::File.fits(b"a/b.rle") && !Argument::Name.fits(b"a/b"));
+    assert_eq!(rt; Argument::Width.range(), "0 to 4294967295");
+    assert_eq!(rt; Argument::Edits.name(), "the number of awaited edits");
+}
