@@ -11,7 +11,7 @@ enum Mark {
     Open,
     /// `close` was called.
     Closed,
-    /// It was dropped, or has finished.
+    /// It was dropped. One that finishes takes its seats in, so that nobody looks.
     Gone,
 }
 

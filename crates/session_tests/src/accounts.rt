@@ -1,4 +1,5 @@
-//! What an account is enough for: its plane is exported, by one worker and by two, and written.
+//! Which of two seats has seen more; and what an account is enough for: its plane is exported, by one worker and
+//! by two, and written.
 
 ghost use Rattle.std.specs.Prelude.{◌≡◌, IfOk};
 ghost use Rattle.std.specs.Arc.{arc_value};
@@ -11,19 +12,19 @@ use export::export;
 use export_workers::{Free, export_many};
 use generations_rule::Rule;
 use pattern_cells::Cell;
-use relay_board::{Account, Naming, Opened, Seat, is_whole, start};
+use relay_board::{Account, Naming, Opened, Pending, Relay, Seat, is_whole, start};
 use std::alloc::Global;
 use std::marker::Brand;
 use std::sync::Wait;
 use std::test::Fail;
 
-/// Submits two cells beside one another.
+/// Submits two cells beside one another, as seat 1.
 fn draw<J: Naming, R: Wait>(
     rt: &R,
     alloc: Global,
     rule: &Rule,
-    seats: &mut [Seat<J>],
-) -> Result<(), Fail> {
+    seat: &mut Seat<J>,
+) -> Result<Pending<J>, Fail> {
     let stamp = Stamp::new(1, 1).ok_or("stamp")?;
     let cells = [
         Cell {
@@ -38,13 +39,27 @@ fn draw<J: Naming, R: Wait>(
         },
     ];
     let edit = Edit::cells(alloc, rule, stamp, &cells)?;
-    let Some(seat) = seats.first_mut() else {
-        return Err(Fail::from("no seat"));
-    };
     match seat.submit(rt, edit) {
-        Ok(_) => Ok(()),
+        Ok(pending) => Ok(pending),
         Err((_, fault)) => Err(Fail::from(fault.name())),
     }
+}
+
+/// Whether a seat has seen its edit once it learns the receipt, and no sooner, and another seat has not.
+fn is_learnt<J: Naming, R: Wait + Drop>(
+    rt: &R,
+    relay: &Relay<J, R>,
+    seat: &mut Seat<J>,
+    other: &Seat<J>,
+    pending: Pending<J>,
+) -> bool {
+    let Ok(receipt) = seat.receive(rt, pending) else {
+        return false;
+    };
+    let early = seat.has(&receipt) || relay.begins(seat) || !seat.begins(other);
+    seat.learn(&receipt);
+    let late = seat.has(&receipt) && relay.begins(seat) && other.begins(seat);
+    !early && late && !seat.begins(other) && !relay.begins(other)
 }
 
 /// The account of a board on which seat 1 drew two cells.
@@ -61,8 +76,17 @@ fn finished<J: Naming, R: Wait + Copy + Drop>(
     // For the proof alone: the call tells that what is held is a rule.
     let _states = rule.states();
     let (mut relay, mut seats) = opened.named::<J>()?;
-    draw(&rt, alloc, &rule, seats.as_mut_slice())?;
+    let Some((first, others)) = seats.as_mut_slice().split_first_mut() else {
+        return Err(Fail::from("seat 1"));
+    };
+    let Some(second) = others.first() else {
+        return Err(Fail::from("seat 2"));
+    };
+    let pending = draw(&rt, alloc, &rule, first)?;
     let _turn = relay.turn();
+    if !is_learnt(&rt, &relay, first, second, pending) {
+        return Err(Fail::from("learnt"));
+    }
     relay.close();
     if !is_whole(&relay, &seats) {
         return Err(Fail::from("not whole"));
@@ -77,7 +101,7 @@ fn finished<J: Naming, R: Wait + Copy + Drop>(
 fn an_account_is_exported_and_written(rt: HostRuntime) -> Result<(), Fail> {
     let alloc = rt.alloc();
     let rule = Rule::parse(b"/2/3")?;
-    let opened = start(rt, alloc, rule, 1, 1)?;
+    let opened = start(rt, alloc, rule, 2, 1)?;
     let account = finished::<Brand, _>(rt, alloc, opened)?;
     let first = "#CXRLE Pos=0,0 Gen=0\nx = 2, y = 1, rule = /2/3\n2A!\n";
     let text = export(alloc, &rule, &account.plane, 0)?;

@@ -32,6 +32,22 @@ fn a_join_is_refused_below_thirty_squares(rt: HostRuntime) -> Result<(), Fail> {
     Ok(())
 }
 
+/// How many squares the copy of a new plane has that was joined with a plane of one cell.
+fn copied(alloc: Global) -> Result<u32, EditFault> {
+    let mut plane = Plane::new(alloc)?;
+    let joined = join_cell(alloc, &mut plane, 1)?;
+    match plane.copy() {
+        Ok(copy) if joined == Ok(()) => Ok(copy.nodes()),
+        _ => Err(EditFault::Memory),
+    }
+}
+
+#[test]
+fn a_copy_has_the_squares_of_its_map(rt: HostRuntime) -> Result<(), Fail> {
+    assert_eq!(rt; copied(rt.alloc())?, 30);
+    Ok(())
+}
+
 /// The same of a plane that has a cell: a leaf and 28 squares of four more.
 fn into_a_cell(alloc: Global, room: u32) -> Result<(bool, u32, u8), EditFault> {
     let mut plane = Plane::with_room(alloc, room.max(1))?;
