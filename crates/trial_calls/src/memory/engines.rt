@@ -1,0 +1,242 @@
+//! Universes and exports.
+
+ghost use Rattle.std.specs.Prelude.{◌≡◌, IfOk};
+ghost use Rattle.edit_stamps.specs.PlaneMap.{HasStatesBelow};
+ghost use Rattle.stamped_tree.specs.Plane.{map_of};
+
+use crate::memory::{is_fault, planes, states, tell_all};
+use delta_exchange::Message;
+use export::ExportFault::{GenRange, TooManyCells};
+use export::{ExportFault, export, export_within};
+use generation_engine::{Engine, EngineFault, StoreFault};
+use generations_rule::Rule;
+use pattern_cells::Cell;
+use stamped_tree::Plane;
+use std::alloc::{AllocError, Global};
+use std::io;
+
+/// States 2 and 3 side by side: dead two generations later.
+const DYING: [Cell; 2] = cells![(0, 0, 2), (1, 0, 3)];
+
+/// Two live cells side by side.
+pub const PAIR: [Cell; 2] = cells![(0, 0, 1), (1, 0, 1)];
+
+/// A blinker that lies, and one that stands.
+const LYING: [Cell; 3] = cells![(0, 0, 1), (1, 0, 1), (2, 0, 1)];
+
+const STANDING: [Cell; 3] = cells![(1, -1, 1), (1, 0, 1), (1, 1, 1)];
+
+/// A blinker in the plane's upper right corner.
+const CORNER: [Cell; 3] = cells![
+    (1_073_741_823, -1_073_741_824, 1),
+    (1_073_741_823, -1_073_741_823, 1),
+    (1_073_741_823, -1_073_741_822, 1)
+];
+
+/// What these are exported as.
+const DEAD_SOON: &str = "#CXRLE Pos=0,0 Gen=1\nx = 1, y = 1, rule = 345/2/4\nC!\n";
+
+const PAIR_0: &str = "#CXRLE Pos=0,0 Gen=0\nx = 2, y = 1, rule = /2/3\n2A!\n";
+
+const PAIR_1: &str = "#CXRLE Pos=0,-1 Gen=1\nx = 2, y = 3, rule = /2/3\n2A$2B$2A!\n";
+
+const PAIR_2: &str = "#CXRLE Pos=-1,-2 Gen=2\nx = 4, y = 5, rule = /2/3\n.2A$.2B$A2.A$.2B$.2A!\n";
+
+const CORNER_0: &str =
+    "#CXRLE Pos=1073741823,-1073741824 Gen=0\nx = 1, y = 3, rule = 23/3/2\no$o$o!\n";
+
+const CORNER_1: &str =
+    "#CXRLE Pos=1073741822,-1073741823 Gen=1\nx = 3, y = 1, rule = 23/3/2\n3o!\n";
+
+const CORNER_3: &str =
+    "#CXRLE Pos=1073741822,-1073741823 Gen=3\nx = 3, y = 1, rule = 23/3/2\n3o!\n";
+
+/// One past the last generation.
+pub const PAST: u32 = 536_870_913;
+
+/// An export: the rule and the cells, the generation, how many cells at most where that is told, and what
+/// is exported.
+type Export = (
+    &'static [u8],
+    &'static [Cell],
+    u32,
+    Option<u64>,
+    Result<&'static str, ExportFault>,
+);
+
+static EXPORTS: [Export; 11] = [
+    (b"345/2/4", &DYING, 1, None, Ok(DEAD_SOON)),
+    (b"/2/3", &PAIR, 0, None, Ok(PAIR_0)),
+    (b"/2/3", &PAIR, 1, None, Ok(PAIR_1)),
+    (b"/2/3", &PAIR, 2, None, Ok(PAIR_2)),
+    (b"/2/3", &PAIR, PAST, None, Err(GenRange)),
+    (b"23/3/2", &CORNER, 0, None, Ok(CORNER_0)),
+    (b"23/3/2", &CORNER, 1, None, Ok(CORNER_1)),
+    (b"23/3/2", &CORNER, 3, None, Ok(CORNER_3)),
+    (b"23/3/2", &CORNER, 0, Some(2), Err(TooManyCells)),
+    (b"23/3/2", &CORNER, 0, Some(3), Ok(CORNER_0)),
+    (b"23/3/2", &CORNER, PAST, Some(2), Err(GenRange)),
+];
+
+pub fn tell_calls(rt: &impl Print, alloc: Global) -> io::Result<()> {
+    tell_all(
+        rt,
+        "engines",
+        &[
+            ("Engine::new, load, cells", plane_is_loaded(alloc)),
+            ("Engine::run", universe_is_run(alloc)),
+            ("Engine::run again", blinker_blinks(alloc, None)),
+            ("Engine::with_room", blinker_blinks(alloc, Some(0x10_0000))),
+            ("Engine::load refused", room_is_too_small(alloc)),
+            ("export, export_within", are_exported(alloc)),
+        ],
+    )
+}
+
+/// An engine, with room for so many squares where that is told.
+fn begun(alloc: Global, rule: Rule, room: Option<u32>) -> Result<Engine, AllocError>
+    ensures { IfOk result (λ engine. engine.rule ≡ rule) }
+{
+    match room {
+        Some(nodes) if nodes >= 64 => Engine::with_room(alloc, rule, nodes),
+        _ => Engine::new(alloc, rule),
+    }
+}
+
+/// The same, of no cells.
+fn engine(alloc: Global, rule: Rule, room: Option<u32>) -> Result<Engine, AllocError>
+    ensures { IfOk result (λ engine. engine.rule ≡ rule) }
+{
+    match begun(alloc, rule, room) {
+        Ok(engine) => Ok(engine),
+        Err(AllocError) => begun(alloc, rule, room),
+    }
+}
+
+/// Whether an engine has these cells at a generation.
+fn has(engine: &Engine, generation: u32, listed: &[Cell]) -> bool {
+    engine.generation() == generation
+        && engine.population() == listed.len() as u128
+        && match again!(AllocError, engine.cells()) {
+            Ok(cells) => cells.as_slice() == listed,
+            Err(AllocError) => false,
+        }
+}
+
+/// Loads a plane. Where memory is refused, the engine has no cells still.
+fn load(engine: &mut Engine, plane: &Plane) -> Result<(), StoreFault>
+    requires { HasStatesBelow engine.old.rule.states (map_of plane.now) }
+{
+    match engine.load(plane) {
+        Err(StoreFault::Memory) if has(engine, 0, &[]) => engine.load(plane),
+        answer => answer,
+    }
+}
+
+/// An engine into which the plane of a message is loaded.
+fn loaded_of(alloc: Global, message: &Message) -> Option<Engine> {
+    let plane = message.plane()?;
+    let mut engine = engine(alloc, message.rule(), None).ok()?;
+    if has(&engine, 0, &[]) && load(&mut engine, plane).is_ok() {
+        Some(engine)
+    } else {
+        None
+    }
+}
+
+/// The same of the state of the row of states 2, 3 and 0.
+fn loaded(alloc: Global) -> Option<Engine> {
+    loaded_of(alloc, &states::state(alloc)?)
+}
+
+fn plane_is_loaded(alloc: Global) -> Option<bool> {
+    let engine = loaded(alloc)?;
+    Some(has(&engine, 0, &DYING))
+}
+
+/// Runs an engine that has some cells at a generation. Where memory is refused it has them still.
+fn run(engine: &mut Engine, generation: u32, listed: &[Cell], generations: u32) -> bool {
+    let answer = again!(
+        EngineFault::Memory if has(engine, generation, listed),
+        engine.run(generations)
+    );
+    answer.is_ok()
+}
+
+fn universe_is_run(alloc: Global) -> Option<bool> {
+    let mut engine = loaded(alloc)?;
+    Some(run(&mut engine, 0, &DYING, 5) && has(&engine, 5, &[]))
+}
+
+/// Whether an engine of a blinker runs on as one: 1, 2, 1 and 2^29 - 4 generations, and no further.
+fn blinks(engine: &mut Engine) -> bool {
+    run(engine, 0, &LYING, 1)
+        && has(engine, 1, &STANDING)
+        && run(engine, 1, &STANDING, 2)
+        && has(engine, 3, &STANDING)
+        && run(engine, 3, &STANDING, 1)
+        && has(engine, 4, &LYING)
+        && run(engine, 4, &LYING, 536_870_908)
+        && has(engine, 536_870_912, &LYING)
+        && is_fault(engine.run(1), EngineFault::GenRange)
+}
+
+fn blinker_blinks(alloc: Global, room: Option<u32>) -> Option<bool> {
+    let rule = Rule::parse(b"23/3/2").ok()?;
+    let plane = planes::plane(alloc, &rule, &LYING)?;
+    let mut engine = engine(alloc, rule, room).ok()?;
+    Some(load(&mut engine, &plane).is_ok() && blinks(&mut engine))
+}
+
+/// Cells far apart, of which each wants a leaf of its own.
+fn far_apart() -> [Cell; 64] {
+    let mut cells = [cell!(0, 0, 1); 64];
+    for (place, cell) in cells.iter_mut().enumerate() {
+        let place = (place & 63) as i32;
+        cell.x = 16 * place + place % 8;
+        cell.y = place / 8;
+    }
+    cells
+}
+
+/// An engine that has no room for a plane has no cells then.
+fn room_is_too_small(alloc: Global) -> Option<bool> {
+    let rule = Rule::parse(b"/2/3").ok()?;
+    let plane = planes::plane(alloc, &rule, &far_apart())?;
+    let mut engine = engine(alloc, rule, Some(64)).ok()?;
+    let end = load(&mut engine, &plane);
+    Some(end == Err(StoreFault::StoreFull) && has(&engine, 0, &[]))
+}
+
+fn are_exported(alloc: Global) -> Option<bool> {
+    for row in &EXPORTS {
+        if !is_exported(alloc, row)? {
+            return None;
+        }
+    }
+    Some(true)
+}
+
+fn exported(alloc: Global, rule: &Rule, plane: &Plane, row: &Export) -> Result<Vec<u8>, ExportFault>
+    requires { HasStatesBelow rule.now.states (map_of plane.now) }
+{
+    match row.3 {
+        None => export(alloc, rule, plane, row.2),
+        Some(limit) => export_within(alloc, rule, plane, row.2, limit),
+    }
+}
+
+fn is_exported(alloc: Global, row: &Export) -> Option<bool> {
+    let rule = Rule::parse(row.0).ok()?;
+    let plane = planes::plane(alloc, &rule, row.1)?;
+    let answer = again!(ExportFault::Memory, exported(alloc, &rule, &plane, row));
+    Some(is_text(&answer, &row.4))
+}
+
+fn is_text(answer: &Result<Vec<u8>, ExportFault>, meant: &Result<&str, ExportFault>) -> bool {
+    match (answer, meant) {
+        (Ok(text), Ok(meant)) => text.as_slice() == meant.as_bytes(),
+        (Err(fault), Err(meant)) => *fault == *meant,
+        _ => false,
+    }
+}
