@@ -70,6 +70,7 @@ fn main(rt: HostRuntime) -> Result<()> {
     match words.as_slice() {
         [] | [_] => {
             tell_parts(rt, rt.alloc(), &[])?;
+            tell_late(rt, rt.alloc())?;
             run_all(rt, rt.alloc(), FEW)
         }
         [_, word, further @ ..] => run(rt, rt.alloc(), word.as_str(), further),

@@ -73,9 +73,8 @@ pub static PARTS: [(&str, Part); 15] = [
     ("clients", Part::Clients),
 ];
 
-/// What a call is named, and whether it answers as it is meant to; `None` where what it is made of is
-/// missing.
-type Answer = (&'static str, Option<bool>);
+/// What a call is named, and whether it answers as it is meant to.
+type Answer = (&'static str, bool);
 
 /// Makes the calls of a part.
 pub fn tell_part<R: Threads + Wait + Clock + Print + Copy + Drop + Send + Sync + 'static>(
@@ -117,12 +116,8 @@ fn tell_all(rt: &impl Print, part: &str, answers: &[Answer]) -> io::Result<()> {
     Ok(())
 }
 
-fn tell(rt: &impl Print, part: &str, call: &str, is_meant: Option<bool>) -> io::Result<()> {
-    let answer = if is_meant == Some(true) {
-        "as meant"
-    } else {
-        "NOT as meant"
-    };
+fn tell(rt: &impl Print, part: &str, call: &str, is_meant: bool) -> io::Result<()> {
+    let answer = if is_meant { "as meant" } else { "NOT as meant" };
     println!(rt; "{part}, {call}: {answer}")
 }
 

@@ -29,7 +29,7 @@ pub fn tell_ways<R: Threads + Wait + Print + Drop + Copy + Send + Sync + 'static
 
 fn tell_calls(rt: &impl Print, part: &str, way: &Way, met: usize) -> io::Result<()> {
     for place in 0..way.len() {
-        tell(rt, part, way.name(place), Some(place < met))?;
+        tell(rt, part, way.name(place), place < met)?;
     }
     Ok(())
 }

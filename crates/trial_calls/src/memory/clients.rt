@@ -18,9 +18,9 @@ pub fn tell_all<R: Print + Clock>(rt: &R, alloc: Global) -> io::Result<()> {
 /// client holds what the board does.
 fn tell_calls(rt: &impl Print, told: &str, met: usize) -> io::Result<()> {
     for (place, step) in STEPS.iter().enumerate() {
-        tell(rt, told, step.call, Some(place < met))?;
+        tell(rt, told, step.call, place < met)?;
     }
-    tell(rt, told, "replica and board", Some(STEPS.len() < met))
+    tell(rt, told, "replica and board", STEPS.len() < met)
 }
 
 /// A world where nothing was done.

@@ -61,19 +61,35 @@ fn is_refused(replica: &mut Replica, spec: EditSpec) -> bool {
 }
 
 /// Whether each kind of draw is refused.
-fn refuses(alloc: Global, replica: &mut Replica) -> Option<bool> {
+fn refuses(alloc: Global, replica: &mut Replica) -> bool {
     let area = Rect {
         x: 0,
         y: 0,
         width: 8,
         height: 8,
     };
-    Some(
-        is_refused(replica, spec(alloc, &[cell!(1, 0, 1)])?)
-            && is_refused(replica, EditSpec::Copy(texts::pattern(alloc)?, 0, 0))
-            && is_refused(replica, EditSpec::Or(texts::pattern(alloc)?, 0, 0))
-            && is_refused(replica, EditSpec::Clear(area)),
-    )
+    is_refused_of(replica, spec(alloc, &[cell!(1, 0, 1)]))
+        && is_refused_of(replica, pasted(alloc, true))
+        && is_refused_of(replica, pasted(alloc, false))
+        && is_refused(replica, EditSpec::Clear(area))
+}
+
+/// The same of a draw for which there was memory.
+fn is_refused_of(replica: &mut Replica, spec: Option<EditSpec>) -> bool {
+    match spec {
+        Some(spec) => is_refused(replica, spec),
+        None => false,
+    }
+}
+
+/// A paste at the origin, of a whole box or of its cells alone.
+fn pasted(alloc: Global, is_whole: bool) -> Option<EditSpec> {
+    let pattern = texts::pattern(alloc)?;
+    if is_whole {
+        Some(EditSpec::Copy(pattern, 0, 0))
+    } else {
+        Some(EditSpec::Or(pattern, 0, 0))
+    }
 }
 
 /// A replica of the rule of those deltas, which takes what others drew.
@@ -82,27 +98,34 @@ fn taker(alloc: Global) -> Option<Replica> {
 }
 
 /// A clock is full behind the last counter, and the first is taken then.
-fn clock_is_full(alloc: Global) -> Option<bool> {
-    let mut replica = taker(alloc)?;
-    take_bytes(&mut replica, LAST).ok()?;
-    let is_full = held(&replica) == full(1, 0xffff_ffff_ffff_0001) && refuses(alloc, &mut replica)?;
-    take_bytes(&mut replica, FIRST).ok()?;
-    Some(is_full && held(&replica) == full(2, 65537))
+fn clock_is_full(alloc: Global) -> bool {
+    let Some(mut replica) = taker(alloc) else {
+        return false;
+    };
+    take_bytes(&mut replica, LAST).is_ok()
+        && held(&replica) == full(1, 0xffff_ffff_ffff_0001)
+        && refuses(alloc, &mut replica)
+        && take_bytes(&mut replica, FIRST).is_ok()
+        && held(&replica) == full(2, 65537)
 }
 
-/// Takes the message of a text.
-fn take_text(alloc: Global, replica: &mut Replica, text: &[u8]) -> Option<()> {
-    let message = states::message(alloc, &replica.rule(), text).ok()?;
-    take(replica, &message).ok()
+/// Whether the message of a text is taken.
+fn takes(alloc: Global, replica: &mut Replica, text: &[u8]) -> bool {
+    match states::message(alloc, &replica.rule(), text) {
+        Ok(message) => take(replica, &message).is_ok(),
+        Err(_) => false,
+    }
 }
 
 /// The same by messages, and without a draw between.
-fn last_is_taken(alloc: Global) -> Option<bool> {
-    let mut replica = taker(alloc)?;
-    take_text(alloc, &mut replica, LAST)?;
-    let is_full = held(&replica) == full(1, 0xffff_ffff_ffff_0001);
-    take_text(alloc, &mut replica, FIRST)?;
-    Some(is_full && held(&replica) == full(2, 65537))
+fn last_is_taken(alloc: Global) -> bool {
+    let Some(mut replica) = taker(alloc) else {
+        return false;
+    };
+    takes(alloc, &mut replica, LAST)
+        && held(&replica) == full(1, 0xffff_ffff_ffff_0001)
+        && takes(alloc, &mut replica, FIRST)
+        && held(&replica) == full(2, 65537)
 }
 
 /// A new replica with room for so many squares.
@@ -114,9 +137,14 @@ fn small(alloc: Global, nodes: u32) -> Option<Replica>
 }
 
 /// One square less than one cell wants: an edit is neither taken nor drawn, and the replica holds nothing.
-fn store_is_full(alloc: Global) -> Option<bool> {
-    let mut replica = small(alloc, 29)?;
-    Some(has_no_room(&mut replica, &spec(alloc, &[cell!(0, 0, 1)])?))
+fn store_is_full(alloc: Global) -> bool {
+    let Some(mut replica) = small(alloc, 29) else {
+        return false;
+    };
+    match spec(alloc, &[cell!(0, 0, 1)]) {
+        Some(spec) => has_no_room(&mut replica, &spec),
+        None => false,
+    }
 }
 
 fn has_no_room(replica: &mut Replica, spec: &EditSpec) -> bool {

@@ -59,6 +59,13 @@ pub fn cleared(alloc: Global) -> Option<Edit> {
     Edit::clear(alloc, Stamp::new(2, 1)?, area).ok()
 }
 
+pub fn is_one_row(edits: &[Edit]) -> bool {
+    match edits {
+        [row] => is_row(row),
+        _ => false,
+    }
+}
+
 pub fn is_row(edit: &Edit) -> bool {
     edit.listed_cells() == ROW.as_slice()
 }
@@ -84,7 +91,7 @@ pub fn tell_calls(rt: &impl Print, alloc: Global) -> io::Result<()> {
         rt,
         "edits",
         &[
-            ("Edit::cells", row(alloc, 1).map(|edit| is_row(&edit))),
+            ("Edit::cells", row_is_drawn(alloc)),
             ("Edit::cells refused", nothing_is_refused(alloc)),
             ("placed_cells", cells_are_placed(alloc)),
             ("Edit::paste_copy", is_pasted(alloc, true)),
@@ -92,14 +99,24 @@ pub fn tell_calls(rt: &impl Print, alloc: Global) -> io::Result<()> {
             ("Edit::copy", edit_is_copied(alloc)),
             ("write_delta", delta_is_written(alloc)),
             ("read_delta", delta_is_read(alloc)),
-            ("read_delta of a fault", Some(fault_is_told(alloc))),
+            ("read_delta of a fault", fault_is_told(alloc)),
         ],
     )
 }
 
-fn nothing_is_refused(alloc: Global) -> Option<bool> {
-    let answer = Edit::cells(alloc, &rule()?, Stamp::new(1, 1)?, &[]);
-    Some(is_fault(answer, EditFault::Nothing))
+fn row_is_drawn(alloc: Global) -> bool {
+    match row(alloc, 1) {
+        Some(edit) => is_row(&edit),
+        None => false,
+    }
+}
+
+fn nothing_is_refused(alloc: Global) -> bool {
+    let (Some(rule), Some(stamp)) = (rule(), Stamp::new(1, 1)) else {
+        return false;
+    };
+    let answer = Edit::cells(alloc, &rule, stamp, &[]);
+    is_fault(answer, EditFault::Nothing)
 }
 
 fn placed(alloc: Global, cells: &[PatternCell]) -> Option<Vec<Cell>> {
@@ -110,11 +127,13 @@ fn placed(alloc: Global, cells: &[PatternCell]) -> Option<Vec<Cell>> {
     }
 }
 
-fn cells_are_placed(alloc: Global) -> Option<bool> {
-    let pattern = texts::pattern(alloc)?;
+fn cells_are_placed(alloc: Global) -> bool {
+    let Some(pattern) = texts::pattern(alloc) else {
+        return false;
+    };
     match placed(alloc, pattern.cells()) {
-        Some(cells) => Some(cells.as_slice() == PLACED.as_slice()),
-        None => None,
+        Some(cells) => cells.as_slice() == PLACED.as_slice(),
+        None => false,
     }
 }
 
@@ -130,22 +149,29 @@ fn pasted(alloc: Global, pattern: &Pattern, is_whole: bool) -> Result<Edit, Edit
     }
 }
 
-/// The same, once more where memory is refused.
-fn pasted_again(alloc: Global, pattern: &Pattern, is_whole: bool) -> Option<Edit> {
-    again!(EditFault::Memory, pasted(alloc, pattern, is_whole)).ok()
-}
-
-fn is_pasted(alloc: Global, is_whole: bool) -> Option<bool> {
-    let edit = pasted_again(alloc, &texts::pattern(alloc)?, is_whole)?;
+/// Whether it is, once more where memory is refused.
+fn is_pasted_of(alloc: Global, pattern: &Pattern, is_whole: bool) -> bool {
+    let Ok(edit) = again!(EditFault::Memory, pasted(alloc, pattern, is_whole)) else {
+        return false;
+    };
     let area = if is_whole { Some(BOX) } else { None };
-    Some(edit.area() == area && edit.listed_cells() == PLACED.as_slice())
+    edit.area() == area && edit.listed_cells() == PLACED.as_slice()
 }
 
-fn edit_is_copied(alloc: Global) -> Option<bool> {
-    let edit = row(alloc, 1)?;
+fn is_pasted(alloc: Global, is_whole: bool) -> bool {
+    match texts::pattern(alloc) {
+        Some(pattern) => is_pasted_of(alloc, &pattern, is_whole),
+        None => false,
+    }
+}
+
+fn edit_is_copied(alloc: Global) -> bool {
+    let Some(edit) = row(alloc, 1) else {
+        return false;
+    };
     match again!(AllocError, edit.copy()) {
-        Ok(copy) => Some(copy.same(&edit)),
-        Err(AllocError) => None,
+        Ok(copy) => copy.same(&edit),
+        Err(AllocError) => false,
     }
 }
 
@@ -153,8 +179,11 @@ fn is_written(alloc: Global, rule: &Rule, edits: &[Edit; 1]) -> bool {
     is_text(again!(AllocError, write_delta(alloc, rule, edits)), &DELTA)
 }
 
-fn delta_is_written(alloc: Global) -> Option<bool> {
-    Some(is_written(alloc, &rule()?, &[row(alloc, 1)?]))
+fn delta_is_written(alloc: Global) -> bool {
+    match (rule(), row(alloc, 1)) {
+        (Some(rule), Some(row)) => is_written(alloc, &rule, &[row]),
+        _ => false,
+    }
 }
 
 fn read(alloc: Global, text: &[u8]) -> Result<EditList, ReadFault> {
@@ -164,10 +193,10 @@ fn read(alloc: Global, text: &[u8]) -> Result<EditList, ReadFault> {
     }
 }
 
-fn delta_is_read(alloc: Global) -> Option<bool> {
-    match read(alloc, &DELTA).ok()?.as_slice() {
-        [row] => Some(is_row(row)),
-        _ => None,
+fn delta_is_read(alloc: Global) -> bool {
+    match read(alloc, &DELTA) {
+        Ok(list) => is_one_row(list.as_slice()),
+        Err(_) => false,
     }
 }
 

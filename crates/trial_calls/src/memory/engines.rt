@@ -149,9 +149,11 @@ fn loaded(alloc: Global) -> Option<Engine> {
     loaded_of(alloc, &states::state(alloc)?)
 }
 
-fn plane_is_loaded(alloc: Global) -> Option<bool> {
-    let engine = loaded(alloc)?;
-    Some(has(&engine, 0, &DYING))
+fn plane_is_loaded(alloc: Global) -> bool {
+    let Some(engine) = loaded(alloc) else {
+        return false;
+    };
+    has(&engine, 0, &DYING)
 }
 
 /// Runs an engine that has some cells at a generation. Where memory is refused it has them still.
@@ -163,9 +165,11 @@ fn run(engine: &mut Engine, generation: u32, listed: &[Cell], generations: u32) 
     answer.is_ok()
 }
 
-fn universe_is_run(alloc: Global) -> Option<bool> {
-    let mut engine = loaded(alloc)?;
-    Some(run(&mut engine, 0, &DYING, 5) && has(&engine, 5, &[]))
+fn universe_is_run(alloc: Global) -> bool {
+    let Some(mut engine) = loaded(alloc) else {
+        return false;
+    };
+    run(&mut engine, 0, &DYING, 5) && has(&engine, 5, &[])
 }
 
 /// Whether an engine of a blinker runs on as one: 1, 2, 1 and 2^29 - 4 generations, and no further.
@@ -181,11 +185,17 @@ fn blinks(engine: &mut Engine) -> bool {
         && is_fault(engine.run(1), EngineFault::GenRange)
 }
 
-fn blinker_blinks(alloc: Global, room: Option<u32>) -> Option<bool> {
-    let rule = Rule::parse(b"23/3/2").ok()?;
-    let plane = planes::plane(alloc, &rule, &LYING)?;
-    let mut engine = engine(alloc, rule, room).ok()?;
-    Some(load(&mut engine, &plane).is_ok() && blinks(&mut engine))
+fn blinker_blinks(alloc: Global, room: Option<u32>) -> bool {
+    let Ok(rule) = Rule::parse(b"23/3/2") else {
+        return false;
+    };
+    let Some(plane) = planes::plane(alloc, &rule, &LYING) else {
+        return false;
+    };
+    let Ok(mut engine) = engine(alloc, rule, room) else {
+        return false;
+    };
+    load(&mut engine, &plane).is_ok() && blinks(&mut engine)
 }
 
 /// Cells far apart, of which each wants a leaf of its own.
@@ -200,21 +210,27 @@ fn far_apart() -> [Cell; 64] {
 }
 
 /// An engine that has no room for a plane has no cells then.
-fn room_is_too_small(alloc: Global) -> Option<bool> {
-    let rule = Rule::parse(b"/2/3").ok()?;
-    let plane = planes::plane(alloc, &rule, &far_apart())?;
-    let mut engine = engine(alloc, rule, Some(64)).ok()?;
+fn room_is_too_small(alloc: Global) -> bool {
+    let Ok(rule) = Rule::parse(b"/2/3") else {
+        return false;
+    };
+    let Some(plane) = planes::plane(alloc, &rule, &far_apart()) else {
+        return false;
+    };
+    let Ok(mut engine) = engine(alloc, rule, Some(64)) else {
+        return false;
+    };
     let end = load(&mut engine, &plane);
-    Some(end == Err(StoreFault::StoreFull) && has(&engine, 0, &[]))
+    end == Err(StoreFault::StoreFull) && has(&engine, 0, &[])
 }
 
-fn are_exported(alloc: Global) -> Option<bool> {
+fn are_exported(alloc: Global) -> bool {
     for row in &EXPORTS {
-        if !is_exported(alloc, row)? {
-            return None;
+        if !is_exported(alloc, row) {
+            return false;
         }
     }
-    Some(true)
+    true
 }
 
 fn exported(alloc: Global, rule: &Rule, plane: &Plane, row: &Export) -> Result<Vec<u8>, ExportFault>
@@ -226,11 +242,15 @@ fn exported(alloc: Global, rule: &Rule, plane: &Plane, row: &Export) -> Result<V
     }
 }
 
-fn is_exported(alloc: Global, row: &Export) -> Option<bool> {
-    let rule = Rule::parse(row.0).ok()?;
-    let plane = planes::plane(alloc, &rule, row.1)?;
+fn is_exported(alloc: Global, row: &Export) -> bool {
+    let Ok(rule) = Rule::parse(row.0) else {
+        return false;
+    };
+    let Some(plane) = planes::plane(alloc, &rule, row.1) else {
+        return false;
+    };
     let answer = again!(ExportFault::Memory, exported(alloc, &rule, &plane, row));
-    Some(is_text(&answer, &row.4))
+    is_text(&answer, &row.4)
 }
 
 fn is_text(answer: &Result<Vec<u8>, ExportFault>, meant: &Result<&str, ExportFault>) -> bool {

@@ -63,11 +63,15 @@ fn exported<R: Threads + Sync>(
 }
 
 /// Whether so many workers export as they are meant to, at the second time where there was no memory.
-pub fn exports<R: Threads + Sync>(rt: &R, alloc: Global, workers: u16) -> Option<bool> {
-    let rule = Rule::parse(b"/2/3").ok()?;
-    let plane = planes::plane(alloc, &rule, &PAIR)?;
+pub fn exports<R: Threads + Sync>(rt: &R, alloc: Global, workers: u16) -> bool {
+    let Ok(rule) = Rule::parse(b"/2/3") else {
+        return false;
+    };
+    let Some(plane) = planes::plane(alloc, &rule, &PAIR) else {
+        return false;
+    };
     match exported(rt, alloc, &rule, &plane, workers) {
-        Verdict::Want => Some(exported(rt, alloc, &rule, &plane, workers) == Verdict::Meant),
-        verdict => Some(verdict == Verdict::Meant),
+        Verdict::Want => exported(rt, alloc, &rule, &plane, workers) == Verdict::Meant,
+        verdict => verdict == Verdict::Meant,
     }
 }

@@ -23,9 +23,9 @@ pub fn tell_calls(rt: &impl Print, alloc: Global) -> io::Result<()> {
     )
 }
 
-fn body_is_framed(alloc: Global) -> Option<bool> {
+fn body_is_framed(alloc: Global) -> bool {
     let answer = again!(FrameFault::Memory, frame(alloc, b"ab"));
-    Some(is_text(answer, b"\0\0\0\x02ab"))
+    is_text(answer, b"\0\0\0\x02ab")
 }
 
 /// Frames that were fed the stream, in pieces of so many bytes.
@@ -50,26 +50,33 @@ fn have_bodies(frames: &mut Frames) -> Result<bool, FrameFault> {
 
 /// Whether that is so of the stream in pieces. Where memory is refused for a body, frames say so for ever,
 /// and others are fed.
-fn is_taken(alloc: Global, size: usize) -> Option<bool> {
-    let mut frames = fed(alloc, size).ok()?;
-    let answer = match have_bodies(&mut frames) {
-        Err(FrameFault::Memory) if frames.feed(STREAM).is_err() => {
-            have_bodies(&mut fed(alloc, size).ok()?)
-        }
-        answer => answer,
+fn is_taken(alloc: Global, size: usize) -> bool {
+    match bodies_taken(alloc, size) {
+        None => bodies_taken(alloc, size) == Some(true),
+        are_taken => are_taken == Some(true),
+    }
+}
+
+/// The same of frames of their own; `None` where memory was refused for a body, and is said to be.
+fn bodies_taken(alloc: Global, size: usize) -> Option<bool> {
+    let Ok(mut frames) = fed(alloc, size) else {
+        return Some(false);
     };
-    answer.ok()
+    match have_bodies(&mut frames) {
+        Err(FrameFault::Memory) if frames.feed(STREAM).is_err() => None,
+        answer => Some(answer == Ok(true)),
+    }
 }
 
 /// However a stream is cut, it has the same bodies.
-fn bodies_are_taken(alloc: Global) -> Option<bool> {
-    Some(is_taken(alloc, 1)? && is_taken(alloc, 3)? && is_taken(alloc, 23)?)
+fn bodies_are_taken(alloc: Global) -> bool {
+    is_taken(alloc, 1) && is_taken(alloc, 3) && is_taken(alloc, 23)
 }
 
 /// A frame that is too long is told for ever.
-fn long_frame_is_refused(alloc: Global) -> Option<bool> {
+fn long_frame_is_refused(alloc: Global) -> bool {
     let mut frames = Frames::new(alloc);
-    again!(AllocError, frames.feed(&[1, 0, 0, 1])).ok()?;
-    let is_told = is_fault(frames.next(), FrameFault::FrameTooLong);
-    Some(is_told && is_fault(frames.next(), FrameFault::FrameTooLong))
+    again!(AllocError, frames.feed(&[1, 0, 0, 1])).is_ok()
+        && is_fault(frames.next(), FrameFault::FrameTooLong)
+        && is_fault(frames.next(), FrameFault::FrameTooLong)
 }

@@ -41,12 +41,12 @@ fn of_edit(alloc: Global, edit: &Edit) -> Option<Plane> {
     again!(AllocError, Plane::of_edit(alloc, edit)).ok()
 }
 
-fn copied(plane: &Plane) -> Option<Plane> {
-    again!(AllocError, plane.copy()).ok()
-}
-
-fn walked(plane: &Plane) -> Option<Vec<Cell>> {
-    again!(AllocError, plane.walk()).ok()
+/// Whether two cells of a plane are not dead.
+fn has_two_cells(plane: &Plane) -> bool {
+    match again!(AllocError, plane.walk()) {
+        Ok(cells) => cells.len() == 2,
+        Err(AllocError) => false,
+    }
 }
 
 /// The plane of the row of states 2, 3 and 0.
@@ -121,15 +121,22 @@ fn shows_with(
     }
 }
 
-fn row_is_joined(alloc: Global) -> Option<bool> {
-    let mut plane = again!(AllocError, Plane::new(alloc)).ok()?;
-    Some(shows_with(alloc, &mut plane, row(alloc), ROW))
+fn row_is_joined(alloc: Global) -> bool {
+    let Ok(mut plane) = again!(AllocError, Plane::new(alloc)) else {
+        return false;
+    };
+    shows_with(alloc, &mut plane, row(alloc), ROW)
 }
 
 /// Two writes with one counter: whichever plane is joined with the other, the greater one wins.
-fn greater_write_wins(alloc: Global) -> Option<bool> {
-    let mut one = dot(alloc, 1, 1)?;
-    Some(meets_greater(alloc, &mut one, &mut dot(alloc, 2, 2)?))
+fn greater_write_wins(alloc: Global) -> bool {
+    let Some(mut one) = dot(alloc, 1, 1) else {
+        return false;
+    };
+    match dot(alloc, 2, 2) {
+        Some(mut two) => meets_greater(alloc, &mut one, &mut two),
+        None => false,
+    }
 }
 
 fn meets_greater(alloc: Global, one: &mut Plane, two: &mut Plane) -> bool {
@@ -142,57 +149,75 @@ fn meets_greater(alloc: Global, one: &mut Plane, two: &mut Plane) -> bool {
 }
 
 /// A clear wins over what was written before, also where it is joined first; nothing but it is left.
-fn clear_wins(alloc: Global) -> Option<bool> {
-    let mut plane = cleared(alloc)?;
+fn clear_wins(alloc: Global) -> bool {
+    let Some(mut plane) = cleared(alloc) else {
+        return false;
+    };
     let is_clear = shows_with(alloc, &mut plane, dot(alloc, 1, 1), ([0, 0, 0], 131_073));
-    Some(is_clear && is_same(alloc, &plane, cleared(alloc)))
+    is_clear && is_same(alloc, &plane, cleared(alloc))
 }
 
-/// How a new plane with room for so many squares is joined with another, what it shows then, and how many
-/// squares it stores.
-fn filled(alloc: Global, nodes: u32, other: &Plane) -> Option<(bool, ([u8; 3], u64), u32)>
+/// Whether a new plane with room for so many squares has no room for another, shows nothing then, and
+/// stores as many squares as it may.
+fn is_full(alloc: Global, nodes: u32, other: &Plane) -> bool
     requires { 1 ≤ nodes }
 {
-    let mut plane = begun(alloc, nodes)?;
-    let is_full = joined(alloc, &mut plane, other) == Err(StoreFault::StoreFull);
-    Some((is_full, shown(&plane), plane.nodes()))
+    let Some(mut plane) = begun(alloc, nodes) else {
+        return false;
+    };
+    joined(alloc, &mut plane, other) == Err(StoreFault::StoreFull)
+        && shown(&plane) == ([0, 0, 0], 0)
+        && plane.nodes() == nodes
 }
 
-/// One cell wants a room of 30: a plane that has less stores as many squares as it may, and shows nothing.
-fn stores_are_full(alloc: Global) -> Option<bool> {
-    let other = dot(alloc, 1, 1)?;
-    let unwritten = ([0, 0, 0], 0);
-    Some(
-        filled(alloc, 1, &other) == Some((true, unwritten, 1))
-            && filled(alloc, 29, &other) == Some((true, unwritten, 29))
-            && filled(alloc, 1000, &other) == Some((false, ([1, 0, 0], 65537), 30)),
-    )
+/// Whether a new plane shows another that is joined with it, in 30 squares.
+fn is_roomy(alloc: Global, other: &Plane) -> bool {
+    let Some(mut plane) = begun(alloc, 1000) else {
+        return false;
+    };
+    joined(alloc, &mut plane, other) == Ok(())
+        && shown(&plane) == ([1, 0, 0], 65537)
+        && plane.nodes() == 30
+}
+
+/// One cell wants a room of 30.
+fn stores_are_full(alloc: Global) -> bool {
+    let Some(other) = dot(alloc, 1, 1) else {
+        return false;
+    };
+    is_full(alloc, 1, &other) && is_full(alloc, 29, &other) && is_roomy(alloc, &other)
 }
 
 /// The plane of the row is the one that is drawn again; it has two cells that are not dead.
-fn row_is_drawn(alloc: Global) -> Option<bool> {
-    let plane = row(alloc)?;
-    let is_shown = shown(&plane) == ROW && walked(&plane)?.len() == 2;
-    Some(is_shown && is_same(alloc, &plane, row(alloc)))
+fn row_is_drawn(alloc: Global) -> bool {
+    let Some(plane) = row(alloc) else {
+        return false;
+    };
+    shown(&plane) == ROW && has_two_cells(&plane) && is_same(alloc, &plane, row(alloc))
 }
 
-fn plane_is_copied(alloc: Global) -> Option<bool> {
-    match copied(&row(alloc)?) {
-        Some(copy) => Some(shown(&copy) == ROW),
-        None => None,
+fn plane_is_copied(alloc: Global) -> bool {
+    let Some(plane) = row(alloc) else {
+        return false;
+    };
+    match again!(AllocError, plane.copy()) {
+        Ok(copy) => shown(&copy) == ROW,
+        Err(AllocError) => false,
     }
 }
 
 /// An edit that was noted before is not noted again.
-fn edits_are_noted(alloc: Global) -> Option<bool> {
-    let edits = [edits::row(alloc, 2)?, edits::row(alloc, 1)?];
-    let mut journal = Journal::new(alloc);
-    Some(are_noted(alloc, &mut journal, &edits))
+fn edits_are_noted(alloc: Global) -> bool {
+    match (edits::row(alloc, 2), edits::row(alloc, 1)) {
+        (Some(second), Some(first)) => are_noted(alloc, &[second, first]),
+        _ => false,
+    }
 }
 
 /// Whether a journal has the second of two edits once it is pushed, and both once they are noted.
-fn are_noted(alloc: Global, journal: &mut Journal, edits: &[Edit; 2]) -> bool {
-    is_pushed(alloc, journal)
+fn are_noted(alloc: Global, edits: &[Edit; 2]) -> bool {
+    let mut journal = Journal::new(alloc);
+    is_pushed(alloc, &mut journal)
         && journal.contains(&edits[1])
         && journal.as_slice().len() == 1
         && again!(AllocError, journal.note(edits)).is_ok()

@@ -1,7 +1,6 @@
 //! A session over the one seat of a board, whose relay takes turns on a thread of its own.
 
-use crate::memory::rows::Row;
-use crate::memory::sessions::asked;
+use crate::memory::sessions::are_asked;
 use crate::memory::ways::{Table, Way};
 use relay_board::{Bell, Naming, Relay, Seat, Turn};
 use replica_sessions::Session;
@@ -68,19 +67,6 @@ fn relayed<J: Naming, R: Threads + Wait + Drop>(rt: &R, relaying: Relaying<J, R>
     is_over.store(true, Ordering::SeqCst);
     bell.ring();
     thread.join(rt)
-}
-
-/// Whether requests of a session are answered as they are meant to be.
-fn are_asked<J: Naming, R: Threads + Wait + Sync + Drop>(
-    session: &mut Session<SeatHub<J, R>, R>,
-    rows: &[Row],
-) -> bool {
-    for row in rows {
-        if !asked(session, row) {
-            return false;
-        }
-    }
-    true
 }
 
 /// How many calls of a session over a board's one seat, in order, are answered as they are meant to be, and

@@ -137,13 +137,21 @@ fn taker(alloc: Global) -> Option<Replica> {
     begun(alloc, edits::rule()?, 2)
 }
 
-fn edit_is_drawn(alloc: Global) -> Option<bool> {
-    Some(shows(&drawn(alloc, [2, 3])?, [2, 3], 1))
+fn edit_is_drawn(alloc: Global) -> bool {
+    match drawn(alloc, [2, 3]) {
+        Some(replica) => shows(&replica, [2, 3], 1),
+        None => false,
+    }
 }
 
-fn state_is_refused(alloc: Global) -> Option<bool> {
-    let mut replica = taker(alloc)?;
-    Some(is_refused(&mut replica, &spec(alloc, &[cell!(0, 0, 4)])?))
+fn state_is_refused(alloc: Global) -> bool {
+    let Some(mut replica) = taker(alloc) else {
+        return false;
+    };
+    match spec(alloc, &[cell!(0, 0, 4)]) {
+        Some(spec) => is_refused(&mut replica, &spec),
+        None => false,
+    }
 }
 
 fn is_refused(replica: &mut Replica, spec: &EditSpec) -> bool {
@@ -151,10 +159,14 @@ fn is_refused(replica: &mut Replica, spec: &EditSpec) -> bool {
 }
 
 /// An edit is made, and the replica that made it holds what it held.
-fn edit_is_made(alloc: Global) -> Option<bool> {
-    let replica = drawn(alloc, [2, 3])?;
-    let is_made = makes(&replica, &spec(alloc, &cells![(0, 0, 1), (1, 0, 1)])?);
-    Some(is_made && shows(&replica, [2, 3], 1))
+fn edit_is_made(alloc: Global) -> bool {
+    let Some(replica) = drawn(alloc, [2, 3]) else {
+        return false;
+    };
+    match spec(alloc, &cells![(0, 0, 1), (1, 0, 1)]) {
+        Some(spec) => makes(&replica, &spec) && shows(&replica, [2, 3], 1),
+        None => false,
+    }
 }
 
 /// Whether a replica makes an edit of two cells, of counter 2.
@@ -170,10 +182,6 @@ pub fn are_same(one: &Replica, other: &Replica) -> bool {
     again!(AllocError, one.holds_same(other)).unwrap_or(false)
 }
 
-fn snapshot(replica: &Replica) -> Option<Message> {
-    again!(Fault::Memory, replica.snapshot()).ok()
-}
-
 /// Another replica, that took a message.
 fn taker_of(alloc: Global, message: &Message) -> Option<Replica> {
     let mut taker = taker(alloc)?;
@@ -184,10 +192,22 @@ fn taker_of(alloc: Global, message: &Message) -> Option<Replica> {
     }
 }
 
-fn map_is_taken(alloc: Global) -> Option<bool> {
-    let replica = drawn(alloc, [2, 3])?;
-    let taker = taker_of(alloc, &snapshot(&replica)?)?;
-    Some(shows(&taker, [2, 3], 0) && are_same(&replica, &taker))
+fn map_is_taken(alloc: Global) -> bool {
+    let Some(replica) = drawn(alloc, [2, 3]) else {
+        return false;
+    };
+    match again!(Fault::Memory, replica.snapshot()) {
+        Ok(message) => gives(alloc, &replica, &message),
+        Err(_) => false,
+    }
+}
+
+/// Whether another replica that takes a message holds what a replica does, without an edit.
+fn gives(alloc: Global, replica: &Replica, message: &Message) -> bool {
+    match taker_of(alloc, message) {
+        Some(taker) => shows(&taker, [2, 3], 0) && are_same(replica, &taker),
+        None => false,
+    }
 }
 
 /// A list of one edit of replica 3.
@@ -215,17 +235,30 @@ fn room(alloc: Global) -> Option<Vec<Edit>>
     }
 }
 
-fn edits_are_taken(alloc: Global) -> Option<bool> {
-    let rule = edits::rule()?;
-    let taker = taker_of(alloc, &Message::of_edits(rule, list(alloc, &rule)?))?;
-    Some(shows(&taker, [2, 3], 1))
+fn edits_are_taken(alloc: Global) -> bool {
+    let Some(rule) = edits::rule() else {
+        return false;
+    };
+    let Some(edits) = list(alloc, &rule) else {
+        return false;
+    };
+    match taker_of(alloc, &Message::of_edits(rule, edits)) {
+        Some(taker) => shows(&taker, [2, 3], 1),
+        None => false,
+    }
 }
 
-fn list_is_taken(alloc: Global) -> Option<bool> {
-    let rule = edits::rule()?;
-    let edits = list(alloc, &rule)?;
-    let mut taker = begun(alloc, rule, 2)?;
-    Some(take_edits(&mut taker, edits.as_slice()).is_ok() && shows(&taker, [2, 3], 1))
+fn list_is_taken(alloc: Global) -> bool {
+    let Some(rule) = edits::rule() else {
+        return false;
+    };
+    let Some(edits) = list(alloc, &rule) else {
+        return false;
+    };
+    let Some(mut taker) = begun(alloc, rule, 2) else {
+        return false;
+    };
+    take_edits(&mut taker, edits.as_slice()).is_ok() && shows(&taker, [2, 3], 1)
 }
 
 pub fn state(replica: &Replica) -> Option<Vec<u8>> {
@@ -237,17 +270,31 @@ fn delta(replica: &Replica, from: u32) -> Result<Vec<u8>, Fault> {
 }
 
 /// Whether a replica that took a text shows what another drew, and has so many edits.
-fn is_taken(alloc: Global, text: &[u8], edits: usize) -> Option<bool> {
-    let mut taker = taker(alloc)?;
-    Some(take_bytes(&mut taker, text).is_ok() && shows(&taker, [2, 3], edits))
+fn is_taken(alloc: Global, text: &[u8], edits: usize) -> bool {
+    let Some(mut taker) = taker(alloc) else {
+        return false;
+    };
+    take_bytes(&mut taker, text).is_ok() && shows(&taker, [2, 3], edits)
 }
 
-fn state_is_taken(alloc: Global) -> Option<bool> {
-    is_taken(alloc, &state(&drawn(alloc, [2, 3])?)?, 0)
+fn state_is_taken(alloc: Global) -> bool {
+    let Some(giver) = drawn(alloc, [2, 3]) else {
+        return false;
+    };
+    match state(&giver) {
+        Some(text) => is_taken(alloc, &text, 0),
+        None => false,
+    }
 }
 
-fn delta_is_taken(alloc: Global) -> Option<bool> {
-    is_taken(alloc, &delta(&drawn(alloc, [2, 3])?, 0).ok()?, 1)
+fn delta_is_taken(alloc: Global) -> bool {
+    let Some(giver) = drawn(alloc, [2, 3]) else {
+        return false;
+    };
+    match delta(&giver, 0) {
+        Ok(text) => is_taken(alloc, &text, 1),
+        Err(_) => false,
+    }
 }
 
 /// Whether a replica that takes a state, its own again, and twice a delta of the same edit always has that
@@ -274,25 +321,38 @@ fn has_one_edit(replica: &Replica) -> bool {
 }
 
 /// Whether another replica holds what one does that gives the same again and again.
-fn gives_again(alloc: Global, giver: &Replica) -> Option<bool> {
-    let text = state(giver)?;
-    let given = delta(giver, 0).ok()?;
-    let mut taker = taker(alloc)?;
-    Some(takes_again(&mut taker, &text, &given) && are_same(giver, &taker))
+fn gives_again(alloc: Global, giver: &Replica) -> bool {
+    let Some(text) = state(giver) else {
+        return false;
+    };
+    let Ok(given) = delta(giver, 0) else {
+        return false;
+    };
+    let Some(mut taker) = taker(alloc) else {
+        return false;
+    };
+    takes_again(&mut taker, &text, &given) && are_same(giver, &taker)
 }
 
-fn texts_are_taken_again(alloc: Global) -> Option<bool> {
-    gives_again(alloc, &drawn(alloc, [1, 0])?)
+fn texts_are_taken_again(alloc: Global) -> bool {
+    match drawn(alloc, [1, 0]) {
+        Some(giver) => gives_again(alloc, &giver),
+        None => false,
+    }
 }
 
-fn fault_is_told(alloc: Global) -> Option<bool> {
-    let mut taker = taker(alloc)?;
+fn fault_is_told(alloc: Global) -> bool {
+    let Some(mut taker) = taker(alloc) else {
+        return false;
+    };
     let answer = take_bytes(&mut taker, b"GLWS\x03");
-    Some(is_fault(answer, Fault::Read(ReadFault::Version)))
+    is_fault(answer, Fault::Read(ReadFault::Version))
 }
 
-fn cells_are_exported(alloc: Global) -> Option<bool> {
-    let replica = drawn(alloc, [1, 1])?;
+fn cells_are_exported(alloc: Global) -> bool {
+    let Some(replica) = drawn(alloc, [1, 1]) else {
+        return false;
+    };
     let answer = again!(Fault::Memory if shows(&replica, [1, 1], 1), replica.export(5));
-    Some(is_text(answer, LATER.as_bytes()))
+    is_text(answer, LATER.as_bytes())
 }

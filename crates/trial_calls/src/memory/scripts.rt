@@ -65,18 +65,20 @@ fn pulled(alloc: Global) -> Result<Vec<u8>, RunFault> {
     pull_all(alloc, &mut ReadSource::new(MIXED.script.as_bytes()), 4)
 }
 
-fn bytes_are_pulled(alloc: Global) -> Option<bool> {
+fn bytes_are_pulled(alloc: Global) -> bool {
     let answer = again!(RunFault::Memory, pulled(alloc));
-    Some(is_text(answer, MIXED.script.as_bytes()))
+    is_text(answer, MIXED.script.as_bytes())
 }
 
 fn script(alloc: Global, text: &str) -> Option<Script> {
     again!(ScriptFault::Memory, read_script(alloc, text.as_bytes())).ok()
 }
 
-fn script_is_read(alloc: Global) -> Option<bool> {
-    let script = script(alloc, MIXED.script)?;
-    Some(script.replicas() == 2 && script.commands().len() == 12)
+fn script_is_read(alloc: Global) -> bool {
+    let Some(script) = script(alloc, MIXED.script) else {
+        return false;
+    };
+    script.replicas() == 2 && script.commands().len() == 12
 }
 
 /// The plan of a script, whose commands are read again where memory is refused.
@@ -91,9 +93,11 @@ fn plan_once(alloc: Global, text: &str) -> Option<Plan> {
     planned(alloc, script(alloc, text)?.into_commands()).ok()
 }
 
-fn script_is_planned(alloc: Global) -> Option<bool> {
-    let plan = plan(alloc, MIXED.script)?;
-    Some(plan.lines.len() == 12 && plan.events.len() == 10)
+fn script_is_planned(alloc: Global) -> bool {
+    let Some(plan) = plan(alloc, MIXED.script) else {
+        return false;
+    };
+    plan.lines.len() == 12 && plan.events.len() == 10
 }
 
 /// A sink with room for all that is pushed here: a growth of its own would count as a failed write.
@@ -114,15 +118,21 @@ fn ended(alloc: Global, script: &str) -> Option<(Result<(), RunFault>, Vec<u8>)>
 }
 
 /// Whether a worked script prints what it is meant to.
-fn prints(alloc: Global, row: &Worked) -> Option<bool> {
-    let (end, out) = ended(alloc, row.script)?;
-    let rest = behind(&out, row.patterns.as_bytes())?;
-    Some(end.is_ok() && rest == row.printed.as_bytes())
+fn prints(alloc: Global, row: &Worked) -> bool {
+    let Some((end, out)) = ended(alloc, row.script) else {
+        return false;
+    };
+    match behind(&out, row.patterns.as_bytes()) {
+        Some(rest) => end.is_ok() && rest == row.printed.as_bytes(),
+        None => false,
+    }
 }
 
-fn script_is_refused(alloc: Global) -> Option<bool> {
-    let (end, out) = ended(alloc, FAULTY)?;
-    Some(end == Err(RunFault::Script(3)) && out.is_empty())
+fn script_is_refused(alloc: Global) -> bool {
+    match ended(alloc, FAULTY) {
+        Some((end, out)) => end == Err(RunFault::Script(3)) && out.is_empty(),
+        None => false,
+    }
 }
 
 fn bring(alloc: Global, rule: &Rule, text: &str, out: &mut Vec<u8>) -> Result<(), RunFault> {
@@ -132,26 +142,34 @@ fn bring(alloc: Global, rule: &Rule, text: &str, out: &mut Vec<u8>) -> Result<()
 
 /// Whether a text is brought into its form. A call that wants memory has to push nothing, and is made
 /// again.
-fn is_brought(alloc: Global, text: &str, form: Result<&str, RunFault>) -> Option<bool> {
-    let rule = Rule::parse(b"/2/3").ok()?;
-    let mut out = sink(alloc)?;
+fn is_brought(alloc: Global, text: &str, form: Result<&str, RunFault>) -> bool {
+    let Ok(rule) = Rule::parse(b"/2/3") else {
+        return false;
+    };
+    let Some(mut out) = sink(alloc) else {
+        return false;
+    };
     let end = again!(RunFault::Memory if out.is_empty(), bring(alloc, &rule, text, &mut out));
-    Some(end == form.map(|_| ()) && out.as_slice() == form.unwrap_or("").as_bytes())
+    end == form.map(|_| ()) && out.as_slice() == form.unwrap_or("").as_bytes()
 }
 
-fn texts_are_brought(alloc: Global) -> Option<bool> {
+fn texts_are_brought(alloc: Global) -> bool {
     for (text, form) in &FORMS {
-        if !is_brought(alloc, text, *form)? {
-            return None;
+        if !is_brought(alloc, text, *form) {
+            return false;
         }
     }
-    Some(true)
+    true
 }
 
-fn world_is_new(alloc: Global) -> Option<bool> {
-    let rule = Rule::parse(b"345/2/4").ok()?;
-    let world = again!(Stop::Memory, World::new(alloc, rule, 3)).ok()?;
-    Some(world.replica(3).is_some() && world.replica(4).is_none())
+fn world_is_new(alloc: Global) -> bool {
+    let Ok(rule) = Rule::parse(b"345/2/4") else {
+        return false;
+    };
+    let Ok(world) = again!(Stop::Memory, World::new(alloc, rule, 3)) else {
+        return false;
+    };
+    world.replica(3).is_some() && world.replica(4).is_none()
 }
 
 /// The world of a script behind its last event, and what it replied.
@@ -167,23 +185,36 @@ fn head(script: &Script) -> (Rule, u16) {
 }
 
 /// Whether a world replies what is printed of it, and whether its messages are as they are meant to be.
-fn is_replayed(alloc: Global, row: &Worked) -> Option<bool> {
-    let (world, replies) = replayed(alloc, row.script)?;
-    let mut rest = row.printed.as_bytes();
-    for reply in &replies {
-        rest = behind_reply(alloc, rest, reply)?;
+fn is_replayed(alloc: Global, row: &Worked) -> bool {
+    match replayed(alloc, row.script) {
+        Some((world, replies)) => {
+            are_printed(alloc, &replies, row.printed.as_bytes())
+                && are_messages(&world, row.equal, row.bytes)
+        }
+        None => false,
     }
-    Some(rest.is_empty() && are_messages(&world, row.equal, row.bytes))
+}
+
+/// Whether just this is printed of replies.
+fn are_printed(alloc: Global, replies: &[Reply], printed: &[u8]) -> bool {
+    let mut rest = printed;
+    for reply in replies {
+        let Some(further) = behind_reply(alloc, rest, reply) else {
+            return false;
+        };
+        rest = further;
+    }
+    rest.is_empty()
 }
 
 /// What is printed behind a reply.
 fn behind_reply<'a>(alloc: Global, printed: &'a [u8], reply: &Reply) -> Option<&'a [u8]> {
     match reply {
         Reply::Text(text) => behind(printed, text.as_slice()),
-        reply => behind(
-            printed,
-            again!(AllocError, line_of(alloc, reply)).ok()?.as_bytes(),
-        ),
+        reply => match again!(AllocError, line_of(alloc, reply)) {
+            Ok(line) => behind(printed, line.as_bytes()),
+            Err(AllocError) => None,
+        },
     }
 }
 
@@ -211,8 +242,18 @@ fn are_messages(world: &World, numbers: &[u64], bytes: usize) -> bool {
     let Some(first) = numbers.first() else {
         return true;
     };
-    let same = world.message(*first);
-    numbers.iter().all(|number| {
-        world.message(*number) == same && same.is_some_and(|text| text.len() == bytes)
-    })
+    for number in numbers {
+        if !is_message(world, *number, *first, bytes) {
+            return false;
+        }
+    }
+    true
+}
+
+/// Whether a message has so many bytes, and they are those of another.
+fn is_message(world: &World, number: u64, other: u64, bytes: usize) -> bool {
+    match (world.message(number), world.message(other)) {
+        (Some(text), Some(same)) => text.len() == bytes && text == same,
+        _ => false,
+    }
 }

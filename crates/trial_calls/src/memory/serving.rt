@@ -99,9 +99,13 @@ fn met(end: Result<Served, ServeFault>, out: &[u8], service: &Service) -> Verdic
 }
 
 /// How a service over a new hub meets its rows, where what goes out has room.
-fn served<R: Threads + Sync + Drop>(rt: R, alloc: Global, service: &Service) -> Option<Verdict> {
-    let mut session = session(rt, alloc, 0)?;
-    let mut out = sink(alloc)?;
+fn served<R: Threads + Sync + Drop>(rt: R, alloc: Global, service: &Service) -> Verdict {
+    let Some(mut session) = session(rt, alloc, 0) else {
+        return Verdict::Neither;
+    };
+    let Some(mut out) = sink(alloc) else {
+        return Verdict::Neither;
+    };
     let mut source = ReadSource::new(service.requests);
     let end = serve(
         alloc,
@@ -109,17 +113,13 @@ fn served<R: Threads + Sync + Drop>(rt: R, alloc: Global, service: &Service) -> 
         &mut WriteSink::new(&mut out),
         &mut session,
     );
-    Some(met(end, &out, service))
+    met(end, &out, service)
 }
 
 /// Whether a service ends as it is meant to, with a new hub where there was no memory.
-pub fn serves<R: Threads + Sync + Drop + Copy>(
-    rt: R,
-    alloc: Global,
-    service: &Service,
-) -> Option<bool> {
-    match served(rt, alloc, service)? {
-        Verdict::Want => Some(served(rt, alloc, service)? == Verdict::Meant),
-        verdict => Some(verdict == Verdict::Meant),
+pub fn serves<R: Threads + Sync + Drop + Copy>(rt: R, alloc: Global, service: &Service) -> bool {
+    match served(rt, alloc, service) {
+        Verdict::Want => served(rt, alloc, service) == Verdict::Meant,
+        verdict => verdict == Verdict::Meant,
     }
 }

@@ -31,6 +31,14 @@ static ASKED: [(&str, &[Cell], Row); 7] = [
     ("no request", &ONE, FAULTY),
 ];
 
+/// A push, and what else is pushed, which is refused; the session answers as ever then.
+static PUSHED: [Row; 5] = [PUSH_ONE, PUSH_OTHER, PUSH_UNSTAMPED, PUSH_STATE, HELLO];
+
+/// Polls behind one that found no memory.
+static BOTH: [Row; 1] = [POLL_BOTH];
+
+static PLANE_FIRST: [Row; 2] = [POLL_PLANE, POLL_TWO];
+
 /// Requests over a hub in memory, services, and many exports.
 pub fn tell_all<R: Threads + Sync + Print + Drop + Copy>(rt: R, alloc: Global) -> io::Result<()> {
     for (call, cells, row) in &ASKED {
@@ -132,33 +140,40 @@ fn asked_once<H: Hub, R: Threads + Sync + Drop>(session: &mut Session<H, R>, row
 }
 
 /// Whether a request is answered by its row, at the second time where there was no memory.
-pub fn asked<H: Hub, R: Threads + Sync + Drop>(session: &mut Session<H, R>, row: &Row) -> bool {
+fn asked<H: Hub, R: Threads + Sync + Drop>(session: &mut Session<H, R>, row: &Row) -> bool {
     match asked_once(session, row) {
         Verdict::Want => asked_once(session, row) == Verdict::Meant,
         verdict => verdict == Verdict::Meant,
     }
 }
 
-/// Whether a request of a session of its own is answered.
-fn is_answered<R: Threads + Sync + Drop>(
-    rt: R,
-    alloc: Global,
-    cells: &[Cell],
-    row: &Row,
-) -> Option<bool> {
-    let mut session = session_of(rt, alloc, cells, 0)?;
-    Some(asked(&mut session, row))
-}
-
-/// Whether a push is, and what else is pushed is refused; the session answers as ever then.
-fn pushes<R: Threads + Sync + Drop>(rt: R, alloc: Global) -> Option<bool> {
-    let mut session = session(rt, alloc, 0)?;
-    for row in &[PUSH_ONE, PUSH_OTHER, PUSH_UNSTAMPED, PUSH_STATE, HELLO] {
-        if !asked(&mut session, row) {
-            return None;
+/// Whether requests of a session are answered as they are meant to be.
+pub fn are_asked<H: Hub, R: Threads + Sync + Drop>(
+    session: &mut Session<H, R>,
+    rows: &[Row],
+) -> bool {
+    for row in rows {
+        if !asked(session, row) {
+            return false;
         }
     }
-    Some(session.into_hub().fresh() == 1)
+    true
+}
+
+/// Whether a request of a session of its own is answered.
+fn is_answered<R: Threads + Sync + Drop>(rt: R, alloc: Global, cells: &[Cell], row: &Row) -> bool {
+    match session_of(rt, alloc, cells, 0) {
+        Some(mut session) => asked(&mut session, row),
+        None => false,
+    }
+}
+
+/// Whether pushes are answered, of which the hub took one.
+fn pushes<R: Threads + Sync + Drop>(rt: R, alloc: Global) -> bool {
+    let Some(mut session) = session(rt, alloc, 0) else {
+        return false;
+    };
+    are_asked(&mut session, &PUSHED) && session.into_hub().fresh() == 1
 }
 
 /// Polls, pushes an edit and polls again: where the first poll wants memory, the second gives what both
@@ -174,19 +189,25 @@ fn polls_by<R: Threads + Sync + Drop>(
     }
     match verdict {
         Verdict::Meant => asked(session, &POLL_TWO),
-        Verdict::Want => wanted.iter().all(|row| asked(session, row)),
+        Verdict::Want => are_asked(session, wanted),
         _ => false,
     }
 }
 
 /// Pushes an edit, polls, pushes another and polls.
-fn polls<R: Threads + Sync + Drop>(rt: R, alloc: Global) -> Option<bool> {
-    let mut session = session(rt, alloc, 0)?;
-    Some(asked(&mut session, &PUSH_ONE) && polls_by(&mut session, &POLL_ONE, &[POLL_BOTH]))
+fn polls<R: Threads + Sync + Drop>(rt: R, alloc: Global) -> bool {
+    match session(rt, alloc, 0) {
+        Some(mut session) => {
+            asked(&mut session, &PUSH_ONE) && polls_by(&mut session, &POLL_ONE, &BOTH)
+        }
+        None => false,
+    }
 }
 
 /// Polls a hub that hands out its plane once: the plane comes before the edit.
-fn polls_plane<R: Threads + Sync + Drop>(rt: R, alloc: Global) -> Option<bool> {
-    let mut session = session(rt, alloc, 1025)?;
-    Some(polls_by(&mut session, &POLL_PLANE, &[POLL_PLANE, POLL_TWO]))
+fn polls_plane<R: Threads + Sync + Drop>(rt: R, alloc: Global) -> bool {
+    match session(rt, alloc, 1025) {
+        Some(mut session) => polls_by(&mut session, &POLL_PLANE, &PLANE_FIRST),
+        None => false,
+    }
 }

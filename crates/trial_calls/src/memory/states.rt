@@ -91,8 +91,11 @@ pub fn tell_calls(rt: &impl Print, alloc: Global) -> io::Result<()> {
     )
 }
 
-fn state_is_written(alloc: Global) -> Option<bool> {
-    Some(is_written(alloc, &edits::rule()?, &planes::row(alloc)?))
+fn state_is_written(alloc: Global) -> bool {
+    match (edits::rule(), planes::row(alloc)) {
+        (Some(rule), Some(plane)) => is_written(alloc, &rule, &plane),
+        _ => false,
+    }
 }
 
 fn is_written(alloc: Global, rule: &Rule, plane: &Plane) -> bool {
@@ -109,10 +112,14 @@ pub fn state(alloc: Global) -> Option<Message> {
     message(alloc, &edits::rule()?, &text()).ok()
 }
 
-fn state_is_read(alloc: Global) -> Option<bool> {
-    let message = state(alloc)?;
-    let plane = message.plane()?;
-    Some(planes::shown(plane) == planes::ROW && plane.nodes() == 30)
+fn state_is_read(alloc: Global) -> bool {
+    let Some(message) = state(alloc) else {
+        return false;
+    };
+    let Some(plane) = message.plane() else {
+        return false;
+    };
+    planes::shown(plane) == planes::ROW && plane.nodes() == 30
 }
 
 fn is_refused(alloc: Global, rule: &Rule, text: &[u8], fault: ReadFault) -> bool {
@@ -120,20 +127,25 @@ fn is_refused(alloc: Global, rule: &Rule, text: &[u8], fault: ReadFault) -> bool
 }
 
 /// The third write's state is one that the rule does not have.
-fn fault_is_told(alloc: Global) -> Option<bool> {
+fn fault_is_told(alloc: Global) -> bool {
     let mut text = text();
     text[44] = 4;
-    Some(is_refused(alloc, &edits::rule()?, &text, ReadFault::StateRange))
+    match edits::rule() {
+        Some(rule) => is_refused(alloc, &rule, &text, ReadFault::StateRange),
+        None => false,
+    }
 }
 
-fn faults_are_told(alloc: Global) -> Option<bool> {
-    let rule = Rule::parse(b"/2/3").ok()?;
+fn faults_are_told(alloc: Global) -> bool {
+    let Ok(rule) = Rule::parse(b"/2/3") else {
+        return false;
+    };
     for (text, fault) in &FAULTS {
         if !is_refused(alloc, &rule, text, *fault) {
-            return None;
+            return false;
         }
     }
-    Some(true)
+    true
 }
 
 /// Whether each text that ends before this one is too short.
@@ -146,30 +158,44 @@ fn are_short(alloc: Global, rule: &Rule, text: &[u8]) -> bool {
     true
 }
 
-fn short_texts_are_refused(alloc: Global) -> Option<bool> {
-    let rule = Rule::parse(b"/2/3").ok()?;
-    Some(are_short(alloc, &rule, QUARTERED) && are_short(alloc, &rule, QUARTERED_BEFORE))
+fn short_texts_are_refused(alloc: Global) -> bool {
+    let Ok(rule) = Rule::parse(b"/2/3") else {
+        return false;
+    };
+    are_short(alloc, &rule, QUARTERED) && are_short(alloc, &rule, QUARTERED_BEFORE)
 }
 
 /// Whether a text is read as a plane where nothing was written.
-fn is_empty(alloc: Global, rule: &Rule, text: &[u8]) -> Option<bool> {
-    let message = message(alloc, rule, text).ok()?;
-    let plane = message.plane()?;
-    Some(plane.greatest_stamp() == 0 && plane.nodes() == 1)
+fn is_empty(alloc: Global, rule: &Rule, text: &[u8]) -> bool {
+    let Ok(message) = message(alloc, rule, text) else {
+        return false;
+    };
+    let Some(plane) = message.plane() else {
+        return false;
+    };
+    plane.greatest_stamp() == 0 && plane.nodes() == 1
 }
 
-fn empty_states_are_read(alloc: Global) -> Option<bool> {
-    let rule = Rule::parse(b"/2/3").ok()?;
-    Some(
-        is_empty(alloc, &rule, EMPTY) == Some(true)
-            && is_empty(alloc, &rule, EMPTY_BEFORE) == Some(true),
-    )
+fn empty_states_are_read(alloc: Global) -> bool {
+    let Ok(rule) = Rule::parse(b"/2/3") else {
+        return false;
+    };
+    is_empty(alloc, &rule, EMPTY) && is_empty(alloc, &rule, EMPTY_BEFORE)
 }
 
-fn delta_is_read(alloc: Global) -> Option<bool> {
-    let message = message(alloc, &edits::rule()?, &edits::DELTA).ok()?;
-    match message.edits()? {
-        [row] => Some(edits::is_row(row)),
-        _ => None,
+fn delta_is_read(alloc: Global) -> bool {
+    let Some(rule) = edits::rule() else {
+        return false;
+    };
+    match message(alloc, &rule, &edits::DELTA) {
+        Ok(message) => has_row(&message),
+        Err(_) => false,
+    }
+}
+
+fn has_row(message: &Message) -> bool {
+    match message.edits() {
+        Some(edits) => edits::is_one_row(edits),
+        None => false,
     }
 }

@@ -79,8 +79,8 @@ pub fn tell_calls(rt: &impl Print, alloc: Global) -> io::Result<()> {
         rt,
         "texts",
         &[
-            ("Rule::write_text", Some(rules_are_written(alloc))),
-            ("parse", Some(texts_are_read(alloc))),
+            ("Rule::write_text", rules_are_written(alloc)),
+            ("parse", texts_are_read(alloc)),
             ("Pattern::copy", pattern_is_copied(alloc)),
             ("write", cells_are_written(alloc)),
             ("write of a long row", long_row_is_written(alloc)),
@@ -90,16 +90,18 @@ pub fn tell_calls(rt: &impl Print, alloc: Global) -> io::Result<()> {
 
 fn rules_are_written(alloc: Global) -> bool {
     for (text, form) in &RULES {
-        if is_form(alloc, text, form) != Some(true) {
+        if !is_form(alloc, text, form) {
             return false;
         }
     }
     true
 }
 
-fn is_form(alloc: Global, text: &str, form: &str) -> Option<bool> {
-    let rule = Rule::parse(text.as_bytes()).ok()?;
-    Some(is_text(again!(AllocError, rule.write_text(alloc)), form.as_bytes()))
+fn is_form(alloc: Global, text: &str, form: &str) -> bool {
+    let Ok(rule) = Rule::parse(text.as_bytes()) else {
+        return false;
+    };
+    is_text(again!(AllocError, rule.write_text(alloc)), form.as_bytes())
 }
 
 fn texts_are_read(alloc: Global) -> bool {
@@ -135,11 +137,13 @@ pub fn pattern(alloc: Global) -> Option<Pattern> {
     read(alloc, THREE).ok()
 }
 
-fn pattern_is_copied(alloc: Global) -> Option<bool> {
-    let pattern = pattern(alloc)?;
+fn pattern_is_copied(alloc: Global) -> bool {
+    let Some(pattern) = pattern(alloc) else {
+        return false;
+    };
     match again!(AllocError, pattern.copy()) {
-        Ok(copy) => Some(is_sheet(&copy, &SHEET)),
-        Err(AllocError) => None,
+        Ok(copy) => is_sheet(&copy, &SHEET),
+        Err(AllocError) => false,
     }
 }
 
@@ -152,17 +156,21 @@ fn are_written(alloc: Global, rule: &Rule, generation: u64, cells: &[Cell], text
         )
 }
 
-fn cells_are_written(alloc: Global) -> Option<bool> {
-    let rule = Rule::parse(b"/2/3").ok()?;
+fn cells_are_written(alloc: Global) -> bool {
+    let Ok(rule) = Rule::parse(b"/2/3") else {
+        return false;
+    };
     let cells = cells![(4, -3, 1), (5, -3, 2)];
-    Some(are_written(alloc, &rule, 9, &cells, WRITTEN))
+    are_written(alloc, &rule, 9, &cells, WRITTEN)
 }
 
-fn long_row_is_written(alloc: Global) -> Option<bool> {
-    let rule = Rule::parse(b"23/3/2").ok()?;
+fn long_row_is_written(alloc: Global) -> bool {
+    let Ok(rule) = Rule::parse(b"23/3/2") else {
+        return false;
+    };
     let mut row = [cell!(0, 0, 1); 41];
     for (place, cell) in row.iter_mut().enumerate() {
         cell.x = 2 * (place & 63) as i32;
     }
-    Some(are_written(alloc, &rule, 0, &row, LONG))
+    are_written(alloc, &rule, 0, &row, LONG)
 }
