@@ -211,29 +211,70 @@ fn are_printed(alloc: Global, replies: &[Reply], printed: &[u8]) -> bool {
 fn behind_reply<'a>(alloc: Global, printed: &'a [u8], reply: &Reply) -> Option<&'a [u8]> {
     match reply {
         Reply::Text(text) => behind(printed, text.as_slice()),
-        reply => match again!(AllocError, line_of(alloc, reply)) {
-            Ok(line) => behind(printed, line.as_bytes()),
-            Err(AllocError) => None,
-        },
+        reply => behind_line(alloc, printed, &line_of(reply)),
+    }
+}
+
+/// A line that is printed: a word, numbers behind it, and a name where there is one.
+#[derive(Drop)]
+struct Line {
+    word: &'static str,
+    numbers: [Option<u64>; 3],
+    name: &'static str,
+}
+
+impl Line {
+    fn of(word: &'static str, numbers: [Option<u64>; 3]) -> Line {
+        Line {
+            word,
+            numbers,
+            name: "",
+        }
     }
 }
 
 /// The line that a reply is printed as, but for a text and for bytes.
-fn line_of(alloc: Global, reply: &Reply) -> Result<String, AllocError> {
+fn line_of(reply: &Reply) -> Line {
     match reply {
         Reply::Drawn(stamp) => {
-            let (counter, replica) = (stamp.counter(), stamp.replica());
-            format!(in alloc; "drawn {counter} {replica}\n")
+            let (counter, replica) = (stamp.counter(), u64::from(stamp.replica()));
+            Line::of("drawn", [Some(counter), Some(replica), None])
         }
-        Reply::Sent(number) => format!(in alloc; "sent {number}\n"),
-        Reply::Taken => format!(in alloc; "taken\n"),
+        Reply::Sent(number) => Line::of("sent", [Some(*number), None, None]),
+        Reply::Taken => Line::of("taken", [None, None, None]),
         Reply::Shown(write) => {
             let (counter, replica) = (write.stamp >> 16, write.stamp & 0xffff);
-            format!(in alloc; "cell {} {counter} {replica}\n", write.state)
+            let state = u64::from(write.state);
+            Line::of("cell", [Some(state), Some(counter), Some(replica)])
         }
-        Reply::Same(is_same) => format!(in alloc; "{}\n", if *is_same { "same" } else { "differ" }),
-        Reply::Refused(fault) => format!(in alloc; "refused {} {}\n", fault.number(), fault.name()),
-        _ => format!(in alloc; "?"),
+        Reply::Same(true) => Line::of("same", [None, None, None]),
+        Reply::Same(false) => Line::of("differ", [None, None, None]),
+        Reply::Refused(fault) => Line {
+            word: "refused",
+            numbers: [Some(u64::from(fault.number())), None, None],
+            name: fault.name(),
+        },
+        _ => Line::of("?", [None, None, None]),
+    }
+}
+
+/// What is printed behind a line.
+fn behind_line<'a>(alloc: Global, printed: &'a [u8], line: &Line) -> Option<&'a [u8]> {
+    let mut rest = behind(printed, line.word.as_bytes())?;
+    for number in line.numbers.iter().flatten() {
+        rest = behind_number(alloc, rest, *number)?;
+    }
+    if !line.name.is_empty() {
+        rest = behind(behind(rest, b" ")?, line.name.as_bytes())?;
+    }
+    behind(rest, b"\n")
+}
+
+/// What is printed behind a blank and a number.
+fn behind_number(alloc: Global, printed: &[u8], number: u64) -> Option<&[u8]> {
+    match again!(AllocError, format!(in alloc; " {number}")) {
+        Ok(digits) => behind(printed, digits.as_bytes()),
+        Err(AllocError) => None,
     }
 }
 

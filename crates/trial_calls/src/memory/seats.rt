@@ -17,28 +17,24 @@ fn told(edit: &Edit) -> (u64, Option<Cell>) {
     (edit.stamp().number(), edit.listed_cells().first().copied())
 }
 
-/// Submits an edit. Where it is refused nothing was accepted and the edit comes back; where memory is, it
-/// is submitted once more.
-pub fn submitted<J: Naming, R: Wait>(
-    rt: &R,
-    seat: &mut Seat<J>,
-    edit: Edit,
-) -> Result<Pending<J>, Option<SubmitFault>> {
+/// What a submission comes to: where it is refused nothing was accepted and the edit comes back, or there
+/// is no fault to tell.
+type Submitted<J> = Result<Pending<J>, Option<(Edit, SubmitFault)>>;
+
+fn submitted_once<J: Naming, R: Wait>(rt: &R, seat: &mut Seat<J>, edit: Edit) -> Submitted<J> {
     let before = (told(&edit), seat.accepted());
-    let (edit, fault) = match seat.submit(rt, edit) {
-        Ok(pending) => return Ok(pending),
-        Err(back) => back,
-    };
-    if (told(&edit), seat.accepted()) != before {
-        return Err(None);
-    }
-    if fault != SubmitFault::Memory {
-        return Err(Some(fault));
-    }
     match seat.submit(rt, edit) {
         Ok(pending) => Ok(pending),
-        Err((edit, fault)) if (told(&edit), seat.accepted()) == before => Err(Some(fault)),
+        Err((edit, fault)) if (told(&edit), seat.accepted()) == before => Err(Some((edit, fault))),
         Err(_) => Err(None),
+    }
+}
+
+/// Submits an edit, once more where memory is refused.
+pub fn submitted<J: Naming, R: Wait>(rt: &R, seat: &mut Seat<J>, edit: Edit) -> Submitted<J> {
+    match submitted_once(rt, seat, edit) {
+        Err(Some((edit, SubmitFault::Memory))) => submitted_once(rt, seat, edit),
+        answer => answer,
     }
 }
 

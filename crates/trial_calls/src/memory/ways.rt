@@ -1,5 +1,6 @@
 //! What is done at boards that were just opened, step by step.
 
+use crate::memory::edits;
 use crate::memory::rows::{
     BYE, EXPORT, HELLO, MANY, POLL_ONE, PUSH_ONE, PUSH_OTHER, PUSH_STATE, PUSH_UNSTAMPED, Row,
     WHOLE,
@@ -7,7 +8,6 @@ use crate::memory::rows::{
 use crate::memory::seats::{
     Ended, FIRST, finished, hands_out, has_row, is_account, polled, reads, submitted, turned,
 };
-use crate::memory::{edits, is_fault};
 use edit_stamps::{Edit, Stamp, Write};
 use generations_rule::Rule;
 use pattern_cells::Cell;
@@ -254,91 +254,134 @@ impl<J: Naming, R: Wait + Drop> Table<J, R> {
         }
     }
 
-    fn submit(&mut self, drawing: &Drawing) -> Option<Result<Pending<J>, Option<SubmitFault>>> {
-        let edit = drawing.edit(self.alloc)?;
-        Some(submitted(&self.rt, self.seats.first_mut()?, edit))
+    /// Submits an edit: whether it is accepted, or refused by a fault that is told.
+    fn submits(&mut self, drawing: &Drawing, fault: Option<SubmitFault>) -> bool {
+        let (Some(edit), Some(seat)) = (drawing.edit(self.alloc), self.seats.first_mut()) else {
+            return false;
+        };
+        match submitted(&self.rt, seat, edit) {
+            Ok(pending) => {
+                self.pending = Some(pending);
+                fault.is_none()
+            }
+            Err(Some((_, told))) => fault == Some(told),
+            Err(None) => false,
+        }
     }
 
-    /// Submits the live cell of a counter.
-    fn pend(&mut self, counter: u16) -> Option<bool> {
-        let drawing = Drawing { counter, ..THIRD };
-        self.pending = self.submit(&drawing)?.ok();
-        Some(self.pending.is_some())
+    /// The same of the live cell of a counter, which is accepted.
+    fn pends(&mut self, counter: u16) -> bool {
+        self.submits(&Drawing { counter, ..THIRD }, None)
     }
 
     fn turn(&mut self) -> Option<Turn> {
-        Some(turned(&mut self.relay, self.seats.last_mut()?))
-    }
-
-    fn receive(&mut self) -> Option<bool> {
-        let pending = self.pending.take()?;
-        let seat = self.seats.first_mut()?;
-        let receipt = seat.receive(&self.rt, pending).ok()?;
-        seat.learn(&receipt);
-        self.receipt = Some(receipt);
-        Some(true)
-    }
-
-    fn pass(&mut self, first: u16, last: u16) -> Option<bool> {
-        for counter in first..=last {
-            self.pend(counter)?;
-            if !matches!(self.turn()?, Turn::Published(_)) {
-                return None;
-            }
-            self.receive()?;
+        match self.seats.last_mut() {
+            Some(seat) => Some(turned(&mut self.relay, seat)),
+            None => None,
         }
-        Some(true)
+    }
+
+    /// Whether a turn publishes: the first stamp, where that is asked.
+    fn publishes(&mut self, is_first: bool) -> bool {
+        match self.turn() {
+            Some(Turn::Published(stamp)) => !is_first || stamp.number() == FIRST,
+            _ => false,
+        }
+    }
+
+    fn receives(&mut self) -> bool {
+        let (Some(pending), Some(seat)) = (self.pending.take(), self.seats.first_mut()) else {
+            return false;
+        };
+        match seat.receive(&self.rt, pending) {
+            Ok(receipt) => {
+                seat.learn(&receipt);
+                self.receipt = Some(receipt);
+                true
+            }
+            Err(_) => false,
+        }
+    }
+
+    fn passes(&mut self, first: u16, last: u16) -> bool {
+        for counter in first..=last {
+            if !(self.pends(counter) && self.publishes(false) && self.receives()) {
+                return false;
+            }
+        }
+        true
+    }
+
+    fn learns(&mut self, seat: usize) -> bool {
+        match (self.seats.get_mut(seat), &self.receipt) {
+            (Some(seat), Some(receipt)) => {
+                seat.learn(receipt);
+                true
+            }
+            _ => false,
+        }
     }
 
     /// Whether a seat that polls is handed a plane of so many columns, with their number.
-    fn is_whole(&mut self, seat: usize, columns: u16) -> Option<bool> {
-        match polled(self.seats.get_mut(seat)?) {
+    fn is_whole(&mut self, seat: usize, columns: u16) -> bool {
+        let Some(seat) = self.seats.get_mut(seat) else {
+            return false;
+        };
+        match polled(seat) {
             Ok(News::Whole(plane, count)) => {
-                Some(count == u64::from(columns) && has_row(&plane, usize::from(columns)))
+                count == u64::from(columns) && has_row(&plane, usize::from(columns))
             }
-            _ => None,
+            _ => false,
         }
     }
 
-    fn sees(&mut self, seat: usize, state: u8) -> Option<bool> {
-        let write = self.seats.get_mut(seat)?.view(0, 0).ok()?;
+    fn sees(&mut self, seat: usize, state: u8) -> bool {
+        let Some(seat) = self.seats.get_mut(seat) else {
+            return false;
+        };
         let stamp = FIRST * u64::from(state & 1);
-        Some(write == Write { stamp, state })
+        seat.view(0, 0) == Ok(Write { stamp, state })
+    }
+
+    /// Whether a step of a seat that looks is as it is meant to be.
+    fn looks(&mut self, step: &Step) -> bool {
+        match step {
+            Step::Learn(seat) => self.learns(*seat),
+            Step::Whole(seat, columns) => self.is_whole(*seat, *columns),
+            Step::See(seat, state) => self.sees(*seat, *state),
+            Step::Edits(seat, first, count) => match self.seats.get_mut(*seat) {
+                Some(seat) => hands_out(seat, *first, *count),
+                None => false,
+            },
+            Step::Read(seat, columns) => match self.seats.get_mut(*seat) {
+                Some(seat) => reads(seat, *columns),
+                None => false,
+            },
+            _ => false,
+        }
     }
 
     /// Whether a step is as it is meant to be.
-    fn take(&mut self, step: &Step) -> Option<bool> {
+    fn takes(&mut self, step: &Step) -> bool {
         match step {
-            Step::Submit(counter) => self.pend(*counter),
-            Step::Refuse(drawing, fault) => { Some(is_fault(self.submit(drawing)?, Some(*fault))) }
-            Step::Publish => match self.turn()? {
-                Turn::Published(stamp) => Some(stamp.number() == FIRST),
-                _ => None,
-            },
-            Step::Idle => Some(self.relay.turn() == Turn::Idle),
-            Step::Full => Some(self.turn()? == Turn::Failed(TurnFault::StoreFull)),
-            Step::Receive => self.receive(),
-            Step::Pass(first, last) => self.pass(*first, *last),
-            Step::Learn(seat) => {
-                self.seats.get_mut(*seat)?.learn(self.receipt.as_ref()?);
-                Some(true)
-            }
-            Step::Edits(seat, first, count) => {
-                Some(hands_out(self.seats.get_mut(*seat)?, *first, *count))
-            }
-            Step::Whole(seat, columns) => self.is_whole(*seat, *columns),
-            Step::See(seat, state) => self.sees(*seat, *state),
-            Step::Read(seat, columns) => Some(reads(self.seats.get_mut(*seat)?, *columns)),
+            Step::Submit(counter) => self.pends(*counter),
+            Step::Refuse(drawing, fault) => self.submits(drawing, Some(*fault)),
+            Step::Publish => self.publishes(true),
+            Step::Idle => self.relay.turn() == Turn::Idle,
+            Step::Full => self.turn() == Some(Turn::Failed(TurnFault::StoreFull)),
+            Step::Receive => self.receives(),
+            Step::Pass(first, last) => self.passes(*first, *last),
             Step::Close => {
                 self.relay.close();
-                Some(true)
+                true
             }
+            step => self.looks(step),
         }
     }
 
-    fn take_all(&mut self, steps: &[Step]) -> bool {
+    fn takes_all(&mut self, steps: &[Step]) -> bool {
         for step in steps {
-            if self.take(step) != Some(true) {
+            if !self.takes(step) {
                 return false;
             }
         }
@@ -349,7 +392,7 @@ impl<J: Naming, R: Wait + Drop> Table<J, R> {
     pub fn goes(mut self, way: &Way) -> usize {
         let mut met = 0_usize;
         for (_, steps) in way.calls {
-            if !self.take_all(steps) {
+            if !self.takes_all(steps) {
                 break;
             }
             met = met.wrapping_add(1);
