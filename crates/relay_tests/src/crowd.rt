@@ -4,10 +4,10 @@ ghost use Rattle.std.specs.Prelude.{◌≡◌};
 ghost use Rattle.std.specs.Arc.{arc_value};
 
 use crate::drawers::{Ended, end, have_ended, submit_at_last, turns};
-use crate::drawn::{BRIANS_BRAIN, rule};
+use crate::drawn::brians_board;
 use edit_stamps::{Cell, Edit, Stamp};
 use generations_rule::Rule;
-use relay_board::{Naming, News, Opened, Seat, SeatFault, start};
+use relay_board::{Naming, News, Opened, Seat, SeatFault};
 use stamped_tree::Plane;
 use std::alloc::Global;
 use std::marker::Brand;
@@ -231,10 +231,10 @@ fn spawned<J: Naming + Send + 'static, R: Threads + Wait + Copy + Drop + Send + 
     alloc: Global,
     seats: Vec<Seat<J>>,
     ended: &Ended,
-) -> Result<Vec<JoinHandle<Member<J>>>, &'static str> {
+) -> Result<Vec<JoinHandle<Member<J>>>, Fail> {
     let mut threads = Vec::new(alloc);
     for seat in seats {
-        let ended = Arc::try_clone(ended).ok().ok_or("ended")?;
+        let ended = Arc::try_clone(ended)?;
         let is_drawer = seat.number() <= DRAWERS;
         let member = Member::new(seat);
         let thread = thread::spawn(&rt, move || {
@@ -244,10 +244,7 @@ fn spawned<J: Naming + Send + 'static, R: Threads + Wait + Copy + Drop + Send + 
                 polls(&rt, member, ended)
             }
         });
-        threads
-            .push(thread.ok().ok_or("spawn")?)
-            .ok()
-            .ok_or("threads")?;
+        threads.push(thread?)?;
     }
     Ok(threads)
 }
@@ -256,12 +253,12 @@ fn spawned<J: Naming + Send + 'static, R: Threads + Wait + Copy + Drop + Send + 
 fn draws_together<
     J: Naming + Send + 'static,
     R: Threads + Wait + Copy + Drop + Send + Sync + 'static,
->(rt: R, alloc: Global, opened: Opened<R>) -> Result<usize, &'static str>
+>(rt: R, alloc: Global, opened: Opened<R>) -> Result<usize, Fail>
     requires origin { opened.publisher.origin ≡ J.origin }
     requires inbox { (arc_value opened.drain.queue).table.shared.table_id ≡ J.inbox }
 {
-    let ended = Arc::new(alloc, AtomicU64::new(0)).ok().ok_or("ended")?;
-    let (relay, seats) = opened.named::<J>().ok().ok_or("named")?;
+    let ended = Arc::new(alloc, AtomicU64::new(0))?;
+    let (relay, seats) = opened.named::<J>()?;
     let threads = spawned(rt, alloc, seats, &ended)?;
     let _relay = turns(&rt, relay, &ended, u64::from(DRAWERS));
     let mut right = 0usize;
@@ -275,9 +272,7 @@ fn draws_together<
 
 #[test]
 fn all_end_with_one_map(rt: HostRuntime) -> Result<(), Fail> {
-    let opened = start(rt, rt.alloc(), rule(BRIANS_BRAIN)?, 10, 8)
-        .ok()
-        .ok_or("start")?;
+    let opened = brians_board(rt, rt.alloc(), 10, 8)?;
     assert_eq!(rt; draws_together::<Brand, _>(rt, rt.alloc(), opened)?, 10);
     Ok(())
 }

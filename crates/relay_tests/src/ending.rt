@@ -3,11 +3,12 @@
 ghost use Rattle.std.specs.Prelude.{◌≡◌};
 ghost use Rattle.std.specs.Arc.{arc_value};
 
-use crate::drawn::{BRIANS_BRAIN, rule};
+use crate::drawn::brians_board;
 use crate::told::{Told, tell_edits};
-use relay_board::{Account, FinishFault, Naming, Opened, Relay, Seat, in_order, is_whole, start};
+use relay_board::{Account, Naming, Opened, Relay, Seat, in_order, is_whole};
 use std::alloc::Global;
 use std::marker::Brand;
+use std::slice;
 use std::sync::Wait;
 use std::test::Fail;
 
@@ -16,15 +17,13 @@ pub fn account<J: Naming, R: Wait + Drop>(
     alloc: Global,
     relay: Relay<J, R>,
     seats: Vec<Seat<J>>,
-) -> Result<Account, &'static str> {
+) -> Result<Account, Fail> {
     if !is_whole(&relay, seats.as_slice()) {
-        return Err("whole");
+        return Err(Fail::from("whole"));
     }
     match relay.finish(alloc, seats) {
         Ok(account) => Ok(account),
-        Err((_, _, FinishFault::Closed)) => Err("closed"),
-        Err((_, _, FinishFault::StoreFull)) => Err("store full"),
-        Err((_, _, FinishFault::Memory)) => Err("memory"),
+        Err((_, _, fault)) => Err(Fail::from(fault)),
     }
 }
 
@@ -60,11 +59,11 @@ pub fn summed(account: &Account) -> Option<Summary> {
 fn closes<J: Naming, R: Wait + Drop>(
     alloc: Global,
     opened: Opened<R>,
-) -> Result<Option<Summary>, &'static str>
+) -> Result<Option<Summary>, Fail>
     requires origin { opened.publisher.origin ≡ J.origin }
     requires inbox { (arc_value opened.drain.queue).table.shared.table_id ≡ J.inbox }
 {
-    let (mut relay, seats) = opened.named::<J>().ok().ok_or("named")?;
+    let (mut relay, seats) = opened.named::<J>()?;
     relay.close();
     Ok(summed(&account(alloc, relay, seats)?))
 }
@@ -74,10 +73,8 @@ fn closed_at_once<R: Wait + Drop>(
     rt: R,
     alloc: Global,
     sessions: u16,
-) -> Result<Option<Summary>, &'static str> {
-    let opened = start(rt, alloc, rule(BRIANS_BRAIN)?, sessions, 1)
-        .ok()
-        .ok_or("start")?;
+) -> Result<Option<Summary>, Fail> {
+    let opened = brians_board(rt, alloc, sessions, 1)?;
     closes::<Brand, _>(alloc, opened)
 }
 
@@ -104,31 +101,28 @@ fn asked<J: Naming, R: Wait + Drop>(relay: &Relay<J, R>, seats: &[Seat<J>]) -> (
 
 /// What is answered of two seats before the relay was closed, behind that, in the other order, of one of
 /// the two, and of none.
-fn all_asked<J: Naming, R: Wait + Drop>(
-    alloc: Global,
-    opened: Opened<R>,
-) -> Result<[(bool, bool); 5], &'static str>
+fn all_asked<J: Naming, R: Wait + Drop>(opened: Opened<R>) -> Result<[(bool, bool); 5], Fail>
     requires origin { opened.publisher.origin ≡ J.origin }
     requires inbox { (arc_value opened.drain.queue).table.shared.table_id ≡ J.inbox }
 {
-    let (mut relay, mut seats) = opened.named::<J>().ok().ok_or("named")?;
-    let open = asked(&relay, seats.as_slice());
+    let (mut relay, mut seats) = opened.named::<J>()?;
+    let open = asked(&relay, &seats);
     relay.close();
-    let whole = asked(&relay, seats.as_slice());
-    let two = seats.pop().ok_or("two")?;
-    let first = asked(&relay, seats.as_slice());
-    let one = seats.pop().ok_or("one")?;
-    let none = asked(&relay, seats.as_slice());
-    let turned = Vec::from_array(alloc, [two, one]).ok().ok_or("turned")?;
-    Ok([open, whole, asked(&relay, turned.as_slice()), first, none])
+    let whole = asked(&relay, &seats);
+    let [one, _two] = seats.as_slice() else {
+        return Err(Fail::from("two seats"));
+    };
+    let first = asked(&relay, slice::from_ref(one));
+    seats.reverse();
+    let turned = asked(&relay, &seats);
+    seats.clear();
+    Ok([open, whole, turned, first, asked(&relay, &seats)])
 }
 
 #[test]
 fn what_is_not_whole_is_told(rt: HostRuntime) -> Result<(), Fail> {
-    let opened = start(rt, rt.alloc(), rule(BRIANS_BRAIN)?, 2, 1)
-        .ok()
-        .ok_or("start")?;
-    let asked = all_asked::<Brand, _>(rt.alloc(), opened)?;
+    let opened = brians_board(rt, rt.alloc(), 2, 1)?;
+    let asked = all_asked::<Brand, _>(opened)?;
     assert_eq!(rt;
         asked,
         [

@@ -3,11 +3,12 @@
 ghost use Rattle.std.specs.Prelude.{◌≡◌};
 ghost use Rattle.std.specs.Arc.{arc_value};
 
-use crate::drawn::{BRIANS_BRAIN, STAR_WARS, drawn, rule};
+use crate::drawn::{BRIANS_BRAIN, STAR_WARS, brians_board, drawn, submitted};
 use crate::ending::{Summary, account, summed};
 use crate::told::Told;
 use edit_stamps::Edit;
-use relay_board::{Gone, Naming, Opened, Relay, Seat, SubmitFault, start};
+use generations_rule::Rule;
+use relay_board::{Gone, Naming, Opened, Relay, Seat, SubmitFault};
 use std::alloc::Global;
 use std::marker::Brand;
 use std::sync::Wait;
@@ -27,10 +28,9 @@ pub enum Submitted {
 pub fn submit<J: Naming, R: Wait>(
     rt: &R,
     seat: &mut Seat<J>,
-    edit: Result<Edit, &'static str>,
-) -> Result<Submitted, &'static str> {
-    let edit = edit?;
-    let copy = edit.copy().ok().ok_or("copy")?;
+    edit: Edit,
+) -> Result<Submitted, Fail> {
+    let copy = edit.copy()?;
     match seat.submit(rt, edit) {
         Ok(_pending) => Ok(Submitted::Accepted),
         Err((back, fault)) => {
@@ -43,26 +43,100 @@ pub fn submit<J: Naming, R: Wait>(
     }
 }
 
-/// What comes of an edit of another replica; of one with a state that the rule does not have; of one that
-/// is both; of two good ones and a third; and of one behind the close.
-fn all_submitted<J: Naming, R: Wait + Drop + Copy>(
-    rt: R,
+/// An edit of one cell of row 0.
+struct Drawn {
+    rule: &'static [u8],
+    stamp: (u64, u16),
+    x: i32,
+    state: u8,
+}
+
+/// An edit of another replica; one with a state that the rule does not have; one that is both; two good ones
+/// and a third.
+static OPEN: [Drawn; 6] = [
+    Drawn {
+        rule: BRIANS_BRAIN,
+        stamp: (1, 2),
+        x: 0,
+        state: 1,
+    },
+    Drawn {
+        rule: STAR_WARS,
+        stamp: (1, 1),
+        x: 0,
+        state: 3,
+    },
+    Drawn {
+        rule: STAR_WARS,
+        stamp: (1, 2),
+        x: 0,
+        state: 3,
+    },
+    Drawn {
+        rule: BRIANS_BRAIN,
+        stamp: (1, 1),
+        x: 0,
+        state: 1,
+    },
+    Drawn {
+        rule: BRIANS_BRAIN,
+        stamp: (2, 1),
+        x: 1,
+        state: 1,
+    },
+    Drawn {
+        rule: BRIANS_BRAIN,
+        stamp: (3, 1),
+        x: 2,
+        state: 1,
+    },
+];
+
+/// A good edit behind the close, and one with a state that the rule does not have.
+static CLOSED: [Drawn; 2] = [
+    Drawn {
+        rule: BRIANS_BRAIN,
+        stamp: (3, 1),
+        x: 2,
+        state: 1,
+    },
+    Drawn {
+        rule: STAR_WARS,
+        stamp: (3, 1),
+        x: 2,
+        state: 3,
+    },
+];
+
+/// What comes of edits that a seat submits.
+fn submit_all<J: Naming, R: Wait>(
+    rt: &R,
+    alloc: Global,
+    seat: &mut Seat<J>,
+    edits: &[Drawn],
+) -> Result<Vec<Submitted>, Fail> {
+    let mut all = Vec::new(alloc);
+    for row in edits {
+        let rule = Rule::parse(row.rule)?;
+        let edit = drawn(alloc, &rule, row.stamp, row.x, row.state).ok_or("edit")?;
+        all.push(submit(rt, seat, edit)?)?;
+    }
+    Ok(all)
+}
+
+/// What comes of the edits before the close, and of those behind it.
+fn all_submitted<J: Naming, R: Wait + Drop>(
+    rt: &R,
     alloc: Global,
     relay: &mut Relay<J, R>,
-    seat: &mut Seat<J>,
-) -> Result<[Submitted; 8], &'static str> {
-    let brain = rule(BRIANS_BRAIN)?;
-    let wars = rule(STAR_WARS)?;
-    let theirs = submit(&rt, seat, drawn(alloc, &brain, (1, 2), 0, 1))?;
-    let beyond = submit(&rt, seat, drawn(alloc, &wars, (1, 1), 0, 3))?;
-    let both = submit(&rt, seat, drawn(alloc, &wars, (1, 2), 0, 3))?;
-    let one = submit(&rt, seat, drawn(alloc, &brain, (1, 1), 0, 1))?;
-    let two = submit(&rt, seat, drawn(alloc, &brain, (2, 1), 1, 1))?;
-    let third = submit(&rt, seat, drawn(alloc, &brain, (3, 1), 2, 1))?;
+    seats: &mut [Seat<J>],
+) -> Result<[Vec<Submitted>; 2], Fail> {
+    let [one, _two] = seats else {
+        return Err(Fail::from("two seats"));
+    };
+    let open = submit_all(rt, alloc, one, &OPEN)?;
     relay.close();
-    let late = submit(&rt, seat, drawn(alloc, &brain, (3, 1), 2, 1))?;
-    let late_and_beyond = submit(&rt, seat, drawn(alloc, &wars, (3, 1), 2, 3))?;
-    Ok([theirs, beyond, both, one, two, third, late, late_and_beyond])
+    Ok([open, submit_all(rt, alloc, one, &CLOSED)?])
 }
 
 /// The same, and what the relay comes to.
@@ -70,26 +144,21 @@ fn is_refused<J: Naming, R: Wait + Drop + Copy>(
     rt: R,
     alloc: Global,
     opened: Opened<R>,
-) -> Result<([Submitted; 8], Option<Summary>), &'static str>
+) -> Result<([Vec<Submitted>; 2], Option<Summary>), Fail>
     requires origin { opened.publisher.origin ≡ J.origin }
     requires inbox { (arc_value opened.drain.queue).table.shared.table_id ≡ J.inbox }
 {
-    let (mut relay, mut seats) = opened.named::<J>().ok().ok_or("named")?;
-    let two = seats.pop().ok_or("two")?;
-    let mut one = seats.pop().ok_or("one")?;
-    let submitted = all_submitted(rt, alloc, &mut relay, &mut one)?;
-    let seats = Vec::from_array(alloc, [one, two]).ok().ok_or("seats")?;
+    let (mut relay, mut seats) = opened.named::<J>()?;
+    let submitted = all_submitted(&rt, alloc, &mut relay, &mut seats)?;
     Ok((submitted, summed(&account(alloc, relay, seats)?)))
 }
 
 #[test]
 fn what_is_refused_comes_back(rt: HostRuntime) -> Result<(), Fail> {
-    let opened = start(rt, rt.alloc(), rule(BRIANS_BRAIN)?, 2, 2)
-        .ok()
-        .ok_or("start")?;
-    let (submitted, summary) = is_refused::<Brand, _>(rt, rt.alloc(), opened)?;
+    let opened = brians_board(rt, rt.alloc(), 2, 2)?;
+    let ([open, closed], summary) = is_refused::<Brand, _>(rt, rt.alloc(), opened)?;
     assert_eq!(rt;
-        submitted,
+        open.as_slice(),
         [
             Submitted::Refused(SubmitFault::NotYours),
             Submitted::Refused(SubmitFault::StateRange),
@@ -97,9 +166,16 @@ fn what_is_refused_comes_back(rt: HostRuntime) -> Result<(), Fail> {
             Submitted::Accepted,
             Submitted::Accepted,
             Submitted::Refused(SubmitFault::Full),
+        ]
+        .as_slice()
+    );
+    assert_eq!(rt;
+        closed.as_slice(),
+        [
             Submitted::Refused(SubmitFault::Closed),
             Submitted::Refused(SubmitFault::StateRange),
         ]
+        .as_slice()
     );
     let both = Summary {
         before: 0,
@@ -118,16 +194,14 @@ fn is_gone<J: Naming, R: Wait + Drop + Copy>(
     rt: R,
     alloc: Global,
     opened: Opened<R>,
-) -> Result<(bool, bool), &'static str>
+) -> Result<(bool, bool), Fail>
     requires origin { opened.publisher.origin ≡ J.origin }
     requires inbox { (arc_value opened.drain.queue).table.shared.table_id ≡ J.inbox }
 {
-    let (relay, mut seats) = opened.named::<J>().ok().ok_or("named")?;
+    let (relay, mut seats) = opened.named::<J>()?;
     let mut one = seats.pop().ok_or("one")?;
-    let edit = drawn(alloc, &one.rule(), (1, 1), 0, 1)?;
-    let first = one.submit(&rt, edit).ok().ok_or("submit")?;
-    let edit = drawn(alloc, &one.rule(), (2, 1), 0, 1)?;
-    let second = one.submit(&rt, edit).ok().ok_or("submit")?;
+    let first = submitted(&rt, alloc, &mut one, 1, 0)?;
+    let second = submitted(&rt, alloc, &mut one, 2, 0)?;
     drop(relay);
     Ok((
         matches!(one.receive(&rt, first), Err(Gone)),
@@ -137,9 +211,7 @@ fn is_gone<J: Naming, R: Wait + Drop + Copy>(
 
 #[test]
 fn a_dropped_relay_is_gone(rt: HostRuntime) -> Result<(), Fail> {
-    let opened = start(rt, rt.alloc(), rule(BRIANS_BRAIN)?, 1, 2)
-        .ok()
-        .ok_or("start")?;
+    let opened = brians_board(rt, rt.alloc(), 1, 2)?;
     let gone = is_gone::<Brand, _>(rt, rt.alloc(), opened)?;
     assert_eq!(rt; gone, (true, true));
     Ok(())

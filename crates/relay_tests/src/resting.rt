@@ -3,8 +3,8 @@
 ghost use Rattle.std.specs.Prelude.{◌≡◌};
 ghost use Rattle.std.specs.Arc.{arc_value};
 
-use crate::drawn::{BRIANS_BRAIN, drawn, rule};
-use relay_board::{Naming, Opened, Turn, start};
+use crate::drawn::{brians_board, submitted};
+use relay_board::{Naming, Opened, Relay, Seat, Turn};
 use std::alloc::Global;
 use std::marker::Brand;
 use std::sync::Wait;
@@ -15,21 +15,18 @@ use std::time::Duration;
 const HOUR: u64 = 3_600_000;
 
 /// Rests behind a submission, a ring of a bell, a ring of a seat and a close, each of which ends one.
-fn rests<J: Naming, R: Wait + Drop + Copy>(
-    rt: R,
+fn rests_all<J: Naming, R: Wait + Drop>(
+    rt: &R,
     alloc: Global,
-    opened: Opened<R>,
-) -> Result<Turn, &'static str>
-    requires origin { opened.publisher.origin ≡ J.origin }
-    requires inbox { (arc_value opened.drain.queue).table.shared.table_id ≡ J.inbox }
-{
-    let (mut relay, mut seats) = opened.named::<J>().ok().ok_or("named")?;
-    let mut one = seats.pop().ok_or("one")?;
-    let edit = drawn(alloc, &one.rule(), (1, 1), 0, 1)?;
-    let _pending = one.submit(&rt, edit).ok().ok_or("submit")?;
+    relay: &mut Relay<J, R>,
+    seats: &mut [Seat<J>],
+) -> Result<Turn, Fail> {
+    let [one] = seats else {
+        return Err(Fail::from("one seat"));
+    };
+    let _pending = submitted(rt, alloc, one, 1, 0)?;
     relay.rest(Duration::from_millis(HOUR));
-    let bell = relay.bell().ok().ok_or("bell")?;
-    bell.ring();
+    relay.bell()?.ring();
     relay.rest(Duration::from_millis(HOUR));
     one.ring();
     relay.rest(Duration::from_millis(HOUR));
@@ -39,44 +36,64 @@ fn rests<J: Naming, R: Wait + Drop + Copy>(
     Ok(relay.turn())
 }
 
+fn rests<J: Naming, R: Wait + Drop + Copy>(
+    rt: R,
+    alloc: Global,
+    opened: Opened<R>,
+) -> Result<Turn, Fail>
+    requires origin { opened.publisher.origin ≡ J.origin }
+    requires inbox { (arc_value opened.drain.queue).table.shared.table_id ≡ J.inbox }
+{
+    let (mut relay, mut seats) = opened.named::<J>()?;
+    rests_all(&rt, alloc, &mut relay, &mut seats)
+}
+
 #[test]
 fn a_rest_ends_at_once(rt: HostRuntime) -> Result<(), Fail> {
-    let opened = start(rt, rt.alloc(), rule(BRIANS_BRAIN)?, 1, 2)
-        .ok()
-        .ok_or("start")?;
+    let opened = brians_board(rt, rt.alloc(), 1, 2)?;
     let turn = rests::<Brand, _>(rt, rt.alloc(), opened)?;
     assert!(rt; matches!(&turn, Turn::Published(_)));
     Ok(())
 }
 
-/// Whether a look finds nothing before the turn, and the receipt behind it.
+/// The place of the receipt that a look finds behind the turn, where one before it finds nothing.
+fn looks_twice<J: Naming, R: Wait + Drop>(
+    rt: &R,
+    alloc: Global,
+    relay: &mut Relay<J, R>,
+    seats: &mut [Seat<J>],
+) -> Result<u64, Fail> {
+    let [one] = seats else {
+        return Err(Fail::from("one seat"));
+    };
+    let pending = submitted(rt, alloc, one, 1, 0)?;
+    let pending = match one.try_receive(rt, pending) {
+        Err(Some(pending)) => pending,
+        Err(None) => return Err(Fail::from("gone")),
+        Ok(_) => return Err(Fail::from("too early")),
+    };
+    let _turn = relay.turn();
+    match one.try_receive(rt, pending) {
+        Ok(receipt) => Ok(receipt.place()),
+        Err(_) => Err(Fail::from("receipt")),
+    }
+}
+
 fn looks<J: Naming, R: Wait + Drop + Copy>(
     rt: R,
     alloc: Global,
     opened: Opened<R>,
-) -> Result<u64, &'static str>
+) -> Result<u64, Fail>
     requires origin { opened.publisher.origin ≡ J.origin }
     requires inbox { (arc_value opened.drain.queue).table.shared.table_id ≡ J.inbox }
 {
-    let (mut relay, mut seats) = opened.named::<J>().ok().ok_or("named")?;
-    let mut one = seats.pop().ok_or("one")?;
-    let edit = drawn(alloc, &one.rule(), (1, 1), 0, 1)?;
-    let pending = one.submit(&rt, edit).ok().ok_or("submit")?;
-    let pending = match one.try_receive(&rt, pending) {
-        Err(Some(pending)) => pending,
-        Err(None) => return Err("gone"),
-        Ok(_) => return Err("too early"),
-    };
-    let _turn = relay.turn();
-    let receipt = one.try_receive(&rt, pending).ok().ok_or("receipt")?;
-    Ok(receipt.place())
+    let (mut relay, mut seats) = opened.named::<J>()?;
+    looks_twice(&rt, alloc, &mut relay, &mut seats)
 }
 
 #[test]
 fn a_look_finds_the_receipt_behind_the_turn(rt: HostRuntime) -> Result<(), Fail> {
-    let opened = start(rt, rt.alloc(), rule(BRIANS_BRAIN)?, 1, 2)
-        .ok()
-        .ok_or("start")?;
+    let opened = brians_board(rt, rt.alloc(), 1, 2)?;
     assert_eq!(rt; looks::<Brand, _>(rt, rt.alloc(), opened)?, 0);
     Ok(())
 }

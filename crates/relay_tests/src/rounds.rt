@@ -3,16 +3,16 @@
 ghost use Rattle.std.specs.Prelude.{◌≡◌};
 ghost use Rattle.std.specs.Arc.{arc_value};
 
-use crate::drawn::{BRIANS_BRAIN, drawn, rule};
+use crate::drawn::{brians_board, drawn};
 use crate::ending::account;
 use edit_stamps::Edit;
-use relay_board::{Account, Naming, Opened, Relay, Seat, SubmitFault, Turn, start};
-use std::alloc::Global;
+use relay_board::{Account, Naming, Opened, Relay, Seat, SubmitFault, Turn};
+use std::alloc::{AllocError, Global};
 use std::marker::Brand;
 use std::sync::Wait;
 use std::test::Fail;
 use std::thread;
-use std::thread::Threads;
+use std::thread::{JoinHandle, Threads};
 
 const ROUNDS: u32 = 200;
 
@@ -35,7 +35,7 @@ fn submits<J: Naming, R: Wait>(rt: &R, alloc: Global, mut seat: Seat<J>) -> Subm
     let mut is_closed = false;
     for _ in rt.forever() {
         let stamp = (accepted.wrapping_add(1), number);
-        let Ok(edit) = drawn(alloc, &rule, stamp, 0, 1) else {
+        let Some(edit) = drawn(alloc, &rule, stamp, 0, 1) else {
             break;
         };
         match seat.submit(rt, edit) {
@@ -90,51 +90,87 @@ fn last_counters(edits: &[Edit]) -> Option<(u64, u64)> {
     Some((first, second))
 }
 
+/// Starts a thread for each seat.
+fn spawned<J: Naming + Send + 'static, R: Threads + Wait + Copy + Drop + Send + Sync + 'static>(
+    rt: R,
+    alloc: Global,
+    seats: Vec<Seat<J>>,
+) -> Result<Vec<JoinHandle<Submitter<J>>>, Fail> {
+    let mut threads = Vec::new(alloc);
+    for seat in seats {
+        let thread = thread::spawn(&rt, move || submits(&rt, alloc, seat));
+        threads.push(thread?)?;
+    }
+    Ok(threads)
+}
+
+/// The seats of all submitters, how many submissions of each were answered well, and whether all were closed
+/// out.
+#[derive(Drop)]
+struct Submitters<J: Naming> {
+    seats: Vec<Seat<J>>,
+    accepted: Vec<u64>,
+    are_closed: bool,
+}
+
+impl<J: Naming> Submitters<J> {
+    fn new(alloc: Global) -> Submitters<J> {
+        Submitters {
+            seats: Vec::new(alloc),
+            accepted: Vec::new(alloc),
+            are_closed: true,
+        }
+    }
+
+    fn add(&mut self, submitter: Submitter<J>) -> Result<(), AllocError> {
+        self.are_closed = self.are_closed && submitter.is_closed;
+        self.accepted.push(submitter.accepted)?;
+        self.seats.push(submitter.seat)?;
+        Ok(())
+    }
+}
+
 /// Whether an account has of each of two seats as many accepted and published edits.
-fn has(account: &Account, first: u64, second: u64) -> bool {
+fn has(account: &Account, accepted: &[u64]) -> bool {
+    let [first, second] = accepted else {
+        return false;
+    };
     account.before == 0
-        && account.accepted.as_slice() == [first, second].as_slice()
-        && last_counters(account.published.as_slice()) == Some((first, second))
+        && account.accepted.as_slice() == accepted
+        && last_counters(account.published.as_slice()) == Some((*first, *second))
 }
 
 /// Whether all was accepted that was answered well, and published.
 fn is_accounted<
     J: Naming + Send + 'static,
     R: Threads + Wait + Copy + Drop + Send + Sync + 'static,
->(rt: R, alloc: Global, opened: Opened<R>) -> Result<bool, &'static str>
+>(rt: R, alloc: Global, opened: Opened<R>) -> Result<bool, Fail>
     requires origin { opened.publisher.origin ≡ J.origin }
     requires inbox { (arc_value opened.drain.queue).table.shared.table_id ≡ J.inbox }
 {
-    let (relay, mut seats) = opened.named::<J>().ok().ok_or("named")?;
-    let two = seats.pop().ok_or("two")?;
-    let one = seats.pop().ok_or("one")?;
-    let one = thread::spawn(&rt, move || submits(&rt, alloc, one))
-        .ok()
-        .ok_or("spawn")?;
-    let two = thread::spawn(&rt, move || submits(&rt, alloc, two))
-        .ok()
-        .ok_or("spawn")?;
+    let (relay, seats) = opened.named::<J>()?;
+    let threads = spawned(rt, alloc, seats)?;
     let relay = closes(&rt, relay);
-    let one = one.join(&rt);
-    let two = two.join(&rt);
-    let (first, second) = (one.accepted, two.accepted);
-    let are_closed = one.is_closed && two.is_closed;
-    let seats = Vec::from_array(alloc, [one.seat, two.seat])
-        .ok()
-        .ok_or("seats")?;
-    Ok(are_closed && has(&account(alloc, relay, seats)?, first, second))
+    let mut all = Submitters::new(alloc);
+    for thread in threads {
+        all.add(thread.join(&rt))?;
+    }
+    let Submitters {
+        seats,
+        accepted,
+        are_closed,
+    } = all;
+    Ok(are_closed && has(&account(alloc, relay, seats)?, &accepted))
 }
 
 /// How many rounds are accounted for.
 fn rounds<R: Threads + Wait + Copy + Drop + Send + Sync + 'static>(
     rt: R,
     alloc: Global,
-) -> Result<u32, &'static str> {
+) -> Result<u32, Fail> {
     let mut right = 0u32;
     for _ in 0..ROUNDS {
-        let opened = start(rt, alloc, rule(BRIANS_BRAIN)?, 2, 64)
-            .ok()
-            .ok_or("start")?;
+        let opened = brians_board(rt, alloc, 2, 64)?;
         if is_accounted::<Brand, _>(rt, alloc, opened)? {
             right = right.wrapping_add(1);
         }

@@ -1,6 +1,7 @@
 //! Which relays start.
 
-use crate::drawn::{BRIANS_BRAIN, rule};
+use crate::drawn::BRIANS_BRAIN;
+use generations_rule::Rule;
 use relay_board::{MOST_INBOX, MOST_SESSIONS, StartFault, start};
 use std::alloc::Global;
 use std::sync::Wait;
@@ -12,11 +13,8 @@ fn refused<R: Wait + Drop>(
     alloc: Global,
     sessions: u16,
     inbox: u16,
-) -> Result<Option<StartFault>, &'static str> {
-    match start(rt, alloc, rule(BRIANS_BRAIN)?, sessions, inbox) {
-        Ok(_) => Ok(None),
-        Err(fault) => Ok(Some(fault)),
-    }
+) -> Result<Option<StartFault>, Fail> {
+    Ok(start(rt, alloc, Rule::parse(BRIANS_BRAIN)?, sessions, inbox).err())
 }
 
 /// Sessions, room, and why they are refused.

@@ -3,9 +3,10 @@
 ghost use Rattle.std.specs.Prelude.{◌≡◌};
 ghost use Rattle.std.specs.Arc.{arc_value};
 
-use crate::drawn::{BRIANS_BRAIN, drawn, rule};
+use crate::drawn::{BRIANS_BRAIN, drawn};
 use crate::refusals::{Submitted, submit};
 use crate::told::{View, viewed};
+use generations_rule::Rule;
 use relay_board::{
     FinishFault, Naming, Opened, Relay, Seat, SubmitFault, Turn, TurnFault, is_whole, start_within,
 };
@@ -28,7 +29,7 @@ fn faults<J: Naming, R: Wait + Drop>(
     alloc: Global,
     relay: Relay<J, R>,
     seats: Vec<Seat<J>>,
-) -> Result<[FinishFault; 2], &'static str> {
+) -> Result<[FinishFault; 2], Fail> {
     let (relay, seats, first) = fault(alloc, relay, seats)?;
     let (_, _, second) = fault(alloc, relay, seats)?;
     Ok([first, second])
@@ -39,33 +40,45 @@ fn fault<J: Naming, R: Wait + Drop>(
     alloc: Global,
     relay: Relay<J, R>,
     seats: Vec<Seat<J>>,
-) -> Result<(Relay<J, R>, Vec<Seat<J>>, FinishFault), &'static str> {
+) -> Result<(Relay<J, R>, Vec<Seat<J>>, FinishFault), Fail> {
     if !is_whole(&relay, seats.as_slice()) {
-        return Err("whole");
+        return Err(Fail::from("whole"));
     }
     match relay.finish(alloc, seats) {
-        Ok(_) => Err("finished"),
+        Ok(_) => Err(Fail::from("finished")),
         Err(back) => Ok(back),
     }
 }
 
+/// What comes of the seat's edit with this counter, at the origin.
+fn submit_dot<J: Naming, R: Wait>(
+    rt: &R,
+    alloc: Global,
+    seat: &mut Seat<J>,
+    counter: u64,
+) -> Result<Submitted, Fail> {
+    let edit = drawn(alloc, &seat.rule(), (counter, 1), 0, 1).ok_or("edit")?;
+    submit(rt, seat, edit)
+}
+
+/// A good edit, two turns, and an edit behind the close.
 fn keeps<J: Naming, R: Wait + Drop + Copy>(
     rt: R,
     alloc: Global,
     opened: Opened<R>,
-) -> Result<Kept, &'static str>
+) -> Result<Kept, Fail>
     requires origin { opened.publisher.origin ≡ J.origin }
     requires inbox { (arc_value opened.drain.queue).table.shared.table_id ≡ J.inbox }
 {
-    let (mut relay, mut seats) = opened.named::<J>().ok().ok_or("named")?;
-    let mut one = seats.pop().ok_or("one")?;
-    let rule = one.rule();
-    let good = submit(&rt, &mut one, drawn(alloc, &rule, (1, 1), 0, 1))?;
+    let (mut relay, mut seats) = opened.named::<J>()?;
+    let [one] = seats.as_mut_slice() else {
+        return Err(Fail::from("one seat"));
+    };
+    let good = submit_dot(&rt, alloc, one, 1)?;
     let turns = [relay.turn(), relay.turn()];
     let view = viewed(one.view(0, 0));
     relay.close();
-    let late = submit(&rt, &mut one, drawn(alloc, &rule, (2, 1), 0, 1))?;
-    let seats = Vec::from_array(alloc, [one]).ok().ok_or("seats")?;
+    let late = submit_dot(&rt, alloc, one, 2)?;
     Ok(Kept {
         submitted: [good, late],
         turns,
@@ -76,9 +89,7 @@ fn keeps<J: Naming, R: Wait + Drop + Copy>(
 
 #[test]
 fn a_full_store_keeps_what_was_submitted(rt: HostRuntime) -> Result<(), Fail> {
-    let opened = start_within(rt, rt.alloc(), rule(BRIANS_BRAIN)?, 1, 2, 29)
-        .ok()
-        .ok_or("start")?;
+    let opened = start_within(rt, rt.alloc(), Rule::parse(BRIANS_BRAIN)?, 1, 2, 29)?;
     let full = Turn::Failed(TurnFault::StoreFull);
     let kept = Kept {
         submitted: [Submitted::Accepted, Submitted::Refused(SubmitFault::Closed)],

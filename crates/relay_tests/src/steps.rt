@@ -3,10 +3,10 @@
 ghost use Rattle.std.specs.Prelude.{◌≡◌};
 ghost use Rattle.std.specs.Arc.{arc_value};
 
-use crate::drawn::{BRIANS_BRAIN, drawn, rule};
+use crate::drawn::{brians_board, submitted};
 use crate::told::{Told, View, planed, tell, viewed};
 use edit_stamps::Stamp;
-use relay_board::{Naming, Opened, Seat, SeatFault, Turn, start};
+use relay_board::{Naming, Opened, Relay, Seat, SeatFault, Turn};
 use std::alloc::Global;
 use std::marker::Brand;
 use std::sync::Wait;
@@ -42,38 +42,44 @@ struct Way {
 }
 
 /// Seat 1 submits an edit and receives; seat 2 learns the receipt.
-fn goes<J: Naming, R: Wait + Drop + Copy>(
-    rt: R,
+fn goes_to<J: Naming, R: Wait + Drop>(
+    rt: &R,
     alloc: Global,
-    opened: Opened<R>,
-) -> Result<Way, &'static str>
-    requires origin { opened.publisher.origin ≡ J.origin }
-    requires inbox { (arc_value opened.drain.queue).table.shared.table_id ≡ J.inbox }
-{
-    let (mut relay, mut seats) = opened.named::<J>().ok().ok_or("named")?;
-    let mut two = seats.pop().ok_or("two")?;
-    let mut one = seats.pop().ok_or("one")?;
+    relay: &mut Relay<J, R>,
+    seats: &mut [Seat<J>],
+) -> Result<Way, Fail> {
+    let (one, others) = seats.split_first_mut().ok_or("one")?;
+    let two = others.first_mut().ok_or("two")?;
     let early = relay.turn();
-    let edit = drawn(alloc, &one.rule(), (1, one.number()), 0, 1)?;
-    let pending = one.submit(&rt, edit).ok().ok_or("submit")?;
-    let before = read(&mut two);
+    let pending = submitted(rt, alloc, one, 1, 0)?;
+    let before = read(two);
     let turn = relay.turn();
-    let receipt = one.receive(&rt, pending).ok().ok_or("receive")?;
+    let receipt = one.receive(rt, pending)?;
     two.learn(&receipt);
     Ok(Way {
         turns: [early, turn, relay.turn()],
         place: receipt.place(),
         accepted: (one.accepted(), two.accepted()),
         before,
-        after: read(&mut two),
+        after: read(two),
     })
+}
+
+fn goes<J: Naming, R: Wait + Drop + Copy>(
+    rt: R,
+    alloc: Global,
+    opened: Opened<R>,
+) -> Result<Way, Fail>
+    requires origin { opened.publisher.origin ≡ J.origin }
+    requires inbox { (arc_value opened.drain.queue).table.shared.table_id ≡ J.inbox }
+{
+    let (mut relay, mut seats) = opened.named::<J>()?;
+    goes_to(&rt, alloc, &mut relay, &mut seats)
 }
 
 #[test]
 fn an_edit_goes_from_seat_to_seat(rt: HostRuntime) -> Result<(), Fail> {
-    let opened = start(rt, rt.alloc(), rule(BRIANS_BRAIN)?, 2, 2)
-        .ok()
-        .ok_or("start")?;
+    let opened = brians_board(rt, rt.alloc(), 2, 2)?;
     let stamp = Stamp::new(1, 1).ok_or("stamp")?;
     let way = Way {
         turns: [Turn::Idle, Turn::Published(stamp), Turn::Idle],
