@@ -47,7 +47,7 @@ static CLIENT: [Keyword; 14] = [
 ];
 
 impl Dialect {
-    ghost use Rattle.std.specs.Prelude.{◌≡◌};
+    ghost use Rattle.std.specs.Prelude.{◌≡◌, ◌≢◌};
     ghost use Rattle.command_words.specs.Keywords.{keyword_spelled, keywords_of};
 
     /// The words with which its lines begin.
@@ -70,7 +70,10 @@ impl Dialect {
             .find(|keyword| keyword.is_named(word))
     }
 
-    pub fn other(self) -> Dialect {
+    /// The other of the two.
+    pub fn other(self) -> Dialect
+        ensures { result ≢ self }
+    {
         match self {
             Dialect::Script => Dialect::Client,
             Dialect::Client => Dialect::Script,

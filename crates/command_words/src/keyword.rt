@@ -154,26 +154,6 @@ impl Keyword {
             _ => &[],
         }
     }
-
-    /// What a word behind it stands for, by the word's place from 0, if one may stand there.
-    pub fn argument_at(self, dialect: Dialect, place: usize) -> Option<Argument> {
-        let arguments = self.arguments(dialect);
-        let Some(behind) = place.checked_sub(arguments.len()) else {
-            return arguments.get(place).copied();
-        };
-        match behind.checked_rem(self.repeated().len()) {
-            Some(place) => self.repeated().get(place).copied(),
-            None => self.optional(dialect).get(behind).copied(),
-        }
-    }
-
-    /// What has to stand at a place behind it, where a word may stand.
-    pub fn needed_at(self, dialect: Dialect, place: usize) -> Option<Argument> {
-        if self.arguments(dialect).len() <= place && !self.optional(dialect).is_empty() {
-            return None;
-        }
-        self.argument_at(dialect, place)
-    }
 }
 
 /// The arguments behind a replica's number.

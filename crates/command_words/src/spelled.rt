@@ -23,6 +23,7 @@ pub struct Spelled<'a> {
     /// The name of a pattern.
     pub name: &'a [u8],
     pub replica: u32,
+    /// The other of two replicas.
     pub other_replica: u32,
     pub x: i32,
     pub y: i32,
@@ -34,11 +35,13 @@ pub struct Spelled<'a> {
     pub from: u32,
     /// How many edits of the journal.
     pub count: u32,
+    /// How many generations later.
     pub generation: u32,
-    /// The name of a file.
+    /// The name of a file, if one is named.
     pub file: Option<&'a [u8]>,
     /// How many edits are waited for.
     pub edits: u32,
+    /// How long is waited, if that is said.
     pub milliseconds: Option<u32>,
     /// The words of the arguments that are repeated, which `cells_in` reads.
     pub behind: &'a [u8],

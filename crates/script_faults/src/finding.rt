@@ -163,7 +163,7 @@ fn arguments_finding(dialect: Dialect, keyword: Keyword, mut words: Words<'_>) -
 {
     let mut place = 0usize;
     while let Some(word) = words.next_word() {
-        let Some(argument) = keyword.argument_at(dialect, place) else {
+        let Some(argument) = argument_at(dialect, keyword, place) else {
             return word.finding(surplus(word, keyword));
         };
         if !argument.fits(word.text) {
@@ -171,7 +171,7 @@ fn arguments_finding(dialect: Dialect, keyword: Keyword, mut words: Words<'_>) -
         }
         place = place.saturating_add(1);
     }
-    let reason = match keyword.needed_at(dialect, place) {
+    let reason = match needed_at(dialect, keyword, place) {
         Some(argument) => Reason::Missing(argument, keyword),
         None => Reason::NoForm(keyword),
     };
@@ -180,6 +180,27 @@ fn arguments_finding(dialect: Dialect, keyword: Keyword, mut words: Words<'_>) -
         width: 1,
         reason,
     }
+}
+
+/// What a word behind a keyword stands for, by the word's place from 0, if one may stand there.
+fn argument_at(dialect: Dialect, keyword: Keyword, place: usize) -> Option<Argument> {
+    let arguments = keyword.arguments(dialect);
+    let Some(behind) = place.checked_sub(arguments.len()) else {
+        return arguments.get(place).copied();
+    };
+    let repeated = keyword.repeated();
+    match behind.checked_rem(repeated.len()) {
+        Some(place) => repeated.get(place).copied(),
+        None => keyword.optional(dialect).get(behind).copied(),
+    }
+}
+
+/// What has to stand at a place behind a keyword, where a word may stand.
+fn needed_at(dialect: Dialect, keyword: Keyword, place: usize) -> Option<Argument> {
+    if keyword.arguments(dialect).len() <= place && !keyword.optional(dialect).is_empty() {
+        return None;
+    }
+    argument_at(dialect, keyword, place)
 }
 
 fn surplus(word: Word<'_>, keyword: Keyword) -> Reason {
