@@ -41,8 +41,8 @@ pub record IsWhole (board : Origin) (before list : List Entry) (seats : List Sea
   pub account : IsAccount list a
   pub accepted : a.accepted ≡ map (λ (s : Seating). length s.mine) seats
 
--- Some turns were taken, none of which failed, and all that was accepted is published. A seat had seen more than that; or
--- a further turn failed for want of room; or one failed for want of memory, or memory was wanting for the account.
+-- Some turns were taken, none of which failed. Then nothing was kept, and a seat had seen more than is published, or memory
+-- was wanting for the account; or a further turn failed, for want of room or of memory.
 abbrev pub IsLeft : FinishFault → Relaying → List Seating → Relaying → Type 0
 IsLeft Closed a seats b = Takes a None b × (b.kept ≡ []) × ¬ (BeginsWithAll b.list seats)
 IsLeft StoreFull a seats b = Takes a (Some turns.StoreFull) b
