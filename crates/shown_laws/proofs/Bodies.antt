@@ -1,14 +1,14 @@
 -- The frames of replies and the requests of clients are bodies: none is too long.
-use Rattle.std.proofs.Common.{◌≡◌, ◌∙◌, ◌+◌, ◌*◌, ◌≤◌, ◌++◌, ℕ, Bool, true, false, List, [], ◌∷◌, length, refl, sym, ap, subst, arith, length-append, inl, inr}
-use Rattle.std.specs.Prelude.{Result, Ok, Err, Option, Some, None, map, nat_le, IsTrue}
+use Rattle.std.proofs.Common.{◌≡◌, ◌∙◌, ◌+◌, ◌≤◌, ◌++◌, ℕ, Bool, true, false, List, [], ◌∷◌, length, refl, arith, length-append}
+use Rattle.std.specs.Prelude.{Result, Ok, Err, Option, Some, None, map, nat_le}
 use Rattle.std.specs.List.{AllByRecursion, list_all}
-use Rattle.std.specs.Int.{w16, w32, to_be_bytes}
+use Rattle.std.specs.Int.{w32, to_be_bytes}
 use Rattle.std.proofs.lemmas.List.Folds.{list_all-append}
 use Rattle.std.proofs.lemmas.Bool.Decides.{nat_tests}
 use Rattle.generations_rule.specs.Rule.{GenerationsRule, IsRule}
 use Rattle.generations_rule.specs.RuleText.{text_of}
 use Rattle.edit_stamps.specs.declared.rect.Rect.{Rect}
-use Rattle.edit_stamps.specs.Edit.{PlaneEdit, IsEdit, most_cells}
+use Rattle.edit_stamps.specs.Edit.{PlaneEdit, IsEdit}
 use Rattle.export.specs.declared.fault.ExportFault.{ExportFault}
 use Rattle.delta_exchange.specs.Spelling.{area_text, delta_text, edit_text, head_text, delta_magic, place_text, rect_text, sides_text}
 use Rattle.delta_exchange.proofs.DeltaCodec.{text_is_sized}
@@ -33,7 +33,7 @@ rule_len r rule = grind (arith, nat_tests, text_is_sized r rule)
 
 head_len : (r : GenerationsRule) → length (head_text delta_magic 1 r) ≡ 6 + length (text_of r)
 unfolding head_text
-head_len r = refl
+head_len r = omega arith
 
 area_len : (area : Option Rect) → length (area_text area) ≤ 17
 unfolding area_text rect_text place_text sides_text
@@ -50,7 +50,7 @@ pub delta_is_body : (r : GenerationsRule) (e : PlaneEdit) → IsRule r → IsEdi
 delta_is_body r e rule edit = fits (delta_text r (e ∷ [])) _ refl (omega (arith, delta_len r e rule edit))
 
 push_is_body : (r : GenerationsRule) (e : PlaneEdit) → IsRule r → IsEdit e → is_body (push_bytes r e) ≡ true
-push_is_body r e rule edit = fits (push_bytes r e) (1 + length (delta_text r (e ∷ []))) refl (omega (arith, delta_len r e rule edit))
+push_is_body r e rule edit = fits (push_bytes r e) _ refl (omega (arith, delta_len r e rule edit))
 
 -- ---- requests
 
@@ -63,7 +63,7 @@ asks_body r Farewell rule is = refl
 -- ---- replies
 
 pub hello_bodies : (r : GenerationsRule) (seat : ℕ) → IsRule r → list_all is_body (hello_body r seat ∷ []) ≡ true
-hello_bodies r seat rule = rw (fits (hello_body r seat) (4 + length (text_of r)) refl (omega (arith, rule_len r rule))) refl
+hello_bodies r seat rule = rw (fits (hello_body r seat) _ refl (omega (arith, rule_len r rule))) refl
 
 texts_bodies : (r : GenerationsRule) (edits : List PlaneEdit) → IsRule r → AllByRecursion (IsEditUnder r) edits → list_all is_body (map (λ e. delta_text r (e ∷ [])) edits) ≡ true
 texts_bodies r [] rule are = refl
@@ -80,7 +80,7 @@ pub whole_bodies : (text : List ℕ) → list_all is_body (whole_frames text) �
 whole_bodies text = whole_by text (nat_le (length text) most_body) refl
 
 text_by : (text : List ℕ) (fit : Bool) → nat_le (length text + 1) most_body ≡ fit → is_body (text_body text) ≡ true
-text_by text true fit = rw fit (fits (0 ∷ text) (length text + 1) (omega arith) (grind (arith, nat_tests, fit)))
+text_by text true fit = rw fit (fits (0 ∷ text) _ refl (grind (arith, nat_tests, fit)))
 text_by text false fit = rw fit refl
 
 pub text_is_body : (text : List ℕ) → is_body (text_body text) ≡ true

@@ -1,17 +1,16 @@
 -- What a replica holds of a list's edits.
-use Rattle.std.proofs.Common.{◌≡◌, ◌∙◌, ◌++◌, ◌<◌, ℕ, Bool, true, false, List, [], ◌∷◌, length, refl, sym, ap, subst, arith, inl, inr}
-use Rattle.std.specs.Prelude.{Result, Ok, Err, IsTrue, ◌⊎◌, Some, slice_get}
+use Rattle.std.proofs.Common.{◌≡◌, ◌∙◌, ℕ, zero, suc, Bool, true, false, List, [], ◌∷◌, refl, sym, subst, arith, inl, inr}
+use Rattle.std.specs.Prelude.{IsTrue, Option, Some, None, slice_get}
 use Rattle.std.specs.List.{AllByRecursion, Contains}
 use Rattle.std.proofs.lemmas.List.Elements.{Contains-append_right}
-use Rattle.std.proofs.lemmas.Bool.Decides.{nat_tests}
 use Rattle.generations_rule.specs.Place.{Place}
 use Rattle.generations_rule.specs.Rule.{GenerationsRule, IsRule}
-use Rattle.edit_stamps.specs.Edit.{PlaneEdit, HaveStatesBelow, IsEdit, greatest, has_states_below, writes_of}
-use Rattle.edit_stamps.specs.Plane.{is_in_plane}
-use Rattle.edit_stamps.specs.PlaneMap.{HasStampedWrites, LiesInPlane, is_plane_write}
+use Rattle.edit_stamps.specs.Edit.{PlaneEdit, HaveStatesBelow, IsEdit, greatest, is_covered, listed, write_by, writes_of}
+use Rattle.edit_stamps.specs.Stamp.{is_stamp}
+use Rattle.edit_stamps.specs.PlaneMap.{is_plane_write}
 use Rattle.edit_stamps.proofs.GreatestWrites.{made_by_one}
 use Rattle.edit_stamps.proofs.StateLaws.{greatest_below}
-use Rattle.stamped_writes.specs.Write.{Write, unwritten}
+use Rattle.stamped_writes.specs.declared.write.Write.{Write}
 use Rattle.stamped_tree.proofs.OnPlaneLaws.{edit_inside}
 use Rattle.delta_exchange.specs.Delta.{AreTellable}
 use Rattle.delta_exchange.specs.State.{IsTellableMap}
@@ -24,9 +23,10 @@ all_each P (x ∷ xs) each = (each x (0, omega arith, refl), all_each P xs (λ y
 
 -- an element that stands at a place is one
 pub contains_at : {X : Type 0} (xs : List X) (at : ℕ) (x : X) → slice_get xs at ≡ Some x → Contains xs x
-contains_at [] at x here = absurd cc
-contains_at (y ∷ xs) 0 x here = (0, omega arith, cc)
-contains_at (y ∷ xs) (suc at) x here = let found = contains_at xs at x here in (suc found.0, omega (arith, found.1.0), found.1.1)
+contains_at [] zero x here = absurd cc
+contains_at [] (suc at) x here = absurd cc
+contains_at (y ∷ xs) zero x here = (0, omega arith, cc)
+contains_at (y ∷ xs) (suc at) x here = let found = contains_at xs at x here in (suc found.0, omega (arith, found.1), found.2)
 
 -- one edit of a rule can be told
 pub tellable : (r : GenerationsRule) (e : PlaneEdit) → IsEditUnder r e → AreTellable r.states (e ∷ [])
@@ -39,8 +39,13 @@ states_each r [] are = tt
 states_each r (e ∷ edits) are = (are.0.states, states_each r edits are.1)
 
 -- an edit writes its stamp, or nothing
+by_stamp : (stamp : ℕ) (o : Option ℕ) (covered : Bool) → is_stamp stamp ≡ true → is_plane_write (write_by stamp o covered) ≡ true
+by_stamp stamp (Some state) covered is = rw is refl
+by_stamp stamp None true is = rw is refl
+by_stamp stamp None false is = refl
+
 write_stamped : (e : PlaneEdit) (c : Place) → IsEdit e → IsTrue (is_plane_write (writes_of e c))
-write_stamped e c is = grind (arith, nat_tests, is.stamp)
+write_stamped e c is = by_stamp e.stamp (listed e.cells c) (is_covered e.area c) is.stamp
 
 -- the map of edits of a rule can be told
 pub map_tellable : (r : GenerationsRule) (edits : List PlaneEdit) → IsRule r → ((e : PlaneEdit) → Contains edits e → IsEditUnder r e) → IsTellableMap r.states (greatest edits)

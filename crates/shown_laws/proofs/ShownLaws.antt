@@ -1,6 +1,6 @@
 -- What a client shows is of the list that it is told of.
-use Rattle.std.proofs.Common.{◌≡◌, ◌∙◌, ◌++◌, ◌+◌, ◌<◌, ◌≤◌, ℕ, zero, suc, Bool, true, false, List, [], ◌∷◌, length, refl, sym, ap, subst, arith, append_assoc, length-append}
-use Rattle.std.specs.Prelude.{Result, Ok, Err, Some, map, flat_map, nat_le, slice_get, ◌⊎◌, inl, inr}
+use Rattle.std.proofs.Common.{◌≡◌, ◌∙◌, ◌++◌, ◌<◌, ◌≤◌, ℕ, zero, suc, Bool, true, false, List, [], ◌∷◌, length, refl, sym, ap, subst, arith, append_assoc, inl, inr}
+use Rattle.std.specs.Prelude.{Ok, Some, map, nat_le, slice_get, ◌⊎◌, ◌^◌}
 use Rattle.std.specs.List.{AllByRecursion, Contains, list_all}
 use Rattle.std.specs.Int.{w32, from_be_bytes, to_be_bytes}
 use Rattle.std.proofs.lemmas.List.{length-map}
@@ -14,7 +14,6 @@ use Rattle.stamped_writes.specs.Write.{AreSame, Writes}
 use Rattle.stamped_tree.specs.Plane.{map_of}
 use Rattle.generation_engine.specs.Universe.{states_in_writes}
 use Rattle.export.specs.Export.{IsExport, most_cells}
-use Rattle.export.specs.declared.fault.ExportFault.{ExportFault}
 use Rattle.delta_exchange.specs.Spelling.{delta_text}
 use Rattle.delta_exchange.specs.State.{IsTellableMap}
 use Rattle.delta_exchange.specs.StateText.{IsStateText}
@@ -29,22 +28,19 @@ use Rattle.board.specs.declared.entry.Entry.{Entry}
 use Rattle.board.specs.Entries.{edits_of}
 use Rattle.client_protocol.specs.Spelling.{polled_body}
 use Rattle.session_hub.specs.Request.{Bye, Export, Faulty, Hello, Many, Poll, Push, Request, Whole, request_of}
-use Rattle.session_hub.specs.Replies.{edits_frames, export_body, hello_body, most_edits, pushed_of, refusal, text_body, whole_frames, whole_mark}
-use Rattle.replica_core.specs.Exporting.{IsExportOf}
+use Rattle.session_hub.specs.Replies.{hello_body, most_edits, pushed_of, refusal, whole_frames, whole_mark}
 use Rattle.replica_core.specs.Peers.{HoldsEdits}
 use Rattle.replica_core.specs.Replica.{ReplicaState}
 use Rattle.replica_core.specs.World.{IsEditUnder}
 use Rattle.replica_core.proofs.PeerLaws.{holds_what_it_took}
 use Rattle.replica_core.proofs.SameMaps.{same_text}
-use Rattle.board_client.specs.Client.{LineState, IsTalk}
 use Rattle.board_client.specs.Hearing.{AreTaken}
 use Rattle.board_client.specs.Laws.{TellEdits}
 use Rattle.board_client.proofs.ClientLaws.{taken_edits}
-use Rattle.seat_server.specs.OneList.{AreToldBehind, Edits, HasAccepted, IsAccepted, IsTextOf, IsToldBehind, IsToldOf, IsToldVisit, Nothing, Plane, Telling, Tells, Texts}
-use Rattle.seat_server.specs.Sessions.{VisitValue}
+use Rattle.seat_server.specs.OneList.{AreToldBehind, Edits, HasAccepted, IsAccepted, IsToldBehind, IsToldOf, Nothing, Plane, Telling, Tells, Texts}
 use Rattle.shown_laws.specs.Turns as turns
 use Rattle.shown_laws.specs.Turns.{AreTurns, Asking, Hearing, IsAskable, IsTurn, Turn, heard_by, heard_in, request_in, said_by}
-use Rattle.shown_laws.specs.Shown.{AreTurnsOn, IsOneLine, ShowsOf, ShowsOfOneList}
+use Rattle.shown_laws.specs.Shown.{ShowsOf, ShowsOfOneList}
 use Rattle.shown_laws.proofs.Bodies.{asks_body, both, edits_bodies, exports_bodies, hello_bodies, text_is_body, whole_bodies}
 use Rattle.shown_laws.proofs.Held.{all_each, contains_at, map_tellable, tellable}
 
@@ -310,8 +306,8 @@ module _ (r : GenerationsRule) (seat : ℕ) (list : List Entry) (rule : IsRule r
         }
       where
         only : (e f : PlaneEdit) → Contains (e ∷ []) f → e ≡ f
-        only e f (0, here) = here.1
-        only e f (suc k, here) = absurd (omega (arith, here.0))
+        only e f (zero, few, here) = here
+        only e f (suc k, few, here) = absurd (omega (arith, few))
 
     brought : (texts : List (List ℕ)) → x.request ≡ request_in r turns.Poll → (polled_body (length texts) ∷ texts) ++ rest ≡ frames ++ more → length texts ≤ most_edits → AreTaken old texts new
         → Turned frames (polled_body (length texts) ∷ texts) rest more new
@@ -412,4 +408,4 @@ shows_of_one_list r seat list v visit a b old new rule under holds turned line =
     let said = begins visit.pulled (requests_of visit.exchanges) visit.left (said_by r ts) visit.cut (said_fit r seat list rule under ts old new turned.turned) line.said_first in
     let cut : IsTakenTo turned.talk.pulled (heard_by ts) b.frames.pending = subst (λ pending. IsTakenTo (pending ++ turned.talk.pulled) (heard_by ts) b.frames.pending) line.fresh turned.talk.cut in
     let heard = begins turned.talk.pulled (heard_by ts) b.frames.pending (all_pushed visit.exchanges) cut (replies_fit r seat list rule under [] visit.exchanges visit.told) line.heard_first in
-    shows r seat list rule under ts [] visit.exchanges [] old new visit.told visit.has said heard holds (λ e none. absurd (omega (arith, none.1.0))) turned.turned
+    shows r seat list rule under ts [] visit.exchanges [] old new visit.told visit.has said heard holds (λ e none. absurd (omega (arith, none.1))) turned.turned

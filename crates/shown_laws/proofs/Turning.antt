@@ -1,6 +1,6 @@
 -- What clients do is turns.
-use Rattle.std.proofs.Common.{◌≡◌, ◌∙◌, ◌++◌, ◌<◌, ℕ, zero, suc, List, [], ◌∷◌, length, map, replicate, refl, sym, ap, subst, arith, append_assoc, append-nil}
-use Rattle.std.specs.Prelude.{Result, Ok, Err, flat_map, ◌⊎◌, inl, inr}
+use Rattle.std.proofs.Common.{◌≡◌, ◌∙◌, ◌++◌, ◌<◌, ℕ, List, [], ◌∷◌, length, map, replicate, refl, sym, ap, subst, arith, append-nil, inl, inr}
+use Rattle.std.specs.Prelude.{Ok}
 use Rattle.std.proofs.lemmas.List.{map-append}
 use Rattle.std.proofs.lemmas.Grind.{flat_map-append}
 use Rattle.generations_rule.specs.Rule.{GenerationsRule}
@@ -16,7 +16,7 @@ use Rattle.board_client.specs.Drawing.{IsPublishing, push_bytes}
 use Rattle.board_client.specs.Greeting.{IsGreeting, IsMomentaryGreetingRefusal}
 use Rattle.board_client.specs.Polling.{IsMomentaryPollRefusal, IsPoll}
 use Rattle.board_client.specs.Pushing.{IsMomentaryPushRefusal}
-use Rattle.board_client.specs.Tries.{AreAll, AreRefused, IsRefused}
+use Rattle.board_client.specs.Tries.{AreAll, IsRefused}
 use Rattle.board_client.proofs.TryLaws.{both, nothing}
 use Rattle.shown_laws.specs.Turns.{AreTurns, Asking, Done, Edits, Greeting, Hearing, IsAskable, IsTurn, Offered, Plane, Poll, Push, Refused, Turn, heard_by, heard_in, request_in, said_by}
 use Rattle.shown_laws.specs.Shown.{AreTurnsOfClients, AreTurnsOn}
