@@ -1,14 +1,12 @@
 //! What wakes who waits for an answer.
 
+ghost use Rattle.std.specs.Duration.{as_nanos};
 ghost use Rattle.std.specs.Prelude.{◌≡◌};
 
 use std::alloc::{AllocError, Global};
 use std::sync::{Arc, Wait};
 use std::thread::Parker;
 use std::time::Duration;
-
-/// For how many milliseconds a rest lasts at most.
-const LOOK: u64 = 1;
 
 /// A bell that two ends of a channel share: one rings it, the other rests on it.
 #[derive(Drop)]
@@ -31,6 +29,13 @@ impl Bell {
 
     /// Sleeps until a ring that no rest has had yet, and for a millisecond at most.
     pub(crate) fn rest<R: Wait>(&self, rt: &R) {
-        self.parker.park_timeout(rt, Duration::from_millis(LOOK));
+        self.parker.park_timeout(rt, longest_rest());
     }
+}
+
+/// How long a rest lasts at most: a millisecond.
+fn longest_rest() -> Duration
+    ensures { as_nanos result ≡ 1_000_000 }
+{
+    Duration::from_millis(1)
 }

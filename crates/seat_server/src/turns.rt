@@ -1,5 +1,6 @@
 //! The turns of a relay whose seats are served.
 
+ghost use Rattle.std.specs.Duration.{as_nanos};
 ghost use Rattle.std.specs.Prelude.{◌≡◌, IfSome};
 ghost use Rattle.relay_board.specs.declared.fault.TurnFault.TheVariants.{StoreFull};
 ghost use Rattle.seat_server.specs.Turning.{IsTurned};
@@ -12,12 +13,20 @@ use std::time::Duration;
 /// How many turns in a row may fail.
 const MOST_FAILED: u16 = 1000;
 
-/// How many milliseconds the relay rests at most where there is nothing to do. Whatever there is to do
-/// wakes it.
-const REST: u64 = 1000;
+/// How long the relay rests at most where there is nothing to do: a second. Whatever there is to do wakes
+/// it.
+fn rest_when_idle() -> Duration
+    ensures { as_nanos result ≡ 1_000_000_000 }
+{
+    Duration::from_millis(1000)
+}
 
-/// How many it rests after a turn that failed.
-const PAUSE: u64 = 1;
+/// How long it rests after a turn that failed: a millisecond.
+fn rest_when_failed() -> Duration
+    ensures { as_nanos result ≡ 1_000_000 }
+{
+    Duration::from_millis(1)
+}
 
 /// Takes turns until the sessions are over, and rests where there is nothing to do. Where 1,000 turns in a
 /// row failed, the fault of the last one. Once a stream or a thread could not be had, the relay is closed.
@@ -43,14 +52,14 @@ pub fn take_turns<J: Naming, R: Wait + Drop, H: Wait>(
                     relay.close();
                     closed = true;
                 }
-                relay.rest(Duration::from_millis(REST));
+                relay.rest(rest_when_idle());
             }
             Turn::Failed(fault) => {
                 failed = failed.saturating_add(1);
                 if failed >= MOST_FAILED {
                     return Some(fault);
                 }
-                relay.rest(Duration::from_millis(PAUSE));
+                relay.rest(rest_when_failed());
             }
         }
     }
