@@ -1,10 +1,9 @@
 -- Lists of entries with one more, and lists that are copied from a place on.
-use Rattle.std.proofs.Common.{◌≡◌, ℕ, zero, suc, Some, slice_get, append_assoc, ◌+◌, ◌-◌, ◌<◌, ◌≤◌, Bool, true, false, ◌&&◌, List, [], ◌∷◌, ◌++◌, length, drop, map, sym, refl, ap, ◌∙◌, subst, arith, length-append, length-drop, drop-drop}
+use Rattle.std.proofs.Common.{◌≡◌, ℕ, zero, suc, Some, slice_get, append_assoc, ◌+◌, ◌-◌, true, List, [], ◌∷◌, ◌++◌, length, drop, sym, refl, ap, ◌∙◌, arith, length-append, length-drop, drop-drop}
 use Rattle.std.proofs.lemmas.List.{map-append, drop-append-le}
 use Rattle.std.proofs.lemmas.Bool.{and_parts}
-use Rattle.generations_rule.specs.Place.{Place}
 use Rattle.stamped_writes.specs.Write.{greater, Writes, AreSame, joined}
-use Rattle.edit_stamps.specs.Edit.{PlaneEdit, greatest, has_states_below}
+use Rattle.edit_stamps.specs.Edit.{greatest, has_states_below}
 use Rattle.edit_stamps.proofs.WriteLaws.{joins_lists}
 use Rattle.circular_buffer.specs.Buffer.{keep_last}
 use Rattle.board.specs.declared.entry.Entry.{Entry}

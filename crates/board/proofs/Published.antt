@@ -1,5 +1,5 @@
 -- What is published, beside what was announced.
-use Rattle.std.proofs.Common.{◌≡◌, ◌⊎◌, Bool, true, false, List, [], ◌∷◌, ◌++◌, Option, Some, None, MatchBool, inl, sym, subst}
+use Rattle.std.proofs.Common.{◌⊎◌, Bool, true, false, List, [], ◌∷◌, Option, Some, None, MatchBool, inl, sym, subst}
 use mathlib.Core.List.{IsPrefix}
 use Rattle.board.specs.declared.entry.Entry.{Entry}
 use Rattle.board.specs.declared.front.Front.{Front}

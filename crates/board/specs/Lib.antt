@@ -5,6 +5,7 @@ pub mod Showing
 pub mod Boards
 pub mod Content
 pub mod Handing
+pub mod Learning
 pub mod Sights
 pub mod Publishing
 pub mod Resting

@@ -2,15 +2,15 @@
 //!
 //! No call here waits: none has a bound that would let it.
 
-ghost use Rattle.std.specs.Prelude.{◌≡◌, ◌≤◌, ◌<◌, length, IfOk, IfErr};
-ghost use mathlib.Core.List.{IsPrefix};
+ghost use Rattle.std.specs.Prelude.{◌≡◌, ◌≤◌, length, IfOk, IfErr};
 ghost use Rattle.edit_stamps.specs.Edit.{greatest};
 ghost use Rattle.generations_rule.specs.Place.{at_place};
 ghost use Rattle.stamped_writes.specs.Write.{AreSame};
 ghost use Rattle.stamped_tree.specs.Plane.{map_of};
 ghost use Rattle.board.specs.Entries.{edits_of};
-ghost use Rattle.board.specs.Origins.{GoesOn, origin, list_of};
 ghost use Rattle.board.specs.Handing.{IsNews};
+ghost use Rattle.board.specs.Learning.{HasLearnt};
+ghost use Rattle.board.specs.Origins.{GoesOn, origin, list_of};
 
 use crate::fault::SeatFault;
 use crate::front::Front;
@@ -142,9 +142,7 @@ impl BoardReader {
     pub fn learn(&mut self, front: &Front)
         requires origin { origin front.now ≡ origin self.old.window.front }
         ensures same { (self.new.handed ≡ self.old.handed) × (origin self.new.window.front ≡ origin self.old.window.front) }
-        ensures longer { length (list_of self.old.window.front) ≤ length (list_of front.now) → list_of self.new.window.front ≡ list_of front.now }
-        ensures kept { length (list_of front.now) < length (list_of self.old.window.front) → list_of self.new.window.front ≡ list_of self.old.window.front }
-        ensures begins { IsPrefix (list_of self.old.window.front) (list_of self.new.window.front) × IsPrefix (list_of front.now) (list_of self.new.window.front) }
+        ensures learnt { HasLearnt (list_of self.old.window.front) (list_of front.now) (list_of self.new.window.front) }
     {
         self.window.learn(front);
     }

@@ -4,6 +4,7 @@ ghost use Rattle.std.specs.Prelude.{◌≡◌, ◌⊎◌, ◌↔◌, ◌∷◌, 
 ghost use mathlib.Core.List.{IsPrefix};
 ghost use Rattle.left_right.specs.Sides.{view};
 ghost use Rattle.edit_stamps.specs.Edit.{has_states_below};
+ghost use Rattle.board.specs.Publishing.{Publishes};
 ghost use Rattle.board.specs.Sights.{sight, IsWhole, Keeps};
 ghost use Rattle.board.specs.Origins.{origin, list_of};
 ghost use Rattle.board.specs.Resting.{Rests};
@@ -162,9 +163,7 @@ impl Publisher {
     /// Publishes what was announced. At `Err`, out of memory, readers see what they saw, and the next call
     /// tries the same entry again.
     pub fn show<R: Wait>(self, rt: &R) -> (Publisher, Result<(), AllocError>)
-        ensures origin { result.0.origin ≡ self.origin }
-        ensures announced { result.0.announced ≡ self.announced }
-        ensures list { MatchResult result.1 (λ _. result.0.list ≡ self.announced) (λ _. result.0.list ≡ self.list) }
+        ensures { Publishes self result.1 result.0 }
     {
         let Publisher {
             writer,

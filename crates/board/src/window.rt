@@ -1,8 +1,8 @@
 //! A reader of the board with the list that it has seen.
 
-ghost use Rattle.std.specs.Prelude.{◌≡◌, ◌≤◌, ◌<◌, true, length, IfOk, MatchResult};
-ghost use mathlib.Core.List.{IsPrefix};
+ghost use Rattle.std.specs.Prelude.{◌≡◌, true, IfOk, MatchResult};
 ghost use Rattle.left_right.specs.Sides.{view};
+ghost use Rattle.board.specs.Learning.{HasLearnt};
 ghost use Rattle.board.specs.Origins.{GoesOn, origin, list_of};
 ghost use Rattle.board.specs.Sights.{origin_in};
 
@@ -57,9 +57,7 @@ impl Window {
     pub fn learn(&mut self, front: &Front)
         requires origin { origin front.now ≡ origin self.old.front }
         ensures origin { origin self.new.front ≡ origin self.old.front }
-        ensures longer { length (list_of self.old.front) ≤ length (list_of front.now) → list_of self.new.front ≡ list_of front.now }
-        ensures kept { length (list_of front.now) < length (list_of self.old.front) → list_of self.new.front ≡ list_of self.old.front }
-        ensures begins { IsPrefix (list_of self.old.front) (list_of self.new.front) × IsPrefix (list_of front.now) (list_of self.new.front) }
+        ensures learnt { HasLearnt (list_of self.old.front) (list_of front.now) (list_of self.new.front) }
     {
         if self.front.begins(front) {
             self.front = front.again();

@@ -37,13 +37,13 @@ use Rattle.replica_core.specs.Fault.{replica_fault_number, replica_fault_text, s
 use Rattle.board.specs.declared.fault.SeatFault.{SeatFault}
 use Rattle.board.specs.declared.fault.SeatFault.TheVariants as reading
 use Rattle.board.specs.Faults.{seat_fault_number, seat_fault_text}
-use Rattle.relay_core.specs.declared.fault.SubmitFault.{SubmitFault}
-use Rattle.relay_core.specs.declared.fault.SubmitFault.TheVariants as submissions
-use Rattle.relay_core.specs.declared.fault.TurnFault.{TurnFault}
-use Rattle.relay_core.specs.declared.fault.TurnFault.TheVariants as turns
-use Rattle.relay_core.specs.declared.fault.StartFault.{StartFault}
-use Rattle.relay_core.specs.declared.fault.StartFault.TheVariants as starts
-use Rattle.relay_core.specs.Faults.{start_fault_number, start_fault_text, submit_fault_number, submit_fault_text, turn_fault_number, turn_fault_text}
+use Rattle.relay_board.specs.declared.fault.SubmitFault.{SubmitFault}
+use Rattle.relay_board.specs.declared.fault.SubmitFault.TheVariants as submissions
+use Rattle.relay_board.specs.declared.fault.TurnFault.{TurnFault}
+use Rattle.relay_board.specs.declared.fault.TurnFault.TheVariants as turns
+use Rattle.relay_board.specs.declared.fault.StartFault.{StartFault}
+use Rattle.relay_board.specs.declared.fault.StartFault.TheVariants as starts
+use Rattle.relay_board.specs.Faults.{start_fault_number, start_fault_text, submit_fault_number, submit_fault_text, turn_fault_number, turn_fault_text}
 use Rattle.relay_board.specs.declared.fault.FinishFault.{FinishFault}
 use Rattle.relay_board.specs.declared.fault.FinishFault.TheVariants as finishes
 use Rattle.relay_board.specs.Faults.{finish_fault_number, finish_fault_text}

@@ -23,10 +23,10 @@ use Rattle.replica_core.specs.declared.event.Stop.{Stop}
 use Rattle.replica_core.specs.Fault.{replica_fault_number, replica_fault_text, stop_number, stop_text}
 use Rattle.board.specs.declared.fault.SeatFault.{SeatFault}
 use Rattle.board.specs.Faults.{seat_fault_number, seat_fault_text}
-use Rattle.relay_core.specs.declared.fault.SubmitFault.{SubmitFault}
-use Rattle.relay_core.specs.declared.fault.TurnFault.{TurnFault}
-use Rattle.relay_core.specs.declared.fault.StartFault.{StartFault}
-use Rattle.relay_core.specs.Faults.{start_fault_number, start_fault_text, submit_fault_number, submit_fault_text, turn_fault_number, turn_fault_text}
+use Rattle.relay_board.specs.declared.fault.SubmitFault.{SubmitFault}
+use Rattle.relay_board.specs.declared.fault.TurnFault.{TurnFault}
+use Rattle.relay_board.specs.declared.fault.StartFault.{StartFault}
+use Rattle.relay_board.specs.Faults.{start_fault_number, start_fault_text, submit_fault_number, submit_fault_text, turn_fault_number, turn_fault_text}
 use Rattle.relay_board.specs.declared.fault.FinishFault.{FinishFault}
 use Rattle.relay_board.specs.Faults.{finish_fault_number, finish_fault_text}
 use Rattle.session_hub.specs.declared.fault.HubFault.{HubFault}

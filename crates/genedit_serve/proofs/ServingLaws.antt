@@ -9,8 +9,8 @@ use Rattle.genedit_io.specs.declared.fault.RunFault.{RunFault}
 use Rattle.genedit_io.specs.declared.fault.RunFault.TheVariants.{Write}
 use Rattle.relay_board.specs.Seating.{AllFresh, Numbered, Seating}
 use Rattle.relay_board.specs.declared.fault.FinishFault.TheVariants as finish
-use Rattle.relay_core.specs.Relaying.{Relaying}
-use Rattle.relay_core.specs.declared.fault.TurnFault.TheVariants as turn
+use Rattle.relay_board.specs.Relaying.{Relaying}
+use Rattle.relay_board.specs.declared.fault.TurnFault.TheVariants as turn
 use Rattle.seat_server.specs.Faults.{IsReason}
 use Rattle.seat_server.specs.Serving.{FinishedValue, IsServed}
 use Rattle.seat_server.specs.Sessions.{VisitValue}

@@ -2,9 +2,9 @@
 use Rattle.std.specs.Prelude.{None}
 use Rattle.genedit_io.specs.declared.fault.RunFault.{RunFault}
 use Rattle.genedit_io.specs.declared.fault.RunFault.TheVariants as run
-use Rattle.relay_core.specs.declared.fault.StartFault.{StartFault}
-use Rattle.relay_core.specs.declared.fault.StartFault.TheVariants as start
-use Rattle.relay_core.specs.declared.fault.TurnFault.TheVariants as turn
+use Rattle.relay_board.specs.declared.fault.StartFault.{StartFault}
+use Rattle.relay_board.specs.declared.fault.StartFault.TheVariants as start
+use Rattle.relay_board.specs.declared.fault.TurnFault.TheVariants as turn
 use Rattle.relay_board.specs.declared.fault.FinishFault.TheVariants as finish
 use Rattle.seat_server.specs.declared.fault.ServerFault.{ServerFault}
 use Rattle.seat_server.specs.declared.fault.ServerFault.TheVariants as server

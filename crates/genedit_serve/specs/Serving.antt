@@ -7,8 +7,8 @@ use Rattle.generations_rule.specs.Rule.{GenerationsRule}
 use Rattle.genedit_io.specs.declared.fault.RunFault.{RunFault}
 use Rattle.genedit_io.specs.declared.fault.RunFault.TheVariants.{Script, Refused, Read, Turns, Write, Memory, StoreFull}
 use Rattle.relay_board.specs.Seating.{AllFresh, Seating}
-use Rattle.relay_core.specs.Relaying.{Relaying}
-use Rattle.relay_core.specs.declared.fault.StartFault.TheVariants.{NoPlace}
+use Rattle.relay_board.specs.Relaying.{Relaying}
+use Rattle.relay_board.specs.declared.fault.StartFault.TheVariants.{NoPlace}
 use Rattle.seat_server.specs.Faults.{IsReason}
 use Rattle.seat_server.specs.Serving.{FinishedValue, IsServed}
 use Rattle.seat_server.specs.declared.fault.ServerFault.{ServerFault}

@@ -1,7 +1,7 @@
 //! Faults of a board and its server, as the program tells them.
 
 ghost use Rattle.std.specs.Prelude.{◌≡◌, ◌≢◌};
-ghost use Rattle.relay_core.specs.declared.fault.StartFault.TheVariants as start_faults;
+ghost use Rattle.relay_board.specs.declared.fault.StartFault.TheVariants as start_faults;
 ghost use Rattle.genedit_serve.specs.Faults.{run_fault_of_server, run_fault_of_start};
 
 use genedit_io::RunFault;

@@ -11,7 +11,7 @@ use Rattle.relay_board.specs.Closing.{AreCountable}
 use Rattle.inbox.specs.Hands.{after_retire, of}
 use Rattle.inbox.specs.declared.ends.Drain.{Drain}
 use Rattle.generations_rule.specs.Rule.{GenerationsRule}
-use Rattle.relay_core.specs.Tallies.{Tallies}
+use Rattle.relay_board.specs.Tallies.{Tallies}
 use Rattle.relay_board.specs.Seating.{Seating, fresh, mines_of, Numbered, AllFresh}
 
 -- of the seats `all`, those of `left` are still to be taken in
@@ -43,15 +43,17 @@ get_at [] k s e lt = absurd (omega arith)
 get_at (x ∷ xs) zero s e lt = ap Some e
 get_at (x ∷ xs) (suc k) s e lt = get_at xs k s e (omega arith)
 
+-- a place at which something stands is within the list
+pub get_below : {A : Type 0} (ss : List A) (k : ℕ) (s : A) → slice_get ss k ≡ Some s → k < length ss
+get_below [] k s e = absurd (cc (e))
+get_below (x ∷ xs) zero s e = omega arith
+get_below (x ∷ xs) (suc k) s e = let h = get_below xs k s e in omega arith
+
 -- of numbered seats each stands at its place
 pub numbered_at : (n : ℕ) (ss : List Seating) (k : ℕ) (s : Seating) → Numbered n ss → slice_get ss k ≡ Some s → s.place ≡ n + k
 numbered_at n [] k s h at = absurd (cc (at))
 numbered_at n (x ∷ xs) zero s h at = let same : x ≡ s = cc (at) in ap (λ (t : Seating). t.place) (sym same) ∙ (h.0 ∙ omega arith)
 numbered_at n (x ∷ xs) (suc k) s h at = numbered_at (n + 1) xs k s h.1 at ∙ omega arith
-
--- a seat that has put, seen and been handed nothing
-pub fresh_is : (s : Seating) (m : ℕ) (rule : GenerationsRule) (room : ℕ) → s.place ≡ m → s.rule ≡ rule → s.mine ≡ [] → s.seen ≡ [] → s.handed ≡ 0 → s.full ≡ 0 → s.room ≡ room → s ≡ fresh m rule room
-fresh_is s m rule room a b c d e f g = λ i. record { place = a i; rule = b i; mine = c i; seen = d i; handed = e i; full = f i; room = g i }
 
 -- one seat more was taken in
 pub goes_on : (inbox : TableId) (first now next : Drain) (all left rest : List Seating) (s : Seating) (w : Hand) → Goes inbox first now all left → left ≡ s ∷ rest → next.queue ≡ now.queue → view next.pass ≡ after_retire (view now.pass) w → w.put ≡ s.mine → Goes inbox first next all rest

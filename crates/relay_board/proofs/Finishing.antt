@@ -1,11 +1,11 @@
 -- Why a relay did not finish, from its turns.
-use Rattle.std.proofs.Common.{◌≡◌, ◌≢◌, List, [], None, Some, inl, inr}
-use Rattle.relay_core.specs.Relaying.{Relaying}
-use Rattle.relay_core.specs.Turns.{Takes}
-use Rattle.relay_core.specs.declared.fault.TurnFault.{TurnFault}
-use Rattle.relay_core.specs.declared.fault.TurnFault.TheVariants as turns
-use Rattle.relay_board.specs.Closing.{IsLeft}
-use Rattle.relay_board.specs.FinishRefusals.{finish_fault_of}
+use Rattle.std.proofs.Common.{◌≡◌, ◌≢◌, List, Some, inl, inr}
+use Rattle.relay_board.specs.Relaying.{Relaying}
+use Rattle.relay_board.specs.Turns.{Takes}
+use Rattle.relay_board.specs.declared.fault.TurnFault.{TurnFault}
+use Rattle.relay_board.specs.declared.fault.TurnFault.TheVariants as turns
+use Rattle.relay_board.specs.Closing.{IsDrained, IsLeft}
+use Rattle.relay_board.specs.FaultsOf.{finish_fault_of}
 use Rattle.relay_board.specs.Seating.{Seating, BeginsWithAll}
 use Rattle.relay_board.specs.declared.fault.FinishFault.{FinishFault}
 use Rattle.relay_board.specs.declared.fault.FinishFault.TheVariants.{Closed, StoreFull, Memory}
@@ -25,8 +25,8 @@ turn_left turns.StoreFull a seats b took = took
 turn_left turns.Memory a seats b took = inl took
 
 -- where none did
-pub closing_left : (fault : FinishFault) (a : Relaying) (seats : List Seating) (b : Relaying) → Takes a None b → b.kept ≡ [] → fault ≢ StoreFull
+pub closing_left : (fault : FinishFault) (a : Relaying) (seats : List Seating) (b : Relaying) → IsDrained a seats b → fault ≢ StoreFull
     → (fault ≡ Closed → ¬ (BeginsWithAll b.list seats)) → IsLeft fault a seats b
-closing_left Closed a seats b took kept not_full ahead = (took, kept, ahead cc)
-closing_left StoreFull a seats b took kept not_full ahead = absurd (not_full cc)
-closing_left Memory a seats b took kept not_full ahead = inr (took, kept)
+closing_left Closed a seats b drained not_full ahead = (drained, ahead cc)
+closing_left StoreFull a seats b drained not_full ahead = absurd (not_full cc)
+closing_left Memory a seats b drained not_full ahead = inr drained

@@ -9,14 +9,14 @@ use Rattle.board.specs.declared.entry.Entry.{Entry}
 use Rattle.board.specs.Entries.{edits_of, last_of}
 use Rattle.board.specs.Origins.{origin}
 use Rattle.board.specs.Showing.{Origin}
-use Rattle.inbox.specs.Settled.{IsOf}
+use Rattle.inbox.specs.Settled.{HasAsMany, IsOf}
 use Rattle.relay_board.specs.Seating.{Seating, mines_of, BeginsWithAll}
 use Rattle.relay_board.specs.declared.finish.Account.{Account}
 use Rattle.relay_board.specs.declared.fault.FinishFault.{FinishFault}
 use Rattle.relay_board.specs.declared.fault.FinishFault.TheVariants.{Closed, StoreFull, Memory}
-use Rattle.relay_core.specs.Relaying.{Relaying}
-use Rattle.relay_core.specs.Turns.{Takes}
-use Rattle.relay_core.specs.declared.fault.TurnFault.TheVariants as turns
+use Rattle.relay_board.specs.Relaying.{Relaying}
+use Rattle.relay_board.specs.Turns.{Takes}
+use Rattle.relay_board.specs.declared.fault.TurnFault.TheVariants as turns
 
 -- the last 1,024 edits of a list, how many come before them, and the plane of them all
 pub record IsAccount (list : List Entry) (a : Account) : Type 0 where
@@ -41,9 +41,13 @@ pub record IsWhole (board : Origin) (before list : List Entry) (seats : List Sea
   pub account : IsAccount list a
   pub accepted : a.accepted ≡ map (λ (s : Seating). length s.mine) seats
 
--- Some turns were taken, none of which failed. Then nothing was kept, and a seat had seen more than is published, or memory
--- was wanting for the account; or a further turn failed, for want of room or of memory.
+-- some turns were taken, none of which failed; then nothing was kept, and the list had of each seat all that it put
+abbrev pub IsDrained : Relaying → List Seating → Relaying → Type 0
+IsDrained a seats b = Takes a None b × (b.kept ≡ []) × HasAsMany b.list (mines_of seats)
+
+-- All was published, and then a seat had seen more than that, or memory was wanting for the account; or a turn failed, for
+-- want of room or of memory.
 abbrev pub IsLeft : FinishFault → Relaying → List Seating → Relaying → Type 0
-IsLeft Closed a seats b = Takes a None b × (b.kept ≡ []) × ¬ (BeginsWithAll b.list seats)
+IsLeft Closed a seats b = IsDrained a seats b × ¬ (BeginsWithAll b.list seats)
 IsLeft StoreFull a seats b = Takes a (Some turns.StoreFull) b
-IsLeft Memory a seats b = Takes a (Some turns.Memory) b ⊎ (Takes a None b × (b.kept ≡ []))
+IsLeft Memory a seats b = Takes a (Some turns.Memory) b ⊎ IsDrained a seats b

@@ -1,8 +1,13 @@
+pub mod Relaying
+pub mod Same
+pub mod Turns
+pub mod Tallies
+pub mod Kept
 pub mod Seating
-pub mod Refusing
-pub mod Chairs
+pub mod Seats
+pub mod Refusals
 pub mod Receiving
 pub mod Starting
 pub mod Closing
 pub mod Faults
-pub mod FinishRefusals
+pub mod FaultsOf

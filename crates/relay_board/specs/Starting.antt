@@ -1,7 +1,7 @@
 -- Which relays start.
 use Rattle.std.specs.Prelude.{◌≡◌, ℕ, Bool, true, false, ◌&&◌, nat_le}
-use Rattle.relay_core.specs.declared.fault.StartFault.{StartFault}
-use Rattle.relay_core.specs.declared.fault.StartFault.TheVariants.{Size, NoPlace, Memory}
+use Rattle.relay_board.specs.declared.fault.StartFault.{StartFault}
+use Rattle.relay_board.specs.declared.fault.StartFault.TheVariants.{Size, NoPlace, Memory}
 
 -- 1 to 64 sessions, and room for 1 to 1,024 submissions
 abbrev pub fits : ℕ → ℕ → Bool

@@ -13,20 +13,19 @@ ghost use Rattle.board.specs.Origins.{origin, list_of};
 ghost use Rattle.inbox.specs.Counts.{counted};
 ghost use Rattle.inbox.specs.Hands.{of};
 ghost use Rattle.inbox.specs.Settled.{HasAsMany, IsOf};
-ghost use Rattle.relay_core.specs.Same.{Same};
-ghost use Rattle.relay_core.specs.Turns.{Takes};
+ghost use Rattle.relay_board.specs.Same.{Same};
+ghost use Rattle.relay_board.specs.Turns.{Takes};
 ghost use Rattle.relay_board.specs.Seating.{mines_of, Numbered, BeginsWithAll};
 ghost use Rattle.relay_board.specs.Closing.{IsAccount, IsWhole, IsLeft, AreCountable};
 
-use crate::fault::{FinishFault, finish_fault};
+use crate::fault::{FinishFault, TurnFault, finish_fault};
 use crate::naming::Naming;
-use crate::relay::Relay;
+use crate::relay::{Relay, Turn};
 use crate::seat::Seat;
 use board::{Board, Front};
 use edit_stamps::EditList;
 use inbox::Drain;
 use lists::ListOf;
-use relay_core::{RelayCore, Turn, TurnFault};
 use stamped_tree::Plane;
 use std::alloc::{AllocError, Global};
 use std::collections::VecDeque;
@@ -68,22 +67,21 @@ pub fn is_whole<J: Naming, R: Wait + Drop>(relay: &Relay<J, R>, seats: &[Seat<J>
     ensures order { IsTrue result → Numbered 0 seats.now }
     ensures told { relay.now.closed ≡ true → relay.now.made ≡ length seats.now → Numbered 0 seats.now → IsTrue result }
 {
-    let core = relay.core();
-    if !core.is_closed() {
+    if !relay.is_closed() {
         return false;
     }
-    if core.counts().len() != seats.len() {
+    if relay.counts().len() != seats.len() {
         return false;
     }
     in_order(seats)
 }
 
 /// Whether the list has of each seat as many entries as were accepted.
-fn has_all<J: Naming>(core: &RelayCore, seats: &[Seat<J>]) -> bool
-    ensures all { IsTrue result → HasAsMany core.now.list (mines_of seats.now) }
+fn has_all<J: Naming, R: Wait + Drop>(relay: &Relay<J, R>, seats: &[Seat<J>]) -> bool
+    ensures all { IsTrue result → HasAsMany relay.now.list (mines_of seats.now) }
     ensures countable { IsTrue result → AreCountable (mines_of seats.now) }
 {
-    let counts = core.counts();
+    let counts = relay.counts();
     for k in 0..seats.len() {
         if k >= counts.len() {
             return false;
@@ -160,80 +158,67 @@ fn account_of<J: Naming>(
 }
 
 /// Publishes until the list has all that was accepted, or a turn fails.
-fn drained<J: Naming, R: Wait>(
-    rt: &R,
-    mut core: RelayCore,
+fn drained<J: Naming, R: Wait + Drop>(
+    relay: &mut Relay<J, R>,
     seats: &[Seat<J>],
-) -> (RelayCore, Option<TurnFault>)
-    ensures same { Same core result.0 }
-    ensures grows { IsPrefix core.list result.0.list }
-    ensures takes { Takes core result.1 result.0 }
-    ensures done { IfNone result.1 (HasAsMany result.0.list (mines_of seats.now) × AreCountable (mines_of seats.now) × (result.0.kept ≡ []) × (result.0.out ≡ result.0.list)) }
+) -> Option<TurnFault>
+    ensures same { Same relay.old relay.new }
+    ensures grows { IsPrefix relay.old.list relay.new.list }
+    ensures takes { Takes relay.old result relay.new }
+    ensures done { IfNone result (HasAsMany relay.new.list (mines_of seats.now) × AreCountable (mines_of seats.now) × (relay.new.kept ≡ []) × (relay.new.out ≡ relay.new.list)) }
 {
-    for _ in rt.forever() {
-        if core.is_settled() && has_all(&core, seats) {
-            return (core, None);
+    // As `forever`, whose handle is lent with the relay: no run takes so many turns.
+    for _ in 0..u64::MAX {
+        if relay.is_settled() && has_all(relay, seats) {
+            return None;
         }
-        match core.turn(rt) {
+        match relay.turn() {
             Turn::Idle => {}
             Turn::Published(_) => {}
-            Turn::Failed(fault) => return (core, Some(fault)),
+            Turn::Failed(fault) => return Some(fault),
         }
     }
-    unreachable!()
+    relay.stop()
 }
 
 /// The account of a relay that has nothing kept.
-fn closing<J: Naming>(
+fn closing<J: Naming, R: Wait + Drop>(
     alloc: Global,
-    core: &RelayCore,
+    relay: &Relay<J, R>,
     seats: &[Seat<J>],
 ) -> Result<Account, FinishFault>
-    requires settled { core.now.kept ≡ [] }
-    requires origin { core.now.origin ≡ J.origin }
+    requires settled { relay.now.kept ≡ [] }
     requires countable { AreCountable (mines_of seats.now) }
-    ensures list { IfOk result (λ a. list_of a.front ≡ core.now.list) }
-    ensures of { IfOk result (λ a. origin a.front ≡ core.now.origin) }
+    ensures list { IfOk result (λ a. list_of a.front ≡ relay.now.list) }
+    ensures of { IfOk result (λ a. origin a.front ≡ relay.now.origin) }
     ensures below { IfOk result (λ a. HaveStatesBelow (origin a.front).states (edits_of (list_of a.front))) }
     ensures states { IfOk result (λ a. 0 < (origin a.front).states → HasStatesBelow (origin a.front).states (map_of a.plane)) }
     ensures seen { IfOk result (λ a. BeginsWithAll (list_of a.front) seats.now) }
     ensures account { IfOk result (λ a. IsAccount (list_of a.front) a) }
     ensures accepted { IfOk result (λ a. a.accepted ≡ map (λ s. length s.mine) seats.now) }
     ensures err { IfErr result (λ f. f ≢ FinishFault.StoreFull) }
-    ensures closed { IfErr result (λ f. f ≡ FinishFault.Closed → ¬ (BeginsWithAll core.now.list seats.now)) }
+    ensures closed { IfErr result (λ f. f ≡ FinishFault.Closed → ¬ (BeginsWithAll relay.now.list seats.now)) }
 {
-    let front = core.front();
+    let front = relay.front();
     if !begins_with_all(&front, seats) {
         return Err(FinishFault::Closed);
     }
-    match account_of(alloc, core.board(), front, seats) {
+    match account_of(alloc, relay.board(), front, seats) {
         Ok(account) => Ok(account),
         Err(_) => Err(FinishFault::Memory),
     }
 }
 
 /// Takes all seats in, and ends the board.
-fn retired<J: Naming, R: Wait>(rt: &R, core: RelayCore, seats: Vec<Seat<J>>)
-    requires inbox { core.inbox ≡ J.inbox }
-    requires none { core.known ≡ [] }
-    requires all { core.made ≡ length seats.items }
+fn retired<J: Naming, R: Wait + Drop>(relay: Relay<J, R>, seats: Vec<Seat<J>>)
+    requires all { relay.made ≡ length seats.items }
     requires order { Numbered 0 seats.items }
-    requires many { HasAsMany core.out (mines_of seats.items) }
-    ensures { IsOf core.out (mines_of seats.items) }
+    requires many { HasAsMany relay.out (mines_of seats.items) }
+    ensures { IsOf relay.out (mines_of seats.items) }
 {
-    let RelayCore {
-        publisher,
-        mut drain,
-        kept: _,
-        told: _,
-        answered: _,
-        tried: _,
-        counts: _,
-        door: _,
-        closed: _,
-    } = core;
+    let (mut drain, publisher, rt) = relay.into_parts();
     retire_all(&mut drain, seats);
-    publisher.end(rt);
+    publisher.end(&rt);
 }
 
 impl<J: Naming, R: Wait + Drop> Relay<J, R> {
@@ -242,7 +227,7 @@ impl<J: Naming, R: Wait + Drop> Relay<J, R> {
     /// again; after `StoreFull` it will be refused again. `Closed` only where a seat had seen more than was
     /// published.
     pub fn finish(
-        self,
+        mut self,
         alloc: Global,
         seats: Vec<Seat<J>>,
     ) -> Result<Account, (Relay<J, R>, Vec<Seat<J>>, FinishFault)>
@@ -253,17 +238,15 @@ impl<J: Naming, R: Wait + Drop> Relay<J, R> {
         ensures err { IfErr result (λ r. (r.1.items ≡ seats.items) × Same self r.0 × IsPrefix self.list r.0.list × (r.2 ≡ FinishFault.StoreFull → r.0.stored ≡ r.0.room) × (r.2 ≡ FinishFault.Closed → ¬ (BeginsWithAll r.0.list r.1.items))) }
         ensures left { IfErr result (λ r. IsLeft r.2 self r.1.items r.0) }
     {
-        let (core, rt) = self.into_parts();
-        let (core, fault) = drained(&rt, core, seats.as_slice());
-        match fault {
-            Some(fault) => Err((Relay::new(core, rt), seats, finish_fault(fault))),
-            None => match closing(alloc, &core, seats.as_slice()) {
-                Err(fault) => Err((Relay::new(core, rt), seats, fault)),
-                Ok(account) => {
-                    retired(&rt, core, seats);
-                    Ok(account)
-                }
-            },
+        if let Some(fault) = drained(&mut self, seats.as_slice()) {
+            return Err((self, seats, finish_fault(fault)));
+        }
+        match closing(alloc, &self, seats.as_slice()) {
+            Err(fault) => Err((self, seats, fault)),
+            Ok(account) => {
+                retired(self, seats);
+                Ok(account)
+            }
         }
     }
 }

@@ -6,22 +6,24 @@
 //! of a submission. `poll`, `view`, `plane` and `learn` never wait. `finish` ends it all, with an account.
 #![tactic(auto)]
 
+mod door;
 mod fault;
 mod finish;
 mod naming;
+mod new_seats;
 mod opened;
 mod receipt;
 mod relay;
 mod seat;
+mod tally;
 
 pub use board::{KEPT, News, SeatFault};
-pub use fault::FinishFault;
+pub use fault::{FinishFault, Gone, StartFault, SubmitFault, TurnFault};
 pub use finish::{Account, in_order, is_whole};
 pub use naming::Naming;
 pub use opened::{
     MOST_INBOX, MOST_SESSIONS, Opened, ROOM, start, start_within, start_within_with_key,
 };
 pub use receipt::{Pending, Receipt};
-pub use relay::Relay;
-pub use relay_core::{Bell, Gone, StartFault, SubmitFault, Turn, TurnFault};
+pub use relay::{Bell, Relay, Turn};
 pub use seat::{IsSeat, Seat};

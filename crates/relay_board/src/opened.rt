@@ -1,17 +1,19 @@
 //! The start, in two steps: a board and an inbox without a name, and then the relay and the seats under a
 //! name. A name of what is only made now cannot be a parameter of the call that makes it.
 
-ghost use Rattle.std.specs.Prelude.{◌≡◌, ◌≢◌, ◌<◌, ◌≤◌, ◌^◌, [], true, false, length, IfOk, IfErr};
+ghost use Rattle.std.specs.Prelude.{◌≡◌, ◌≢◌, ◌≤◌, ◌^◌, [], true, false, length, IfOk, IfErr};
 ghost use Rattle.std.specs.Arc.{arc_value};
 ghost use Rattle.crossbeam_queue.specs.Passes.{view, ruled_capacity};
 ghost use Rattle.stamped_writes.specs.Write.{unwritten, AreSame};
 ghost use Rattle.stamped_tree.specs.Plane.{map_of};
 ghost use Rattle.board.specs.Sights.{label_of};
-ghost use Rattle.relay_core.specs.Chairs.{IsSameDrain};
-ghost use Rattle.relay_board.specs.Seating.{Numbered, AllFresh};
+ghost use Rattle.relay_board.specs.Seating.{AllFresh};
 ghost use Rattle.relay_board.specs.Starting.{fits, Starts};
 
+use crate::door::Door;
+use crate::fault::StartFault;
 use crate::naming::Naming;
+use crate::new_seats::seats;
 use crate::relay::Relay;
 use crate::seat::Seat;
 use board::Publisher;
@@ -19,8 +21,8 @@ use generations_rule::Rule;
 use held_plane::HeldPlane;
 use inbox::Drain;
 use keyed_hash::HashKey;
-use relay_core::{Door, RelayCore, StartFault, seated};
 use std::alloc::Global;
+use std::marker::PhantomData;
 use std::sync::{Arc, Wait};
 
 /// The most sessions of a board.
@@ -71,32 +73,6 @@ fn fits(sessions: u16, inbox: u16) -> bool
     ensures { result ≡ fits sessions inbox }
 {
     1 <= sessions && sessions <= MOST_SESSIONS && 1 <= inbox && inbox <= MOST_INBOX
-}
-
-/// So many seats, in the order of their numbers.
-fn seats<J: Naming>(
-    alloc: Global,
-    rule: Rule,
-    publisher: &mut Publisher,
-    drain: &mut Drain,
-    door: &Arc<Door, Global>,
-    count: u16,
-) -> Result<Vec<Seat<J>>, StartFault>
-    requires number { ((view drain.old.pass).made ≡ 0) × (count ≤ 64) }
-    requires empty { (publisher.old.list ≡ []) × (publisher.old.announced ≡ []) }
-    requires rule { rule.states ≡ publisher.old.origin.states }
-    requires named { (publisher.old.origin ≡ J.origin) × ((arc_value drain.old.queue).table.shared.table_id ≡ J.inbox) × ((view drain.old.pass).label ≡ label_of J.origin) }
-    ensures publisher { publisher.new ≡ publisher.old }
-    ensures drain { IsSameDrain drain.old drain.new }
-    ensures seats { IfOk result (λ v. AllFresh rule (ruled_capacity (arc_value drain.old.queue)) 0 v.items × (length v.items ≡ count) × ((view drain.new.pass).made ≡ count)) }
-    ensures err { IfErr result (λ f. f ≢ StartFault.Size) }
-{
-    let mut seats = Vec::new(alloc);
-    for place in 0..count {
-        let next = seated(alloc, rule, publisher, drain, door, place)?;
-        seats.push(Seat::new(next))?;
-    }
-    Ok(seats)
 }
 
 /// A board for so many sessions, 1 to 64, under a rule, with an inbox for so many submissions, 1 to 1,024,
@@ -201,7 +177,7 @@ impl<R: Wait + Drop> Opened<R> {
                 return Err(fault);
             }
         };
-        let core = RelayCore {
+        let relay = Relay {
             publisher,
             drain,
             kept: None,
@@ -211,7 +187,9 @@ impl<R: Wait + Drop> Opened<R> {
             counts,
             door,
             closed: false,
+            rt,
+            of: PhantomData,
         };
-        Ok((Relay::new(core, rt), all))
+        Ok((relay, all))
     }
 }

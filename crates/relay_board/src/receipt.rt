@@ -1,11 +1,13 @@
 //! What a submission gives, and what it is answered with, under the name of its board.
 
-ghost use Rattle.std.specs.Prelude.{◌≡◌};
+ghost use Rattle.std.specs.Prelude.{◌≡◌, IfOk};
 ghost use Rattle.crossbeam_channel.specs.Claims.{view};
 ghost use Rattle.relay_board.specs.Receiving.{receiving};
 
 use crate::naming::Naming;
+use receipts::NoAnswer;
 use std::marker::{Model, PhantomData};
+use std::sync::Wait;
 
 /// That an entry was published, in a list of the board that the type names. Contracts see the entry and the list.
 #[derive(Drop)]
@@ -94,11 +96,19 @@ impl<J: Naming> Pending<J> {
         }
     }
 
-    /// The nameless pending.
-    pub(crate) fn into_inner(self) -> receipts::Pending
-        ensures { ((view result.pass).entry ≡ self) × (origin_in (view result.pass).label ≡ J.origin) }
+    /// Looks once for the receipt. It takes no memory.
+    pub(crate) fn try_receive<R: Wait>(&mut self, rt: &R) -> Result<Receipt<J>, NoAnswer>
+        ensures receipt { IfOk result (λ r. r.entry ≡ self.old) }
+        ensures same { self.new ≡ self.old }
     {
-        let Pending { inner, of: _ } = self;
-        inner
+        match self.inner.try_receive(rt) {
+            Ok(answer) => Ok(Receipt::new(answer)),
+            Err(none) => Err(none),
+        }
+    }
+
+    /// Sleeps until the answer was sent, and for a millisecond at most. It takes no memory.
+    pub(crate) fn rest<R: Wait>(&self, rt: &R) {
+        self.inner.rest(rt);
     }
 }

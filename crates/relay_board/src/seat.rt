@@ -1,6 +1,6 @@
-//! A seat of the board and the inbox that its type names.
+//! A seat: what it has seen, and its end of the inbox, under the name of its board and its inbox.
 
-ghost use Rattle.std.specs.Prelude.{◌≡◌, ◌⊎◌, ◌+◌, ◌++◌, ◌∷◌, ◌≤◌, ◌<◌, ◌==◌, ◌↔◌, [], length, take, List, IsTrue, IfOk, IfErr, IfSome, OnErr};
+ghost use Rattle.std.specs.Prelude.{◌≡◌, ◌⊎◌, ◌+◌, ◌++◌, ◌∷◌, ◌==◌, ◌↔◌, [], length, IsTrue, IfOk, IfErr, IfSome};
 ghost use mathlib.Core.List.{IsPrefix};
 ghost use Rattle.std.specs.Arc.{arc_value};
 ghost use Rattle.crossbeam_queue.specs.Passes.{view};
@@ -11,35 +11,43 @@ ghost use Rattle.generations_rule.specs.Place.{at_place};
 ghost use Rattle.generations_rule.specs.Rule.{IsRule};
 ghost use Rattle.stamped_writes.specs.Write.{AreSame};
 ghost use Rattle.stamped_tree.specs.Plane.{map_of};
+ghost use Rattle.poll_news.specs.Below.{IsNewsBelow};
 ghost use Rattle.board.specs.Entries.{edits_of};
 ghost use Rattle.board.specs.Handing.{IsNews};
+ghost use Rattle.board.specs.Learning.{HasLearnt};
 ghost use Rattle.board.specs.Origins.{origin, list_of};
-ghost use Rattle.board.specs.Sights.{label_of};
 ghost use Rattle.inbox.specs.Counts.{counted};
-ghost use Rattle.relay_board.specs.Refusing.{Lasts};
-ghost use Rattle.poll_news.specs.Below.{IsNewsBelow};
 ghost use Rattle.inbox.specs.Hands.{entry};
-ghost use Rattle.relay_core.specs.Refusals.{Passes, Refuses};
-ghost use Rattle.relay_board.specs.Seating.{Seating, IsSame, HasRead};
+ghost use Rattle.relay_board.specs.Refusals.{Passes, Refuses, Lasts};
+ghost use Rattle.relay_board.specs.Seating.{IsSame, HasRead};
 
+use crate::door::Door;
+use crate::fault::{Gone, SubmitFault};
 use crate::naming::Naming;
 use crate::receipt::{Pending, Receipt};
-use board::{Front, News, SeatFault};
+use board::{BoardReader, Front, News, SeatFault};
 use edit_stamps::{Edit, Write};
 use generations_rule::Rule;
-use inbox::Post;
-use relay_core::{Chair, Gone, SubmitFault};
+use inbox::{Post, Refused};
+use pattern_cells::are_below;
 use stamped_tree::Plane;
+use std::alloc::Global;
 use std::marker::{Model, PhantomData};
-use std::sync::Wait;
+use std::sync::{Arc, Wait};
 use std::thread::Promise;
 
 /// Who submits edits and reads the published list. Contracts see its place and rule, what it put, what it
 /// has seen, and how much of that it was handed.
 #[derive(Drop)]
 pub struct Seat<J: Naming> {
-    chair: Chair,
-    of: PhantomData<J>,
+    pub(crate) alloc: Global,
+    pub(crate) rule: Rule,
+    pub(crate) number: u16,
+    pub(crate) reader: BoardReader,
+    pub(crate) post: Post,
+    /// What it shares with the relay beside the inbox.
+    pub(crate) door: Arc<Door, Global>,
+    pub(crate) of: PhantomData<J>,
 }
 
 impl<J: Naming> Model for Seat<J> {
@@ -47,32 +55,40 @@ impl<J: Naming> Model for Seat<J> {
 
     ghost Value = { Seating };
 
-    ghost use Rattle.relay_board.specs.Chairs.{seating_of, IsChairOf};
+    ghost use Rattle.relay_board.specs.Seats.{seating_of, IsSeatOf};
 
-    ghost view = { λ s. seating_of s.chair };
+    ghost view = { seating_of };
 
-    ghost invariant = { λ s. IsChairOf J.origin J.inbox s.chair };
+    ghost invariant = { IsSeatOf J.origin J.inbox };
+}
+
+/// A copy of what was seen. A front that is lent out of the seat itself would leave the seat taken apart.
+fn front_of(reader: &BoardReader) -> Front
+    ensures { result ≡ reader.now.window.front }
+{
+    reader.window.front.again()
+}
+
+/// Whether an edit is of a replica.
+fn is_of(edit: &Edit, number: u16) -> bool
+    ensures { result ≡ (replica_in edit.now.stamp == number) }
+{
+    edit.stamp().replica() == number
+}
+
+/// Whether an edit's states are those of a rule.
+fn is_under(edit: &Edit, rule: &Rule) -> bool
+    ensures { result ≡ has_states_below rule.now.states edit.now }
+{
+    are_below(rule.states(), edit.listed_cells())
 }
 
 impl<J: Naming> Seat<J> {
-    ghost use Rattle.relay_board.specs.Chairs.{seating_of, IsChairOf};
-
-    /// A seat under the name of its board and its inbox.
-    pub(crate) fn new(chair: Chair) -> Seat<J>
-        requires { IsChairOf J.origin J.inbox chair }
-        ensures { result ≡ seating_of chair }
-    {
-        Seat {
-            chair,
-            of: PhantomData,
-        }
-    }
-
     /// Its number, from 1.
     pub fn number(&self) -> u16
         ensures { result ≡ self.now.place + 1 }
     {
-        self.chair.number
+        self.number
     }
 
     /// The rule that the board was started with: each state of what is published is one of its states.
@@ -82,15 +98,15 @@ impl<J: Naming> Seat<J> {
         ensures rule { IsRule self.now.rule }
     {
         // For the proof alone: the call tells that what is held is a rule.
-        let _states = self.chair.rule.states();
-        self.chair.rule
+        let _states = self.rule.states();
+        self.rule
     }
 
     /// How many of its submissions were accepted; it stays at 2^64 - 1.
     pub fn accepted(&self) -> u64
         ensures { result ≡ counted (length self.now.mine) }
     {
-        self.chair.post.accepted()
+        self.post.accepted()
     }
 
     /// Submits an edit. It is handed back where it is refused: in this order an edit whose stamp's replica is
@@ -103,22 +119,45 @@ impl<J: Naming> Seat<J> {
         ensures denied { IfErr result (λ r. (r.0 ≡ edit) × (self.new.mine ≡ self.old.mine)) }
         ensures refused { IfErr result (λ r. Refuses r.1 (replica_in edit.stamp == self.old.place + 1) (has_states_below self.old.rule.states edit) self.old.full self.new.full (Lasts self.old.room self.old.place self.old.mine)) }
     {
-        match self.chair.submit(rt, edit) {
-            Ok(pending) => Ok(Pending::new(pending)),
-            Err(denied) => Err(denied),
+        if !is_of(&edit, self.number) {
+            return Err((edit, SubmitFault::NotYours));
+        }
+        if !is_under(&edit, &self.rule) {
+            return Err((edit, SubmitFault::StateRange));
+        }
+        if !self.door.is_open() {
+            return Err((edit, SubmitFault::Closed));
+        }
+        let front = front_of(&self.reader);
+        match self.post.put(rt, self.alloc, &front, edit) {
+            Ok(pending) => {
+                self.door.ring();
+                Ok(Pending::new(pending))
+            }
+            Err((edit, fault)) => match fault {
+                Refused::Full => Err((edit, SubmitFault::Full)),
+                Refused::Memory => Err((edit, SubmitFault::Memory)),
+            },
         }
     }
 
     /// Waits for the receipt of that very submission; `Gone` once the relay was dropped and a further try
     /// found nothing. It takes no memory.
-    pub fn receive<R: Wait>(&mut self, rt: &R, pending: Pending<J>) -> Result<Receipt<J>, Gone>
+    pub fn receive<R: Wait>(&mut self, rt: &R, mut pending: Pending<J>) -> Result<Receipt<J>, Gone>
         ensures receipt { IfOk result (λ r. r.entry ≡ pending) }
         ensures same { self.new ≡ self.old }
     {
-        match self.chair.receive(rt, pending.into_inner()) {
-            Ok(answer) => Ok(Receipt::new(answer)),
-            Err(gone) => Err(gone),
+        for _ in rt.forever() {
+            let gone = self.door.is_gone();
+            if let Ok(receipt) = pending.try_receive(rt) {
+                return Ok(receipt);
+            }
+            if gone {
+                return Err(Gone);
+            }
+            pending.rest(rt);
         }
+        unreachable!()
     }
 
     /// Looks once for the receipt of that very submission. The pending comes back where nothing is there; it
@@ -126,32 +165,30 @@ impl<J: Naming> Seat<J> {
     pub fn try_receive<R: Wait>(
         &mut self,
         rt: &R,
-        pending: Pending<J>,
+        mut pending: Pending<J>,
     ) -> Result<Receipt<J>, Option<Pending<J>>>
         ensures receipt { IfOk result (λ r. r.entry ≡ pending) }
         ensures back { IfErr result (λ o. IfSome o (λ p. p ≡ pending)) }
         ensures same { self.new ≡ self.old }
     {
-        match self.chair.try_receive(rt, pending.into_inner()) {
-            Ok(answer) => Ok(Receipt::new(answer)),
-            Err(Some(pending)) => Err(Some(Pending::new(pending))),
-            Err(None) => Err(None),
+        let gone = self.door.is_gone();
+        if let Ok(receipt) = pending.try_receive(rt) {
+            return Ok(receipt);
         }
+        if gone { Err(None) } else { Err(Some(pending)) }
     }
 
     /// Wakes the relay.
     pub fn ring(&self) {
-        self.chair.ring();
+        self.door.ring();
     }
 
     /// From now on it sees no less than the receipt's list. It never waits.
     pub fn learn(&mut self, receipt: &Receipt<J>)
         ensures same { HasRead self.old self.new × (self.new.handed ≡ self.old.handed) }
-        ensures longer { length self.old.seen ≤ length receipt.now.list → self.new.seen ≡ receipt.now.list }
-        ensures kept { length receipt.now.list < length self.old.seen → self.new.seen ≡ self.old.seen }
-        ensures begins { IsPrefix receipt.now.list self.new.seen }
+        ensures learnt { HasLearnt self.old.seen receipt.now.list self.new.seen }
     {
-        self.chair.learn(receipt.answer());
+        self.reader.learn(&receipt.answer().front);
     }
 
     /// Hands out the edits that follow those handed out before, in order, or the whole plane where some of
@@ -164,8 +201,8 @@ impl<J: Naming> Seat<J> {
         ensures below { IfOk result (IsNewsBelow self.new.rule.states) }
     {
         // For the proof alone: the call tells that what is held is a rule.
-        let _rule = self.chair.rule.states();
-        self.chair.reader.poll()
+        let _rule = self.rule.states();
+        self.reader.poll()
     }
 
     /// The greatest write at a coordinate, of a list that begins with what was seen. It takes no memory, and
@@ -175,7 +212,7 @@ impl<J: Naming> Seat<J> {
         ensures write { IfOk result (λ w. w ≡ greatest (edits_of self.new.seen) (at_place x y)) }
         ensures closed { IfErr result (λ f. (f ≡ SeatFault.Closed) × (self.new.seen ≡ self.old.seen)) }
     {
-        self.chair.reader.view(x, y)
+        self.reader.view(x, y)
     }
 
     /// The plane of a list that begins with what was seen. It never waits.
@@ -186,8 +223,8 @@ impl<J: Naming> Seat<J> {
         ensures states { IfOk result (λ p. HasStatesBelow self.new.rule.states (map_of p)) }
     {
         // For the proof alone: the call tells that what is held is a rule.
-        let _rule = self.chair.rule.states();
-        self.chair.reader.plane()
+        let _rule = self.rule.states();
+        self.reader.plane()
     }
 
     /// Whether what this seat has seen begins what another seat of the board has seen. Of any two seats one has
@@ -212,7 +249,7 @@ impl<J: Naming> Seat<J> {
         ensures list { list_of result.now ≡ self.now.seen }
         ensures origin { origin result.now ≡ J.origin }
     {
-        &self.chair.reader.window.front
+        &self.reader.window.front
     }
 
     /// Whether the front begins with what this seat has seen.
@@ -220,7 +257,7 @@ impl<J: Naming> Seat<J> {
         requires { origin front.now ≡ J.origin }
         ensures { IsTrue result ↔ IsPrefix self.now.seen (list_of front.now) }
     {
-        self.chair.reader.window.front.begins(front)
+        self.reader.window.front.begins(front)
     }
 
     /// The end of the inbox alone.
@@ -229,15 +266,15 @@ impl<J: Naming> Seat<J> {
         ensures inbox { (arc_value result.queue).table.shared.table_id ≡ J.inbox }
         ensures put { (view result.pass).put ≡ self.mine }
     {
-        let Seat { chair, of: _ } = self;
-        let Chair {
+        let Seat {
             alloc: _,
             rule: _,
             number: _,
             reader: _,
             post,
             door: _,
-        } = chair;
+            of: _,
+        } = self;
         post
     }
 }

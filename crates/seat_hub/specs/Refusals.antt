@@ -4,10 +4,9 @@ use Rattle.edit_stamps.specs.Edit.{PlaneEdit, has_states_below}
 use Rattle.edit_stamps.specs.Stamp.{replica_in}
 use Rattle.board.specs.declared.fault.SeatFault.{SeatFault}
 use Rattle.board.specs.declared.fault.SeatFault.TheVariants as reads
-use Rattle.relay_core.specs.declared.fault.SubmitFault.{SubmitFault}
-use Rattle.relay_core.specs.declared.fault.SubmitFault.TheVariants.{NotYours, StateRange, Closed, Memory, Full}
-use Rattle.relay_core.specs.Refusals.{Refuses}
-use Rattle.relay_board.specs.Refusing.{Lasts}
+use Rattle.relay_board.specs.declared.fault.SubmitFault.{SubmitFault}
+use Rattle.relay_board.specs.declared.fault.SubmitFault.TheVariants.{NotYours, StateRange, Closed, Memory, Full}
+use Rattle.relay_board.specs.Refusals.{Refuses, Lasts}
 use Rattle.relay_board.specs.Seating.{Seating, IsSame}
 use Rattle.session_hub.specs.declared.fault.HubFault.{HubFault}
 use Rattle.session_hub.specs.declared.fault.HubFault.TheVariants as hub

@@ -8,8 +8,8 @@ use Rattle.board.specs.declared.entry.Entry.{Entry}
 use Rattle.board.specs.Entries.{edits_of}
 use Rattle.inbox.specs.Counts.{counted}
 use Rattle.inbox.specs.Hands.{entry}
-use Rattle.relay_core.specs.declared.fault.SubmitFault.TheVariants as refusals
-use Rattle.relay_core.specs.Refusals.{Passes}
+use Rattle.relay_board.specs.declared.fault.SubmitFault.TheVariants as refusals
+use Rattle.relay_board.specs.Refusals.{Passes}
 use Rattle.relay_board.specs.Seating.{Seating, IsSame, HasRead}
 use Rattle.session_hub.specs.declared.fault.HubFault.TheVariants.{NotYours, StateRange, Full, Closed, StoreFull, Memory}
 use Rattle.session_hub.specs.HubCall.{HubCall, Pushes, Polls, Shows}

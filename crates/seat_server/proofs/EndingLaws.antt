@@ -4,7 +4,7 @@ use Rattle.std.specs.Prelude.{Result, Ok, Err, IfOk}
 use mathlib.Core.List.{IsPrefix}
 use Rattle.board.proofs.Fronts.{prefix_trans}
 use Rattle.board.specs.Origins.{list_of}
-use Rattle.relay_core.specs.Relaying.{Relaying}
+use Rattle.relay_board.specs.Relaying.{Relaying}
 use Rattle.relay_board.specs.Closing.{IsWhole}
 use Rattle.relay_board.specs.Seating.{Seating}
 use Rattle.seat_server.specs.Serving.{FinishedValue, GoesOnFrom}

@@ -4,13 +4,13 @@ use Rattle.std.proofs.Math.Nat.{min-eq_left}
 use Rattle.std.specs.Prelude.{min}
 use mathlib.Core.List.{IsPrefix}
 use Rattle.board.proofs.Fronts.{prefix_self, prefix_trans}
-use Rattle.relay_core.proofs.Ending.{turns_prefix}
-use Rattle.relay_core.specs.Relaying.{Relaying}
-use Rattle.relay_core.specs.Same.{Same}
-use Rattle.relay_core.specs.declared.fault.TurnFault.{TurnFault}
-use Rattle.relay_core.specs.declared.relay.Turn.{Turn}
-use Rattle.relay_core.specs.declared.relay.Turn.TheVariants.{Idle, Published, Failed}
-use Rattle.relay_core.specs.Turns.{GoesWell, IsTurn}
+use Rattle.relay_board.proofs.Turning.{turns_prefix}
+use Rattle.relay_board.specs.Relaying.{Relaying}
+use Rattle.relay_board.specs.Same.{Same}
+use Rattle.relay_board.specs.declared.fault.TurnFault.{TurnFault}
+use Rattle.relay_board.specs.declared.relay.Turn.{Turn}
+use Rattle.relay_board.specs.declared.relay.Turn.TheVariants.{Idle, Published, Failed}
+use Rattle.relay_board.specs.Turns.{GoesWell, IsTurn}
 use Rattle.seat_server.specs.Turning.{Closes, Fails, IsStep, IsTurned, Works}
 
 -- amid the turns: behind some steps so many turns in a row failed

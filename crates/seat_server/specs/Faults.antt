@@ -1,9 +1,9 @@
 -- Why a server ends without an account.
 use Rattle.std.specs.Prelude.{◌≡◌, ⊤, ℕ, true, List, None, Some, codes}
 use mathlib.Core.List.{IsPrefix}
-use Rattle.relay_core.specs.Faults.{turn_fault_text}
-use Rattle.relay_core.specs.Relaying.{Relaying}
-use Rattle.relay_core.specs.Same.{Same}
+use Rattle.relay_board.specs.Faults.{turn_fault_text}
+use Rattle.relay_board.specs.Relaying.{Relaying}
+use Rattle.relay_board.specs.Same.{Same}
 use Rattle.relay_board.specs.Faults.{finish_fault_text}
 use Rattle.relay_board.specs.Closing.{IsLeft}
 use Rattle.relay_board.specs.Seating.{Seating}

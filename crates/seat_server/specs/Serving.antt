@@ -4,7 +4,7 @@ use mathlib.Core.List.{IsPrefix}
 use Rattle.board.specs.Origins.{list_of}
 use Rattle.board.specs.Showing.{Origin}
 use Rattle.board.specs.declared.entry.Entry.{Entry}
-use Rattle.relay_core.specs.Relaying.{Relaying}
+use Rattle.relay_board.specs.Relaying.{Relaying}
 use Rattle.relay_board.specs.Closing.{IsWhole}
 use Rattle.relay_board.specs.Seating.{Seating}
 use Rattle.relay_board.specs.declared.finish.Account.{Account}

@@ -1,10 +1,10 @@
 -- What taking turns does to a relay, where so many in a row may fail at most.
 use Rattle.std.specs.Prelude.{◌≡◌, ◌⊎◌, ℕ, zero, suc, ◌<◌, true, false, Option, Some, None}
-use Rattle.relay_core.specs.Relaying.{Relaying}
-use Rattle.relay_core.specs.Turns.{GoesWell, IsTurn}
-use Rattle.relay_core.specs.declared.fault.TurnFault.{TurnFault}
-use Rattle.relay_core.specs.declared.relay.Turn.{Turn}
-use Rattle.relay_core.specs.declared.relay.Turn.TheVariants.{Idle, Failed}
+use Rattle.relay_board.specs.Relaying.{Relaying}
+use Rattle.relay_board.specs.Turns.{GoesWell, IsTurn}
+use Rattle.relay_board.specs.declared.fault.TurnFault.{TurnFault}
+use Rattle.relay_board.specs.declared.relay.Turn.{Turn}
+use Rattle.relay_board.specs.declared.relay.Turn.TheVariants.{Idle, Failed}
 
 -- so many turns in a row, each of which failed
 abbrev pub Fails : ℕ → Relaying → Relaying → Type 0

@@ -1,7 +1,7 @@
 //! The turns of a relay whose seats are served.
 
 ghost use Rattle.std.specs.Prelude.{◌≡◌, IfSome};
-ghost use Rattle.relay_core.specs.declared.fault.TurnFault.TheVariants.{StoreFull};
+ghost use Rattle.relay_board.specs.declared.fault.TurnFault.TheVariants.{StoreFull};
 ghost use Rattle.seat_server.specs.Turning.{IsTurned};
 
 use crate::progress::Progress;

@@ -1,19 +1,21 @@
-use Rattle.std.proofs.Common.{suc}
-use Rattle.board.proofs.Fronts.{prefix_trans}
-use Rattle.relay_core.specs.declared.relay.Turn.TheVariants.{Idle, Published}
-use Rattle.relay_core.proofs.Ending.{same_trans, turns_prefix}
+use Rattle.std.proofs.Common.{subst}
+use Rattle.relay_board.specs.Relaying.{Relaying}
+use Rattle.relay_board.specs.Turns.{IsTurn, Turns}
+use Rattle.relay_board.specs.declared.relay.Turn.TheVariants.{Idle, Published}
+use Rattle.relay_board.proofs.Turning.{further}
 use Rattle.relay_board.proofs.finish.drained.Goals as goal
-
-pub loop-preserved-in-Idle : goal.loop-preserved-in-Idle
-loop-preserved-in-Idle g c = (
-  same_trans c.args.core c.loop.core c.turn.new.self c.loop.invariant.0 c.turn.ensures.same,
-  prefix_trans c.args.core.list c.loop.core.list c.turn.new.self.list c.loop.invariant.1 (turns_prefix c.loop.core Idle c.turn.new.self c.in-Idle.ensures.turned),
-  (suc c.loop.invariant.2.0, (c.loop.core, Idle, c.loop.invariant.2.1, record { same = c.turn.ensures.same; turned = c.in-Idle.ensures.turned })),
-)
+use Rattle.relay_board.proofs.finish.drained.Goals.{in-Idle, in-Published}
 
 pub loop-preserved : goal.loop-preserved
-loop-preserved g c = (
-  same_trans c.args.core c.loop.core c.turn.new.self c.loop.invariant.0 c.turn.ensures.same,
-  prefix_trans c.args.core.list c.loop.core.list c.turn.new.self.list c.loop.invariant.1 (turns_prefix c.loop.core (Published c.in-Published.field-0) c.turn.new.self c.in-Published.ensures.turned),
-  (suc c.loop.invariant.2.0, (c.loop.core, Published c.in-Published.field-0, c.loop.invariant.2.1, record { same = c.turn.ensures.same; turned = c.in-Published.ensures.turned })),
-)
+loop-preserved g c =
+    let a : Relaying = c.args.relay.now in
+    let b : Relaying = c.loop.relay in
+    let d : Relaying = c.turn.new.self in
+    elim c.match-turn.branch [
+      | in-Idle w ↦
+          let one : IsTurn b Idle d = record { same = c.turn.ensures.same; turned = subst (λ t. Turns b t d) w.in-Idle.is c.turn.ensures.turned } in
+          further a b d Idle c.loop.invariant one one
+      | in-Published w ↦
+          let one : IsTurn b (Published w.in-Published.field-0) d = record { same = c.turn.ensures.same; turned = subst (λ t. Turns b t d) w.in-Published.is c.turn.ensures.turned } in
+          further a b d (Published w.in-Published.field-0) c.loop.invariant one one
+    ]

@@ -1,8 +1,7 @@
 use Rattle.std.proofs.Common.{◌≡◌, ◌∙◌, Some, slice_get, refl, sym, ap, arith}
 use borrow.Author.Count.{below_more}
-use Rattle.relay_core.proofs.Ending.{get_below}
 use Rattle.relay_board.specs.Seating.{Seating}
-use Rattle.relay_board.proofs.Ending.{get_at, numbered_at, numbered_by}
+use Rattle.relay_board.proofs.Ending.{get_at, get_below, numbered_at, numbered_by}
 use Rattle.relay_board.proofs.finish.in_order.Goals as goal
 
 pub loop-k-preserved : goal.loop-k-preserved

@@ -1,6 +1,6 @@
 use Rattle.std.proofs.Common.{◌∙◌, arith, subst, sym}
-use Rattle.relay_core.specs.declared.relay.Turn.TheVariants.{Idle, Published}
-use Rattle.relay_core.specs.Turns.{IsTurn}
+use Rattle.relay_board.specs.declared.relay.Turn.TheVariants.{Idle, Published}
+use Rattle.relay_board.specs.Turns.{IsTurn}
 use Rattle.seat_server.proofs.TurningLaws.{IsAmid, StandsAmid, counted, ends_failed, ends_idle, fails_on, goes_on, idles_closed, idles_on, of_same, same_closed}
 use Rattle.seat_server.proofs.turns.take_turns.Goals.{else-has_failed, then-has_failed+then-not-closed}
 use Rattle.seat_server.proofs.turns.take_turns.Goals as goal

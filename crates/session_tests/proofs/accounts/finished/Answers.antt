@@ -1,7 +1,7 @@
 use Rattle.std.proofs.Common.{◌≡◌, ap, subst, ◌∙◌, arith}
 use Rattle.board.specs.Showing.{Origin}
 use Rattle.edit_stamps.specs.PlaneMap.{HasStatesBelow}
-use Rattle.relay_core.specs.Relaying.{Relaying}
+use Rattle.relay_board.specs.Relaying.{Relaying}
 use Rattle.stamped_tree.specs.Plane.{map_of}
 use Rattle.session_tests.proofs.accounts.finished.Goals as goal
 

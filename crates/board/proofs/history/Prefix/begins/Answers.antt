@@ -1,4 +1,4 @@
-use Rattle.std.proofs.Common.{◌≤◌, ap, subst, arith, length, List}
+use Rattle.std.proofs.Common.{ap, subst, arith, List}
 use mathlib.Core.List.{IsPrefix}
 use Rattle.board.specs.declared.entry.Entry.{Entry}
 use Rattle.board.proofs.Fronts.{prefix_shorter}

@@ -1,4 +1,3 @@
-use Rattle.std.proofs.Common.{rules}
 use Rattle.board.proofs.Keeping.{admits, forks, merges}
 use Rattle.board.proofs.publisher.Publisher.window.Goals as goal
 

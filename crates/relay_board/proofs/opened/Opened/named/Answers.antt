@@ -6,8 +6,8 @@ use Rattle.board.specs.Publishing.{Publishing}
 use Rattle.relay_board.proofs.Ending.{none_counted}
 use Rattle.relay_board.proofs.opened.Opened.named.Goals as goal
 
-pub invariant_of-core : goal.invariant_of-core
-invariant_of-core g c =
+pub invariant_of-relay : goal.invariant_of-relay
+invariant_of-relay g c =
     let s = c.args.self in
     let empty : c.seats.new.publisher.list ≡ [] = ap (λ (p : Publishing). p.list) c.seats.ensures.publisher ∙ s.board.0 in record {
       out = c.seats.ensures.drain.3 ∙ (s.inbox.1 ∙ sym (ap (λ l. l ++ []) empty));
@@ -17,4 +17,7 @@ invariant_of-core g c =
       kept = search rules;
       tallies = none_counted c.from.result c.in-Ok.counts.items c.seats.new.publisher.list (c.in-Ok.ensures.items_if_clones_equal (λ y same. same)) empty;
       made = search rules;
+      origin = search rules;
+      inbox = search rules;
+      known = search rules;
     }

@@ -8,7 +8,6 @@ use Rattle.relay_board.proofs.seat.Seat.rule.Goals as goal
 
 pub returns-clause-below : goal.returns-clause-below
 returns-clause-below g c =
-    let chair = c.self.inside.chair in
-    let front = chair.reader.window.front in
+    let front = c.self.inside.reader.window.front in
     subst (λ (s : Seating). HaveStatesBelow s.rule.states (edits_of s.seen)) c.self.view_is
-    (subst (λ n. HaveStatesBelow n (edits_of (list_of front))) (sym chair.ruled) (have_below front.states (list_of front) front.below))
+    (subst (λ n. HaveStatesBelow n (edits_of (list_of front))) (sym c.self.invariant.ruled) (have_below front.states (list_of front) front.below))

@@ -1,0 +1,36 @@
+-- Seats: what is seen of them, and which board and inbox they are of.
+use Rattle.std.specs.Prelude.{◌≡◌, ◌+◌}
+use Rattle.std.specs.Arc.{arc_value}
+use Rattle.atomic_table.specs.Seated.{TableId}
+use Rattle.crossbeam_queue.specs.Passes.{view, ruled_capacity}
+use Rattle.board.specs.Origins.{origin, list_of}
+use Rattle.board.specs.Showing.{Origin}
+use Rattle.board.specs.Sights.{label_of}
+use Rattle.inbox.specs.declared.ends.Drain.{Drain}
+use Rattle.relay_board.specs.declared.seat.Seat.TheInside.{Inside}
+use Rattle.relay_board.specs.Seating.{Seating}
+
+-- what is seen of a seat
+abbrev pub seating_of : {J : Type 0} → Inside J → Seating
+seating_of s = record {
+  place = s.post.seat;
+  rule = s.rule;
+  mine = (view s.post.pass).put;
+  seen = list_of s.reader.window.front;
+  handed = s.reader.handed;
+  full = s.post.full;
+  room = ruled_capacity (arc_value s.post.queue);
+}
+
+-- Its number is one more than its place, and its rule has the board's number of states; its end of the inbox is of this
+-- table, and what it has seen, and its entries, are of this board.
+pub record IsSeatOf {J : Type 0} (board : Origin) (inbox : TableId) (s : Inside J) : Type 0 where
+  pub numbered : s.number ≡ s.post.seat + 1
+  pub ruled : s.rule.states ≡ s.reader.window.front.states
+  pub table : (arc_value s.post.queue).table.shared.table_id ≡ inbox
+  pub sees : origin s.reader.window.front ≡ board
+  pub puts : (view s.post.pass).label ≡ label_of board
+
+-- a drain but for the posts that it made
+abbrev pub IsSameDrain : Drain → Drain → Type 0
+IsSameDrain old new = (new.queue ≡ old.queue) × (new.empties ≡ old.empties) × ((view new.pass).label ≡ (view old.pass).label) × ((view new.pass).out ≡ (view old.pass).out) × ((view new.pass).known ≡ (view old.pass).known)

@@ -1,9 +1,0 @@
-pub mod Relaying
-pub mod Kept
-pub mod Same
-pub mod Turns
-pub mod Tallies
-pub mod Refusals
-pub mod Chairs
-pub mod Faults
-pub mod StoreRefusals
