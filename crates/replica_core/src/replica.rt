@@ -101,12 +101,7 @@ impl Replica {
 
     /// A replica that holds nothing, within limits. By their key it finds the squares of the planes that it
     /// reads too, and the edits of its journal.
-    pub fn within(
-        alloc: Global,
-        rule: Rule,
-        number: u16,
-        limits: Limits,
-    ) -> Result<Replica, Fault>
+    pub fn within(alloc: Global, rule: Rule, number: u16, limits: Limits) -> Result<Replica, Fault>
         requires number { 1 ≤ number }
         requires room { 1 ≤ limits.room }
         ensures new { IfOk result (λ replica. IsNew rule number limits.room replica) }

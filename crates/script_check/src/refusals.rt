@@ -16,11 +16,11 @@ use crate::block::fault_place;
 use genedit_io::RunFault;
 use genedit_lib::{PlannedLine, planned};
 use genedit_script::{Lines, Script, ScriptFault, read_script};
-use text_scan::{number, split_word};
 use replica_core::{Reply, Stop, replay_within};
 use script_faults::{Place, command_places};
 use square_store::ROOM;
 use std::alloc::{AllocError, Global};
+use text_scan::{number, split_word};
 
 /// A command that would be refused.
 #[derive(Clone, Copy, Debug, PartialEq, Eq)]
