@@ -25,7 +25,7 @@ use Rattle.board_client.specs.Laws.{DrawsAbove, HoldsWhatItHeard, TellEdits}
 
 -- ---- what is held
 
-taken_edits : (rule : GenerationsRule) (E F : List PlaneEdit) (texts : List (List ℕ)) (r s : ReplicaState) → HoldsEdits rule E r → AreTaken r texts s → TellEdits rule F texts → HoldsEdits rule (E ++ F) s
+pub taken_edits : (rule : GenerationsRule) (E F : List PlaneEdit) (texts : List (List ℕ)) (r s : ReplicaState) → HoldsEdits rule E r → AreTaken r texts s → TellEdits rule F texts → HoldsEdits rule (E ++ F) s
 taken_edits rule E [] [] r s held taken told = subst (λ F. HoldsEdits rule F s) (sym (append-nil E)) (subst (HoldsEdits rule E) (sym taken) held)
 taken_edits rule E [] (text ∷ texts) r s held taken told = absurd told
 taken_edits rule E (e ∷ F) [] r s held taken told = absurd told

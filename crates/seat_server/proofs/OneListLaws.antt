@@ -1,6 +1,7 @@
 -- All that the clients of a served board are told is of one list.
 use Rattle.std.proofs.Common.{◌≡◌, ◌∙◌, ◌++◌, ◌+◌, ◌-◌, ◌≤◌, ℕ, zero, suc, Bool, true, false, List, [], ◌∷◌, Option, Some, None, ap, refl, sym, subst, inl, inr, length, arith, append_assoc}
 use Rattle.std.specs.Prelude.{Result, Ok, Err, take, drop, slice_get, nat_le}
+use Rattle.std.proofs.lemmas.Bool.Decides.{nat_tests}
 use Rattle.std.proofs.lemmas.List.{append-nil, length-drop, length-map, map-append, take-append-drop, take-append-le}
 use mathlib.Core.List.{IsPrefix}
 use Rattle.generations_rule.specs.Place.{Place}
@@ -30,7 +31,7 @@ use Rattle.session_hub.specs.HubCall.{AllowsAtMost, HubCall, Polls, Pushes, Show
 use Rattle.session_hub.specs.Request.{Bye, Export, Faulty, Hello, Many, Poll, Push, Request, Whole, request_of}
 use Rattle.session_hub.specs.Replies.{IsKeptReply, IsPollReply, IsPushReply, IsReply, IsReplyOf, IsShownReply, IsWanting, KeepsAll, KeepsNews, Kept, RepliesOrWants, edits_frames, edits_left, edits_reply, most_edits, nothing_kept, pushed_of, refusal}
 use Rattle.seat_server.specs.Sessions.{AreAttended, AreVisits, VisitValue, number_of, one_each, rule_of, session_at}
-use Rattle.seat_server.specs.OneList.{AreTextsOf, AreToldBehind, AreToldSeats, AreToldVisits, BeginsWithWant, Edits, HasAccepted, HaveSeenHanded, IsAccepted, IsTextOf, IsToldBehind, IsToldOf, Nothing, Plane, Telling, Tells, TellsNothing, TellsOfOneList, Texts, asked}
+use Rattle.seat_server.specs.OneList.{AreTextsOf, AreToldBehind, AreToldSeats, AreToldVisits, BeginsWithWant, Edits, HasAccepted, HaveSeenHanded, IsAccepted, IsTextOf, IsToldBehind, IsToldOf, Nothing, Plane, Telling, Tells, TellsNothing, TellsOfOneList, Texts}
 
 -- ---- beginnings
 
@@ -164,13 +165,17 @@ module _ (r : GenerationsRule) (seat : ℕ) (earlier : List Exchange) (bytes : L
     has = accepted_grows r earlier (edits_of a.seen) (edits_of b.seen) (edits_begin a.seen b.seen grows) holds.accepted;
   }
 
+  -- what is told to a request is told to the bytes that are that request
+  asked : (q : Request) (told : Telling) → request_of bytes ≡ q → Tells r seat q told (frames_of reply) → Tells r seat (request_of bytes) told (frames_of reply)
+  asked q told is tells = subst (λ (p : Request). Tells r seat p told (frames_of reply)) (sym is) tells
+
   -- a call that handed nothing out, and what is told of all that is seen
   quiet : (b : Seating) (left : Kept) → IsPrefix a.seen b.seen → b.handed ≡ a.handed → left ≡ kept → Own b → (told : Telling)
       → Tells r seat (request_of bytes) told (frames_of reply) → IsToldOf r (edits_of b.seen) told → Steps r seat earlier x a b left
   quiet b left grows handed same own told tells of = record { told = of_all b grows told tells of; holds = still b left grows handed same own; grows = grows }
 
   -- no call
-  idle : (b : Seating) (left : Kept) → b ≡ a → left ≡ kept → Own b → TellsNothing r seat (frames_of reply) → Steps r seat earlier x a b left
+  idle : (b : Seating) (left : Kept) → b ≡ a → left ≡ kept → Own b → TellsNothing r seat (request_of bytes) (frames_of reply) → Steps r seat earlier x a b left
   idle b left same kept_same own nothing =
       quiet b left (subst (λ (c : Seating). IsPrefix a.seen c.seen) (sym same) (prefix_self a.seen)) (ap (λ (c : Seating). c.handed) same) kept_same own Nothing nothing tt
 
@@ -214,9 +219,10 @@ module _ (r : GenerationsRule) (seat : ℕ) (earlier : List Exchange) (bytes : L
   edits_told b left edits true fit poll grows all out same last =
       let kept_is : left ≡ nothing_kept = same ∙ rw fit refl in
       let out_is : frames_of reply ≡ edits_frames r (kept.edits ++ edits) = out ∙ rw fit refl in
+      let fits : length (kept.edits ++ edits) ≤ most_edits = grind (arith, nat_tests, fit) in
       handed_out b left grows all (no_push b Poll poll (λ text clash. cc))
       (subst (λ (k : Kept). KeepsOf r (earlier ++ x ∷ []) b.seen k.edits k.plane) (sym kept_is) (edits_of b.seen, sym (append-nil (edits_of b.seen))))
-      (Edits (kept.edits ++ edits)) out_is last
+      (Edits (kept.edits ++ edits)) (asked Poll (Edits (kept.edits ++ edits)) poll (fits, out_is)) last
   edits_told b left edits false fit poll grows all out same last =
       let kept_is : left ≡ record { edits = kept.edits ++ edits; plane = None } = same ∙ rw fit refl in
       let out_is : frames_of reply ≡ refusal 21 = out ∙ rw fit refl in
@@ -246,7 +252,7 @@ module _ (r : GenerationsRule) (seat : ℕ) (earlier : List Exchange) (bytes : L
   polled b left (Some (Polls (Ok (news.Whole plane count)))) poll keeps allowed is =
       handed_out b left allowed.0.read.seen allowed.0.handed (no_push b Poll poll (λ text clash. cc))
       (subst (λ (k : Kept). KeepsOf r (earlier ++ x ∷ []) b.seen k.edits k.plane) (sym is.1) (edits_of b.seen, sym (append-nil (edits_of b.seen))))
-      (Plane (map_of plane)) (is.0.text, is.0.is_text, inl is.0.frames) allowed.1.1
+      (Plane (map_of plane)) (asked Poll (Plane (map_of plane)) poll (is.0.text, is.0.is_text, is.0.frames)) allowed.1.1
 
   -- with one or without
   poll_replied : (plane : Option StampedPlane) → kept.plane ≡ plane → (b : Seating) (left : Kept) (call : Option HubCall) → request_of bytes ≡ Poll → AllowsAtMost IsSeatCall a call b
@@ -261,7 +267,7 @@ module _ (r : GenerationsRule) (seat : ℕ) (earlier : List Exchange) (bytes : L
       record {
         told = record {
           told = Plane (map_of p);
-          tells = (is.0.text, is.0.is_text, inl is.0.frames);
+          tells = asked Poll (Plane (map_of p)) poll (is.0.text, is.0.is_text, is.0.frames);
           seen = take a.handed a.seen;
           published = subst (λ (c : Seating). IsPrefix (take a.handed a.seen) c.seen) (sym same) (drop a.handed a.seen, take-append-drop a.handed a.seen);
           of = older.map;
@@ -315,12 +321,12 @@ module _ (r : GenerationsRule) (seat : ℕ) (earlier : List Exchange) (bytes : L
   plane_told : (b : Seating) (left : Kept) (p : StampedPlane) (q : Request) → request_of bytes ≡ q → Own b → IsSeatCall a (Shows (Ok p)) b → left ≡ kept → IsReplyOf r q p (frames_of reply)
       → Steps r seat earlier x a b left
   plane_told b left p Whole is own call same of =
-      quiet b left call.0.read.seen call.0.handed same own (Plane (map_of p)) (of.text, of.is_text, inr of.frames) call.1
+      quiet b left call.0.read.seen call.0.handed same own (Plane (map_of p)) (asked Whole (Plane (map_of p)) is (of.text, of.is_text, of.frames)) call.1
   plane_told b left p (Export g) is own call same of =
-      quiet b left call.0.read.seen call.0.handed same own (Texts (g ∷ []) (of.answer ∷ [])) (sym (ap asked is), inl of.frames)
+      quiet b left call.0.read.seen call.0.handed same own (Texts (g ∷ []) (of.answer ∷ [])) (asked (Export g) (Texts (g ∷ []) (of.answer ∷ [])) is (refl, of.frames))
       (text_of r p (edits_of b.seen) g of.answer call.1 of.is_export, tt)
   plane_told b left p (Many gs) is own call same of =
-      quiet b left call.0.read.seen call.0.handed same own (Texts gs of.answers) (sym (ap asked is), inr of.frames)
+      quiet b left call.0.read.seen call.0.handed same own (Texts gs of.answers) (asked (Many gs) (Texts gs of.answers) is (refl, of.frames))
       (texts_of r p (edits_of b.seen) gs of.answers call.1 of.are_exports)
   plane_told b left p Faulty is own call same of = absurd of
   plane_told b left p Hello is own call same of = absurd of
@@ -379,7 +385,7 @@ module _ (r : GenerationsRule) (seat : ℕ) (earlier : List Exchange) (bytes : L
       → Steps r seat earlier x a b left
   replied b left Faulty None is allowed of = idle b left allowed of.1 (no_push b Faulty is (λ text clash. cc)) (inl (33, of.0))
   replied b left Faulty (Some call) is allowed of = absurd of
-  replied b left Hello None is allowed of = idle b left allowed of.1 (no_push b Hello is (λ text clash. cc)) (inr of.0)
+  replied b left Hello None is allowed of = idle b left allowed of.1 (no_push b Hello is (λ text clash. cc)) (inr (is, of.0))
   replied b left Hello (Some call) is allowed of = absurd of
   replied b left Bye None is allowed of = idle b left allowed of.1 (no_push b Bye is (λ text clash. cc)) (inl (0, of.0))
   replied b left Bye (Some call) is allowed of = absurd of
@@ -470,6 +476,7 @@ SeatState = SessionState Seating
 -- all exchanges of a session from some on
 record Tellings (r : GenerationsRule) (seat : ℕ) (earlier xs : List Exchange) (s t : SeatState) : Type 0 where
   pub told : (list : List Entry) → IsPrefix t.hub.seen list → AreToldBehind r seat list earlier xs
+  pub accepted : HasAccepted r (edits_of t.hub.seen) (earlier ++ xs)
   pub grows : IsPrefix s.hub.seen t.hub.seen
   pub handed : t.hub.handed ≤ length t.hub.seen
   pub rule : rule_of t.hub ≡ r
@@ -479,6 +486,7 @@ tellings : (r : GenerationsRule) (seat : ℕ) (xs earlier : List Exchange) (s t 
     → AreAnswered (AnswersAs IsSeatCall rule_of number_of) s xs t → Tellings r seat earlier xs s t
 tellings r seat [] earlier s t rule number holds same = record {
   told = λ list begins. tt;
+  accepted = subst (λ (u : SeatState). HasAccepted r (edits_of u.hub.seen) (earlier ++ [])) (sym same) (subst (HasAccepted r (edits_of s.hub.seen)) (sym (append-nil earlier)) holds.accepted);
   grows = subst (λ (u : SeatState). IsPrefix s.hub.seen u.hub.seen) (sym same) (prefix_self s.hub.seen);
   handed = subst (λ (u : SeatState). u.hub.handed ≤ length u.hub.seen) (sym same) holds.handed;
   rule = ap (λ (u : SeatState). rule_of u.hub) same ∙ rule;
@@ -495,6 +503,7 @@ tellings r seat (x ∷ xs) earlier s t rule number holds (next, first, rest) =
         told_of_more r seat next.hub.seen list earlier x (prefix_trans next.hub.seen t.hub.seen list others.grows begins) one.told,
         others.told list begins,
       );
+      accepted = subst (HasAccepted r (edits_of t.hub.seen)) (append_assoc earlier (x ∷ []) xs) others.accepted;
       grows = prefix_trans s.hub.seen next.hub.seen t.hub.seen one.grows others.grows;
       handed = others.handed;
       rule = others.rule;
@@ -528,6 +537,7 @@ visited_all r seat (v ∷ visits) a b rule number handed (mid, first, rest) =
           cut = service.exchanged.cut;
           ends = service.ends;
           told = one.told list (prefix_trans mid.seen b.seen list others.grows begins);
+          has = accepted_grows r service.exchanges (edits_of mid.seen) (edits_of list) (edits_begin mid.seen list (prefix_trans mid.seen b.seen list others.grows begins)) one.accepted;
         },
         others.told list begins,
       );

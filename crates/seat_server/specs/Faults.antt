@@ -1,5 +1,5 @@
 -- Why a server ends without an account.
-use Rattle.std.specs.Prelude.{◌≡◌, ⊤, ℕ, true, List, None, Some, codes}
+use Rattle.std.specs.Prelude.{⊤, ℕ, true, List, None, Some, codes}
 use mathlib.Core.List.{IsPrefix}
 use Rattle.relay_board.specs.Faults.{turn_fault_text}
 use Rattle.relay_board.specs.Relaying.{Relaying}

@@ -18,8 +18,8 @@ use Rattle.board.specs.Entries.{edits_of}
 use Rattle.board.specs.Origins.{list_of}
 use Rattle.board.specs.Showing.{Origin}
 use Rattle.relay_board.specs.Seating.{Seating}
-use Rattle.session_hub.specs.Request.{Request, Export, Many, Poll, Push, request_of}
-use Rattle.session_hub.specs.Replies.{done, edits_frames, export_body, hello_body, pushed_of, refusal, text_body, whole_frames}
+use Rattle.session_hub.specs.Request.{Request, Export, Hello, Many, Poll, Push, Whole, request_of}
+use Rattle.session_hub.specs.Replies.{done, edits_frames, export_body, hello_body, most_edits, pushed_of, refusal, text_body, whole_frames}
 use Rattle.seat_server.specs.Serving.{FinishedValue, IsServed}
 use Rattle.seat_server.specs.Sessions.{VisitValue, number_of, one_each, rule_of}
 
@@ -55,23 +55,19 @@ IsToldOf r all (Texts gs answers) = AreTextsOf r all gs answers
 
 -- ---- by which frames it is told
 
--- the generations that a request asks for
-abbrev pub asked : Request → List ℕ
-asked (Export g) = g ∷ []
-asked (Many gs) = gs
-asked _ = []
-
--- a greeting, or one byte
-abbrev pub TellsNothing : GenerationsRule → ℕ → List (List ℕ) → Type 0
-TellsNothing r seat frames = ((number : ℕ) × (frames ≡ refusal number)) ⊎ (frames ≡ hello_body r seat ∷ [])
+-- a greeting where one was asked for, or one byte
+abbrev pub TellsNothing : GenerationsRule → ℕ → Request → List (List ℕ) → Type 0
+TellsNothing r seat request frames = ((number : ℕ) × (frames ≡ refusal number)) ⊎ ((request ≡ Hello) × (frames ≡ hello_body r seat ∷ []))
 
 -- the frames of a reply to a request tell this
 abbrev pub Tells : GenerationsRule → ℕ → Request → Telling → List (List ℕ) → Type 0
-Tells r seat request Nothing frames = TellsNothing r seat frames
-Tells r seat request (Edits edits) frames = frames ≡ edits_frames r edits
-Tells r seat request (Plane map) frames = (text : List ℕ) × IsStateText r map text × ((frames ≡ whole_frames text) ⊎ (frames ≡ text_body text ∷ []))
-Tells r seat request (Texts gs answers) frames =
-    (gs ≡ asked request) × ((frames ≡ map export_body answers) ⊎ (frames ≡ (0 ∷ to_be_bytes w16 (length gs)) ∷ map export_body answers))
+Tells r seat request Nothing frames = TellsNothing r seat request frames
+Tells r seat Poll (Edits edits) frames = (length edits ≤ most_edits) × (frames ≡ edits_frames r edits)
+Tells r seat Poll (Plane map) frames = (text : List ℕ) × IsStateText r map text × (frames ≡ whole_frames text)
+Tells r seat Whole (Plane map) frames = (text : List ℕ) × IsStateText r map text × (frames ≡ text_body text ∷ [])
+Tells r seat (Export g) (Texts gs answers) frames = (gs ≡ g ∷ []) × (frames ≡ map export_body answers)
+Tells r seat (Many asked) (Texts gs answers) frames = (gs ≡ asked) × (frames ≡ (0 ∷ to_be_bytes w16 (length gs)) ∷ map export_body answers)
+Tells r seat request told frames = ⊥
 
 -- ---- edits that were pushed
 
@@ -123,6 +119,8 @@ pub record IsToldVisit (r : GenerationsRule) (seat : ℕ) (list : List Entry) (v
   pub cut : IsTakenTo pulled (requests_of exchanges) left
   pub ends : EndsAs (2 ^ 32) v.source v.source' v.from v.to exchanges left v.end
   pub told : AreToldBehind r seat list [] exchanges
+  -- and in the end the list has each edit that was pushed and answered 0
+  pub has : HasAccepted r (edits_of list) exchanges
 
 abbrev pub AreToldVisits : GenerationsRule → ℕ → List Entry → List VisitValue → Type 0
 AreToldVisits r seat list [] = ⊤

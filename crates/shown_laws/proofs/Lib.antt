@@ -1,0 +1,4 @@
+mod Bodies
+mod Held
+mod Turning
+mod ShownLaws
