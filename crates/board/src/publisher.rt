@@ -56,29 +56,16 @@ fn opened(
     requires empty { list_of front.now ≡ [] }
     ensures { IfOk result (λ w. (w.desk.shown.value.list ≡ []) × (w.desk.shown.value.log ≡ []) × (w.desk.shown.value.origin ≡ origin front.now) × (drop w.behind w.log.items ≡ [])) }
 {
-    let first = Board::with_key(alloc, front.again(), key)?;
-    let second = Board::with_key(alloc, front.again(), key)?;
+    let first = Board::new(alloc, front.again(), key)?;
+    let second = Board::new(alloc, front.again(), key)?;
     Writer::new(alloc, first, second, seats)
 }
 
 impl Publisher {
-    /// An empty list, with room for so many readers, under a rule of so many states. Its planes find
-    /// their squares by the fixed key's hashes.
-    pub fn new<R: Wait>(
-        rt: &R,
-        alloc: Global,
-        states: u16,
-        seats: usize,
-    ) -> Result<Publisher, AllocError>
-        requires { (0 < seats) × (seats < 2 ^ 32) }
-        ensures { IfOk result (λ p. (p.list ≡ []) × (p.announced ≡ []) × (p.origin.states ≡ states)) }
-    {
-        Publisher::with_key(rt, alloc, states, seats, HashKey::fixed())
-    }
-
-    /// The same, whose planes find their squares by a key's hashes.
+    /// An empty list, with room for so many readers, under a rule of so many states. Its planes find their
+    /// squares by a key's hashes.
     // The first publication, of nothing, tells the writer which history it is of.
-    pub fn with_key<R: Wait>(
+    pub fn new<R: Wait>(
         rt: &R,
         alloc: Global,
         states: u16,

@@ -17,7 +17,7 @@ use held_plane::{Added, HeldPlane};
 use keyed_hash::HashKey;
 use left_right::Absorb;
 use poll_news::News;
-use stamped_tree::Plane;
+use stamped_tree::{Limits, Plane};
 use std::alloc::{AllocError, Global};
 use std::marker::Model;
 use std::slice;
@@ -92,22 +92,15 @@ impl Absorb<Publication> for Board {
 }
 
 impl Board {
-    /// The board of an empty list, under a front. Its plane finds its squares by the fixed key's hashes.
-    pub fn new(alloc: Global, front: Front) -> Result<Board, AllocError>
+    /// The board of an empty list, under a front, whose plane finds its squares by a key's hashes.
+    pub fn new(alloc: Global, front: Front, key: HashKey) -> Result<Board, AllocError>
         ensures list { IfOk result (λ b. b.list ≡ []) }
         ensures front { IfOk result (λ b. (b.log ≡ front.prefix.seen.log) × (b.origin.book ≡ front.prefix.seen.book) × (b.origin.states ≡ front.states)) }
     {
-        Board::with_key(alloc, front, HashKey::fixed())
-    }
-
-    /// The same, whose plane finds its squares by a key's hashes.
-    pub fn with_key(alloc: Global, front: Front, key: HashKey) -> Result<Board, AllocError>
-        ensures list { IfOk result (λ b. b.list ≡ []) }
-        ensures front { IfOk result (λ b. (b.log ≡ front.prefix.seen.log) × (b.origin.book ≡ front.prefix.seen.book) × (b.origin.states ≡ front.states)) }
-    {
+        let room = u32::MAX;
         let (own, prefix) = History::new();
         Ok(Board {
-            plane: HeldPlane::with_room_and_key(alloc, u32::MAX, key)?,
+            plane: HeldPlane::new(alloc, Limits { room, key })?,
             last: LastEdits::new(alloc)?,
             own,
             prefix,

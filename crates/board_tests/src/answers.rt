@@ -13,6 +13,7 @@ use crate::drawn::{brians_brain, drawn};
 use board::{Entry, Front, Publisher};
 use edit_stamps::Edit;
 use inbox::{Drain, Submission};
+use keyed_hash::HashKey;
 use receipts::{Answer, Answering, Pending, open};
 use std::alloc::Global;
 use std::sync::Wait;
@@ -60,7 +61,7 @@ fn opened<R: Wait>(rt: &R, alloc: Global, counter: u64) -> Option<Channel> {
         number: 1,
         edit,
     };
-    let Ok(publisher) = Publisher::new(rt, alloc, rule.states(), 1) else {
+    let Ok(publisher) = Publisher::new(rt, alloc, rule.states(), 1, HashKey::fixed()) else {
         return None;
     };
     let ends = open(alloc, &entry, &publisher.front());
@@ -168,7 +169,7 @@ fn finds<R: Wait>(rt: &R, alloc: Global) -> Option<[Found; 2]> {
     let rule = brians_brain()?;
     let one = drawn(alloc, &rule, 1, 1, 0)?;
     let two = drawn(alloc, &rule, 1, 2, 0)?;
-    let Ok(publisher) = Publisher::new(rt, alloc, rule.states(), 1) else {
+    let Ok(publisher) = Publisher::new(rt, alloc, rule.states(), 1, HashKey::fixed()) else {
         return None;
     };
     let Some(taken) = taken(rt, alloc, &publisher.front(), one, two) else {

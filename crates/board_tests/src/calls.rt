@@ -9,6 +9,7 @@ use crate::press::{Press, publish_all};
 use crate::told::{Told, tell, tell_edits};
 use board::{Board, Entry, Front, History, LastEdits, Window};
 use inbox::Drain;
+use keyed_hash::HashKey;
 use std::alloc::Global;
 use std::sync::Wait;
 
@@ -46,7 +47,7 @@ fn look_at(alloc: Global, board: &Board) -> Option<Shown> {
 /// A board of no edits, and one of the edits with the counters 1 to 3, at the cells 1 to 3 of row 0.
 fn shown_both<R: Wait + Drop>(rt: R, alloc: Global) -> Option<[Shown; 2]> {
     let (_history, prefix) = History::new();
-    let empty = Board::new(alloc, Front::first(prefix, 3)).ok()?;
+    let empty = Board::new(alloc, Front::first(prefix, 3), HashKey::fixed()).ok()?;
     let press = Press::new(rt, alloc, 1).ok()?;
     let press = publish_all(press, 1, 4).ok()?;
     Some([

@@ -7,6 +7,7 @@ ghost use Rattle.edit_stamps.specs.Edit.{has_states_below};
 use crate::drawn::{brians_brain, drawn};
 use board::{BoardReader, Entry, Front, Publisher};
 use generations_rule::Rule;
+use keyed_hash::HashKey;
 use std::alloc::Global;
 use std::sync::Wait;
 
@@ -62,7 +63,7 @@ impl<R: Wait + Drop> Press<R> {
         requires { (0 < readers) × (readers < 2 ^ 32) }
     {
         let rule = brians_brain().ok_or("rule")?;
-        match Publisher::new(&rt, alloc, rule.states(), readers) {
+        match Publisher::new(&rt, alloc, rule.states(), readers, HashKey::fixed()) {
             Ok(publisher) => Ok(Press {
                 publisher,
                 rule,

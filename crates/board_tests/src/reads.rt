@@ -99,7 +99,7 @@ fn an_ended_board_is_closed(rt: HostRuntime) -> Result<(), Fail> {
 
 /// The two numbers of the key by which the plane of a board finds its squares.
 fn pair_of_board<R: Wait>(rt: &R, alloc: Global, key: HashKey) -> Result<(u64, u64), &'static str> {
-    let Ok(publisher) = Publisher::with_key(rt, alloc, 2, 1, key) else {
+    let Ok(publisher) = Publisher::new(rt, alloc, 2, 1, key) else {
         return Err("publisher");
     };
     let plane = publisher.board().copy_plane();

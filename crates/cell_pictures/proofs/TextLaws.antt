@@ -5,7 +5,7 @@ use Rattle.std.specs.List.{list_all, prefix_len}
 use Rattle.std.specs.Fmt.{signed_decimal}
 use Rattle.std.specs.Int.Signed.{mag}
 use Rattle.std.proofs.lemmas.Fmt.{decimal_injective, signed_decimal_injective}
-use Rattle.multistate_rle.specs.Bytes.{is_decimal_digit}
+use Rattle.text_scan.specs.Bytes.{is_decimal_digit}
 use Rattle.multistate_rle.proofs.HeadLaws.{front_is, past_is, printed}
 use Rattle.multistate_rle.proofs.PatternLaws.{and_parts}
 use Rattle.cell_pictures.specs.Svg.{outline}

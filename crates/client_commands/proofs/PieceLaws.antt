@@ -6,7 +6,7 @@ use Rattle.std.specs.List.{list_all}
 use Rattle.std.proofs.lemmas.Bool.{not-true, not-false, and_parts}
 use Rattle.std.proofs.lemmas.List.{append-nil}
 use Rattle.std.proofs.lemmas.Slice.Eq.{bytes_eq-Decides}
-use Rattle.multistate_rle.specs.Position.{words}
+use Rattle.text_scan.specs.Words.{words}
 use Rattle.genedit_script.specs.Script.{PatternBlock, numbered_lines, is_spoken, opening_spelled}
 use Rattle.genedit_script.specs.Laws.{is_skipped, HaveNoEnd, block_text}
 use Rattle.client_commands.specs.declared.command.ClientCommand.{ClientCommand}

@@ -3,7 +3,7 @@ use Rattle.std.proofs.Common.{◌≡◌, ℕ, List, [], ◌∷◌, refl, sym, �
 use Rattle.std.specs.Prelude.{true, false, codes, Option, Some, None, option_map}
 use Rattle.std.specs.Option.{option_map_or}
 use Rattle.std.specs.Str.{bytes_eq}
-use Rattle.multistate_rle.specs.Bytes.{◌>=>◌}
+use Rattle.text_scan.specs.Bytes.{◌>=>◌}
 use Rattle.pattern_cells.specs.declared.cell.Cell.{Cell}
 use Rattle.replica_events.specs.declared.event.Event.TheVariants as event
 use Rattle.replica_events.specs.declared.edit_spec.EditSpec.TheVariants.{Cells}

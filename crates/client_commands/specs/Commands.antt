@@ -1,6 +1,6 @@
 -- The commands of a client, by what the words of a line spell.
 use Rattle.std.specs.Prelude.{ℕ, List, Option, Some, None, option_map, unwrap_or}
-use Rattle.multistate_rle.specs.Bytes.{◌>=>◌}
+use Rattle.text_scan.specs.Bytes.{◌>=>◌}
 use Rattle.replica_events.specs.declared.edit_spec.EditSpec.TheVariants.{Cells, Clear}
 use Rattle.command_words.specs.declared.dialect.Dialect.TheVariants.{Client}
 use Rattle.command_words.specs.declared.keyword.Keyword.TheVariants as keyword

@@ -3,8 +3,8 @@ use Rattle.std.specs.Prelude.{◌≡◌, ◌↔◌, ℕ, ◌+◌, ◌<◌, ◌^�
 use Rattle.std.specs.Option.{option_map_or}
 use Rattle.std.specs.Str.{bytes_eq}
 use Rattle.std.specs.Str.Lines.{strip_carriage_return}
-use Rattle.multistate_rle.specs.Bytes.{◌>=>◌}
-use Rattle.multistate_rle.specs.Position.{words}
+use Rattle.text_scan.specs.Bytes.{◌>=>◌}
+use Rattle.text_scan.specs.Words.{words}
 use Rattle.replica_events.specs.declared.event.Event.TheVariants as event
 use Rattle.command_words.specs.declared.argument.Argument.{Argument}
 use Rattle.command_words.specs.declared.argument.Argument.TheVariants.{Replica}

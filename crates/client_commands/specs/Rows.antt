@@ -1,7 +1,7 @@
 -- Worked values of the definitions.
 use Rattle.std.specs.Prelude.{◌≡◌, ℕ, List, [], ◌∷◌, Option, Some, None, codes, refl, pos, negsuc}
 use Rattle.std.specs.Str.Lines.{lines}
-use Rattle.multistate_rle.specs.Position.{words}
+use Rattle.text_scan.specs.Words.{words}
 use Rattle.replica_events.specs.declared.edit_spec.EditSpec.TheVariants.{Cells, Clear}
 use Rattle.genedit_script.specs.Script.{numbered_lines}
 use Rattle.client_commands.specs.declared.command.ClientCommand.{ClientCommand}

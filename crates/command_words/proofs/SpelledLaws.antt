@@ -5,8 +5,8 @@ use Rattle.std.specs.List.{find, list_all}
 use Rattle.std.specs.Str.{bytes_eq}
 use Rattle.std.proofs.lemmas.Bool.{not-true, and_parts}
 use Rattle.std.proofs.lemmas.Slice.Eq.{bytes_eq-Decides}
-use Rattle.multistate_rle.specs.Bytes.{◌>=>◌}
-use Rattle.multistate_rle.specs.Position.{signed_number}
+use Rattle.text_scan.specs.Bytes.{◌>=>◌}
+use Rattle.text_scan.specs.Words.{signed_number}
 use Rattle.command_words.specs.declared.argument.Argument.{Argument}
 use Rattle.command_words.specs.declared.argument.Argument.TheVariants.{Rule, Replicas, Name, Replica, OneReplica, X, Y, State, File}
 use Rattle.command_words.specs.declared.dialect.Dialect.{Dialect}

@@ -2,8 +2,8 @@
 use Rattle.std.specs.Prelude.{ℕ, ℤ, pos, Bool, true, false, if◌then◌else◌, List, [], ◌∷◌, Option, Some, None, option_map}
 use Rattle.std.specs.Bool.{beq}
 use Rattle.std.specs.Option.{is_some}
-use Rattle.multistate_rle.specs.Bytes.{◌>=>◌}
-use Rattle.multistate_rle.specs.Position.{words, signed_number}
+use Rattle.text_scan.specs.Bytes.{◌>=>◌}
+use Rattle.text_scan.specs.Words.{words, signed_number}
 use Rattle.command_words.specs.declared.argument.Argument.{Argument}
 use Rattle.command_words.specs.declared.argument.Argument.TheVariants as argument
 use Rattle.command_words.specs.declared.dialect.Dialect.{Dialect}

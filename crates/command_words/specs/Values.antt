@@ -4,8 +4,8 @@ use Rattle.std.specs.Char.{is_ascii_alphanumeric}
 use Rattle.std.specs.List.{list_all}
 use Rattle.std.specs.Result.{is_ok}
 use Rattle.generations_rule.specs.RuleText.{parsed}
-use Rattle.multistate_rle.specs.Bytes.{◌>=>◌, decimal_number}
-use Rattle.multistate_rle.specs.Position.{signed_number}
+use Rattle.text_scan.specs.Bytes.{◌>=>◌, decimal_number}
+use Rattle.text_scan.specs.Words.{signed_number}
 use Rattle.pattern_cells.specs.declared.cell.Cell.{Cell}
 
 -- a number of 32 bits

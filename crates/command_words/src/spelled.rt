@@ -1,14 +1,14 @@
 //! What the words of a line spell.
 
 ghost use Rattle.std.specs.Prelude.{◌≡◌, option_map};
-ghost use Rattle.multistate_rle.specs.Position.{words};
+ghost use Rattle.text_scan.specs.Words.{words};
 ghost use Rattle.command_words.specs.Spelled.{is_empty, line_spelled, spelled_of};
 
 use crate::argument::Argument;
 use crate::dialect::Dialect;
 use crate::keyword::Keyword;
 use crate::values::{name_in, replicas_in, rule_in, state_in, unsigned};
-use multistate_rle::{signed, split_word};
+use text_scan::{signed, split_word};
 
 /// What the words of a line spell: the keyword that it begins with, and what is said by each argument
 /// behind it. What a line does not say is nothing, an empty text or 0; but the replica is number 1, as is
@@ -62,7 +62,7 @@ pub fn read_line(dialect: Dialect, line: &[u8]) -> Option<Spelled<'_>>
 
 impl<'a> Spelled<'a> {
     ghost use Rattle.std.specs.Prelude.{◌≡◌, option_map};
-    ghost use Rattle.multistate_rle.specs.Position.{words};
+    ghost use Rattle.text_scan.specs.Words.{words};
     ghost use Rattle.command_words.specs.Spelled.{begun, is_whole, spelled_of, with_all, with_next, with_number, with_optional, with_word};
 
     /// A line that begins with a keyword, where nothing behind it is read yet.

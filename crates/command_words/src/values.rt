@@ -3,13 +3,13 @@
 ghost use Rattle.std.specs.Prelude.{◌≡◌, ◌∷◌, [], ◌≤◌, IfOk, IfSome, MatchOption, None, length, option_map};
 ghost use Rattle.std.specs.Char.{is_ascii_alphanumeric};
 ghost use Rattle.std.specs.List.{list_all};
-ghost use Rattle.multistate_rle.specs.Position.{words};
+ghost use Rattle.text_scan.specs.Words.{words};
 ghost use Rattle.command_words.specs.Values.{cell_spelled, cells_spelled, is_pattern_name, name_spelled, number_spelled, replicas_spelled, rule_text_spelled, state_spelled};
 
 use generations_rule::Rule;
-use multistate_rle::{number, signed, split_word};
 use pattern_cells::Cell;
 use std::alloc::{AllocError, Global};
+use text_scan::{number, signed, split_word};
 
 /// A number of 32 bits, in decimal digits.
 pub fn unsigned(word: &[u8]) -> Option<u32>

@@ -2,6 +2,7 @@
 
 ghost use Rattle.std.specs.Prelude.{◌≡◌, ◌^◌, ◌<◌, ◌≤◌, ◌⊎◌, ◌↔◌, IfErr, IfOk, Ok, Err};
 ghost use Rattle.edit_stamps.specs.PlaneMap.{HasStatesBelow};
+ghost use Rattle.square_store.specs.Limits.{usual_room};
 ghost use Rattle.stamped_tree.specs.Plane.{map_of};
 ghost use Rattle.generation_engine.specs.Universe.{population_of, states_in_writes, states_of};
 ghost use Rattle.generation_engine.specs.Walk.{AreCellsOf};
@@ -12,11 +13,9 @@ use generation_engine::Engine;
 use generations_rule::Rule;
 use multistate_rle::write;
 use pattern_cells::Cell;
+use square_store::{Limits, ROOM};
 use stamped_tree::Plane;
 use std::alloc::Global;
-
-/// How many squares the universe that is run may store if nothing else is said.
-pub(crate) const ROOM: u32 = 0x400_0000;
 
 /// The last generation.
 pub const LAST: u32 = 0x2000_0000;
@@ -37,7 +36,7 @@ pub fn export(
     requires { HasStatesBelow rule.now.states (map_of plane.now) }
     ensures text { IfOk result (λ text. IsExport rule.now (states_in_writes (map_of plane.now)) generation most_cells (Ok text.items)) }
     ensures err { IfErr result (IsExportRefused rule.now (states_in_writes (map_of plane.now)) generation most_cells) }
-    ensures full { result ≡ Err ExportFault.StoreFull → IsRoomWanted rule.now plane.now generation (2 ^ 26) }
+    ensures full { result ≡ Err ExportFault.StoreFull → IsRoomWanted rule.now plane.now generation usual_room }
 {
     export_within(alloc, rule, plane, generation, MOST_CELLS)
 }
@@ -53,7 +52,7 @@ pub fn export_within(
     requires { HasStatesBelow rule.now.states (map_of plane.now) }
     ensures text { IfOk result (λ text. IsExport rule.now (states_in_writes (map_of plane.now)) generation limit (Ok text.items)) }
     ensures err { IfErr result (IsExportRefused rule.now (states_in_writes (map_of plane.now)) generation limit) }
-    ensures full { result ≡ Err ExportFault.StoreFull → IsRoomWanted rule.now plane.now generation (2 ^ 26) }
+    ensures full { result ≡ Err ExportFault.StoreFull → IsRoomWanted rule.now plane.now generation usual_room }
 {
     export_in_room(alloc, rule, plane, generation, limit, ROOM)
 }
@@ -100,7 +99,11 @@ fn cells_at(
 {
     // For the proof alone: the call tells that what is held is a rule.
     let _states = rule.states();
-    let mut engine = Engine::with_room_and_key(alloc, *rule, nodes, plane.key())?;
+    let limits = Limits {
+        room: nodes,
+        key: plane.key(),
+    };
+    let mut engine = Engine::within(alloc, *rule, limits)?;
     engine.load(plane)?;
     let run = engine.run(generation);
     // The same, of the engine, which is what it was where it became full.

@@ -2,17 +2,19 @@
 
 ghost use Rattle.std.specs.Prelude.{◌≡◌, ◌^◌, ◌≤◌, IfErr, IfOk, IfSome, Ok, Err};
 ghost use Rattle.edit_stamps.specs.PlaneMap.{HasStatesBelow};
+ghost use Rattle.square_store.specs.Limits.{usual_room};
 ghost use Rattle.stamped_tree.specs.Plane.{map_of};
 ghost use Rattle.generation_engine.specs.Universe.{states_in_writes};
 ghost use Rattle.export.specs.Export.{AreExported, IsExport, IsExportRefused, IsRoomWanted, IsWant, most_cells};
 ghost use Rattle.export.specs.Kept.{IsRunOf};
 
-use crate::exporting::{LAST, MOST_CELLS, ROOM, cells_within, export};
+use crate::exporting::{LAST, MOST_CELLS, cells_within, export};
 use crate::fault::ExportFault;
 use generation_engine::{Engine, EngineFault};
 use generations_rule::Rule;
 use multistate_rle::write;
 use pattern_cells::Cell;
+use square_store::Limits;
 use stamped_tree::Plane;
 use std::alloc::Global;
 
@@ -30,7 +32,7 @@ pub fn export_on(
     requires kept { IfSome kept.old (IsRunOf rule.now (states_in_writes (map_of plane.now))) }
     ensures text { IfOk result (λ text. IsExport rule.now (states_in_writes (map_of plane.now)) generation most_cells (Ok text.items)) }
     ensures err { IfErr result (IsExportRefused rule.now (states_in_writes (map_of plane.now)) generation most_cells) }
-    ensures full { result ≡ Err ExportFault.StoreFull → IsRoomWanted rule.now plane.now generation (2 ^ 26) }
+    ensures full { result ≡ Err ExportFault.StoreFull → IsRoomWanted rule.now plane.now generation usual_room }
     ensures kept { IfSome kept.new (IsRunOf rule.now (states_in_writes (map_of plane.now))) }
 {
     if generation > LAST {
@@ -119,7 +121,7 @@ fn loaded(alloc: Global, rule: &Rule, plane: &Plane) -> Result<Engine, ExportFau
     ensures at { IfOk result (λ engine. engine.generation ≡ 0) }
     ensures err { IfErr result IsWant }
 {
-    let mut engine = Engine::with_room_and_key(alloc, *rule, ROOM, plane.key())?;
+    let mut engine = Engine::within(alloc, *rule, Limits::of_key(plane.key()))?;
     engine.load(plane)?;
     Ok(engine)
 }

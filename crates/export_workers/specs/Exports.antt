@@ -1,5 +1,6 @@
 -- Exports of one plane at many generations, and how workers share them.
-use Rattle.std.specs.Prelude.{◌≡◌, ⊤, ℕ, ◌+◌, ◌^◌, ◌<◌, ◌≤◌, List, [], ◌∷◌, Result, Ok, Err, IfOk, slice_index}
+use Rattle.std.specs.Prelude.{◌≡◌, ⊤, ℕ, ◌+◌, ◌<◌, ◌≤◌, List, [], ◌∷◌, Result, Ok, Err, IfOk, slice_index}
+use Rattle.square_store.specs.Limits.{usual_room}
 use Rattle.generations_rule.specs.Rule.{GenerationsRule}
 use Rattle.generation_engine.specs.Universe.{states_in_writes}
 use Rattle.stamped_tree.specs.Plane.{StampedPlane, map_of}
@@ -9,7 +10,7 @@ use Rattle.export.specs.Export.{IsExport, IsExportRefused, IsRoomWanted, most_ce
 
 -- room is told as wanted only where an export wants it
 abbrev pub TellsRoom : GenerationsRule → StampedPlane → ℕ → ExportFault → Type 0
-TellsRoom r p g StoreFull = IsRoomWanted r p g (2 ^ 26)
+TellsRoom r p g StoreFull = IsRoomWanted r p g usual_room
 TellsRoom r p g GenRange = ⊤
 TellsRoom r p g TooManyCells = ⊤
 TellsRoom r p g Memory = ⊤

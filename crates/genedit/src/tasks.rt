@@ -6,7 +6,7 @@ use devices::{ReadSource, Source, WriteSink};
 use genedit_io::RunFault;
 use genedit_lib::run_script;
 use genedit_rle::rle_text;
-use genedit_serve::{listen, serve_on_with_key};
+use genedit_serve::{ServedBoard, listen, serve_on};
 use genedit_words::Server;
 use generations_rule::Rule;
 use keyed_hash::HashKey;
@@ -93,14 +93,11 @@ pub fn serve<
     };
     let listener = listen(rt, server.port)?;
     let mut sink = WriteSink::new(io::writer(rt));
-    serve_on_with_key(
-        *rt,
-        alloc,
-        listener,
-        server.rule,
-        server.sessions,
+    let board = ServedBoard {
+        rule: server.rule,
+        sessions: server.sessions,
         key,
-        &mut sink,
-    )?;
+    };
+    serve_on(*rt, alloc, listener, board, &mut sink)?;
     Ok(WELL)
 }

@@ -13,13 +13,11 @@ use genedit_io::{RunFault, pull_all, push_output};
 use genedit_script::{Script, ScriptFault, read_script};
 use generations_rule::Rule;
 use replica_core::{Event, Reply, Stop, World, replay_within};
+use square_store::ROOM;
 use std::alloc::Global;
 
 /// How many pulls a script has, at most.
 const TURNS: u64 = 1 << 32;
-
-/// How many squares each replica of a script has room for.
-const ROOM: u32 = 0x400_0000;
 
 /// Pulls a script to its source's end, checks it whole, runs it, and pushes all that it prints at
 /// once: a line for each command. A refused command prints its refusal, and the run goes on.

@@ -7,7 +7,7 @@ use Rattle.std.proofs.lemmas.Bool.{not-true, not-false, and_parts}
 use Rattle.std.proofs.lemmas.List.{append-nil}
 use Rattle.generations_rule.specs.Refusal.{◌>>=◌}
 use Rattle.generations_rule.specs.Rule.{GenerationsRule}
-use Rattle.multistate_rle.specs.Position.{words}
+use Rattle.text_scan.specs.Words.{words}
 use Rattle.genedit_script.specs.Script.{NumberedLine, numbered_lines, is_spoken, past_skipped, first_line, rule_spelled, replicas_spelled, Head, head_spelled}
 use Rattle.genedit_script.specs.Laws.{is_skipped, AreSkipped, NameRule, rule_line, HaveHeadFaultAt, no_rule_line, faulty_rule_line, no_replicas_line, faulty_replicas_line}
 use Rattle.genedit_script.proofs.WordLaws.{rule_says, replicas_say}

@@ -5,7 +5,7 @@ use Rattle.std.specs.Str.Lines.{lines}
 use Rattle.std.proofs.lemmas.Bool.{not-false}
 use Rattle.std.proofs.lemmas.List.{append-nil}
 use Rattle.generations_rule.specs.Refusal.{◌>>=◌}
-use Rattle.multistate_rle.specs.Position.{words}
+use Rattle.text_scan.specs.Words.{words}
 use Rattle.genedit_script.specs.declared.command.Command.{Command}
 use Rattle.genedit_script.specs.Script.{ScriptValue, numbered_lines, is_spoken, opening_spelled, command_spelled, commands_spelled, Head, head_spelled}
 use Rattle.genedit_script.specs.Laws.{HaveNoEnd, AreScript, whole, HaveHeadFaultAt, HaveFaultAt, head_fault, no_command, open_block, AcceptsScripts, RefusesFaults, RefusesHeadFaults}

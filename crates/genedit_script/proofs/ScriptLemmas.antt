@@ -3,7 +3,7 @@ use Rattle.std.proofs.Common.{◌≡◌, ℕ, List, [], ◌∷◌, ◌++◌, ref
 use Rattle.std.specs.Prelude.{Bool, true, false, Result, Ok, Err, Option, Some, None}
 use Rattle.std.specs.Option.{ok_or}
 use Rattle.generations_rule.specs.Refusal.{◌>>=◌}
-use Rattle.multistate_rle.specs.Position.{words}
+use Rattle.text_scan.specs.Words.{words}
 use Rattle.std.proofs.lemmas.List.{append-nil}
 use Rattle.genedit_script.specs.declared.command.Command.{Command}
 use Rattle.genedit_script.specs.declared.fault.ScriptFault.{ScriptFault}

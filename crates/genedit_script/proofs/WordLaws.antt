@@ -3,7 +3,7 @@ use Rattle.std.proofs.Common.{◌≡◌, ℕ, List, ◌∷◌, refl, ◌∙◌, 
 use Rattle.std.specs.Prelude.{true, false, codes, Option, Some, None}
 use Rattle.std.specs.Str.{bytes_eq}
 use Rattle.generations_rule.specs.Rule.{GenerationsRule}
-use Rattle.multistate_rle.specs.Bytes.{◌>=>◌}
+use Rattle.text_scan.specs.Bytes.{◌>=>◌}
 use Rattle.command_words.specs.declared.dialect.Dialect.{Dialect}
 use Rattle.command_words.specs.declared.dialect.Dialect.TheVariants.{Script}
 use Rattle.command_words.specs.declared.keyword.Keyword.{Keyword}

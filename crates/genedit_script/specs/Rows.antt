@@ -2,7 +2,7 @@
 use Rattle.std.specs.Prelude.{◌≡◌, [], ◌∷◌, Some, None, Ok, Err, codes, refl, pos, negsuc}
 use Rattle.std.specs.Str.Lines.{lines}
 use Rattle.generations_rule.specs.RuleText.{rule_of_text}
-use Rattle.multistate_rle.specs.Position.{words, signed_number}
+use Rattle.text_scan.specs.Words.{words, signed_number}
 use Rattle.replica_events.specs.declared.event.Event.TheVariants.{Draw, SendState, Deliver, Show}
 use Rattle.replica_events.specs.declared.edit_spec.EditSpec.TheVariants.{Cells, Clear}
 use Rattle.genedit_script.specs.declared.command.Command.TheVariants.{Does, Names, Copies, Ors}

@@ -7,8 +7,8 @@ use Rattle.std.specs.Str.Lines.{lines}
 use Rattle.generations_rule.specs.Refusal.{◌>>=◌}
 use Rattle.generations_rule.specs.Rule.{GenerationsRule}
 use Rattle.generations_rule.specs.RuleText.{parsed}
-use Rattle.multistate_rle.specs.Bytes.{◌>=>◌}
-use Rattle.multistate_rle.specs.Position.{words}
+use Rattle.text_scan.specs.Bytes.{◌>=>◌}
+use Rattle.text_scan.specs.Words.{words}
 use Rattle.edit_stamps.specs.declared.rect.Rect.{Rect}
 use Rattle.replica_events.specs.declared.event.Event.{Event}
 use Rattle.replica_events.specs.declared.event.Event.TheVariants.{Draw, SendDelta, SendState, Deliver, Show, Same, Dump, Export}

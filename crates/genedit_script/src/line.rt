@@ -2,10 +2,10 @@
 
 ghost use Rattle.std.specs.Prelude.{◌≡◌, ◌+◌, ◌<◌, ◌^◌, ◌==◌, [], ◌∷◌, length, position, MatchOption, IfSome};
 ghost use Rattle.std.specs.Str.Lines.{lines, strip_carriage_return};
-ghost use Rattle.multistate_rle.specs.Position.{words};
+ghost use Rattle.text_scan.specs.Words.{words};
 ghost use Rattle.genedit_script.specs.Script.{is_spoken, lines_from, past_skipped, opens_comment};
 
-use multistate_rle::split_word;
+use text_scan::split_word;
 
 /// A line of a text.
 #[derive(Clone, Copy, Debug)]
@@ -26,7 +26,7 @@ pub struct Lines<'a> {
 impl<'a> Lines<'a> {
     ghost use Rattle.std.specs.Prelude.{◌≡◌, ◌+◌, ◌<◌, [], ◌∷◌, length, MatchOption, IfSome, IfNone};
     ghost use Rattle.std.specs.Str.Lines.{lines};
-    ghost use Rattle.multistate_rle.specs.Position.{words};
+    ghost use Rattle.text_scan.specs.Words.{words};
     ghost use Rattle.genedit_script.specs.Script.{lines_from, past_skipped};
 
     pub fn of(text: &'a [u8]) -> Lines<'a>

@@ -1,7 +1,7 @@
 //! What the words of a line ask for.
 
 ghost use Rattle.std.specs.Prelude.{◌≡◌, IfOk, option_map};
-ghost use Rattle.multistate_rle.specs.Position.{words};
+ghost use Rattle.text_scan.specs.Words.{words};
 ghost use Rattle.replica_events.specs.declared.event.Event.TheVariants.{Draw};
 ghost use Rattle.replica_events.specs.declared.edit_spec.EditSpec.TheVariants.{Cells};
 ghost use Rattle.command_words.specs.Spelled.{spelled_of};

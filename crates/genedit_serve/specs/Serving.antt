@@ -1,5 +1,6 @@
 -- What a server does.
-use Rattle.std.specs.Prelude.{◌≡◌, ◌^◌, ◌⊎◌, ℕ, List, [], false, length, Result, Ok, Err}
+use Rattle.std.specs.Prelude.{◌≡◌, ◌⊎◌, ℕ, List, [], false, length, Result, Ok, Err}
+use Rattle.square_store.specs.Limits.{usual_room}
 use Rattle.board.specs.Showing.{Origin}
 use Rattle.devices.specs.Count.{one_more}
 use Rattle.devices.specs.Sink.{IsPush, KnownSink}
@@ -52,7 +53,7 @@ pub record IsFreshRelay (sessions : ℕ) (relay : Relaying) : Type 0 where
   pub kept : relay.kept ≡ []
   pub seats : relay.made ≡ sessions
   pub closed : relay.closed ≡ false
-  pub squares : relay.room ≡ 2 ^ 26
+  pub squares : relay.room ≡ usual_room
 
 -- The line that tells the port was pushed, and the server of a fresh relay and its seats gave no account, for a reason
 -- that is told so.

@@ -7,4 +7,4 @@ mod connections;
 mod fault;
 mod server;
 
-pub use server::{INBOX, listen, serve_on, serve_on_with_key};
+pub use server::{INBOX, ServedBoard, listen, serve_on};

@@ -1,6 +1,6 @@
 //! Scripts, from end to end.
 
-ghost use Rattle.std.specs.Prelude.{◌≤◌};
+ghost use Rattle.std.specs.Prelude.{◌≤◌, ◌<◌, ◌^◌};
 
 use crate::faulty::{Broken, Pieces};
 use crate::printed::Printed;
@@ -161,6 +161,35 @@ fn a_full_store_prints_nothing(rt: HostRuntime) -> Result<(), AllocError> {
         "store full, 0 bytes"
     );
     assert_eq!(rt; end_within(rt.alloc(), script, 30)?.as_str(), "drawn 1 1\n");
+    Ok(())
+}
+
+/// A script of some 200 KB that draws 8,000 cells anywhere on the plane, each by a command of its own: its
+/// replica stores more than 10^5 squares.
+fn long_script(alloc: Global) -> Result<Vec<u8>, AllocError> {
+    let mut script = Vec::new(alloc);
+    script.extend_from_slice(b"rule 345/2/4\nreplicas 1\n")?;
+    for number in 0..8000u64 {
+        let (x, y) = (anywhere(number, 2_654_435_761), anywhere(number, 2_246_822_519));
+        let line = format!(in alloc; "cells 1 {x} {y} 1\n")?;
+        script.extend_from_slice(line.as_bytes())?;
+    }
+    Ok(script)
+}
+
+/// A coordinate of the plane, another one for each number.
+fn anywhere(number: u64, factor: u64) -> i64
+    requires { (number < 8000) × (factor < 2 ^ 32) }
+{
+    (number * factor % 0x8000_0000) as i64 - 0x4000_0000
+}
+
+#[test]
+fn a_long_script_has_room(rt: HostRuntime) -> Result<(), AllocError> {
+    let script = long_script(rt.alloc())?;
+    assert!(rt; script.len() > 200_000);
+    let printed = run(rt.alloc(), &script)?;
+    assert!(rt; printed.as_str().ends_with("\ndrawn 8000 1\n"));
     Ok(())
 }
 

@@ -1,8 +1,8 @@
 -- The words that ask for a window: `X,Y` and `W,H`.
 use Rattle.std.specs.Prelude.{ℕ, ℤ, List, drop, Option, Some}
 use Rattle.std.specs.List.{before_first, position_or_len}
-use Rattle.multistate_rle.specs.Bytes.{◌>=>◌, decimal_number, text_behind}
-use Rattle.multistate_rle.specs.Position.{is_comma, signed_number}
+use Rattle.text_scan.specs.Bytes.{◌>=>◌, decimal_number, text_behind, is_comma}
+use Rattle.text_scan.specs.Words.{signed_number}
 use Rattle.cell_pictures.specs.Window.{WindowValue, window_given}
 
 -- what stands before the first comma, and what behind it

@@ -2,12 +2,11 @@
 
 ghost use Rattle.std.specs.Prelude.{◌≡◌, ◌≤◌, length, option_map};
 ghost use Rattle.std.specs.List.{position_or_len};
-ghost use Rattle.multistate_rle.specs.Bytes.{text_behind};
-ghost use Rattle.multistate_rle.specs.Position.{is_comma};
+ghost use Rattle.text_scan.specs.Bytes.{text_behind, is_comma};
 ghost use Rattle.genedit_view.specs.Words.{corner_spelled, parts_of, side_spelled, sides_spelled, window_asked};
 
 use cell_pictures::Window;
-use multistate_rle::{number, signed};
+use text_scan::{number, signed};
 
 /// The greatest side: there are so many coordinates of 32 bits.
 const MOST: u64 = 1 << 32;

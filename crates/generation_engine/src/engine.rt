@@ -5,6 +5,7 @@ ghost use Rattle.generations_rule.specs.Place.{Place};
 ghost use Rattle.generations_rule.specs.Evolution.{at};
 ghost use Rattle.edit_stamps.specs.PlaneMap.{HasStatesBelow};
 ghost use Rattle.stamped_tree.specs.Plane.{map_of};
+ghost use Rattle.square_store.specs.Limits.{usual_room};
 ghost use Rattle.square_store.specs.Store.{IsStore};
 ghost use Rattle.generation_engine.specs.EngineLeaf.{IsEngineLeaf, leaf_grid};
 ghost use Rattle.generation_engine.specs.Loading.{IsStoreFull, IsTooSmallFor};
@@ -17,15 +18,11 @@ use crate::load::universe_of;
 use crate::results::ResultStore;
 use crate::walk::middle_cells;
 use generations_rule::Rule;
-use keyed_hash::HashKey;
 use pattern_cells::Cell;
-use square_store::{Part, Store, StoreFault};
+use square_store::{Limits, Part, Store, StoreFault};
 use stamped_tree::Plane;
 use std::alloc::{AllocError, Global};
 use std::marker::Model;
-
-/// How many squares an engine may store if nothing else is said.
-const ROOM: u32 = 0x400_0000;
 
 /// The last generation.
 const LAST: u32 = 0x2000_0000;
@@ -68,13 +65,12 @@ impl Engine {
         ensures states { IfOk result (λ engine. AreSameStates (states_of engine) (λ _. 0)) }
         ensures generation { IfOk result (λ engine. engine.generation ≡ 0) }
         ensures rule { IfOk result (λ engine. engine.rule ≡ rule) }
-        ensures room { IfOk result (λ engine. engine.store.room ≡ 2 ^ 26) }
+        ensures room { IfOk result (λ engine. engine.store.room ≡ usual_room) }
     {
-        Engine::with_room(alloc, rule, ROOM)
+        Engine::within(alloc, rule, Limits::usual())
     }
 
-    /// An engine without a cell, with room for so many squares, of which an empty universe takes one. It
-    /// finds them by the fixed key's hashes.
+    /// An engine without a cell, with room for so many squares, of which an empty universe takes one.
     pub fn with_room(alloc: Global, rule: Rule, nodes: u32) -> Result<Engine, AllocError>
         requires { 64 ≤ nodes }
         ensures states { IfOk result (λ engine. AreSameStates (states_of engine) (λ _. 0)) }
@@ -82,24 +78,19 @@ impl Engine {
         ensures rule { IfOk result (λ engine. engine.rule ≡ rule) }
         ensures room { IfOk result (λ engine. engine.store.room ≡ nodes) }
     {
-        Engine::with_room_and_key(alloc, rule, nodes, HashKey::fixed())
+        Engine::within(alloc, rule, Limits::of_room(nodes))
     }
 
-    /// The same, which finds its squares by a key's hashes.
-    pub fn with_room_and_key(
-        alloc: Global,
-        rule: Rule,
-        nodes: u32,
-        key: HashKey,
-    ) -> Result<Engine, AllocError>
-        requires { 64 ≤ nodes }
+    /// An engine without a cell, within limits.
+    pub fn within(alloc: Global, rule: Rule, limits: Limits) -> Result<Engine, AllocError>
+        requires { 64 ≤ limits.room }
         ensures states { IfOk result (λ engine. AreSameStates (states_of engine) (λ _. 0)) }
         ensures generation { IfOk result (λ engine. engine.generation ≡ 0) }
         ensures rule { IfOk result (λ engine. engine.rule ≡ rule) }
-        ensures room { IfOk result (λ engine. engine.store.room ≡ nodes) }
+        ensures room { IfOk result (λ engine. engine.store.room ≡ limits.room) }
     {
         let _states = rule.states();
-        let mut store = Store::with_key(alloc, nodes, key);
+        let mut store = Store::new(alloc, limits);
         match store.add_blank(0) {
             Ok(root) => Ok(Engine {
                 squares: ResultStore::of_store(alloc, rule, store),
@@ -126,7 +117,7 @@ impl Engine {
         ensures full { result ≡ Err StoreFault.StoreFull → IsTooSmallFor self.old.store.room plane.now }
     {
         let kept = self.squares.store();
-        let mut store = Store::with_key(self.alloc, kept.room(), kept.key());
+        let mut store = Store::new(self.alloc, kept.limits());
         let root = universe_of(self.alloc, &mut store, plane)?;
         self.squares = ResultStore::of_store(self.alloc, self.squares.rule(), store);
         self.root = root;

@@ -4,10 +4,10 @@ use Rattle.std.specs.Prelude.{Option, Some, None, Bool, true, false, not, ◌==�
 use Rattle.std.proofs.lemmas.Bool.Decides.{nat_tests}
 use Rattle.std.specs.List.{position_or_len}
 use Rattle.std.proofs.lemmas.List.{take_all, drop_all}
-use Rattle.multistate_rle.specs.Bytes.{ends_line, is_space_or_tab, past_prefix, ◌>=>◌, text_behind}
-use Rattle.multistate_rle.specs.Header.{behind_symbol, side_spelled, may_end_with, header_of}
+use Rattle.text_scan.specs.Bytes.{ends_line, is_space_or_tab, past_prefix, ◌>=>◌, text_behind, behind_symbol}
+use Rattle.multistate_rle.specs.Header.{side_spelled, may_end_with, header_of}
 use Rattle.multistate_rle.specs.HeaderLine.{text_lines, may_precede, first_header, HasNoHeader}
-use Rattle.multistate_rle.proofs.SplitLemmas.{later_parts, split_at}
+use Rattle.text_scan.proofs.SplitLemmas.{later_parts, split_at}
 use Rattle.header_rules.specs.HeaderRule.{PlacedLine, header_line, behind_sides}
 
 -- the first line, where it has an end

@@ -7,7 +7,7 @@ use Rattle.std.specs.Option.{option_or}
 use Rattle.std.specs.Result.{result_ok}
 use Rattle.generations_rule.specs.Rule.{GenerationsRule}
 use Rattle.generations_rule.specs.RuleText.{slash, is_slash, is_misfit, set_of, parsed}
-use Rattle.multistate_rle.specs.Bytes.{is_decimal_digit, front, past_prefix, ◌>=>◌, text_behind}
+use Rattle.text_scan.specs.Bytes.{is_decimal_digit, front, past_prefix, ◌>=>◌, text_behind}
 
 -- the digits of the counts at which a cell survives, and of those at which one is born
 pub record CountDigits : Type 0 where

@@ -1,10 +1,9 @@
 -- Which rule the header of a pattern text tells, and where.
-use Rattle.std.specs.Prelude.{ℕ, ◌+◌, ◌-◌, List, [], ◌∷◌, length, take, reverse, codes, if◌then◌else◌, Option, Some, None}
-use Rattle.std.specs.List.{prefix_len, before_first}
-use Rattle.multistate_rle.specs.Bytes.{is_space_or_tab, past_prefix, ◌>=>◌, behind_all}
-use Rattle.multistate_rle.specs.Header.{behind_symbol, side_spelled}
+use Rattle.std.specs.Prelude.{ℕ, ◌+◌, ◌-◌, List, [], ◌∷◌, length, codes, if◌then◌else◌, Option, Some, None}
+use Rattle.std.specs.List.{before_first}
+use Rattle.text_scan.specs.Bytes.{is_space_or_tab, past_prefix, ◌>=>◌, behind_all, behind_symbol, is_comma, without_blanks_behind}
+use Rattle.multistate_rle.specs.Header.{side_spelled}
 use Rattle.multistate_rle.specs.HeaderLine.{text_lines, may_precede}
-use Rattle.multistate_rle.specs.Position.{is_comma}
 use Rattle.header_rules.specs.declared.header.HeaderRule.{HeaderRule}
 use Rattle.header_rules.specs.GollyRule.{rule_spelled}
 
@@ -26,9 +25,6 @@ behind_sides line = side_spelled 120 line >=> λ x. behind_symbol 44 x.1 >=> λ 
 -- what stands behind `rule =` and its blanks
 abbrev pub behind_rule : List ℕ → Option (List ℕ)
 behind_rule text = behind_all (codes "rule") (past_prefix is_space_or_tab text) >=> λ rest. behind_symbol 61 rest >=> λ rest. Some (past_prefix is_space_or_tab rest)
-
-abbrev pub without_blanks_behind : List ℕ → List ℕ
-without_blanks_behind text = take (length text - prefix_len is_space_or_tab (reverse text)) text
 
 -- a rule's text, in front of a comma or of the line's end
 abbrev pub rule_text : List ℕ → List ℕ

@@ -6,9 +6,9 @@ ghost use Rattle.arrayvec.specs.ArrayVec.{array_vec_len};
 ghost use Rattle.generations_rule.specs.RuleText.{is_misfit, set_of, text_of_set};
 ghost use Rattle.header_rules.specs.GollyRule.{behind_letter, past_slash, lettered, births_first, survivals_first, unlettered, two_state_rule, golly_spelled, rule_spelled};
 
-use crate::scan;
 use arrayvec::ArrayVec;
 use generations_rule::Rule;
+use text_scan::{behind, split_digits};
 
 /// The rule of two states that a text spells for Golly: `B3/S23` or `S23/B3`, the letters capital or
 /// small, with the slash or without it, or the older `23/3`, survival first. Survival counts are 0 to
@@ -86,8 +86,8 @@ fn survivals_first(text: &[u8]) -> Option<CountDigits<'_>>
 fn unlettered(text: &[u8]) -> Option<CountDigits<'_>>
     ensures { option_map (λ digits. record { survival = digits.survival.now; birth = digits.birth.now }) result ≡ unlettered text.now }
 {
-    let (survival, rest) = scan::past_digits(text);
-    let birth = scan::behind(b'/', rest)?;
+    let (survival, rest) = split_digits(text);
+    let birth = behind(b'/', rest)?;
     Some(CountDigits { survival, birth })
 }
 
@@ -95,7 +95,7 @@ fn unlettered(text: &[u8]) -> Option<CountDigits<'_>>
 fn lettered(first: u8, second: u8, text: &[u8]) -> Option<(&[u8], &[u8])>
     ensures { option_map (λ digits. (digits.0.now, digits.1.now)) result ≡ lettered first second text.now }
 {
-    let (digits, rest) = scan::past_digits(behind_letter(first, text)?);
+    let (digits, rest) = split_digits(behind_letter(first, text)?);
     let others = behind_letter(second, past_slash(rest))?;
     Some((digits, others))
 }

@@ -2,16 +2,17 @@
 
 ghost use Rattle.std.specs.Prelude.{◌≡◌, ◌+◌, ◌∷◌, [], ◌≤◌, ◌<◌, length, option_map, MatchOption, IfSome, None};
 ghost use Rattle.std.specs.List.{before_first, position_or_len};
-ghost use Rattle.multistate_rle.specs.Bytes.{ends_line};
+ghost use Rattle.text_scan.specs.Bytes.{ends_line, is_comma};
 ghost use Rattle.multistate_rle.specs.Header.{side_spelled, number_in_front};
 ghost use Rattle.multistate_rle.specs.HeaderLine.{HasNoHeader, text_lines, may_precede};
-ghost use Rattle.multistate_rle.specs.Position.{is_comma};
 ghost use Rattle.header_rules.specs.HeaderRule.{header_line, behind_sides, behind_rule, rule_text, header_rule_told};
 
 use crate::golly::spelled_rule;
-use crate::scan;
 use generations_rule::Rule;
-use multistate_rle::number;
+use text_scan::{
+    behind_symbol, is_all_blank, line_len, number, split_digits, without_blanks,
+    without_blanks_behind,
+};
 
 /// The rule that the header of a pattern text tells.
 #[derive(Clone, Copy, Debug, PartialEq, Eq)]
@@ -85,21 +86,11 @@ fn split_line(text: &[u8]) -> (&[u8], Option<&[u8]>)
     }
 }
 
-/// How long the first line of a text is, without its end.
-fn line_len(text: &[u8]) -> usize
-    ensures count { result ≡ position_or_len ends_line text.now }
-    ensures within { result ≤ length text.now }
-{
-    text.iter()
-        .take_while(|byte| !scan::is_line_end(**byte))
-        .count()
-}
-
 /// Whether a line in front of the header may say this: it is a comment or blank.
 fn may_stand_in_front(line: &[u8]) -> bool
     ensures { result ≡ may_precede line.now }
 {
-    line.first() == Some(&b'#') || scan::is_all_blank(line)
+    line.first() == Some(&b'#') || is_all_blank(line)
 }
 
 /// What stands behind `x = w, y = h` and a comma.
@@ -108,9 +99,9 @@ fn behind_sides(line: &[u8]) -> Option<&[u8]>
     ensures within { IfSome result (λ rest. length rest.now ≤ length line.now) }
 {
     let (_, rest) = side(b'x', line)?;
-    let rest = scan::behind_symbol(b',', rest)?;
+    let rest = behind_symbol(b',', rest)?;
     let (_, rest) = side(b'y', rest)?;
-    scan::behind_symbol(b',', rest)
+    behind_symbol(b',', rest)
 }
 
 /// A letter, `=` and a number: the number, and what stands behind it.
@@ -118,16 +109,16 @@ fn side(letter: u8, line: &[u8]) -> Option<(u64, &[u8])>
     ensures side { option_map (λ found. (found.0, found.1.now)) result ≡ side_spelled letter line.now }
     ensures within { IfSome result (λ found. length found.1.now ≤ length line.now) }
 {
-    let rest = scan::behind_symbol(letter, line)?;
-    let rest = scan::behind_symbol(b'=', rest)?;
-    number_in_front(scan::past_blanks(rest))
+    let rest = behind_symbol(letter, line)?;
+    let rest = behind_symbol(b'=', rest)?;
+    number_in_front(without_blanks(rest))
 }
 
 fn number_in_front(text: &[u8]) -> Option<(u64, &[u8])>
     ensures number { option_map (λ found. (found.0, found.1.now)) result ≡ number_in_front text.now }
     ensures within { IfSome result (λ found. length found.1.now ≤ length text.now) }
 {
-    let (digits, rest) = scan::past_digits(text);
+    let (digits, rest) = split_digits(text);
     let side = number(u64::from(u32::MAX), digits)?;
     Some((side, rest))
 }
@@ -137,9 +128,9 @@ fn behind_rule(text: &[u8]) -> Option<&[u8]>
     ensures rest { option_map (λ rest. rest.now) result ≡ behind_rule text.now }
     ensures within { IfSome result (λ rest. length rest.now ≤ length text.now) }
 {
-    let rest = scan::past_blanks(text).strip_prefix(b"rule")?;
-    let rest = scan::behind_symbol(b'=', rest)?;
-    Some(scan::past_blanks(rest))
+    let rest = without_blanks(text).strip_prefix(b"rule")?;
+    let rest = behind_symbol(b'=', rest)?;
+    Some(without_blanks(rest))
 }
 
 /// The rule's text, in front of a comma or of the line's end.
@@ -147,7 +138,7 @@ fn rule_text(rest: &[u8]) -> &[u8]
     ensures text { result.now ≡ rule_text rest.now }
     ensures within { length result.now ≤ length rest.now }
 {
-    scan::before_blanks(before_comma(rest))
+    without_blanks_behind(before_comma(rest))
 }
 
 fn before_comma(text: &[u8]) -> &[u8]

@@ -4,7 +4,6 @@
 
 mod golly;
 mod header;
-mod scan;
 
 pub use golly::{golly_rule, spelled_rule};
 pub use header::{HeaderRule, header_rule};

@@ -7,8 +7,7 @@ ghost use Rattle.held_plane.specs.Held.{IsAsBefore, IsJoinedAt, added_writes};
 ghost use Rattle.held_plane.specs.Wanted.{IsFullOfNeeds};
 
 use crate::added::{Added, add_to};
-use keyed_hash::HashKey;
-use stamped_tree::{Part, Plane, StoreFault};
+use stamped_tree::{Limits, Part, Plane, StoreFault};
 use std::alloc::{AllocError, Global};
 use std::marker::Model;
 
@@ -48,27 +47,13 @@ impl Model for HeldPlane {
 }
 
 impl HeldPlane {
-    /// The plane where nothing was written, with room for so many squares, which it finds by the fixed
-    /// key's hashes.
-    pub fn with_room(alloc: Global, nodes: u32) -> Result<HeldPlane, AllocError>
-        requires { 1 ≤ nodes }
+    /// The plane where nothing was written, within limits.
+    pub fn new(alloc: Global, limits: Limits) -> Result<HeldPlane, AllocError>
+        requires { 1 ≤ limits.room }
         ensures map { IfOk result (λ plane. AreSame (map_of plane) (λ _. unwritten)) }
-        ensures room { IfOk result (λ plane. plane.store.room ≡ nodes) }
+        ensures room { IfOk result (λ plane. plane.store.room ≡ limits.room) }
     {
-        HeldPlane::with_room_and_key(alloc, nodes, HashKey::fixed())
-    }
-
-    /// The same, which finds its squares by a key's hashes.
-    pub fn with_room_and_key(
-        alloc: Global,
-        nodes: u32,
-        key: HashKey,
-    ) -> Result<HeldPlane, AllocError>
-        requires { 1 ≤ nodes }
-        ensures map { IfOk result (λ plane. AreSame (map_of plane) (λ _. unwritten)) }
-        ensures room { IfOk result (λ plane. plane.store.room ≡ nodes) }
-    {
-        let plane = Plane::with_room_and_key(alloc, nodes, key)?;
+        let plane = Plane::within(alloc, limits)?;
         Ok(HeldPlane {
             plane,
             copied: 1,

@@ -6,10 +6,10 @@ use crate::spelling::{
     FIRST, Quarter, Written, bytes_of, push_four, push_two, push_write, state_of,
 };
 use crate::telling::{brians_brain, is_told_again, rewritten};
-use delta_exchange::{ReadFault, read_within_with_key};
+use delta_exchange::{ReadFault, read_within};
 use generations_rule::Rule;
 use keyed_hash::{HashKey, KEY_BYTES};
-use stamped_tree::Plane;
+use stamped_tree::{Limits, Plane};
 use std::alloc::{AllocError, Global};
 use std::test::Fail;
 
@@ -94,9 +94,6 @@ fn leaf_stamps(plane: &Plane, column: u32, row: u32) -> [u64; 2] {
     [first.stamp, second.stamp]
 }
 
-/// How many squares a plane that is read may store.
-const ROOM: u32 = 0x400_0000;
-
 /// The stamps that are read of a text by a key, and how many squares.
 fn stamps_read(
     alloc: Global,
@@ -104,7 +101,7 @@ fn stamps_read(
     text: &[u8],
     key: HashKey,
 ) -> Result<Option<(Leaves, u32)>, ReadFault> {
-    let message = read_within_with_key(alloc, rule, text, ROOM, key)?;
+    let message = read_within(alloc, rule, text, Limits::of_key(key))?;
     Ok(
         message
             .plane()
@@ -196,7 +193,7 @@ fn crowd_read(
     text: &[u8],
     key: HashKey,
 ) -> Result<Option<u32>, ReadFault> {
-    let message = read_within_with_key(alloc, rule, text, ROOM, key)?;
+    let message = read_within(alloc, rule, text, Limits::of_key(key))?;
     Ok(message.plane().map(leaves_shown))
 }
 

@@ -1,11 +1,11 @@
 //! Keys: how they are drawn, and what is made by one keeps it.
 
 use crate::telling::{blank, brians_brain};
-use delta_exchange::{ReadFault, read_within_with_key, write_state};
+use delta_exchange::{ReadFault, read_within, write_state};
 use generations_rule::Rule;
 use keyed_hash::{HashKey, KEY_BYTES};
 use replica_core::Replica;
-use stamped_tree::Plane;
+use stamped_tree::{Limits, Plane};
 use std::alloc::{AllocError, Global};
 use std::io;
 use std::random::RandomSource;
@@ -60,7 +60,7 @@ fn pair_of(plane: &Plane) -> (u64, u64) {
 /// Those of a plane that is read by a key.
 fn pair_read(alloc: Global, rule: &Rule, key: HashKey) -> Result<Option<(u64, u64)>, ReadFault> {
     let text = unwritten(alloc, rule)?;
-    let message = read_within_with_key(alloc, rule, &text, 9, key)?;
+    let message = read_within(alloc, rule, &text, Limits { room: 9, key })?;
     Ok(message.plane().map(pair_of))
 }
 
@@ -75,12 +75,13 @@ fn what_is_made_by_a_key_keeps_it(rt: HostRuntime) -> Result<(), Fail> {
     let alloc = rt.alloc();
     let rule = brians_brain()?;
     let key = HashKey::of_bytes(&[7; KEY_BYTES]);
+    let limits = Limits { room: 9, key };
     let pair = (SEVENS, SEVENS);
-    let plane = Plane::with_room_and_key(alloc, 9, key)?;
+    let plane = Plane::within(alloc, limits)?;
     assert_eq!(rt; pair_of(&plane), pair);
     assert_eq!(rt; pair_of(&plane.copy()?), pair);
     assert_eq!(rt; pair_read(alloc, &rule, key)?, Some(pair));
-    let replica = Replica::with_room_and_key(alloc, rule, 1, 9, key)?;
+    let replica = Replica::within(alloc, rule, 1, limits)?;
     assert_eq!(rt; pair_of(replica.plane()), pair);
     Ok(())
 }

@@ -9,7 +9,7 @@ use Rattle.std.proofs.lemmas.Bool.{ne_eqb, eqb-true, eqb-false}
 use Rattle.std.proofs.lemmas.Bool.Decides.{nat_tests}
 use Rattle.pattern_cells.specs.declared.pattern.PatternCell.{PatternCell}
 use Rattle.multistate_rle.specs.declared.line.LineProgress.TheVariants.{Start, Inside}
-use Rattle.multistate_rle.specs.Bytes.{is_decimal_digit, is_space_or_tab, ends_line}
+use Rattle.text_scan.specs.Bytes.{is_decimal_digit, is_space_or_tab, ends_line}
 use Rattle.multistate_rle.specs.Letters.{letters_of, letters_text, plain}
 use Rattle.multistate_rle.specs.Tokens.{Token, Cells, Rows, run, cells_in_row, cells_drawn, AreCanonical, count_of, skip, with_run, tokens_from, IsTokensOf}
 use Rattle.multistate_rle.specs.Reading.{Pen, bytes_of, start, fault_of, pen_after, cells_of, AreFine, bare, lines_of, pattern_of}

@@ -12,7 +12,7 @@ use Rattle.std.specs.Int.Signed.{lt_z_yes, pos-nat_abs, yes_non_neg}
 use Rattle.std.proofs.Math.Dec.{T}
 use Rattle.generations_rule.specs.Rule.{GenerationsRule, IsRule, has}
 use Rattle.generations_rule.specs.RuleText.{text_of, text_of_set, slash, glyph, counts}
-use Rattle.multistate_rle.specs.Bytes.{ends_line}
+use Rattle.text_scan.specs.Bytes.{ends_line}
 use Rattle.multistate_rle.specs.Laws.{ReadsBack}
 use Rattle.multistate_rle.proofs.HeadLaws.{both_pass, digits_pass, digit_no_end, printed}
 use Rattle.multistate_rle.proofs.TextBackLaws.{text_back}

@@ -6,7 +6,7 @@ use Rattle.std.proofs.lemmas.Bool.Decides.{nat_tests}
 use Rattle.multistate_rle.specs.declared.fault.RleFault.{RleFault}
 use Rattle.multistate_rle.specs.declared.fault.RleFault.TheVariants.{Tag}
 use Rattle.multistate_rle.specs.Role as role
-use Rattle.multistate_rle.specs.Bytes.{is_decimal_digit}
+use Rattle.text_scan.specs.Bytes.{is_decimal_digit}
 use Rattle.multistate_rle.specs.Tokens.{Token, Cells, Rows, count_of}
 use Rattle.multistate_rle.specs.Reading.{Mark, BegunValue, Pen, fresh, with_digit, with_prefix, pen_after, fault_of, followed, is_prefix_byte, is_letter, role_of, tokens_of, bytes_of, AreFine}
 use Rattle.multistate_rle.specs.Spelling.{IsCount, IsTag, IsSpelling}

@@ -7,13 +7,14 @@ use Rattle.std.specs.Fmt.{signed_decimal}
 use Rattle.std.proofs.lemmas.Fmt.{decimal_is_IsNumeral}
 use Rattle.std.proofs.lemmas.Bool.{ne_eqb}
 use Rattle.std.proofs.lemmas.Bool.Decides.{nat_tests}
-use Rattle.multistate_rle.specs.Bytes.{is_decimal_digit, is_space_or_tab, ends_line, past_prefix, ◌>=>◌, text_behind, decimal_number}
+use Rattle.text_scan.specs.Bytes.{is_decimal_digit, is_space_or_tab, ends_line, past_prefix, ◌>=>◌, text_behind, decimal_number, behind_symbol, is_comma}
 use Rattle.std.proofs.lemmas.List.Folds.{list_all-append}
-use Rattle.multistate_rle.specs.Header.{most_pattern_side, behind_symbol, number_in_front, side_spelled, may_end_with, header_of}
-use Rattle.multistate_rle.specs.Position.{words, signed_number, is_comma, position_in, generation_in, one_item_more, items_in, no_items, origin_from, origin_in_words, origin_in, item_by}
+use Rattle.multistate_rle.specs.Header.{most_pattern_side, number_in_front, side_spelled, may_end_with, header_of}
+use Rattle.multistate_rle.specs.Position.{position_in, generation_in, one_item_more, items_in, no_items, origin_from, origin_in_words, origin_in, item_by}
+use Rattle.text_scan.specs.Words.{words, signed_number}
 use Rattle.multistate_rle.specs.Laws.{IsSignedWord}
-use Rattle.multistate_rle.proofs.SplitLemmas.{split_at, later_parts, has_bytes, has_some}
-use Rattle.multistate_rle.proofs.NumberLemmas.{is_number}
+use Rattle.text_scan.proofs.SplitLemmas.{split_at, later_parts, has_bytes, has_some}
+use Rattle.text_scan.proofs.NumberLemmas.{is_number}
 use Rattle.multistate_rle.proofs.PatternLaws.{and_parts}
 use Rattle.multistate_rle.proofs.BodyLaws.{digits_are}
 

@@ -4,8 +4,8 @@ use Rattle.std.specs.Prelude.{Option, Some, None, option_map, nat_le, if◌then�
 use Rattle.std.specs.List.{list_all}
 use Rattle.std.specs.Str.Parse.{digits_value}
 use Rattle.std.proofs.lemmas.Bool.Decides.{nat_tests}
-use Rattle.multistate_rle.specs.Bytes.{is_decimal_digit, is_space_or_tab, front, past_prefix, ◌>=>◌, decimal_number, limited}
-use Rattle.multistate_rle.specs.Header.{most_pattern_side, behind_symbol, number_in_front, side_spelled, may_end_with, header_of}
+use Rattle.text_scan.specs.Bytes.{is_decimal_digit, is_space_or_tab, front, past_prefix, ◌>=>◌, decimal_number, limited, behind_symbol}
+use Rattle.multistate_rle.specs.Header.{most_pattern_side, number_in_front, side_spelled, may_end_with, header_of}
 
 -- what holds of each value holds of the next reading's
 bound : {A B : Type 0} (P : B → Type 0) (o : Option A) (f : A → Option B) → ((a : A) → o ≡ Some a → IfSome (f a) P) → IfSome (o >=> f) P

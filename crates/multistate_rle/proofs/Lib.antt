@@ -1,7 +1,6 @@
-pub mod NumberLemmas
 pub mod RowLemmas
 pub mod FillLemmas
-pub mod SplitLemmas
+pub mod OriginLemmas
 pub mod ReadLemmas
 pub mod StepLemmas
 pub mod LineLemmas
@@ -16,7 +15,6 @@ pub mod TextBackLaws
 pub mod BoxLaws
 pub mod WholeTextLaws
 pub mod LetterLaws
-pub mod WordLemmas
 pub mod RunLemmas
 pub mod SideLemmas
 pub mod HeaderlessLaws

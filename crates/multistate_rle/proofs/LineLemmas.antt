@@ -10,13 +10,13 @@ use Rattle.multistate_rle.specs.declared.fault.RleFault.TheVariants.{Header}
 use Rattle.multistate_rle.specs.Position.{OriginValue}
 use Rattle.multistate_rle.specs.declared.line.LineProgress.{LineProgress}
 use Rattle.multistate_rle.specs.declared.line.LineProgress.TheVariants.{Start, Inside, Comment}
-use Rattle.multistate_rle.specs.Bytes.{is_space_or_tab, ends_line}
+use Rattle.text_scan.specs.Bytes.{is_space_or_tab, ends_line}
 use Rattle.multistate_rle.specs.Header.{header_of}
 use Rattle.multistate_rle.specs.Position.{origin_in, origin_from, no_items}
 use Rattle.pattern_cells.specs.Pattern.{RlePattern}
 use Rattle.multistate_rle.specs.Reading.{Mark, lines_of, bytes_of, begins_comment, bare, body_read, header_read, lines_read, or_else}
 use Rattle.multistate_rle.specs.Lines.{line_after, is_dropped, left}
-use Rattle.multistate_rle.proofs.SplitLemmas.{split_at, later_parts}
+use Rattle.text_scan.proofs.SplitLemmas.{split_at, later_parts}
 
 -- ---- bytes with their places
 

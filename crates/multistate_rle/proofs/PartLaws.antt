@@ -4,7 +4,7 @@ use Rattle.std.specs.Prelude.{Option, Some, None, Result, unwrap_or, not, if◌t
 use Rattle.std.specs.List.{list_all, enumerate_from, position_or_len}
 use Rattle.std.proofs.lemmas.List.Folds.{length-prefix_len}
 use Rattle.multistate_rle.specs.declared.fault.RleFault.{RleFault}
-use Rattle.multistate_rle.specs.Bytes.{is_space_or_tab, ends_line}
+use Rattle.text_scan.specs.Bytes.{is_space_or_tab, ends_line}
 use Rattle.multistate_rle.specs.Header.{header_of}
 use Rattle.multistate_rle.specs.HeaderLine.{text_lines, may_precede, first_header, HasNoHeader}
 use Rattle.multistate_rle.specs.Position.{OriginValue, origin_in, origin_from, no_items}
@@ -12,7 +12,7 @@ use Rattle.pattern_cells.specs.Pattern.{RlePattern}
 use Rattle.multistate_rle.specs.Reading.{parsed, body_read, lines_of, lines_read, begins_comment, or_else}
 use Rattle.multistate_rle.specs.Spelling.{IsLine, AreFrontLines, with_lines, first_origin}
 use Rattle.multistate_rle.specs.Parts.{EndsLine, HasFrontAndBody}
-use Rattle.multistate_rle.proofs.SplitLemmas.{split_at, later_parts}
+use Rattle.text_scan.proofs.SplitLemmas.{split_at, later_parts}
 use Rattle.multistate_rle.proofs.HeadLaws.{front_is, past_is, front_all, past_all}
 use Rattle.multistate_rle.proofs.LineLemmas.{line_step, line_read, header_is_read}
 use Rattle.multistate_rle.proofs.WholeTextLaws.{line_first, front_line, no_comment, no_blank}

@@ -9,7 +9,7 @@ use Rattle.std.proofs.lemmas.Bool.{eqb-true}
 use Rattle.std.proofs.lemmas.Bool.Decides.{nat_tests}
 use Rattle.multistate_rle.specs.declared.fault.RleFault.{RleFault}
 use Rattle.multistate_rle.specs.declared.fault.RleFault.TheVariants.{Tag}
-use Rattle.multistate_rle.specs.Bytes.{is_decimal_digit}
+use Rattle.text_scan.specs.Bytes.{is_decimal_digit}
 use Rattle.multistate_rle.specs.Letters.{IsLetter, IsPrefixed}
 use Rattle.multistate_rle.specs.Tokens.{Token, Cells, Rows, count_of}
 use Rattle.multistate_rle.specs.Reading.{Mark, Pen, fresh, pen_after, fault_of, followed, is_prefix_byte, is_letter, tokens_of, bytes_of, AreFine}

@@ -10,7 +10,7 @@ use Rattle.multistate_rle.specs.declared.line.LineProgress.TheVariants.{Inside}
 use Rattle.multistate_rle.specs.Role as role
 use Rattle.multistate_rle.specs.Reading.{BegunValue}
 use Rattle.multistate_rle.specs.declared.tokens.TokenReader.{TokenReader}
-use Rattle.multistate_rle.specs.Bytes.{is_decimal_digit}
+use Rattle.text_scan.specs.Bytes.{is_decimal_digit}
 use Rattle.multistate_rle.specs.Lines.{left, left_from}
 use Rattle.multistate_rle.specs.Tokens.{Token, Cells, cells_drawn, run}
 use Rattle.multistate_rle.specs.Reading.{Pen, role_of, is_prefix_byte, fresh, with_digit, with_prefix, fault_of, followed, pen_after, tokens_of}

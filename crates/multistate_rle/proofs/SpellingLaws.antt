@@ -10,13 +10,13 @@ use Rattle.generations_rule.specs.Refusal.{◌>>=◌}
 use Rattle.multistate_rle.specs.declared.fault.RleFault.TheVariants.{State, Count, TooMany}
 use Rattle.multistate_rle.specs.Role as role
 use Rattle.multistate_rle.specs.Reading.{BegunValue}
-use Rattle.multistate_rle.specs.Bytes.{is_decimal_digit}
+use Rattle.text_scan.specs.Bytes.{is_decimal_digit}
 use Rattle.multistate_rle.specs.Letters.{IsPlain, IsLetter}
 use Rattle.multistate_rle.specs.Tokens.{Token, Cells, Rows, cells_drawn, count_of}
 use Rattle.multistate_rle.specs.Reading.{Mark, Pen, bytes_of, bare_role, role_of, start, fresh, with_digit, with_prefix, fault_of, followed, pen_after, cells_of, tokens_ended, tokens_of, AreFine, bare, pattern_of}
 use Rattle.multistate_rle.specs.Spelling.{IsCount, IsTag, IsSpelling, EndsTokens}
 use Rattle.multistate_rle.specs.Laws.{ReadsSpellings}
-use Rattle.multistate_rle.proofs.NumberLemmas.{digit_is}
+use Rattle.text_scan.proofs.NumberLemmas.{digit_is}
 use Rattle.multistate_rle.proofs.ReadLemmas.{step_is}
 use Rattle.multistate_rle.proofs.PatternLaws.{and_parts, none_of_three, none_of_one}
 

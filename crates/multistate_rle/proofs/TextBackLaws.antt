@@ -8,7 +8,7 @@ use Rattle.multistate_rle.specs.Position.{OriginValue}
 use Rattle.multistate_rle.specs.declared.fault.RleFault.{RleFault}
 use Rattle.multistate_rle.specs.Bounds.{BoundsValue}
 use Rattle.pattern_cells.specs.declared.pattern.PatternCell.{PatternCell}
-use Rattle.multistate_rle.specs.Bytes.{ends_line}
+use Rattle.text_scan.specs.Bytes.{ends_line}
 use Rattle.pattern_cells.specs.Pattern.{RlePattern, are_within}
 use Rattle.multistate_rle.specs.Tokens.{tokens_from}
 use Rattle.multistate_rle.specs.Reading.{lines_of, lines_read, body_read, pattern_of}

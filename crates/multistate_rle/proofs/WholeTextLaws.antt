@@ -7,8 +7,8 @@ use Rattle.multistate_rle.specs.Position.{OriginValue}
 use Rattle.multistate_rle.specs.declared.line.LineProgress.{LineProgress}
 use Rattle.multistate_rle.specs.declared.line.LineProgress.TheVariants.{Start}
 use Rattle.multistate_rle.specs.declared.fault.RleFault.{RleFault}
-use Rattle.multistate_rle.specs.Bytes.{is_space_or_tab, ends_line, past_prefix, text_behind, ◌>=>◌}
-use Rattle.multistate_rle.specs.Header.{header_of, behind_symbol, side_spelled, number_in_front, may_end_with}
+use Rattle.text_scan.specs.Bytes.{is_space_or_tab, ends_line, past_prefix, text_behind, ◌>=>◌, behind_symbol}
+use Rattle.multistate_rle.specs.Header.{header_of, side_spelled, number_in_front, may_end_with}
 use Rattle.multistate_rle.specs.Position.{origin_in, origin_from, no_items}
 use Rattle.pattern_cells.specs.Pattern.{RlePattern}
 use Rattle.multistate_rle.specs.Tokens.{cells_drawn}

@@ -3,7 +3,7 @@ use Rattle.std.specs.Prelude.{◌≡◌, ◌⊎◌, ℕ, Bool, true, false, not,
 use Rattle.std.specs.List.{list_all}
 use Rattle.multistate_rle.specs.declared.fault.RleFault.{RleFault}
 use Rattle.multistate_rle.specs.declared.fault.RleFault.TheVariants.{Tag}
-use Rattle.multistate_rle.specs.Bytes.{is_decimal_digit}
+use Rattle.text_scan.specs.Bytes.{is_decimal_digit}
 use Rattle.multistate_rle.specs.Tokens.{Token, count_of}
 use Rattle.multistate_rle.specs.Reading.{Mark, Pen, bytes_of, is_prefix_byte, is_letter, pen_after, fault_of}
 use Rattle.multistate_rle.specs.Spelling.{IsCount, IsTag}

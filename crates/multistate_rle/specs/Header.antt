@@ -1,14 +1,10 @@
 -- The header line: `x = w, y = h`, blanks round every part, then nothing, or a comma and any text.
 use Rattle.std.specs.Prelude.{ℕ, Bool, true, List, [], ◌∷◌, ◌==◌, if◌then◌else◌, Option, Some, None, option_map}
-use Rattle.multistate_rle.specs.Bytes.{is_decimal_digit, is_space_or_tab, front, past_prefix, ◌>=>◌, text_behind, decimal_number}
+use Rattle.text_scan.specs.Bytes.{is_decimal_digit, is_space_or_tab, front, past_prefix, ◌>=>◌, behind_symbol, decimal_number}
 
 -- the greatest side that a header can name
 abbrev pub most_pattern_side : ℕ
 most_pattern_side = 4294967295
-
--- what stands behind a byte, blanks before it passed over
-abbrev pub behind_symbol : ℕ → List ℕ → Option (List ℕ)
-behind_symbol c line = text_behind c (past_prefix is_space_or_tab line)
 
 -- the number in front, and what stands behind it
 abbrev pub number_in_front : List ℕ → Option (ℕ × List ℕ)

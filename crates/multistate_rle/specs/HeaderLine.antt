@@ -1,7 +1,7 @@
 -- Which line of a text is its header.
 use Rattle.std.specs.Prelude.{◌≡◌, ℕ, Bool, not, ◌||◌, List, [], ◌∷◌, Option, None, filter}
 use Rattle.std.specs.List.{list_all, slice_split}
-use Rattle.multistate_rle.specs.Bytes.{is_space_or_tab, ends_line}
+use Rattle.text_scan.specs.Bytes.{is_space_or_tab, ends_line}
 use Rattle.multistate_rle.specs.Header.{header_of}
 use Rattle.multistate_rle.specs.Reading.{begins_comment}
 

@@ -7,7 +7,7 @@ use Rattle.pattern_cells.specs.Cells.{is_sorted, are_nonzero, are_states_below}
 use Rattle.multistate_rle.specs.Bounds.{BoundsValue, bounds_of, in_box}
 use Rattle.pattern_cells.specs.Pattern.{RlePattern, are_sorted, are_alive, are_within}
 use Rattle.std.specs.List.{list_all, enumerate_from}
-use Rattle.multistate_rle.specs.Bytes.{ends_line}
+use Rattle.text_scan.specs.Bytes.{ends_line}
 use Rattle.multistate_rle.specs.Header.{header_of}
 use Rattle.multistate_rle.specs.Position.{OriginValue, origin_from, no_items}
 use Rattle.multistate_rle.specs.HeaderLine.{HasNoHeader}

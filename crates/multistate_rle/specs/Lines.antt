@@ -4,7 +4,7 @@ use Rattle.std.specs.List.{enumerate_from}
 use Rattle.multistate_rle.specs.Reading.{Mark}
 use Rattle.multistate_rle.specs.declared.line.LineProgress.{LineProgress}
 use Rattle.multistate_rle.specs.declared.line.LineProgress.TheVariants.{Start, Inside, Comment}
-use Rattle.multistate_rle.specs.Bytes.{is_space_or_tab, ends_line}
+use Rattle.text_scan.specs.Bytes.{is_space_or_tab, ends_line}
 
 -- how far a line is read after a byte
 abbrev pub line_after : LineProgress → ℕ → LineProgress

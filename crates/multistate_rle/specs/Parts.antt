@@ -2,7 +2,7 @@
 use Rattle.std.specs.Prelude.{◌≡◌, ◌⊎◌, ℕ, ◌+◌, true, List, [], ◌∷◌, ◌++◌, Some, None, unwrap_or, length, drop, ⊤}
 use Rattle.multistate_rle.specs.declared.fault.RleFault.{RleFault}
 use Rattle.multistate_rle.specs.declared.fault.RleFault.TheVariants.{Header}
-use Rattle.multistate_rle.specs.Bytes.{ends_line}
+use Rattle.text_scan.specs.Bytes.{ends_line}
 use Rattle.multistate_rle.specs.Header.{header_of}
 use Rattle.multistate_rle.specs.HeaderLine.{HasNoHeader}
 use Rattle.pattern_cells.specs.Pattern.{RlePattern}

@@ -1,8 +1,9 @@
 -- The line `#CXRLE Pos=x,y Gen=n`.
-use Rattle.std.specs.Prelude.{ℕ, Bool, not, List, [], ◌∷◌, ◌==◌, if◌then◌else◌, Option, Some, None, ℤ, pos, neg_ℤ, codes, length, option_map, unwrap_or, filter, drop}
+use Rattle.std.specs.Prelude.{ℕ, List, [], ◌∷◌, if◌then◌else◌, Option, Some, None, ℤ, pos, codes, option_map, unwrap_or, drop}
 use Rattle.std.specs.Str.{bytes_eq}
-use Rattle.std.specs.List.{slice_split, before_first, position_or_len}
-use Rattle.multistate_rle.specs.Bytes.{is_space_or_tab, ◌>=>◌, text_behind, behind_all, decimal_number}
+use Rattle.std.specs.List.{before_first, position_or_len}
+use Rattle.text_scan.specs.Bytes.{◌>=>◌, text_behind, behind_all, decimal_number, is_comma}
+use Rattle.text_scan.specs.Words.{signed_number, words}
 
 -- where a pattern was in its plane, and at which generation
 pub record OriginValue : Type 0 where
@@ -13,19 +14,6 @@ pub record OriginValue : Type 0 where
 pub record ItemsValue : Type 0 where
   pub pos : Option (ℤ × ℤ)
   pub generation : Option ℕ
-
--- the words of a line, separated by blanks
-abbrev pub words : List ℕ → List (List ℕ)
-words line = filter (λ word. not (length word == 0)) (slice_split is_space_or_tab line)
-
--- a number of 32 bits with its sign
-abbrev pub signed_number : List ℕ → Option ℤ
-signed_number [] = None
-signed_number (c ∷ digits) =
-    if c == 45 then option_map (λ n. neg_ℤ (pos n)) (decimal_number 2147483648 digits) else option_map pos (decimal_number 2147483647 (c ∷ digits))
-
-abbrev pub is_comma : ℕ → Bool
-is_comma c = c == 44
 
 -- `Pos=x,y`
 abbrev pub position_in : List ℕ → Option (ℤ × ℤ)

@@ -8,7 +8,7 @@ use Rattle.multistate_rle.specs.declared.fault.RleFault.{RleFault}
 use Rattle.multistate_rle.specs.declared.fault.RleFault.TheVariants.{Header, Tag, Count, State, TooMany}
 use Rattle.multistate_rle.specs.Role.{RoleValue}
 use Rattle.multistate_rle.specs.Role as role
-use Rattle.multistate_rle.specs.Bytes.{is_decimal_digit, is_space_or_tab, ends_line}
+use Rattle.text_scan.specs.Bytes.{is_decimal_digit, is_space_or_tab, ends_line}
 use Rattle.multistate_rle.specs.Tokens.{Token, Cells, Rows, cells_drawn}
 use Rattle.pattern_cells.specs.Pattern.{RlePattern}
 use Rattle.multistate_rle.specs.Header.{header_of}

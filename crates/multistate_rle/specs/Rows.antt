@@ -1,13 +1,11 @@
 -- Worked values of the definitions.
-use Rattle.std.specs.Prelude.{◌≡◌, ℕ, zero, suc, ◌+◌, List, [], ◌∷◌, Some, None, Ok, Err, codes, refl, ℤ, pos, negsuc}
+use Rattle.std.specs.Prelude.{◌≡◌, ℕ, zero, suc, ◌+◌, List, [], ◌∷◌, Ok, Err, codes, refl, ℤ, pos, negsuc}
 use Rattle.std.specs.Fmt.{digits}
 use Rattle.generations_rule.specs.Rule.{GenerationsRule}
 use Rattle.generations_rule.specs.RuleText.{rule_of_text, text_of_set}
 use Rattle.pattern_cells.specs.declared.pattern.PatternCell.{PatternCell}
 use Rattle.multistate_rle.specs.declared.fault.RleFault.TheVariants.{Header, Tag, Count, State, TooMany}
 use Rattle.pattern_cells.specs.declared.cell.Cell.{Cell}
-use Rattle.multistate_rle.specs.Bytes.{decimal_number}
-use Rattle.multistate_rle.specs.Position.{signed_number}
 use Rattle.pattern_cells.specs.Pattern.{RlePattern}
 use Rattle.multistate_rle.specs.Reading.{parsed}
 use Rattle.multistate_rle.specs.Writing.{text_of_cells}
@@ -71,9 +69,6 @@ too_many = refl
 
 -- ---- a zero with a sign: only a coordinate may have one
 
-pub minus_zero_is_zero : signed_number (codes "-0") ≡ Some (pos 0)
-minus_zero_is_zero = refl
-
 pub minus_zero_column :
     parsed (codes "#CXRLE Pos=-0,7 Gen=3\nx = 1, y = 1\no!")
     ≡ Ok (record { width = 1; height = 1; pos = (pos 0, pos 7); generation = 3; cells = cell 0 0 1 ∷ [] })
@@ -87,9 +82,6 @@ minus_zero_row = refl
 -- the line is a comment then
 pub minus_zero_generation : parsed (codes "#CXRLE Pos=1,2 Gen=-0\nx = 1, y = 1\no!") ≡ Ok (boxed 1 1 (cell 0 0 1 ∷ []))
 minus_zero_generation = refl
-
-pub minus_zero_is_no_number : decimal_number 18446744073709551615 (codes "-0") ≡ None
-minus_zero_is_no_number = refl
 
 pub minus_zero_width : parsed (codes "x = -0, y = 0\n!") ≡ Err Header
 minus_zero_width = refl

@@ -2,7 +2,7 @@
 use Rattle.std.specs.Prelude.{◌≡◌, ◌⊎◌, ℕ, true, not, ◌||◌, List, [], ◌∷◌, ◌++◌, Option, if◌then◌else◌, ⊤, codes}
 use Rattle.std.specs.List.{list_all, enumerate_from}
 use Rattle.std.specs.Str.Parse.{digits_value}
-use Rattle.multistate_rle.specs.Bytes.{is_decimal_digit, is_space_or_tab, ends_line}
+use Rattle.text_scan.specs.Bytes.{is_decimal_digit, is_space_or_tab, ends_line}
 use Rattle.multistate_rle.specs.Letters.{IsStateTag}
 use Rattle.multistate_rle.specs.Position.{OriginValue, origin_in}
 use Rattle.multistate_rle.specs.Tokens.{Token, Cells, Rows, count_of}

@@ -4,7 +4,7 @@
 ghost use Rattle.std.specs.Prelude.{◌≡◌, ◌≤◌, ◌<◌, None, length, true, get_or, IfSome};
 ghost use Rattle.multistate_rle.specs.Reading.{is_prefix_byte};
 ghost use Rattle.multistate_rle.specs.Steps.{IsTokenFront};
-ghost use Rattle.multistate_rle.specs.Bytes.{is_decimal_digit};
+ghost use Rattle.text_scan.specs.Bytes.{is_decimal_digit};
 
 use crate::numbers::{COUNT_LIMIT, longer_count};
 

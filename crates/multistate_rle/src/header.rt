@@ -1,10 +1,10 @@
 //! The header line.
 
 ghost use Rattle.std.specs.Prelude.{◌≡◌, option_map};
-ghost use Rattle.multistate_rle.specs.Header.{header_of, side_spelled, behind_symbol, number_in_front, may_end_with};
+ghost use Rattle.multistate_rle.specs.Header.{header_of, side_spelled, number_in_front, may_end_with};
+ghost use Rattle.text_scan.specs.Bytes.{behind_symbol};
 
-use crate::numbers::number;
-use crate::scan;
+use text_scan::{behind, digits_in_front, number, without_blanks};
 
 /// The sides that a header line `x = w, y = h` names; blanks may stand round each part, and behind
 /// the sides nothing, or a comma and any text.
@@ -14,7 +14,7 @@ pub fn header(line: &[u8]) -> Option<(u64, u64)>
     let (width, rest) = side(b'x', line)?;
     let rest = symbol(b',', rest)?;
     let (height, rest) = side(b'y', rest)?;
-    if may_end(scan::without_blanks(rest)) {
+    if may_end(without_blanks(rest)) {
         Some((width, height))
     } else {
         None
@@ -26,19 +26,19 @@ fn side(letter: u8, line: &[u8]) -> Option<(u64, &[u8])>
 {
     let rest = symbol(letter, line)?;
     let rest = symbol(b'=', rest)?;
-    number_at(scan::without_blanks(rest))
+    number_at(without_blanks(rest))
 }
 
 fn symbol(byte: u8, line: &[u8]) -> Option<&[u8]>
     ensures { option_map (λ rest. rest.now) result ≡ behind_symbol byte line.now }
 {
-    scan::behind(byte, scan::without_blanks(line))
+    behind(byte, without_blanks(line))
 }
 
 fn number_at(line: &[u8]) -> Option<(u64, &[u8])>
     ensures { option_map (λ found. (found.0, found.1.now)) result ≡ number_in_front line.now }
 {
-    let len = scan::digits_in_front(line);
+    let len = digits_in_front(line);
     let side = number(u64::from(u32::MAX), &line[..len])?;
     Some((side, &line[len..]))
 }

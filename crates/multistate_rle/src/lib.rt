@@ -17,16 +17,12 @@ mod numbers;
 mod origin;
 mod reading;
 mod role;
-mod scan;
 mod tokens;
-mod word;
 mod writable;
 mod writing;
 
 pub use fault::RleFault;
 pub use laws::{reading_laws, token_laws};
-pub use numbers::{number, signed};
 pub use reading::parse;
-pub use word::split_word;
 pub use writable::are_writable;
 pub use writing::write;

@@ -2,7 +2,7 @@
 
 ghost use Rattle.std.specs.Prelude.{◌≡◌};
 
-use crate::scan;
+use text_scan::{is_blank, is_line_end};
 
 /// How far a line is read.
 #[derive(Clone, Copy, Debug, PartialEq, Eq)]
@@ -22,7 +22,7 @@ impl LineProgress {
     pub fn after(self, byte: u8) -> LineProgress
         ensures { result ≡ line_after self byte }
     {
-        if scan::is_line_end(byte) {
+        if is_line_end(byte) {
             return LineProgress::Start;
         }
         match self {
@@ -38,8 +38,7 @@ impl LineProgress {
     {
         match self {
             LineProgress::Comment => true,
-            LineProgress::Start | LineProgress::Inside => scan::is_blank(byte)
-                || scan::is_line_end(byte),
+            LineProgress::Start | LineProgress::Inside => is_blank(byte) || is_line_end(byte),
         }
     }
 }

@@ -2,12 +2,12 @@
 
 ghost use Rattle.std.specs.Prelude.{◌≡◌, ◌≤◌, length, drop, Some};
 ghost use Rattle.std.specs.List.{position_or_len, before_first};
-ghost use Rattle.multistate_rle.specs.Bytes.{text_behind, ◌>=>◌};
-ghost use Rattle.multistate_rle.specs.Position.{is_comma, no_items, words, items_in, one_item_more, with_position, with_generation, origin_in, origin_from, position_in, generation_in, signed_number};
+ghost use Rattle.text_scan.specs.Bytes.{text_behind, ◌>=>◌, is_comma};
+ghost use Rattle.multistate_rle.specs.Position.{no_items, items_in, one_item_more, with_position, with_generation, origin_in, origin_from, position_in, generation_in};
+ghost use Rattle.text_scan.specs.Words.{words, signed_number};
 
-use crate::numbers::{number, signed};
-use crate::scan;
 use std::marker::Model;
+use text_scan::{behind, number, signed, without_blanks, word_len};
 
 /// Where a pattern was in its plane, and at which generation.
 #[derive(Clone, Copy, Debug, PartialEq, Eq)]
@@ -102,8 +102,8 @@ impl Items {
 pub fn origin_of(line: &[u8]) -> Option<Origin>
     ensures { result ≡ origin_in line.now }
 {
-    let line = scan::without_blanks(line);
-    let (first, items) = line.split_at(scan::word_len(line));
+    let line = without_blanks(line);
+    let (first, items) = line.split_at(word_len(line));
     if first != b"#CXRLE".as_slice() {
         return None;
     }
@@ -114,11 +114,11 @@ fn items_of(line: &[u8]) -> Option<Items>
     ensures { result ≡ items_in no_items (words line.now) }
 {
     let mut items = Items::new();
-    let mut rest = scan::without_blanks(line);
+    let mut rest = without_blanks(line);
     while !rest.is_empty() {
-        let (word, behind) = rest.split_at(scan::word_len(rest));
+        let (word, behind) = rest.split_at(word_len(rest));
         items = items.with_item(word)?;
-        rest = scan::without_blanks(behind);
+        rest = without_blanks(behind);
     }
     Some(items)
 }
@@ -142,7 +142,7 @@ fn coordinates(sides: &[u8]) -> Option<(i32, i32)>
 fn behind_comma(rest: &[u8]) -> Option<i32>
     ensures { result ≡ (text_behind 44 rest.now >=> signed_number) }
 {
-    signed(scan::behind(b',', rest)?)
+    signed(behind(b',', rest)?)
 }
 
 fn generation(word: &[u8]) -> Option<u64>

@@ -2,7 +2,7 @@
 
 ghost use Rattle.std.specs.Prelude.{◌≡◌, ◌↔◌, ◌+◌, ◌≤◌, ◌<◌, ◌^◌, ◌++◌, Ok, Err, length, drop, take, OnOk, IfErr, MatchOption, unwrap_or, None};
 ghost use Rattle.std.specs.List.{enumerate_from, position_or_len};
-ghost use Rattle.multistate_rle.specs.Bytes.{ends_line};
+ghost use Rattle.text_scan.specs.Bytes.{ends_line};
 ghost use Rattle.generations_rule.specs.Refusal.{Answers, AnswersAs};
 ghost use Rattle.multistate_rle.specs.Reading.{parsed, lines_of, body_read, begins_comment, cells_read, bare, or_else};
 ghost use Rattle.multistate_rle.specs.HeaderLine.{HasNoHeader};
@@ -12,10 +12,10 @@ use crate::fault::RleFault;
 use crate::header::header;
 use crate::line::LineProgress;
 use crate::origin::{self, Items, Origin};
-use crate::scan;
 use crate::tokens::{Onward, TokenReader};
 use pattern_cells::Pattern;
 use std::alloc::Global;
+use text_scan::{is_all_blank, line_len};
 
 /// The pattern that a text in Golly's multi-state RLE spells, or what is wrong with the text; the
 /// fault is `Memory` only where memory was refused. A text without a header is told as such, whether
@@ -61,7 +61,7 @@ fn front_of(text: &[u8]) -> Option<Front>
         start += line.len() + 1;
         if is_comment(line) {
             origin = origin.or(origin::origin_of(line));
-        } else if !scan::is_all_blank(line) {
+        } else if !is_all_blank(line) {
             let (width, height) = header(line)?;
             return Some(Front {
                 origin: origin.unwrap_or(Items::new().origin()),
@@ -81,7 +81,7 @@ fn line_at(text: &[u8], start: usize) -> &[u8]
     ensures within { start + length result.now ≤ length text.now }
 {
     let rest = &text[start..];
-    &rest[..scan::line_len(rest)]
+    &rest[..line_len(rest)]
 }
 
 fn is_comment(line: &[u8]) -> bool

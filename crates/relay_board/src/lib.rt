@@ -21,9 +21,7 @@ pub use board::{KEPT, News, SeatFault};
 pub use fault::{FinishFault, Gone, StartFault, SubmitFault, TurnFault};
 pub use finish::{Account, in_order, is_whole};
 pub use naming::Naming;
-pub use opened::{
-    MOST_INBOX, MOST_SESSIONS, Opened, ROOM, start, start_within, start_within_with_key,
-};
+pub use opened::{BoardSize, MOST_INBOX, MOST_SESSIONS, Opened, start, start_within};
 pub use receipt::{Pending, Receipt};
 pub use relay::{Bell, Relay, Turn};
 pub use seat::{IsSeat, Seat};

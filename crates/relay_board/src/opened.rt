@@ -1,9 +1,10 @@
 //! The start, in two steps: a board and an inbox without a name, and then the relay and the seats under a
 //! name. A name of what is only made now cannot be a parameter of the call that makes it.
 
-ghost use Rattle.std.specs.Prelude.{◌≡◌, ◌≢◌, ◌≤◌, ◌^◌, [], true, false, length, IfOk, IfErr};
+ghost use Rattle.std.specs.Prelude.{◌≡◌, ◌≢◌, ◌≤◌, [], true, false, length, IfOk, IfErr};
 ghost use Rattle.std.specs.Arc.{arc_value};
 ghost use Rattle.crossbeam_queue.specs.Passes.{view, ruled_capacity};
+ghost use Rattle.square_store.specs.Limits.{usual_room};
 ghost use Rattle.stamped_writes.specs.Write.{unwritten, AreSame};
 ghost use Rattle.stamped_tree.specs.Plane.{map_of};
 ghost use Rattle.board.specs.Sights.{label_of};
@@ -20,7 +21,7 @@ use board::Publisher;
 use generations_rule::Rule;
 use held_plane::HeldPlane;
 use inbox::Drain;
-use keyed_hash::HashKey;
+use square_store::Limits;
 use std::alloc::Global;
 use std::marker::PhantomData;
 use std::sync::{Arc, Wait};
@@ -31,8 +32,16 @@ pub const MOST_SESSIONS: u16 = 64;
 /// The most submissions that an inbox has room for.
 pub const MOST_INBOX: u16 = 1024;
 
-/// Room for so many squares in the relay's own plane, if none is asked for.
-pub const ROOM: u32 = 1 << 26;
+/// What a board is opened for.
+#[derive(Clone, Copy)]
+pub struct BoardSize {
+    /// How many seats it has, 1 to 64.
+    pub sessions: u16,
+    /// For how many submissions the inbox has room, 1 to 1,024.
+    pub inbox: u16,
+    /// The room of the relay's own plane, and the key of all its planes.
+    pub limits: Limits,
+}
 
 /// A board and an inbox, with no seat yet, and no name. Its drop ends the board.
 pub struct Opened<R: Wait + Drop> {
@@ -84,48 +93,41 @@ pub fn start<R: Wait + Drop>(
     sessions: u16,
     inbox: u16,
 ) -> Result<Opened<R>, StartFault>
-    ensures ok { IfOk result (λ o. (fits sessions inbox ≡ true) × (o.count ≡ sessions) × (o.rule ≡ rule) × (o.tried.store.room ≡ 2 ^ 26) × (ruled_capacity (arc_value o.drain.queue) ≡ inbox)) }
+    ensures ok { IfOk result (λ o. (fits sessions inbox ≡ true) × (o.count ≡ sessions) × (o.rule ≡ rule) × (o.tried.store.room ≡ usual_room) × (ruled_capacity (arc_value o.drain.queue) ≡ inbox)) }
     ensures err { IfErr result (λ f. Starts f (fits sessions inbox)) }
 {
-    start_within(rt, alloc, rule, sessions, inbox, ROOM)
+    let size = BoardSize {
+        sessions,
+        inbox,
+        limits: Limits::usual(),
+    };
+    start_within(rt, alloc, rule, size)
 }
 
-/// The same, with room for so many squares in the relay's own plane.
+/// The same of another size: with room for so many squares in the relay's own plane, and with planes that
+/// find their squares by a key's hashes.
 pub fn start_within<R: Wait + Drop>(
     rt: R,
     alloc: Global,
     rule: Rule,
-    sessions: u16,
-    inbox: u16,
-    nodes: u32,
+    size: BoardSize,
 ) -> Result<Opened<R>, StartFault>
-    requires { 1 ≤ nodes }
-    ensures ok { IfOk result (λ o. (fits sessions inbox ≡ true) × (o.count ≡ sessions) × (o.rule ≡ rule) × (o.tried.store.room ≡ nodes) × (ruled_capacity (arc_value o.drain.queue) ≡ inbox)) }
-    ensures err { IfErr result (λ f. Starts f (fits sessions inbox)) }
+    requires { 1 ≤ size.limits.room }
+    ensures ok { IfOk result (λ o. (fits size.sessions size.inbox ≡ true) × (o.count ≡ size.sessions) × (o.rule ≡ rule) × (o.tried.store.room ≡ size.limits.room) × (ruled_capacity (arc_value o.drain.queue) ≡ size.inbox)) }
+    ensures err { IfErr result (λ f. Starts f (fits size.sessions size.inbox)) }
 {
-    start_within_with_key(rt, alloc, rule, sessions, inbox, nodes, HashKey::fixed())
-}
-
-/// The same, whose planes find their squares by a key's hashes.
-pub fn start_within_with_key<R: Wait + Drop>(
-    rt: R,
-    alloc: Global,
-    rule: Rule,
-    sessions: u16,
-    inbox: u16,
-    nodes: u32,
-    key: HashKey,
-) -> Result<Opened<R>, StartFault>
-    requires { 1 ≤ nodes }
-    ensures ok { IfOk result (λ o. (fits sessions inbox ≡ true) × (o.count ≡ sessions) × (o.rule ≡ rule) × (o.tried.store.room ≡ nodes) × (ruled_capacity (arc_value o.drain.queue) ≡ inbox)) }
-    ensures err { IfErr result (λ f. Starts f (fits sessions inbox)) }
-{
+    let BoardSize {
+        sessions,
+        inbox,
+        limits,
+    } = size;
     if !fits(sessions, inbox) {
         return Err(StartFault::Size);
     }
     let door = Arc::new(alloc, Door::new())?;
-    let tried = HeldPlane::with_room_and_key(alloc, nodes, key)?;
-    let publisher = Publisher::with_key(&rt, alloc, rule.states(), usize::from(sessions), key)?;
+    let tried = HeldPlane::new(alloc, limits)?;
+    let seats = usize::from(sessions);
+    let publisher = Publisher::new(&rt, alloc, rule.states(), seats, limits.key)?;
     let Ok(drain) = Drain::new(alloc, usize::from(inbox), &publisher.front()) else {
         publisher.end(&rt);
         return Err(StartFault::Memory);

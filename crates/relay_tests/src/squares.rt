@@ -8,8 +8,10 @@ use crate::refusals::{Submitted, submit};
 use crate::told::{View, viewed};
 use generations_rule::Rule;
 use relay_board::{
-    FinishFault, Naming, Opened, Relay, Seat, SubmitFault, Turn, TurnFault, is_whole, start_within,
+    BoardSize, FinishFault, Naming, Opened, Relay, Seat, SubmitFault, Turn, TurnFault, is_whole,
+    start_within,
 };
+use square_store::Limits;
 use std::alloc::Global;
 use std::marker::Brand;
 use std::sync::Wait;
@@ -89,7 +91,12 @@ fn keeps<J: Naming, R: Wait + Drop + Copy>(
 
 #[test]
 fn a_full_store_keeps_what_was_submitted(rt: HostRuntime) -> Result<(), Fail> {
-    let opened = start_within(rt, rt.alloc(), Rule::parse(BRIANS_BRAIN)?, 1, 2, 29)?;
+    let size = BoardSize {
+        sessions: 1,
+        inbox: 2,
+        limits: Limits::of_room(29),
+    };
+    let opened = start_within(rt, rt.alloc(), Rule::parse(BRIANS_BRAIN)?, size)?;
     let full = Turn::Failed(TurnFault::StoreFull);
     let kept = Kept {
         submitted: [Submitted::Accepted, Submitted::Refused(SubmitFault::Closed)],

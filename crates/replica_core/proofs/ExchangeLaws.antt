@@ -4,6 +4,7 @@ use Rattle.std.specs.Prelude.{IsTrue, nat_lt, take, drop, Option, Some, None, Re
 use Rattle.std.specs.List.{AllByRecursion, Contains}
 use Rattle.std.proofs.lemmas.List.{length-take, take-append-drop}
 use Rattle.std.proofs.lemmas.List.Elements.{Contains-append_left, Contains-append_right}
+use Rattle.square_store.specs.Limits.{usual_room}
 use Rattle.generations_rule.specs.Refusal.{AnswersAs, ◌>>=◌, unless, when}
 use Rattle.generations_rule.specs.Rule.{GenerationsRule}
 use Rattle.edit_stamps.specs.Edit.{HaveStatesBelow, has_states_below, IsEdit, PlaneEdit}
@@ -80,7 +81,7 @@ entries_tellable states from count journal few edits below = record {
 -- ---- what is taken
 
 -- a want of the reader is one of the replica
-want_read : (r : ReplicaState) (text : List ℕ) (fault : ReadFault) → (fault ≡ read_faults.StoreFull → MayWantRoom (2 ^ 26) text) → IsWantOrFull fault
+want_read : (r : ReplicaState) (text : List ℕ) (fault : ReadFault) → (fault ≡ read_faults.StoreFull → MayWantRoom usual_room text) → IsWantOrFull fault
     → MeetsWantReading r r text (fault_of_read fault)
 want_read r text fault room (inl memory) =
     subst (λ f. MeetsWantReading r r text (fault_of_read f)) (sym memory) (record { want = tt; same = refl; full = λ is. absurd (cc) })
@@ -93,7 +94,7 @@ memory_read r fault memory =
 
 -- a text that is refused, or whose reading meets a want
 pub refuses_text : (r : ReplicaState) (rule : GenerationsRule) (text : List ℕ) (meant : Result Told ReadFault) (refusal : ReadFault)
-    → (refusal ≡ read_faults.StoreFull → MayWantRoom (2 ^ 26) text)
+    → (refusal ≡ read_faults.StoreFull → MayWantRoom usual_room text)
     → AnswersAs (StandsForTold rule) IsWantOrFull (Err refusal) meant → IsTakingText {A = Bool} r r text meant (Err (fault_of_read refusal))
 refuses_text r rule text (Ok told) refusal room want = inl (want_read r text refusal room want)
 refuses_text r rule text (Err fault) refusal room (inl want) = inl (want_read r text refusal room want)
@@ -108,7 +109,7 @@ refuses_edits r rule edits refusal P room (inr full) = absurd (both_kinds (begin
 
 -- the text of a map whose reading meets a want
 pub refuses_map : (r : ReplicaState) (rule : GenerationsRule) (p : Writes) (refusal : ReadFault)
-    → (refusal ≡ read_faults.StoreFull → IsMapTooLargeFor (2 ^ 26) p)
+    → (refusal ≡ read_faults.StoreFull → IsMapTooLargeFor usual_room p)
     → AnswersAs (StandsForMap rule) IsWantOrFull (Err refusal) (Ok p) → IsTakingMap {A = Bool} r r p (Err (fault_of_read refusal))
 refuses_map r rule p refusal large (inl memory) = inl (memory_read r refusal memory)
 refuses_map r rule p refusal large (inr full) = inr (ap fault_of_read full, refl, large full)

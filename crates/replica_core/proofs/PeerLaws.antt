@@ -1,5 +1,5 @@
 -- What a replica holds is what it took, and two that took the same agree.
-use Rattle.std.proofs.Common.{◌≡◌, ℕ, List, [], ◌∷◌, ◌++◌, refl, sym, ◌∙◌, ap, subst}
+use Rattle.std.proofs.Common.{List, ◌++◌, sym, ◌∙◌, ap, subst}
 use Rattle.generations_rule.specs.Rule.{GenerationsRule}
 use Rattle.edit_stamps.specs.Edit.{PlaneEdit, greatest, writes_of}
 use Rattle.edit_stamps.proofs.WriteLaws.{depends_on_members, joins_lists, joins_one_more}

@@ -13,7 +13,7 @@ use Rattle.replica_core.specs.declared.event.Reply.{Reply}
 use Rattle.replica_core.specs.declared.event.Reply.TheVariants as replies
 use Rattle.replica_core.specs.declared.fault.Fault.{Fault}
 use Rattle.replica_core.specs.Headline.{HasOneListOfReplies}
-use Rattle.replica_core.specs.World.{History, Sent, Delta, State, AreReplies, Given, IsReply, IsTextOfSent, TellsBytes, TellsExport, TellsSame, after, both, delivered, drawn, export_reply, message, named_entries, replica}
+use Rattle.replica_core.specs.World.{History, Sent, Delta, State, Given, IsReply, IsTextOfSent, TellsBytes, TellsExport, TellsSame, after, both, delivered, drawn, export_reply, message, named_entries, replica}
 
 -- what was found, or the refusal, has one reply where each thing that may be found has one
 given_one : {A : Type 0} (found : Result A Fault) (a b : Reply) (P : Reply → A → Type 0) → ((x : A) (c d : Reply) → P c x → P d x → c ≡ d) → Given found a (P a) → Given found b (P b) → a ≡ b

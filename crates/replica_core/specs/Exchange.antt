@@ -1,6 +1,7 @@
 -- What a replica does to the bytes of messages, and they to it.
-use Rattle.std.specs.Prelude.{◌≡◌, ◌⊎◌, ◌^◌, ℕ, ◌+◌, nat_lt, List, length, take, drop, Result, Ok, Err}
+use Rattle.std.specs.Prelude.{◌≡◌, ◌⊎◌, ℕ, ◌+◌, nat_lt, List, length, take, drop, Result, Ok, Err}
 use Rattle.std.specs.Result.{IsOk}
+use Rattle.square_store.specs.Limits.{usual_room}
 use Rattle.generations_rule.specs.Refusal.{when, unless, ◌>>=◌}
 use Rattle.edit_stamps.specs.Edit.{PlaneEdit}
 use Rattle.stamped_writes.specs.Write.{Writes}
@@ -24,7 +25,7 @@ TakesSome old new P = (content : Content) × P content × Takes old new content
 pub record MeetsWantReading (old new : ReplicaState) (text : List ℕ) (fault : Fault) : Type 0 where
   pub want : IsWant fault
   pub same : new ≡ old
-  pub full : fault ≡ faults.StoreFull → MayWantRoom (2 ^ 26) text
+  pub full : fault ≡ faults.StoreFull → MayWantRoom usual_room text
 
 -- A text is taken as what it means, whole; or a want is met, as it is read, or as what it means is joined; or it is
 -- refused by its first fault, which leaves all as it was.
@@ -44,7 +45,7 @@ IsTakingOf old new P (Err fault) = MeetsWant old new fault
 -- which leaves all as it was.
 abbrev pub IsTakingMap : {A : Type 0} → ReplicaState → ReplicaState → Writes → Result A Fault → Type 0
 IsTakingMap old new map (Ok done) = TakesSome old new (λ content. HasMap content map)
-IsTakingMap old new map (Err fault) = MeetsWant old new fault ⊎ ((fault ≡ faults.StoreFull) × (new ≡ old) × IsMapTooLargeFor (2 ^ 26) map)
+IsTakingMap old new map (Err fault) = MeetsWant old new fault ⊎ ((fault ≡ faults.StoreFull) × (new ≡ old) × IsMapTooLargeFor usual_room map)
 
 -- ---- what is given
 

@@ -1,8 +1,9 @@
 -- Worlds of replicas as histories: which edits each replica took, which messages were sent, and what is answered to
 -- each event. The plane of a replica is no part of a history; it is the greatest writes of the edits that it took.
-use Rattle.std.specs.Prelude.{◌≡◌, ◌≤◌, ◌↔◌, Bool, IsTrue, ℕ, zero, suc, ◌+◌, ◌-◌, ◌^◌, List, [], ◌∷◌, ◌++◌, length, Option, Some, None, Result, Ok, Err, slice_get, slice_set, Contains, ◌⊎◌, ⊤}
+use Rattle.std.specs.Prelude.{◌≡◌, ◌≤◌, ◌↔◌, Bool, IsTrue, ℕ, zero, suc, ◌+◌, ◌-◌, List, [], ◌∷◌, ◌++◌, length, Option, Some, None, Result, Ok, Err, slice_get, slice_set, Contains, ◌⊎◌, ⊤}
 use Rattle.std.specs.Option.{ok_or}
 use Rattle.std.proofs.Math.ListN.{replicate}
+use Rattle.square_store.specs.Limits.{usual_room}
 use Rattle.generations_rule.specs.Place.{at_place}
 use Rattle.generations_rule.specs.Refusal.{◌>>=◌}
 use Rattle.generations_rule.specs.Rule.{GenerationsRule}
@@ -198,7 +199,7 @@ MayStop stops.StoreFull event = WantsRoom event
 pub record IsExportFull (replicas : List ReplicaState) (number g : ℕ) : Type 0 where
   pub held : ReplicaState
   pub there : numbered replicas number ≡ Some held
-  pub wanted : IsRoomWanted held.rule held.plane g (2 ^ 26)
+  pub wanted : IsRoomWanted held.rule held.plane g usual_room
 
 -- all events before one of the list were replied to, and that one may have stopped it
 pub record IsStoppedAt (w : History) (events : List Event) (stop : Stop) : Type 0 where

@@ -1,6 +1,7 @@
 //! One replica of a shared plane.
 
-ghost use Rattle.std.specs.Prelude.{List, Ok, take, drop, ◌⊎◌, ◌≡◌, ◌≢◌, ◌≤◌, ◌^◌, ◌↔◌, ◌++◌, ◌∷◌, [], ℕ, false, Contains, IfOk, IfErr, IfSome, IsTrue, OnOk, OnErr, length, max};
+ghost use Rattle.std.specs.Prelude.{List, Ok, take, drop, ◌⊎◌, ◌≡◌, ◌≢◌, ◌≤◌, ◌↔◌, ◌++◌, ◌∷◌, [], ℕ, false, Contains, IfOk, IfErr, IfSome, IsTrue, OnOk, OnErr, length, max};
+ghost use Rattle.square_store.specs.Limits.{usual_room};
 ghost use Rattle.std.specs.Result.{IsOk};
 ghost use Rattle.generations_rule.specs.Refusal.{Answers};
 ghost use Rattle.generations_rule.specs.Place.{at_place};
@@ -18,23 +19,19 @@ ghost use Rattle.generation_engine.specs.Universe.{states_in_writes};
 ghost use Rattle.export.specs.Kept.{IsRunOf};
 
 use crate::fault::Fault;
-use delta_exchange::{Content, Message, read_within_with_key, write_delta, write_state};
+use delta_exchange::{Content, Message, read_within, write_delta, write_state};
 use edit_journal::Journal;
 use edit_stamps::{Edit, Stamp, Write, counter_of};
 use export::{export, export_on};
 use generation_engine::Engine;
 use generations_rule::Rule;
 use held_plane::{Added, HeldPlane};
-use keyed_hash::HashKey;
 use replica_events::EditSpec;
-use stamped_tree::Plane;
+use stamped_tree::{Limits, Plane};
 use std::alloc::{AllocError, Global};
 use std::marker::Model;
 use std::slice;
 use tree_join::same_remembered;
-
-/// How many squares a replica may store if nothing else is said.
-const ROOM: u32 = 0x400_0000;
 
 /// A replica of a shared plane: it draws, takes what others send, and shows what it holds. Its
 /// number, 1 to 65535, is its own among all that exchange messages.
@@ -86,41 +83,34 @@ impl Replica {
     /// A replica that holds nothing, with room for 2^26 squares. The only error is want of memory.
     pub fn new(alloc: Global, rule: Rule, number: u16) -> Result<Replica, Fault>
         requires { 1 ≤ number }
-        ensures new { IfOk result (λ replica. IsNew rule number (2 ^ 26) replica) }
+        ensures new { IfOk result (λ replica. IsNew rule number usual_room replica) }
         ensures err { IfErr result (λ fault. fault ≡ Fault.Memory) }
     {
-        Replica::with_room(alloc, rule, number, ROOM)
+        Replica::within(alloc, rule, number, Limits::usual())
     }
 
-    /// A replica that holds nothing, with room for so many squares, which it finds by the fixed key's
-    /// hashes. The only error is want of memory.
+    /// A replica that holds nothing, with room for so many squares. The only error is want of memory.
     pub fn with_room(alloc: Global, rule: Rule, number: u16, nodes: u32) -> Result<Replica, Fault>
         requires number { 1 ≤ number }
         requires nodes { 1 ≤ nodes }
         ensures new { IfOk result (λ replica. IsNew rule number nodes replica) }
         ensures err { IfErr result (λ fault. fault ≡ Fault.Memory) }
     {
-        Replica::with_room_and_key(alloc, rule, number, nodes, HashKey::fixed())
+        Replica::within(alloc, rule, number, Limits::of_room(nodes))
     }
 
-    /// The same, which finds its squares, those of the planes that it reads, and the edits of its journal
-    /// by a key's hashes.
-    pub fn with_room_and_key(
-        alloc: Global,
-        rule: Rule,
-        number: u16,
-        nodes: u32,
-        key: HashKey,
-    ) -> Result<Replica, Fault>
+    /// A replica that holds nothing, within limits. By their key it finds the squares of the planes that it
+    /// reads too, and the edits of its journal.
+    pub fn within(alloc: Global, rule: Rule, number: u16, limits: Limits) -> Result<Replica, Fault>
         requires number { 1 ≤ number }
-        requires nodes { 1 ≤ nodes }
-        ensures new { IfOk result (λ replica. IsNew rule number nodes replica) }
+        requires room { 1 ≤ limits.room }
+        ensures new { IfOk result (λ replica. IsNew rule number limits.room replica) }
         ensures err { IfErr result (λ fault. fault ≡ Fault.Memory) }
     {
         // For the proof alone: the call tells that what is held is a rule.
         let _rule = rule.states();
-        let plane = HeldPlane::with_room_and_key(alloc, nodes, key)?;
-        let (key0, key1) = key.pair();
+        let plane = HeldPlane::new(alloc, limits)?;
+        let (key0, key1) = limits.key.pair();
         Ok(Replica {
             alloc,
             rule,
@@ -273,8 +263,8 @@ impl Replica {
             → IsTakingMap self.old self.new meant result }
         ensures change { IfOk result (λ changed. (changed ≡ false) ↔ AreSame (map_of self.new.plane) (map_of self.old.plane)) }
     {
-        let key = self.plane.plane().key();
-        let message = read_within_with_key(self.alloc, &self.rule, text, ROOM, key)?;
+        let limits = Limits::of_key(self.plane.plane().key());
+        let message = read_within(self.alloc, &self.rule, text, limits)?;
         self.take_noting_change(&message)
     }
 
@@ -323,7 +313,7 @@ impl Replica {
     pub fn export(&self, generation: u32) -> Result<Vec<u8>, Fault>
         ensures text { IfOk result (λ text. IsExportOf self.now generation (Ok text.items)) }
         ensures err { IfErr result (IsExportFault self.now generation) }
-        ensures full { result ≡ Err Fault.StoreFull → IsRoomWanted self.now.rule self.now.plane generation (2 ^ 26) }
+        ensures full { result ≡ Err Fault.StoreFull → IsRoomWanted self.now.rule self.now.plane generation usual_room }
     {
         Ok(export(self.alloc, &self.rule, self.plane.plane(), generation)?)
     }
@@ -337,7 +327,7 @@ impl Replica {
         requires { IfSome kept.old (IsRunOf self.now.rule (states_in_writes (map_of self.now.plane))) }
         ensures text { IfOk result (λ text. IsExportOf self.now generation (Ok text.items)) }
         ensures err { IfErr result (IsExportFault self.now generation) }
-        ensures full { result ≡ Err Fault.StoreFull → IsRoomWanted self.now.rule self.now.plane generation (2 ^ 26) }
+        ensures full { result ≡ Err Fault.StoreFull → IsRoomWanted self.now.rule self.now.plane generation usual_room }
         ensures kept { IfSome kept.new (IsRunOf self.now.rule (states_in_writes (map_of self.now.plane))) }
     {
         match export_on(self.alloc, &self.rule, self.plane.plane(), generation, kept) {

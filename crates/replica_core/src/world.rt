@@ -1,6 +1,7 @@
 //! Worlds of replicas: lists of events, and their replies.
 
-ghost use Rattle.std.specs.Prelude.{◌≡◌, ◌≤◌, ◌^◌, ◌-◌, ◌++◌, ◌∷◌, [], ℕ, List, Option, IfOk, IfErr, IfSome, OnErr, Ok, Err, Some, SomeIff, Contains, length, MatchResult, option_copied, slice_set};
+ghost use Rattle.std.specs.Prelude.{◌≡◌, ◌≤◌, ◌-◌, ◌++◌, ◌∷◌, [], ℕ, List, Option, IfOk, IfErr, IfSome, OnErr, Ok, Err, Some, SomeIff, Contains, length, MatchResult, option_copied, slice_set};
+ghost use Rattle.square_store.specs.Limits.{usual_room};
 ghost use Rattle.edit_stamps.specs.Edit.{IsEdit, PlaneEdit, greatest_counter};
 ghost use Rattle.generations_rule.specs.Rule.{GenerationsRule};
 ghost use Rattle.export.specs.Export.{IsRoomWanted, last_generation};
@@ -20,11 +21,9 @@ use crate::replica::Replica;
 use generation_engine::Engine;
 use generations_rule::Rule;
 use replica_events::{EditSpec, Event};
+use square_store::ROOM;
 use std::alloc::{AllocError, Global};
 use std::marker::Model;
-
-/// How many squares each replica may store if nothing else is said.
-const ROOM: u32 = 0x400_0000;
 
 /// Replicas of one rule with the numbers 1, 2, .. and the bytes of the messages that they sent.
 pub struct World {
@@ -76,7 +75,7 @@ impl World {
     /// 2^26 squares. The only error is want of memory.
     pub fn new(alloc: Global, rule: Rule, n: u16) -> Result<World, Stop>
         ensures new { IfOk result (λ world. StandsForWorld (opening rule n) world) }
-        ensures room { IfOk result (λ world. HaveRoom (2 ^ 26) world.replicas) }
+        ensures room { IfOk result (λ world. HaveRoom usual_room world.replicas) }
         ensures err { IfErr result (λ stop. stop ≡ Stop.Memory) }
     {
         World::with_room(alloc, rule, n, ROOM)
@@ -134,7 +133,7 @@ pub fn replay(
     ensures replies { IfOk result (λ done. AreReplies (opening rule n) events.now done.1.items) }
     ensures world { IfOk result (λ done. StandsForWorld (after_all (opening rule n) events.now) done.0) }
     ensures edits { IfOk result (λ done. AreEdits (after_all (opening rule n) events.now)) }
-    ensures room { IfOk result (λ done. HaveRoom (2 ^ 26) done.0.replicas) }
+    ensures room { IfOk result (λ done. HaveRoom usual_room done.0.replicas) }
     ensures stopped { IfErr result (IsStopOf (opening rule n) events.now) }
 {
     replay_within(alloc, rule, n, ROOM, events)
@@ -521,7 +520,7 @@ fn export_at(
     requires { IfSome universe.old (λ kept. kept.place ≡ place → IsRunOf replica.now.rule (states_in_writes (map_of replica.now.plane)) kept.engine) }
     ensures text { IfOk result (λ text. IsExportOf replica.now generation (Ok text.items)) }
     ensures err { IfErr result (IsExportFault replica.now generation) }
-    ensures full { result ≡ Err Fault.StoreFull → IsRoomWanted replica.now.rule replica.now.plane generation (2 ^ 26) }
+    ensures full { result ≡ Err Fault.StoreFull → IsRoomWanted replica.now.rule replica.now.plane generation usual_room }
     ensures universe { IfSome universe.new (λ kept. (kept.place ≡ place) × IsRunOf replica.now.rule (states_in_writes (map_of replica.now.plane)) kept.engine) }
 {
     let mut engine = match universe.take() {

@@ -3,7 +3,7 @@ use Rattle.std.specs.Prelude.{ℕ, ◌+◌, ◌-◌, ◌==◌, nat_le, max, Bool
 use Rattle.std.specs.List.{list_all}
 use Rattle.std.specs.Option.{unwrap_or}
 use Rattle.std.specs.Str.{bytes_eq}
-use Rattle.multistate_rle.specs.Bytes.{is_space_or_tab}
+use Rattle.text_scan.specs.Bytes.{is_space_or_tab}
 use Rattle.multistate_rle.specs.RleFault.{text_fault_number}
 use Rattle.multistate_rle.specs.declared.fault.RleFault.TheVariants as texts
 use Rattle.genedit_script.specs.Script.{NumberedLine, opens_comment}

@@ -2,8 +2,8 @@
 use Rattle.std.specs.Prelude.{◌≡◌, ℕ, List, [], ◌∷◌, ◌++◌, map, codes, Option, Some, None, Ok, if◌then◌else◌}
 use Rattle.std.specs.Option.{option_to_list, unwrap_or}
 use Rattle.std.specs.Str.{bytes_eq}
-use Rattle.multistate_rle.specs.Bytes.{decimal_number}
-use Rattle.multistate_rle.specs.Position.{words}
+use Rattle.text_scan.specs.Bytes.{decimal_number}
+use Rattle.text_scan.specs.Words.{words}
 use Rattle.replica_core.specs.declared.event.Reply.{Reply}
 use Rattle.replica_core.specs.declared.event.Reply.TheVariants.{Drawn, Sent, Taken, Shown, Same, Bytes, Text, Refused}
 use Rattle.replica_core.specs.Fault.{replica_fault_number}

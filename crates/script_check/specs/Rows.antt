@@ -1,7 +1,7 @@
 -- Worked values of the definitions.
 use Rattle.std.specs.Prelude.{◌≡◌, ◌++◌, [], ◌∷◌, Some, None, codes, refl, replicate}
 use Rattle.std.specs.Fmt.{digits}
-use Rattle.multistate_rle.specs.Position.{words}
+use Rattle.text_scan.specs.Words.{words}
 use Rattle.genedit_script.specs.Script.{lines_from}
 use Rattle.script_faults.specs.declared.note.Place.{Place}
 use Rattle.script_check.specs.Block.{fault_place}

@@ -2,7 +2,7 @@
 
 ghost use Rattle.std.specs.Prelude.{◌≡◌};
 ghost use Rattle.std.specs.List.{list_all};
-ghost use Rattle.multistate_rle.specs.Bytes.{is_space_or_tab};
+ghost use Rattle.text_scan.specs.Bytes.{is_space_or_tab};
 ghost use Rattle.genedit_script.specs.Script.{lines_from, opens_comment};
 ghost use Rattle.script_check.specs.Block as block;
 

@@ -5,7 +5,7 @@ ghost use Rattle.std.specs.Option.{option_to_list};
 ghost use Rattle.genedit_lib.specs.Output.{OutputLine};
 ghost use Rattle.genedit_script.specs.Script.{lines_from};
 ghost use Rattle.script_faults.specs.declared.note.Place.{Place};
-ghost use Rattle.multistate_rle.specs.Position.{words};
+ghost use Rattle.text_scan.specs.Words.{words};
 ghost use Rattle.genedit_io.specs.RunFault.{IsWant};
 ghost use Rattle.genedit_lib.specs.Plan.{line_of};
 ghost use Rattle.genedit_lib.specs.Run.{IsUnprinted, run_fault_of, run_fault_of_stop, script_events, script_opening};
@@ -16,13 +16,11 @@ use crate::block::fault_place;
 use genedit_io::RunFault;
 use genedit_lib::{PlannedLine, planned};
 use genedit_script::{Lines, Script, ScriptFault, read_script};
-use multistate_rle::{number, split_word};
 use replica_core::{Reply, Stop, replay_within};
 use script_faults::{Place, command_places};
+use square_store::ROOM;
 use std::alloc::{AllocError, Global};
-
-/// How many squares each replica of a script has room for, as where it is run.
-const ROOM: u32 = 0x400_0000;
+use text_scan::{number, split_word};
 
 /// A command that would be refused.
 #[derive(Clone, Copy, Debug, PartialEq, Eq)]

@@ -6,7 +6,7 @@ use Rattle.std.specs.Str.Lines.{lines}
 use Rattle.std.proofs.lemmas.Slice.Eq.{bytes_eq-Decides}
 use Rattle.generations_rule.specs.Refusal.{◌>>=◌}
 use Rattle.generations_rule.specs.Rule.{GenerationsRule}
-use Rattle.multistate_rle.specs.Position.{words}
+use Rattle.text_scan.specs.Words.{words}
 use Rattle.genedit_script.specs.declared.command.Command.{Command}
 use Rattle.genedit_script.specs.declared.command.Command.TheVariants.{Names}
 use Rattle.genedit_script.specs.Script.{NumberedLine, ScriptValue, Head, PatternBlock, numbered_lines, lines_from, is_spoken, past_skipped, first_line, onto, rule_spelled, replicas_spelled, opening_spelled, command_spelled, commands_spelled, head_spelled, script_of}

@@ -4,7 +4,7 @@ use Rattle.std.specs.List.{list_any}
 use Rattle.std.specs.Option.{is_none}
 use Rattle.std.specs.Str.{bytes_eq}
 use Rattle.std.specs.Str.Lines.{lines}
-use Rattle.multistate_rle.specs.Position.{words}
+use Rattle.text_scan.specs.Words.{words}
 use Rattle.genedit_script.specs.Script.{NumberedLine, lines_from, is_spoken, rule_spelled, replicas_spelled, opening_spelled, command_spelled}
 use Rattle.script_faults.specs.declared.due.Closing.{Closing}
 use Rattle.script_faults.specs.declared.due.Closing.TheVariants.{Exact, Blank}

@@ -1,14 +1,14 @@
 //! What the next line is due to be.
 
 ghost use Rattle.std.specs.Prelude.{◌≡◌, ◌&&◌, codes, true, false};
-ghost use Rattle.multistate_rle.specs.Position.{words};
+ghost use Rattle.text_scan.specs.Words.{words};
 ghost use Rattle.command_words.specs.Keywords.{keyword_name};
 ghost use Rattle.genedit_script.specs.Script.{lines_from};
 ghost use Rattle.script_faults.specs.Faults.{are_only, begins_with, has_end, opens};
 
 use command_words::Keyword;
 use genedit_script::{Lines, says_something};
-use multistate_rle::split_word;
+use text_scan::split_word;
 
 /// What closes a block.
 #[derive(Clone, Copy, Debug, PartialEq, Eq)]

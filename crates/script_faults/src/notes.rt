@@ -3,7 +3,7 @@
 ghost use Rattle.std.specs.Prelude.{◌≡◌, ◌+◌, IfOk, OnOk, length, IsTrue, IfSome, MatchOption, not, ◌&&◌, ◌||◌, ◌++◌, [], ◌∷◌};
 ghost use Rattle.std.specs.Option.{is_none, option_to_list};
 ghost use Rattle.std.specs.Str.Lines.{lines as lines_of};
-ghost use Rattle.multistate_rle.specs.Position.{words};
+ghost use Rattle.text_scan.specs.Words.{words};
 ghost use Rattle.genedit_script.specs.Script.{lines_from, opening_spelled, script_of};
 ghost use Rattle.script_faults.specs.Faults.{faulty_end, faulty_lines, fault_lines, has_end, if_faulty, is_faulty, opens};
 ghost use Rattle.script_faults.specs.Laws.{Begin};

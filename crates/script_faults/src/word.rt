@@ -4,7 +4,7 @@ ghost use Rattle.std.specs.Prelude.{◌≤◌, length};
 
 use crate::finding::Finding;
 use crate::reason::Reason;
-use multistate_rle::split_word;
+use text_scan::split_word;
 
 /// A word, and the column where it begins, counted from 1.
 #[derive(Clone, Copy)]

@@ -2,8 +2,9 @@
 
 use devices::{Failed, Sink};
 use genedit_io::RunFault;
-use genedit_serve::{listen, serve_on};
+use genedit_serve::{ServedBoard, listen, serve_on};
 use generations_rule::Rule;
+use keyed_hash::HashKey;
 use std::net::TcpStream;
 use std::test::Fail;
 
@@ -57,8 +58,13 @@ fn an_output_that_takes_nothing(rt: HostRuntime) -> Result<(), Fail> {
         failures: 0,
     };
     let listener = listen(&rt, 0)?;
+    let board = ServedBoard {
+        rule,
+        sessions: 1,
+        key: HashKey::fixed(),
+    };
     assert_eq!(&rt;
-        serve_on(rt, rt.alloc(), listener, rule, 1, &mut full),
+        serve_on(rt, rt.alloc(), listener, board, &mut full),
         Err(RunFault::Write)
     );
     assert_eq!(&rt; full.pushes, 1);

@@ -4,8 +4,9 @@ ghost use Rattle.std.specs.Prelude.{◌≤◌};
 
 use devices::WriteSink;
 use genedit_io::RunFault;
-use genedit_serve::{listen, serve_on};
+use genedit_serve::{ServedBoard, listen, serve_on};
 use generations_rule::Rule;
+use keyed_hash::HashKey;
 use std::alloc::Global;
 use std::net::{Net, TcpListener, TcpStream};
 use std::sync::Wait;
@@ -77,13 +78,17 @@ fn run<
 >(rt: R, alloc: Global, listener: TcpListener, rule: Rule, sessions: u16) -> Outcome
     requires { (1 ≤ sessions) × (sessions ≤ 64) }
 {
+    let board = ServedBoard {
+        rule,
+        sessions,
+        key: HashKey::fixed(),
+    };
     let mut printed = Vec::new(alloc);
     let end = serve_on(
         rt,
         alloc,
         listener,
-        rule,
-        sessions,
+        board,
         &mut WriteSink::new(&mut printed),
     );
     Outcome { end, printed }

@@ -1,6 +1,7 @@
 -- The replies of a session: the bodies of its frames.
 use Rattle.std.specs.Prelude.{◌≡◌, ◌⊎◌, ⊤, ℕ, ◌+◌, ◌-◌, ◌^◌, Bool, true, false, nat_le, if◌then◌else◌, List, [], ◌∷◌, ◌++◌, map, length, Option, Some, None, Result, Ok, Err}
 use Rattle.std.specs.Int.{w16, w32, to_be_bytes}
+use Rattle.square_store.specs.Limits.{usual_room}
 use Rattle.generations_rule.specs.Refusal.{◌>>=◌}
 use Rattle.generations_rule.specs.Rule.{GenerationsRule}
 use Rattle.generations_rule.specs.RuleText.{text_of}
@@ -202,8 +203,8 @@ KeepsAll kept _ _ left = ⊥
 
 -- a pushed text that begins as a state, is not short, and is of no map that fits into 2^26 squares
 pub record IsTooLargePush (r : GenerationsRule) (text : List ℕ) : Type 0 where
-  pub room : MayWantRoom (2 ^ 26) text
-  pub large : (meant : Writes) → IsTellableMap r.states meant → IsReadableStateText r meant text → IsMapTooLargeFor (2 ^ 26) meant
+  pub room : MayWantRoom usual_room text
+  pub large : (meant : Writes) → IsTellableMap r.states meant → IsReadableStateText r meant text → IsMapTooLargeFor usual_room meant
 
 -- the want itself: of memory; or of room, for a pushed state
 abbrev pub IsWanting : GenerationsRule → Request → List (List ℕ) → Type 0

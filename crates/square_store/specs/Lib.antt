@@ -1,5 +1,6 @@
 pub mod Grid
 pub mod Squares
+pub mod Limits
 pub mod Store
 pub mod Pieces
 pub mod Steps

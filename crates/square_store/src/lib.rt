@@ -7,6 +7,7 @@
 
 mod fault;
 mod kind;
+mod limits;
 mod node;
 mod part;
 mod square;
@@ -14,6 +15,7 @@ mod store;
 
 pub use fault::StoreFault;
 pub use kind::LeafKind;
+pub use limits::{Limits, ROOM};
 pub use part::Part;
 pub use square::Square;
 pub use store::Store;

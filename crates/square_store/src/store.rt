@@ -9,6 +9,7 @@ ghost use Rattle.square_store.specs.Seen.{AreAt, AreQuartersAt, IsSeen};
 
 use crate::fault::StoreFault;
 use crate::kind::LeafKind;
+use crate::limits::Limits;
 use crate::node::Node;
 use crate::part::Part;
 use crate::square::Square;
@@ -50,21 +51,24 @@ impl<L: LeafKind> Model for Store<L> {
 }
 
 impl<L: LeafKind> Store<L> {
-    /// A store of no square, with room for so many, that finds its squares by the fixed key's hashes.
-    pub fn new(alloc: Global, room: u32) -> Store<L>
-        ensures { result ≡ nothing_held room }
-    {
-        Store::with_key(alloc, room, HashKey::fixed())
-    }
-
-    /// A store of no square, with room for so many, that finds its squares by a key's hashes.
-    pub fn with_key(alloc: Global, room: u32, key: HashKey) -> Store<L>
-        ensures { result ≡ nothing_held room }
+    /// A store of no square.
+    pub fn new(alloc: Global, limits: Limits) -> Store<L>
+        ensures { result ≡ nothing_held limits.room }
     {
         Store {
-            leaves: IndexSet::with_hasher(alloc, key),
-            squares: IndexMap::with_hasher(alloc, key),
-            room,
+            leaves: IndexSet::with_hasher(alloc, limits.key),
+            squares: IndexMap::with_hasher(alloc, limits.key),
+            room: limits.room,
+        }
+    }
+
+    /// What it was made with.
+    pub fn limits(&self) -> Limits
+        ensures room { result.room ≡ self.now.room }
+    {
+        Limits {
+            room: self.room,
+            key: self.key(),
         }
     }
 
@@ -79,13 +83,6 @@ impl<L: LeafKind> Store<L> {
     {
         let _room = self.room;
         self.squares.len() as u32
-    }
-
-    /// How many squares there may be.
-    pub fn room(&self) -> u32
-        ensures { result ≡ self.now.room }
-    {
-        self.room
     }
 
     /// Whether a square of a level stands at a part. A blank stands for every level.

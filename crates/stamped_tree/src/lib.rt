@@ -24,4 +24,4 @@ pub use corner::Corner;
 pub use leaf_kind::{PlaneLeaf, StampBounds};
 pub use plane::Plane;
 pub use square::{Square, View};
-pub use square_store::{Part, StoreFault};
+pub use square_store::{Limits, Part, StoreFault};

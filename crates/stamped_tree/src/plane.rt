@@ -8,6 +8,7 @@ ghost use Rattle.stamped_writes.specs.Write.{AreSame, unwritten};
 ghost use Rattle.generations_rule.specs.Place.{at_place};
 ghost use Rattle.leaf_merge_lanes.specs.Leaf.{write_of};
 ghost use Rattle.square_store.specs.Grid.{blank_grid};
+ghost use Rattle.square_store.specs.Limits.{usual_room};
 ghost use Rattle.square_store.specs.Seen.{IsBlankAt};
 ghost use Rattle.square_store.specs.Store.{IsAdded, IsFullFor, IsHeld, IsOnePartEach, IsRoomFor, IsStore};
 ghost use Rattle.stamped_tree.specs.LeafKind.{IsPlaneLeaf, plane_grid};
@@ -29,12 +30,9 @@ use indexmap::IndexMap;
 use keyed_hash::HashKey;
 use leaf_merge_lanes::Leaf;
 use pattern_cells::Cell;
-use square_store::{Part, Store, StoreFault};
+use square_store::{Limits, Part, Store, StoreFault};
 use std::alloc::{AllocError, Global};
 use std::marker::Model;
-
-/// How many squares a plane may store if nothing else is said.
-const ROOM: u32 = 0x400_0000;
 
 /// The level of a leaf: it has 2^3 columns and rows.
 const LEAF_LEVEL: u32 = 3;
@@ -79,9 +77,9 @@ impl Plane {
     pub fn new(alloc: Global) -> Result<Plane, AllocError>
         ensures map { IfOk result (λ plane. AreSame (map_of plane) (λ _. unwritten)) }
         ensures nodes { IfOk result (λ plane. length plane.store.squares ≡ 1) }
-        ensures room { IfOk result (λ plane. plane.store.room ≡ 2 ^ 26) }
+        ensures room { IfOk result (λ plane. plane.store.room ≡ usual_room) }
     {
-        Plane::with_room(alloc, ROOM)
+        Plane::within(alloc, Limits::usual())
     }
 
     /// The plane where nothing was written, with room for so many squares, which it finds by the fixed
@@ -92,17 +90,17 @@ impl Plane {
         ensures nodes { IfOk result (λ plane. length plane.store.squares ≡ 1) }
         ensures room { IfOk result (λ plane. plane.store.room ≡ nodes) }
     {
-        Plane::with_room_and_key(alloc, nodes, HashKey::fixed())
+        Plane::within(alloc, Limits::of_room(nodes))
     }
 
-    /// The same, which finds its squares by a key's hashes.
-    pub fn with_room_and_key(alloc: Global, nodes: u32, key: HashKey) -> Result<Plane, AllocError>
-        requires { 1 ≤ nodes }
+    /// The plane where nothing was written, within limits.
+    pub fn within(alloc: Global, limits: Limits) -> Result<Plane, AllocError>
+        requires { 1 ≤ limits.room }
         ensures map { IfOk result (λ plane. AreSame (map_of plane) (λ _. unwritten)) }
         ensures nodes { IfOk result (λ plane. length plane.store.squares ≡ 1) }
-        ensures room { IfOk result (λ plane. plane.store.room ≡ nodes) }
+        ensures room { IfOk result (λ plane. plane.store.room ≡ limits.room) }
     {
-        let mut store = Store::with_key(alloc, nodes, key);
+        let mut store = Store::new(alloc, limits);
         match store.add_blank(0) {
             Ok(root) => Ok(Plane { store, root, alloc }),
             Err(StoreFault::StoreFull) => unreachable!(),
@@ -124,7 +122,8 @@ impl Plane {
         ensures map { IfOk result (λ plane. AreSame (map_of plane) (writes_of edit.now)) }
         ensures room { IfOk result (λ plane. plane.store.room ≡ 2 ^ 32 - 1) }
     {
-        let mut store = Store::with_key(alloc, u32::MAX, key);
+        let room = u32::MAX;
+        let mut store = Store::new(alloc, Limits { room, key });
         let Ok(unwritten) = store.add_blank(0) else {
             return Err(AllocError);
         };
@@ -282,7 +281,7 @@ impl Plane {
         ensures squares { IfOk result StoresRootAlone }
         ensures nodes { IfOk result (λ plane. length plane.store.squares ≤ length self.now.store.squares) }
     {
-        let mut store = Store::with_key(self.alloc, self.store.room(), self.store.key());
+        let mut store = Store::new(self.alloc, self.store.limits());
         let mut copies = IndexMap::new(self.alloc);
         let root = copy_square(
             &self.store,

@@ -6,7 +6,7 @@ use crate::messages::deltas::{ONE_CELL, brians_brain};
 use delta_exchange::{Message, ReadFault, read, read_within, write_delta, write_state};
 use edit_stamps::{Cell, Edit, EditFault, Stamp, Write};
 use generations_rule::Rule;
-use stamped_tree::Plane;
+use stamped_tree::{Limits, Plane};
 use std::alloc::{AllocError, Global};
 use std::test::Fail;
 
@@ -259,7 +259,7 @@ pub fn is_retold_within(
 ) -> Result<bool, ReadFault>
     requires { 1 ≤ room }
 {
-    let message = read_within(alloc, rule, text, room)?;
+    let message = read_within(alloc, rule, text, Limits::of_room(room))?;
     match text_of(alloc, rule, &message) {
         Ok(told) => Ok(told.as_slice() == text),
         Err(AllocError) => Err(ReadFault::Memory),

@@ -2,7 +2,7 @@
 
 use edit_stamps::{Edit, EditFault, Rect, Stamp};
 use held_plane::{Added, HeldPlane};
-use stamped_tree::Plane;
+use stamped_tree::{Limits, Plane};
 use std::alloc::Global;
 use std::test::Fail;
 
@@ -55,7 +55,7 @@ fn most_stored(alloc: Global, held: &mut HeldPlane) -> Result<u32, EditFault> {
 #[test]
 fn a_plane_of_many_clears_is_renewed(rt: HostRuntime) -> Result<(), Fail> {
     let (stored, used) = one_clear(rt.alloc())?;
-    let mut held = HeldPlane::with_room(rt.alloc(), 1 << 20)?;
+    let mut held = HeldPlane::new(rt.alloc(), Limits::of_room(1 << 20))?;
     let most = most_stored(rt.alloc(), &mut held)?;
     assert!(rt; most <= stored.saturating_add(4096), "{most}");
     assert_eq!(rt; held.plane().copy()?.nodes(), used);

@@ -3,7 +3,7 @@
 use crate::squares::steps::four;
 use edit_stamps::Write;
 use leaf_merge_lanes::Leaf;
-use square_store::{Part, Square, Store, StoreFault};
+use square_store::{Limits, Part, Square, Store, StoreFault};
 use stamped_tree::{PlaneLeaf, StampBounds};
 use std::alloc::Global;
 
@@ -42,26 +42,26 @@ fn seen(store: &Store<PlaneLeaf>, part: Part, level: u32) -> (u8, u64) {
 }
 
 fn seen_blank(alloc: Global) -> Result<(u8, u64), StoreFault> {
-    let mut store = Store::new(alloc, 9);
+    let mut store = Store::new(alloc, Limits::of_room(9));
     let blank = add_blanks(&mut store, 5, 7)?;
     Ok(seen(&store, blank, 30))
 }
 
 fn seen_leaf(alloc: Global) -> Result<(u8, u64), StoreFault> {
-    let mut store = Store::new(alloc, 9);
+    let mut store = Store::new(alloc, Limits::of_room(9));
     let leaf = store.add_leaf(last(65537, 3))?;
     Ok(seen(&store, leaf, 0))
 }
 
 fn seen_small(alloc: Global) -> Result<(u8, u64), StoreFault> {
-    let mut store = Store::new(alloc, 9);
+    let mut store = Store::new(alloc, Limits::of_room(9));
     let small = add_small(&mut store)?;
     Ok(seen(&store, small, 1))
 }
 
 /// The least and the greatest stamp of that square.
 fn bounds(alloc: Global) -> Result<StampBounds, StoreFault> {
-    let mut store = Store::new(alloc, 9);
+    let mut store = Store::new(alloc, Limits::of_room(9));
     let small = add_small(&mut store)?;
     if store.is_at(small, 1) {
         return Ok(store.summary(small));
@@ -71,7 +71,7 @@ fn bounds(alloc: Global) -> Result<StampBounds, StoreFault> {
 
 /// Whether squares of three blanks and another, of levels 1 and 2, are one part.
 fn are_same(alloc: Global, stamp: u64) -> Result<bool, StoreFault> {
-    let mut store = Store::new(alloc, 9);
+    let mut store = Store::new(alloc, Limits::of_room(9));
     let small = add_blanks(&mut store, 1, stamp)?;
     let large = add_blanks(&mut store, 2, stamp)?;
     Ok(small == large)

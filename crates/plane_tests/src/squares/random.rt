@@ -2,7 +2,7 @@
 
 use crate::squares::steps::{four, single};
 use samples::{Single, next};
-use square_store::{Part, Store, StoreFault};
+use square_store::{Limits, Part, Store, StoreFault};
 use std::alloc::Global;
 
 /// A square as it was asked for: its stamp, or stamp and state, or its level and the places of its
@@ -113,7 +113,7 @@ fn agrees(
 /// After so many adds: whether all agreed, and whether more than a few squares are there.
 fn run(alloc: Global, adds: u32, seed: u64) -> Result<(bool, bool), StoreFault> {
     let mut number = seed;
-    let mut store = Store::new(alloc, u32::MAX);
+    let mut store = Store::new(alloc, Limits::of_room(u32::MAX));
     let mut list = Vec::new(alloc);
     let mut agree = agrees(&mut store, &mut list, Plain::Blank(0))?;
     for _ in 0..adds {

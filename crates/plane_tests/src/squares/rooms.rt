@@ -2,7 +2,7 @@
 
 use crate::squares::steps::{four, single};
 use samples::Single;
-use square_store::{Part, Store, StoreFault};
+use square_store::{Limits, Part, Store, StoreFault};
 use std::alloc::{AllocError, Global};
 
 /// 0, or the fault's number.
@@ -29,7 +29,7 @@ fn add_dead(store: &mut Store<Single>) -> Result<Part, StoreFault> {
 /// What adding a blank, a leaf, a square of both and a dead square answers; and how many squares
 /// there are then.
 fn answers(alloc: Global, room: u32) -> ([u8; 4], u32) {
-    let mut store = Store::new(alloc, room);
+    let mut store = Store::new(alloc, Limits::of_room(room));
     let blank = code(store.add_blank(0));
     let leaf = code(store.add_leaf(single(65537, 1)));
     let square = code(add_two_and_two(&mut store));

@@ -1,6 +1,6 @@
 use Rattle.std.proofs.Common.{◌≡◌, ◌∙◌, sym, ap, refl, List, [], ◌∷◌, ◌++◌, append_assoc}
 use Rattle.std.specs.Prelude.{Option, Some, None, option_map}
-use Rattle.multistate_rle.specs.Position.{words}
+use Rattle.text_scan.specs.Words.{words}
 use Rattle.pattern_cells.specs.declared.cell.Cell.{Cell}
 use Rattle.command_words.specs.Values.{cells_spelled}
 use Rattle.command_words.proofs.values.cells_in.Goals as goal

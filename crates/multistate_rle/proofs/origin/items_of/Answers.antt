@@ -2,9 +2,11 @@ use Rattle.std.proofs.Common.{◌≡◌, ◌<◌, ◌∙◌, sym, ap, arith, len
 use Rattle.std.specs.Prelude.{Some, None}
 use Rattle.std.specs.List.{position_or_len}
 use Rattle.std.proofs.lemmas.Bool.Decides.{nat_tests}
-use Rattle.multistate_rle.specs.Bytes.{is_space_or_tab, past_prefix, ◌>=>◌}
-use Rattle.multistate_rle.specs.Position.{words, items_in, no_items, one_item_more}
-use Rattle.multistate_rle.proofs.SplitLemmas.{words_trimmed, trimmed_twice, next_word, NextWord, items_step}
+use Rattle.text_scan.specs.Bytes.{is_space_or_tab, past_prefix, ◌>=>◌}
+use Rattle.multistate_rle.specs.Position.{items_in, no_items, one_item_more}
+use Rattle.text_scan.specs.Words.{words}
+use Rattle.text_scan.proofs.SplitLemmas.{words_trimmed, trimmed_twice, next_word, NextWord}
+use Rattle.multistate_rle.proofs.OriginLemmas.{items_step}
 use Rattle.multistate_rle.proofs.origin.items_of.Goals as goal
 
 pub loop-rest-init : goal.loop-rest-init

@@ -1,7 +1,8 @@
 use Rattle.std.proofs.Common.{◌≡◌, List, ℕ, length}
 use Rattle.multistate_rle.specs.Position.{ItemsValue}
-use Rattle.multistate_rle.specs.Bytes.{is_space_or_tab, past_prefix}
-use Rattle.multistate_rle.specs.Position.{words, items_in, no_items}
+use Rattle.text_scan.specs.Bytes.{is_space_or_tab, past_prefix}
+use Rattle.multistate_rle.specs.Position.{items_in, no_items}
+use Rattle.text_scan.specs.Words.{words}
 use Rattle.multistate_rle.proofs.origin.items_of.Given as goal
 
 -- what was read, with the words still to come behind it

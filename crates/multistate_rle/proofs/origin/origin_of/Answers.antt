@@ -1,7 +1,7 @@
 use Rattle.std.proofs.Common.{◌∙◌, sym, ap, true, false}
 use Rattle.multistate_rle.specs.Position.{origin_from}
 use Rattle.std.specs.Prelude.{Some, option_map}
-use Rattle.multistate_rle.proofs.SplitLemmas.{origin_is, not_is}
+use Rattle.multistate_rle.proofs.OriginLemmas.{origin_is, not_is}
 use Rattle.multistate_rle.proofs.origin.origin_of.Goals as goal
 
 pub returns-then-ne : goal.returns-then-ne

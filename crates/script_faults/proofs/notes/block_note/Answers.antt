@@ -1,7 +1,7 @@
 use Rattle.std.proofs.Common.{◌≡◌, ◌∙◌, sym, ap, refl}
 use Rattle.std.specs.Prelude.{Bool, true, false, not, ◌||◌}
 use Rattle.std.specs.Option.{is_none}
-use Rattle.multistate_rle.specs.Position.{words}
+use Rattle.text_scan.specs.Words.{words}
 use Rattle.genedit_script.specs.Script.{opening_spelled}
 use Rattle.script_faults.specs.Faults.{if_faulty}
 use Rattle.script_faults.proofs.FaultLemmas.{none_meant}

@@ -5,7 +5,9 @@ use Rattle.stamped_writes.specs.Write.{Writes}
 use Rattle.delta_exchange.specs.declared.message.Content.TheVariants.{Edits}
 use Rattle.delta_exchange.specs.Delta.{AreTellable}
 use Rattle.delta_exchange.specs.Spelling.{delta_text}
-use Rattle.delta_exchange.specs.MessageReading.{HasMap, begins_as_delta, message_of}
+use Rattle.square_store.specs.declared.limits.Limits.{Limits}
+use Rattle.delta_exchange.specs.MessageReading.{HasMap, MayWantRoom, begins_as_delta, message_of}
+use Rattle.delta_exchange.specs.Room.{IsMapTooLargeFor}
 use Rattle.delta_exchange.specs.State.{IsTellableMap}
 use Rattle.delta_exchange.specs.Versions.{IsReadableStateText}
 use Rattle.replica_core.specs.Exchange.{IsTakingMap, IsTakingOf, IsTakingText}
@@ -19,7 +21,7 @@ returns-in_err-message-clause-told c =
     let old : ReplicaState = record { rule = c.self.inside.rule; number = c.self.inside.number; plane = c.self.inside.plane; journal = c.self.inside.journal } in
     subst (λ r. IsTakingText r r c.args.text.now (message_of r.rule c.args.text.now) c.from_residual.result) c.self.view_is
     (subst (IsTakingText old old c.args.text.now (message_of old.rule c.args.text.now)) (sym (is.1 ∙ ap Err is.2))
-    (refuses_text old old.rule c.args.text.now (message_of old.rule c.args.text.now) c.in_err-message.field-0.0 (λ full. c.in_err-message.ensures.full (ap Err full)) c.in_err-message.ensures.exact))
+    (refuses_text old old.rule c.args.text.now (message_of old.rule c.args.text.now) c.in_err-message.field-0.0 (λ full. subst (λ n. MayWantRoom n c.args.text.now) (ap (λ (l : Limits). l.room) c.of_key-limits.ensures) (c.in_err-message.ensures.full (ap Err full))) c.in_err-message.ensures.exact))
 
 pub returns-in_err-message-clause-map : goal.returns-in_err-message-clause-map
 returns-in_err-message-clause-map c =
@@ -28,7 +30,7 @@ returns-in_err-message-clause-map c =
     subst (λ r. (meant : Writes) → IsTellableMap r.rule.states meant → IsReadableStateText r.rule meant c.args.text.now
     → IsTakingMap r r meant c.from_residual.result) c.self.view_is
     (λ meant tellable spelt. subst (IsTakingMap old old meant) (sym (is.1 ∙ ap Err is.2))
-    (refuses_map old old.rule meant c.in_err-message.field-0.0 (λ full. c.in_err-message.ensures.too_large meant tellable spelt (ap Err full)) (c.in_err-message.ensures.only_map meant tellable spelt)))
+    (refuses_map old old.rule meant c.in_err-message.field-0.0 (λ full. subst (λ n. IsMapTooLargeFor n meant) (ap (λ (l : Limits). l.room) c.of_key-limits.ensures) (c.in_err-message.ensures.too_large meant tellable spelt (ap Err full))) (c.in_err-message.ensures.only_map meant tellable spelt)))
 
 pub returns-clause-told : goal.returns-clause-told
 returns-clause-told c =

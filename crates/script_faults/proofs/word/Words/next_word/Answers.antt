@@ -1,6 +1,6 @@
 use Rattle.std.proofs.Common.{ap, arith, length, length-append, length-drop}
 use Rattle.std.specs.List.{prefix_len}
-use Rattle.multistate_rle.specs.Bytes.{is_space_or_tab}
+use Rattle.text_scan.specs.Bytes.{is_space_or_tab}
 use Rattle.script_faults.proofs.word.Words.next_word.Goals as goal
 
 pub returns-clause-within : goal.returns-clause-within

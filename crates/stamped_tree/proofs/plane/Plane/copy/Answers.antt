@@ -9,14 +9,14 @@ use Rattle.stamped_tree.proofs.plane.Plane.copy.Goals as goal
 pub invariant_of-result : goal.invariant_of-result
 invariant_of-result c = record {
   root = (c.in_ok-root.ensures.copy.draws 28 c.self.invariant.root).stands;
-  writes = cut_holds c.room.result _ 28 (grid_at plane_grid 8 c.self.inside.store 28 c.self.inside.root) (c.self.invariant.writes 28 c.self.inside.root c.self.invariant.root) (rw c.with_key-store.ensures at c.in_ok-root.ensures.pieces);
+  writes = cut_holds c.limits.result.room _ 28 (grid_at plane_grid 8 c.self.inside.store 28 c.self.inside.root) (c.self.invariant.writes 28 c.self.inside.root c.self.invariant.root) (rw c.new-store.ensures at c.in_ok-root.ensures.pieces);
 }
 
 pub returns-clause-squares : goal.returns-clause-squares
 returns-clause-squares c = λ q held.
     (let drawn = c.in_ok-root.ensures.copy.draws 28 c.self.invariant.root in
     piece_as plane_grid 8 _ 28 (grid_at plane_grid 8 c.self.inside.store 28 c.self.inside.root) _ q (λ u v hu hv. sym (drawn.same u v hu hv))
-    (cut_alone c.room.result _ 28 (grid_at plane_grid 8 c.self.inside.store 28 c.self.inside.root) (rw c.with_key-store.ensures at c.in_ok-root.ensures.pieces) q held))
+    (cut_alone c.limits.result.room _ 28 (grid_at plane_grid 8 c.self.inside.store 28 c.self.inside.root) (rw c.new-store.ensures at c.in_ok-root.ensures.pieces) q held))
 
 pub returns-clause-nodes : goal.returns-clause-nodes
 returns-clause-nodes c = rw (← c.self.view_is) (no_more _ _ _ c.in_ok-root.ensures.copies)

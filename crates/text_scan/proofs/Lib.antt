@@ -1,0 +1,3 @@
+pub mod SplitLemmas
+pub mod NumberLemmas
+pub mod WordLemmas
