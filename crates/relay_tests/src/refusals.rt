@@ -13,6 +13,7 @@ use std::alloc::Global;
 use std::marker::Brand;
 use std::sync::Wait;
 use std::test::Fail;
+use std::time::{Clock, Duration, Instant};
 
 /// What came of a submission.
 #[derive(Clone, Copy, Debug, PartialEq, Eq)]
@@ -189,12 +190,13 @@ fn what_is_refused_comes_back(rt: HostRuntime) -> Result<(), Fail> {
     Ok(())
 }
 
-/// What a seat is told of a pending submission once the relay was dropped: by a wait, and by a look.
-fn is_gone<J: Naming, R: Wait + Drop + Copy>(
+/// Whether a seat is told of a pending submission that the relay was dropped: by a wait, within 100
+/// milliseconds, and by a look.
+fn is_gone<J: Naming, R: Wait + Clock + Drop + Copy>(
     rt: R,
     alloc: Global,
     opened: Opened<R>,
-) -> Result<(bool, bool), Fail>
+) -> Result<(bool, bool, bool), Fail>
     requires origin { opened.publisher.origin ≡ J.origin }
     requires inbox { (arc_value opened.drain.queue).table.shared.table_id ≡ J.inbox }
 {
@@ -203,8 +205,16 @@ fn is_gone<J: Naming, R: Wait + Drop + Copy>(
     let first = submitted(&rt, alloc, &mut one, 1, 0)?;
     let second = submitted(&rt, alloc, &mut one, 2, 0)?;
     drop(relay);
+    let begun = Instant::now(&rt).ok().ok_or("clock")?;
+    let is_told = matches!(one.receive(&rt, first), Err(Gone));
+    let ended = Instant::now(&rt).ok().ok_or("clock")?;
+    let is_soon = match ended.checked_duration_since(begun) {
+        Some(time) => time < Duration::from_millis(100),
+        None => false,
+    };
     Ok((
-        matches!(one.receive(&rt, first), Err(Gone)),
+        is_told,
+        is_soon,
         matches!(one.try_receive(&rt, second), Err(None)),
     ))
 }
@@ -213,6 +223,6 @@ fn is_gone<J: Naming, R: Wait + Drop + Copy>(
 fn a_dropped_relay_is_gone(rt: HostRuntime) -> Result<(), Fail> {
     let opened = brians_board(rt, rt.alloc(), 1, 2)?;
     let gone = is_gone::<Brand, _>(rt, rt.alloc(), opened)?;
-    assert_eq!(rt; gone, (true, true));
+    assert_eq!(rt; gone, (true, true, true));
     Ok(())
 }
