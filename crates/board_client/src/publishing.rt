@@ -1,17 +1,16 @@
-//! Drawings.
+//! Drawings, and edits that are published.
 
 ghost use Rattle.std.specs.Prelude.{◌≡◌, IsTrue, IfErr, IfOk};
 ghost use Rattle.edit_stamps.specs.Edit.{has_states_below};
-ghost use Rattle.board_client.specs.Client.{line_at};
 ghost use Rattle.board_client.specs.Drawing.{IsDrawing, IsPublishing, push_bytes};
 
 use crate::fault::ClientFault;
-use crate::pushing::{Pushing, push};
+use crate::pushing::Pushing;
+use crate::server::Server;
 use client_protocol::{Asking, request_body};
 use delta_exchange::write_delta;
 use devices::{Sink, Source};
 use edit_stamps::Edit;
-use frame_line::Line;
 use generations_rule::Rule;
 use message_frames::Framed;
 use replica_core::{Fault, Replica};
@@ -32,48 +31,42 @@ pub enum Drawing {
     Unpublished(u8),
 }
 
-/// Draws what the replica would draw of what it holds, with a counter above a given one too, and has it
-/// published: only where the board has the edit does the replica take it. So it wins each cell that the
-/// replica holds, and all that was drawn elsewhere up to that counter.
-pub fn draw<C: Clock, S: Source + Drop, K: Sink + Drop>(
-    clock: &C,
-    alloc: Global,
-    line: &mut Line<S, K>,
-    replica: &mut Replica,
-    after: u64,
-    spec: &EditSpec,
-) -> Result<Drawing, ClientFault>
-    ensures { IsDrawing after spec.now (line_at line.old.frames (S.known line.old.source) (K.known line.old.sink)) (line_at line.new.frames (S.known line.new.source) (K.known line.new.sink)) replica.old replica.new result }
-{
-    match replica.edit_of(after, spec) {
-        Ok(edit) => publish(clock, alloc, line, replica, &edit),
-        Err(Fault::Memory) => Err(ClientFault::Memory),
-        Err(fault) => Ok(Drawing::Refused(fault)),
+impl<'a, C: Clock, S: Source + Drop, K: Sink + Drop> Server<'a, C, S, K> {
+    /// Draws what a replica would draw of what it holds, with a counter above a given one too, and has it
+    /// published: only where the board has the edit does the replica take it. So it wins each cell that the
+    /// replica holds, and all that was drawn elsewhere up to that counter.
+    pub fn draw(
+        &mut self,
+        replica: &mut Replica,
+        after: u64,
+        spec: &EditSpec,
+    ) -> Result<Drawing, ClientFault>
+        ensures { IsDrawing after spec.now self.old self.new replica.old replica.new result }
+    {
+        match replica.edit_of(after, spec) {
+            Ok(edit) => self.publish(replica, &edit),
+            Err(Fault::Memory) => Err(ClientFault::Memory),
+            Err(fault) => Ok(Drawing::Refused(fault)),
+        }
     }
-}
 
-/// Pushes an edit, and takes it where the board has it.
-fn publish<C: Clock, S: Source + Drop, K: Sink + Drop>(
-    clock: &C,
-    alloc: Global,
-    line: &mut Line<S, K>,
-    replica: &mut Replica,
-    edit: &Edit,
-) -> Result<Drawing, ClientFault>
-    requires { IsTrue (has_states_below replica.old.rule.states edit.now) }
-    ensures { IsPublishing edit.now (line_at line.old.frames (S.known line.old.source) (K.known line.old.sink)) (line_at line.new.frames (S.known line.new.source) (K.known line.new.sink)) replica.old replica.new result }
-{
-    let request = match push_request(alloc, &replica.rule(), edit) {
-        Ok(request) => request,
-        Err(fault) => return Err(fault),
-    };
-    match push(clock, line, &request) {
-        Ok(Pushing::Refused(number)) => Ok(Drawing::Unpublished(number)),
-        Ok(Pushing::Done) => match replica.take_edits(slice::from_ref(edit)) {
-            Ok(()) => Ok(Drawing::Drawn(edit.stamp().counter())),
-            Err(fault) => Err(ClientFault::Text(fault)),
-        },
-        Err(fault) => Err(fault),
+    /// Pushes an edit, and has a replica take it where the board has it.
+    fn publish(&mut self, replica: &mut Replica, edit: &Edit) -> Result<Drawing, ClientFault>
+        requires { IsTrue (has_states_below replica.old.rule.states edit.now) }
+        ensures { IsPublishing edit.now self.old self.new replica.old replica.new result }
+    {
+        let request = match push_request(self.alloc, &replica.rule(), edit) {
+            Ok(request) => request,
+            Err(fault) => return Err(fault),
+        };
+        match self.push(&request) {
+            Ok(Pushing::Refused(number)) => Ok(Drawing::Unpublished(number)),
+            Ok(Pushing::Done) => match replica.take_edits(slice::from_ref(edit)) {
+                Ok(()) => Ok(Drawing::Drawn(edit.stamp().counter())),
+                Err(fault) => Err(ClientFault::Text(fault)),
+            },
+            Err(fault) => Err(fault),
+        }
     }
 }
 

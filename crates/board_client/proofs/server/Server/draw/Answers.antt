@@ -2,7 +2,7 @@ use Rattle.std.proofs.Common.{Err, max, refl, subst}
 use Rattle.edit_stamps.specs.Stamp.{counter_in}
 use Rattle.replica_core.specs.Replica.{IsMadeAs, edit_drawn}
 use Rattle.board_client.proofs.DrawingLaws.{unrefused}
-use Rattle.board_client.proofs.drawing.draw.Goals as goal
+use Rattle.board_client.proofs.server.Server.draw.Goals as goal
 
 pub returns-in-Err-Memory : goal.returns-in-Err-Memory
 returns-in-Err-Memory g c =

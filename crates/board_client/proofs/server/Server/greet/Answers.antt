@@ -1,6 +1,6 @@
 use Rattle.board_client.proofs.TryLaws.{never_refused}
 use Rattle.board_client.proofs.GreetingLaws.{greet_again}
-use Rattle.board_client.proofs.greeting.greet.Goals as goal
+use Rattle.board_client.proofs.server.Server.greet.Goals as goal
 
 pub loop-tried-init : goal.loop-tried-init
 loop-tried-init g c = never_refused _ _ _

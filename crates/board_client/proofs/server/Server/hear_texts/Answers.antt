@@ -1,5 +1,5 @@
 use Rattle.board_client.proofs.HearingLaws.{heard_none, heard_on}
-use Rattle.board_client.proofs.hearing.hear_texts.Goals as goal
+use Rattle.board_client.proofs.server.Server.hear_texts.Goals as goal
 
 pub loop-text-init : goal.loop-text-init
 loop-text-init g c = heard_none _ _

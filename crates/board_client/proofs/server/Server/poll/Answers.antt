@@ -1,7 +1,7 @@
 use Rattle.std.proofs.Common.{refl}
 use Rattle.board_client.proofs.TryLaws.{never_refused}
 use Rattle.board_client.proofs.PollingLaws.{poll_again}
-use Rattle.board_client.proofs.polling.poll.Goals as goal
+use Rattle.board_client.proofs.server.Server.poll.Goals as goal
 
 pub loop-tried-init : goal.loop-tried-init
 loop-tried-init g c = (never_refused _ _ _, refl)

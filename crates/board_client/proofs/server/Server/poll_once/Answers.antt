@@ -1,5 +1,5 @@
 use Rattle.board_client.proofs.PollingLaws.{announced, brings_edits, brings_whole, fails_edits, fails_whole}
-use Rattle.board_client.proofs.polling.poll_once.Goals as goal
+use Rattle.board_client.proofs.server.Server.poll_once.Goals as goal
 
 pub returns-in-Ok-hear_text : goal.returns-in-Ok-hear_text
 returns-in-Ok-hear_text g c =

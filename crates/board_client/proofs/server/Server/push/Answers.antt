@@ -1,6 +1,6 @@
 use Rattle.board_client.proofs.TryLaws.{never_refused}
 use Rattle.board_client.proofs.PushingLaws.{push_again}
-use Rattle.board_client.proofs.pushing.push.Goals as goal
+use Rattle.board_client.proofs.server.Server.push.Goals as goal
 
 pub loop-tried-init : goal.loop-tried-init
 loop-tried-init g c = never_refused _ _ _
