@@ -13,8 +13,8 @@ use Rattle.stamped_tree.specs.Tree.{Tree}
 use Rattle.generations_rule.specs.Refusal.{◌>>=◌}
 use Rattle.replica_core.specs.Replica.{ReplicaState, IsReplica, Takes}
 use Rattle.board_client.specs.Hearing.{AreDeltas, AreTaken, IsTaken}
-use Rattle.board_client.specs.declared.drawing.Drawing.{Drawing}
-use Rattle.board_client.specs.declared.drawing.Drawing.TheVariants.{Drawn, Refused, Unpublished}
+use Rattle.board_client.specs.declared.publishing.Drawing.{Drawing}
+use Rattle.board_client.specs.declared.publishing.Drawing.TheVariants.{Drawn, Refused, Unpublished}
 use Rattle.board_client.specs.Drawing.{IsDrawing}
 use Rattle.replica_events.specs.declared.edit_spec.EditSpec.{EditSpec}
 use Rattle.pattern_cells.specs.declared.cell.Cell.{Cell}
@@ -22,7 +22,7 @@ use Rattle.pattern_cells.specs.Cells.{place_of}
 use Rattle.cell_changes.specs.Changes.{AreChanges}
 use Rattle.client_session.specs.declared.joining.Telling.{Telling}
 use Rattle.client_session.specs.declared.joining.Telling.TheVariants.{Edits, Changes}
-use Rattle.client_session.specs.declared.seat.Seat.{Seat}
+use Rattle.client_session.specs.declared.workspace.Workspace.{Workspace}
 use Rattle.client_session.specs.Drawing.{TellsDrawing}
 use Rattle.client_session.specs.Joining.{IsBlank}
 use Rattle.client_session.specs.Lines.{drawn_line, now_line}
@@ -75,7 +75,7 @@ all_shown None (Some after) p shows = absurd shows
 all_shown (Some before) None p shows = absurd shows
 all_shown (Some before) (Some after) p shows = shows.shows
 
-still_shown : (s t : Seat) → t.shown ≡ s.shown → t.replica ≡ s.replica → IsShown s → IsShown t
+still_shown : (s t : Workspace) → t.shown ≡ s.shown → t.replica ≡ s.replica → IsShown s → IsShown t
 still_shown s t shown replica is = record { shown = subst (λ (x : Option StampedPlane). IsShownAs t.replica.plane x) (sym shown) (subst (λ (r : ReplicaState). IsShownAs r.plane s.shown) (sym replica) is.shown) }
 
 blank_shown : (telling : Telling) (shown : Option StampedPlane) (p : StampedPlane) → AreSame (map_of p) (λ _. unwritten) → IsBlank telling shown → IsShownAs p shown
@@ -85,29 +85,29 @@ blank_shown Changes None p new blank = absurd blank
 blank_shown Changes (Some plane) p new blank = λ c. blank.shows c ∙ sym (new c)
 
 -- behind a drawing, by what came of it
-drawn_shown : (drawing : Drawing) (after : ℕ) (spec : EditSpec) (m n : Moment) → IsReplica m.seat.replica → IsShown m.seat → IsDrawing after spec m.line n.line m.seat.replica n.seat.replica (Ok drawing)
-    → TellsDrawing drawing (length m.seat.replica.journal) (record m.seat { replica = n.seat.replica }) n.seat m.out n.out → IsShown n.seat
+drawn_shown : (drawing : Drawing) (after : ℕ) (spec : EditSpec) (m n : Moment) → IsReplica m.workspace.replica → IsShown m.workspace → IsDrawing after spec m.line n.line m.workspace.replica n.workspace.replica (Ok drawing)
+    → TellsDrawing drawing (length m.workspace.replica.journal) (record m.workspace { replica = n.workspace.replica }) n.workspace m.out n.out → IsShown n.workspace
 drawn_shown (Drawn counter) after spec m n is shown d tells =
     let e : PlaneEdit = d.2.0 in
     let takes = d.2.2.1.1 in
     record {
-      shown = shown_behind m.seat.shown n.seat.shown m.seat.replica.plane n.seat.replica.plane [] (drop (length m.seat.replica.journal) n.seat.replica.journal) (m.out ++ drawn_line counter n.seat.replica.number) n.out
-          shown.shown (joins_behind m.seat.replica.journal n.seat.replica.journal (map_of m.seat.replica.plane) (map_of n.seat.replica.plane)
-          (took m.seat.replica n.seat.replica takes.0 (e ∷ []) is.journal.held takes.1 takes.2)) tells.told;
+      shown = shown_behind m.workspace.shown n.workspace.shown m.workspace.replica.plane n.workspace.replica.plane [] (drop (length m.workspace.replica.journal) n.workspace.replica.journal) (m.out ++ drawn_line counter n.workspace.replica.number) n.out
+          shown.shown (joins_behind m.workspace.replica.journal n.workspace.replica.journal (map_of m.workspace.replica.plane) (map_of n.workspace.replica.plane)
+          (took m.workspace.replica n.workspace.replica takes.0 (e ∷ []) is.journal.held takes.1 takes.2)) tells.told;
     }
-drawn_shown (Refused fault) after spec m n is shown d tells = still_shown m.seat n.seat (ap (λ s. s.shown) tells.1) d.2.1.1 shown
-drawn_shown (Unpublished number) after spec m n is shown d tells = still_shown m.seat n.seat (ap (λ s. s.shown) tells.kept) d.2.2.1 shown
+drawn_shown (Refused fault) after spec m n is shown d tells = still_shown m.workspace n.workspace (ap (λ s. s.shown) tells.1) d.2.1.1 shown
+drawn_shown (Unpublished number) after spec m n is shown d tells = still_shown m.workspace n.workspace (ap (λ s. s.shown) tells.kept) d.2.2.1 shown
 
 pub shows_what_it_holds : ShowsWhatItHolds
 shows_what_it_holds = record {
   joined = λ telling number rule s fresh. record { shown = blank_shown telling s.shown s.replica.plane fresh.replica.map fresh.shown };
   edits = λ count m n is shown p. record {
-    shown = shown_behind m.seat.shown n.seat.shown m.seat.replica.plane n.seat.replica.plane _ (drop (length m.seat.replica.journal) n.seat.replica.journal) m.out n.out shown.shown
-        (joins_behind m.seat.replica.journal n.seat.replica.journal (map_of m.seat.replica.plane) (map_of n.seat.replica.plane)
-        (took_all p.polled.last.texts m.seat.replica n.seat.replica is.journal.held p.polled.last.deltas p.polled.last.taken)) p.told.told;
+    shown = shown_behind m.workspace.shown n.workspace.shown m.workspace.replica.plane n.workspace.replica.plane _ (drop (length m.workspace.replica.journal) n.workspace.replica.journal) m.out n.out shown.shown
+        (joins_behind m.workspace.replica.journal n.workspace.replica.journal (map_of m.workspace.replica.plane) (map_of n.workspace.replica.plane)
+        (took_all p.polled.last.texts m.workspace.replica n.workspace.replica is.journal.held p.polled.last.deltas p.polled.last.taken)) p.told.told;
   };
-  whole = λ m n p. record { shown = all_shown m.seat.shown n.seat.shown n.seat.replica.plane p.told.shown };
-  refused = λ number m n shown p. still_shown m.seat n.seat (ap (λ s. s.shown) p.told.0) p.polled.last.kept shown;
+  whole = λ m n p. record { shown = all_shown m.workspace.shown n.workspace.shown n.workspace.replica.plane p.told.shown };
+  refused = λ number m n shown p. still_shown m.workspace n.workspace (ap (λ s. s.shown) p.told.0) p.polled.last.kept shown;
   drawn = λ after spec outcome m n is shown d. drawn_shown d.drawing after spec m n is shown d.drawn d.told;
 }
 
@@ -131,5 +131,5 @@ told_as_changed None after shown p q lines came out told is first last tells = a
 
 pub tells_what_changed : TellsWhatChanged
 tells_what_changed count m n shown is first last p =
-    let t = told_as_changed m.seat.shown n.seat.shown shown m.seat.replica.plane n.seat.replica.plane _ (drop (length m.seat.replica.journal) n.seat.replica.journal) m.out n.out is first.shown last.shown p.told.told in
+    let t = told_as_changed m.workspace.shown n.workspace.shown shown m.workspace.replica.plane n.workspace.replica.plane _ (drop (length m.workspace.replica.journal) n.workspace.replica.journal) m.out n.out is first.shown last.shown p.told.told in
     record { cells = t.0; changes = t.1; told = t.2 }

@@ -1,4 +1,4 @@
-//! A client's seat at a board.
+//! What a client works with.
 
 ghost use Rattle.std.specs.Prelude.{◌≡◌, drop, filter, length};
 ghost use Rattle.client_session.specs.Lines.{is_of_another};
@@ -9,11 +9,11 @@ use genedit_lib::Patterns;
 use held_plane::HeldPlane;
 use replica_core::Replica;
 
-/// A client's seat at a board: its replica, what pattern each name stands for, and what was told of the
-/// board by now.
+/// What a client works with at its seat: its replica, what pattern each name stands for, and what was told of
+/// the board by now.
 #[derive(Drop)]
-pub struct Seat {
-    /// What the seat was handed, and what it drew.
+pub struct Workspace {
+    /// What the client was handed, and what it drew.
     pub replica: Replica,
     /// Which pattern each name stands for.
     pub patterns: Patterns,
@@ -25,11 +25,11 @@ pub struct Seat {
     pub closed: bool,
 }
 
-impl Seat {
+impl Workspace {
     ghost use Rattle.client_session.specs.Moment.{others};
 
     /// How many edits of others came since a number of edits, or a whole plane, was last told.
-    pub fn others(&self) -> usize
+    pub(crate) fn others(&self) -> usize
         ensures { result ≡ others self.now }
     {
         let since = behind(self.replica.journal(), self.counted);
