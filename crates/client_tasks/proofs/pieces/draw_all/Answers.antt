@@ -1,6 +1,6 @@
 use Rattle.std.proofs.Common.{arith}
-use Rattle.client_tasks.proofs.DrawingLaws.{drawn_last, drawn_not, drawn_on}
-use Rattle.client_tasks.proofs.drawing.draw_all.Goals as goal
+use Rattle.client_tasks.proofs.PieceLaws.{drawn_last, drawn_not, drawn_on}
+use Rattle.client_tasks.proofs.pieces.draw_all.Goals as goal
 
 pub loop-rest-preserved : goal.loop-rest-preserved
 loop-rest-preserved g c =
