@@ -1,16 +1,13 @@
-//! A client at a board, and what it does with each command.
+//! A client at a terminal, and what it does with each command.
 
-use crate::connection::let_go;
 use crate::fault::JoinFault;
-use crate::files::{FileFault, push_refused, push_wrote, read_whole, write_whole};
+use crate::files::{FileFault, read_whole, refused_text, write_whole, wrote_text};
 use crate::telling::warn_of_rule;
 use client_commands::{ClientCommand, FileName};
-use client_session::{Outcome, Seat, end_of, time_until};
+use client_session::{Client, Outcome, end_of, time_until};
 use client_tasks::{Done, carry_out, open};
 use devices::{Sink, Source};
-use frame_line::Line;
 use genedit_io::{RunFault, push_output};
-use std::alloc::Global;
 use std::rt::Files;
 use std::thread;
 use std::time::{Clock, Duration};
@@ -43,139 +40,111 @@ pub(crate) enum Going {
     Leaving,
 }
 
-/// A client at a board.
-pub(crate) struct Client<S: Source + Drop, K: Sink + Drop> {
-    /// The line to the server.
-    pub(crate) line: Line<S, K>,
-    pub(crate) seat: Seat,
+/// A client that joined a board, what it asks the system by, and when it polls.
+#[derive(Drop)]
+pub(crate) struct Joined<'a, R: Clock, S: Source + Drop, K: Sink + Drop> {
+    pub(crate) rt: &'a R,
+    pub(crate) client: Client<'a, R, S, K>,
     pub(crate) pace: Pace,
-    /// What is printed, and not pushed yet.
-    pub(crate) out: Vec<u8>,
 }
 
-impl<S: Source + Drop, K: Sink + Drop> Drop for Client<S, K> {
-    fn drop(self) {
-        let Client {
-            line,
-            seat: _,
-            pace: _,
-            out: _,
-        } = self;
-        let_go(line);
-    }
-}
-
-impl<S: Source + Drop, K: Sink + Drop> Client<S, K> {
+impl<'a, R: Clock, S: Source + Drop, K: Sink + Drop> Joined<'a, R, S, K> {
     /// Pushes what was printed.
     pub(crate) fn push_printed<O: Sink>(&mut self, sink: &mut O) -> Result<(), JoinFault> {
-        if self.out.is_empty() {
+        if self.client.printed().is_empty() {
             return Ok(());
         }
-        push_output(sink, &self.out)?;
-        self.out.clear();
+        push_output(sink, self.client.printed())?;
+        self.client.clear_printed();
         Ok(())
     }
 
     /// Polls where nothing asked for it.
-    pub(crate) fn follow<C: Clock>(&mut self, clock: &C, alloc: Global) -> Result<(), JoinFault> {
-        self.seat
-            .follow(clock, alloc, &mut self.line, &mut self.out)?;
+    pub(crate) fn follow(&mut self) -> Result<(), JoinFault> {
+        self.client.follow()?;
         Ok(())
     }
 
+    /// Does nothing for so long, or polls meanwhile.
+    fn sleep<O: Sink>(&mut self, milliseconds: u32, sink: &mut O) -> Result<(), JoinFault> {
+        self.push_printed(sink)?;
+        let whole = Duration::from_millis(u64::from(milliseconds));
+        if !self.pace.is_following {
+            thread::sleep(self.rt, whole);
+            return Ok(());
+        }
+        let end = end_of(self.rt, milliseconds);
+        for _turn in 0..TURNS {
+            let Some(left) = time_until(self.rt, end) else {
+                return Ok(());
+            };
+            thread::sleep(self.rt, left.min(self.pace.interval()));
+            self.follow()?;
+            self.push_printed(sink)?;
+        }
+        Ok(())
+    }
+}
+
+impl<'a, R: Clock + Files + Eprint, S: Source + Drop, K: Sink + Drop> Joined<'a, R, S, K> {
     /// Does what a command asks for. What it prints is pushed only where it sleeps.
-    pub(crate) fn carry_out<R: Clock + Files + Eprint, O: Sink>(
+    pub(crate) fn obey<O: Sink>(
         &mut self,
-        rt: &R,
-        alloc: Global,
         command: ClientCommand,
         sink: &mut O,
     ) -> Result<Going, JoinFault> {
         if let ClientCommand::Pattern(name, text) = &command {
-            let rule = self.seat.replica.rule();
-            warn_of_rule(rt, alloc, &rule, name.as_bytes(), text.as_slice())?;
+            self.warn(name.as_bytes(), text.as_slice())?;
         }
-        let interval = u32::from(self.pace.interval);
-        let (line, seat, out) = (&mut self.line, &mut self.seat, &mut self.out);
-        match carry_out(rt, alloc, line, seat, out, command, interval)? {
+        match carry_out(&mut self.client, command, u32::from(self.pace.interval))? {
             Done::Told => Ok(Going::On),
             Done::InDoubt => Ok(Going::InDoubt),
             Done::Write(file, text) => {
-                self.write(rt, alloc, &file, &text)?;
+                self.write(&file, &text)?;
                 Ok(Going::On)
             }
-            Done::Open(file) => self.open(rt, alloc, &file),
+            Done::Open(file) => self.open(&file),
             Done::Sleep(milliseconds) => {
-                self.sleep(rt, alloc, milliseconds, sink)?;
+                self.sleep(milliseconds, sink)?;
                 Ok(Going::On)
             }
             Done::Leave => Ok(Going::Leaving),
         }
     }
 
-    /// Does nothing for so long, or polls meanwhile.
-    fn sleep<C: Clock, O: Sink>(
-        &mut self,
-        clock: &C,
-        alloc: Global,
-        milliseconds: u32,
-        sink: &mut O,
-    ) -> Result<(), JoinFault> {
-        self.push_printed(sink)?;
-        let whole = Duration::from_millis(u64::from(milliseconds));
-        if !self.pace.is_following {
-            thread::sleep(clock, whole);
-            return Ok(());
-        }
-        let end = end_of(clock, milliseconds);
-        for _turn in 0..TURNS {
-            let Some(left) = time_until(clock, end) else {
-                return Ok(());
-            };
-            thread::sleep(clock, left.min(self.pace.interval()));
-            self.follow(clock, alloc)?;
-            self.push_printed(sink)?;
-        }
+    /// Warns where a pattern's text, which is told by this name, has another rule than the board.
+    fn warn(&self, name: &[u8], text: &[u8]) -> Result<(), JoinFault> {
+        let rule = self.client.replica().rule();
+        warn_of_rule(self.rt, self.client.alloc(), &rule, name, text)?;
         Ok(())
     }
 
     /// Writes a file, and says so, or that it was refused.
-    fn write<R: Files>(
-        &mut self,
-        rt: &R,
-        alloc: Global,
-        file: &FileName,
-        text: &[u8],
-    ) -> Result<(), JoinFault> {
-        match write_whole(rt, alloc, file, text) {
-            Ok(()) => Ok(push_wrote(&mut self.out, text.len() as u64, file)?),
-            Err(FileFault::Refused) => {
-                let refusal = RunFault::Refused(WRITE, None);
-                Ok(push_refused(alloc, &mut self.out, refusal)?)
-            }
-            Err(FileFault::Memory) => Err(JoinFault::Run(RunFault::Memory)),
-        }
+    fn write(&mut self, file: &FileName, text: &[u8]) -> Result<(), JoinFault> {
+        let alloc = self.client.alloc();
+        let told = match write_whole(self.rt, alloc, file, text) {
+            Ok(()) => wrote_text(alloc, text.len() as u64, file)?,
+            Err(FileFault::Refused) => refused_text(alloc, RunFault::Refused(WRITE, None))?,
+            Err(FileFault::Memory) => return Err(JoinFault::Run(RunFault::Memory)),
+        };
+        self.client.print(&told)?;
+        Ok(())
     }
 
     /// Draws what a file holds.
-    fn open<R: Clock + Files + Eprint>(
-        &mut self,
-        rt: &R,
-        alloc: Global,
-        file: &FileName,
-    ) -> Result<Going, JoinFault> {
-        let text = match read_whole(rt, alloc, file) {
+    fn open(&mut self, file: &FileName) -> Result<Going, JoinFault> {
+        let alloc = self.client.alloc();
+        let text = match read_whole(self.rt, alloc, file) {
             Ok(text) => text,
             Err(FileFault::Refused) => {
-                push_refused(alloc, &mut self.out, RunFault::Refused(READ, None))?;
+                self.client
+                    .print(&refused_text(alloc, RunFault::Refused(READ, None))?)?;
                 return Ok(Going::On);
             }
             Err(FileFault::Memory) => return Err(JoinFault::Run(RunFault::Memory)),
         };
-        let rule = self.seat.replica.rule();
-        warn_of_rule(rt, alloc, &rule, file.as_bytes(), &text)?;
-        let (line, seat, out) = (&mut self.line, &mut self.seat, &mut self.out);
-        Ok(going_of(open(rt, alloc, line, seat, out, &text)?))
+        self.warn(file.as_bytes(), &text)?;
+        Ok(going_of(open(&mut self.client, &text)?))
     }
 }
 
