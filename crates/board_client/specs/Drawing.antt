@@ -13,8 +13,8 @@ use Rattle.replica_core.specs.Exchange.{IsTakingOf}
 use Rattle.replica_core.specs.Replica.{ReplicaState, edit_drawn}
 use Rattle.replica_events.specs.declared.edit_spec.EditSpec.{EditSpec}
 use Rattle.stamped_tree.specs.Plane.{map_of}
-use Rattle.board_client.specs.declared.drawing.Drawing.{Drawing}
-use Rattle.board_client.specs.declared.drawing.Drawing.TheVariants.{Drawn, Refused, Unpublished}
+use Rattle.board_client.specs.declared.publishing.Drawing.{Drawing}
+use Rattle.board_client.specs.declared.publishing.Drawing.TheVariants.{Drawn, Refused, Unpublished}
 use Rattle.board_client.specs.declared.fault.ClientFault.{ClientFault}
 use Rattle.board_client.specs.declared.fault.ClientFault.TheVariants.{Line, NoReply, Text, Memory}
 use Rattle.board_client.specs.declared.pushing.Pushing.{Pushing}

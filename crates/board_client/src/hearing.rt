@@ -2,15 +2,15 @@
 
 ghost use Rattle.std.specs.Prelude.{◌≡◌, ◌↔◌, IsTrue, Ok};
 ghost use Rattle.delta_exchange.specs.MessageReading.{begins_as_delta};
-ghost use Rattle.board_client.specs.Client.{line_at};
 ghost use Rattle.board_client.specs.Hearing.{AreTextsHeard, IsAsked, IsTextHeard, is_of_edits};
 
 use crate::fault::ClientFault;
+use crate::server::Server;
 use delta_exchange::is_delta;
 use devices::{Sink, Source};
-use frame_line::Line;
 use message_frames::Framed;
 use replica_core::Replica;
+use std::time::Clock;
 
 /// What a poll's reply announced.
 #[derive(Clone, Copy, Debug, PartialEq, Eq)]
@@ -32,58 +32,58 @@ fn is_announced(announced: Announced, text: &[u8]) -> bool
     }
 }
 
-/// Hears a text that was announced, and takes what it tells. `NoReply` where it is of the other kind.
-pub(crate) fn hear_text<S: Source + Drop, K: Sink + Drop>(
-    line: &mut Line<S, K>,
-    replica: &mut Replica,
-    announced: Announced,
-) -> Result<(), ClientFault>
-    ensures { IsTextHeard announced (line_at line.old.frames (S.known line.old.source) (K.known line.old.sink)) (line_at line.new.frames (S.known line.new.source) (K.known line.new.sink)) replica.old replica.new result }
-{
-    let text = match line.hear() {
-        Ok(text) => text,
-        Err(fault) => return Err(ClientFault::Line(fault)),
-    };
-    let bytes: &[u8] = &text;
-    if !is_announced(announced, bytes) {
-        return Err(ClientFault::NoReply);
-    }
-    match replica.take_bytes(bytes) {
-        Ok(()) => Ok(()),
-        Err(fault) => Err(ClientFault::Text(fault)),
-    }
-}
-
-/// Hears so many texts of edits, and takes what each tells before the next is heard.
-pub(crate) fn hear_texts<S: Source + Drop, K: Sink + Drop>(
-    line: &mut Line<S, K>,
-    replica: &mut Replica,
-    count: u32,
-) -> Result<(), ClientFault>
-    ensures { AreTextsHeard count (line_at line.old.frames (S.known line.old.source) (K.known line.old.sink)) (line_at line.new.frames (S.known line.new.source) (K.known line.new.sink)) replica.old replica.new result }
-{
-    for _text in 0..count {
-        match hear_text(line, replica, Announced::Edits) {
-            Ok(()) => {}
-            Err(fault) => return Err(fault),
+impl<'a, C: Clock, S: Source + Drop, K: Sink + Drop> Server<'a, C, S, K> {
+    /// Hears a text that was announced, and takes what it tells. `NoReply` where it is of the other kind.
+    pub(crate) fn hear_text(
+        &mut self,
+        replica: &mut Replica,
+        announced: Announced,
+    ) -> Result<(), ClientFault>
+        ensures { IsTextHeard announced self.old self.new replica.old replica.new result }
+    {
+        let text = match self.line.hear() {
+            Ok(text) => text,
+            Err(fault) => return Err(ClientFault::Line(fault)),
+        };
+        let bytes: &[u8] = &text;
+        if !is_announced(announced, bytes) {
+            return Err(ClientFault::NoReply);
+        }
+        match replica.take_bytes(bytes) {
+            Ok(()) => Ok(()),
+            Err(fault) => Err(ClientFault::Text(fault)),
         }
     }
-    Ok(())
-}
 
-/// Says a request, and hears the first body of its reply.
-pub(crate) fn ask<S: Source + Drop, K: Sink + Drop>(
-    line: &mut Line<S, K>,
-    request: &Framed,
-) -> Result<Vec<u8>, ClientFault>
-    ensures { IsAsked (λ body. body.items) request.now (line_at line.old.frames (S.known line.old.source) (K.known line.old.sink)) (line_at line.new.frames (S.known line.new.source) (K.known line.new.sink)) result }
-{
-    match line.say(request) {
-        Ok(()) => {}
-        Err(fault) => return Err(ClientFault::Line(fault)),
+    /// Hears so many texts of edits, and takes what each tells before the next is heard.
+    pub(crate) fn hear_texts(
+        &mut self,
+        replica: &mut Replica,
+        count: u32,
+    ) -> Result<(), ClientFault>
+        ensures { AreTextsHeard count self.old self.new replica.old replica.new result }
+    {
+        for _text in 0..count {
+            match self.hear_text(replica, Announced::Edits) {
+                Ok(()) => {}
+                Err(fault) => return Err(fault),
+            }
+        }
+        Ok(())
     }
-    match line.hear() {
-        Ok(body) => Ok(body),
-        Err(fault) => Err(ClientFault::Line(fault)),
+
+    /// Says a request, and hears the first body of its reply.
+    pub(crate) fn ask(&mut self, request: &Framed) -> Result<Vec<u8>, ClientFault>
+        ensures { IsAsked (λ body. body.items) request.now self.old self.new result }
+    {
+        match self.line.say(request) {
+            Ok(()) => {}
+            Err(fault) => return Err(ClientFault::Line(fault)),
+        }
+        let body = match self.line.hear() {
+            Ok(body) => body,
+            Err(fault) => return Err(ClientFault::Line(fault)),
+        };
+        Ok(body)
     }
 }

@@ -4,18 +4,19 @@
 //! handed (Shapiro et al., INRIA RR-7506).
 #![tactic(auto)]
 
-mod drawing;
 mod fault;
 mod greeting;
 mod hearing;
 mod laws;
 mod polling;
+mod publishing;
 mod pushing;
+mod server;
 mod tries;
 
-pub use drawing::{Drawing, draw};
 pub use fault::ClientFault;
-pub use greeting::{greet, leave};
 pub use laws::client_laws;
-pub use polling::{Polling, poll};
-pub use pushing::{Pushing, push};
+pub use polling::Polling;
+pub use publishing::Drawing;
+pub use pushing::Pushing;
+pub use server::Server;

@@ -1,17 +1,15 @@
 //! Polls.
 
-ghost use Rattle.board_client.specs.Client.{line_at};
 ghost use Rattle.board_client.specs.Polling.{IsPoll, IsPollOnce, IsPollRefusedForAMoment};
 ghost use Rattle.std.specs.Prelude.{IsTrue, ◌↔◌};
 
 use crate::fault::ClientFault;
-use crate::hearing::{Announced, ask, hear_text, hear_texts};
+use crate::hearing::Announced;
+use crate::server::Server;
 use crate::tries::{TRIES_MORE, pause};
 use client_protocol::{Asking, Polled, polled_in, request_body};
 use devices::{Sink, Source};
-use frame_line::Line;
 use replica_core::Replica;
-use std::alloc::Global;
 use std::time::Clock;
 
 /// What came of a poll.
@@ -25,56 +23,49 @@ pub enum Polling {
     Refused(u8),
 }
 
-/// Polls once, and takes what comes. After a fault the line is of no further use.
-fn poll_once<S: Source + Drop, K: Sink + Drop>(
-    alloc: Global,
-    line: &mut Line<S, K>,
-    replica: &mut Replica,
-) -> Result<Polling, ClientFault>
-    ensures { IsPollOnce (line_at line.old.frames (S.known line.old.source) (K.known line.old.sink)) (line_at line.new.frames (S.known line.new.source) (K.known line.new.sink)) replica.old replica.new result }
-{
-    let Ok(request) = request_body(alloc, Asking::Poll) else {
-        return Err(ClientFault::Memory);
-    };
-    let first = match ask(line, &request) {
-        Ok(first) => first,
-        Err(fault) => return Err(fault),
-    };
-    match polled_in(&first) {
-        Polled::Refused(number) => Ok(Polling::Refused(number)),
-        Polled::Faulty => Err(ClientFault::NoReply),
-        Polled::Whole => match hear_text(line, replica, Announced::Plane) {
-            Ok(()) => Ok(Polling::Whole),
-            Err(fault) => Err(fault),
-        },
-        Polled::Edits(count) => match hear_texts(line, replica, count) {
-            Ok(()) => Ok(Polling::Edits(count)),
-            Err(fault) => Err(fault),
-        },
+impl<'a, C: Clock, S: Source + Drop, K: Sink + Drop> Server<'a, C, S, K> {
+    /// Polls, and has a replica take what comes. Where the board is closed to reads for a moment, or has no
+    /// memory for its reply, it is tried again some milliseconds later, ten times in all.
+    pub fn poll(&mut self, replica: &mut Replica) -> Result<Polling, ClientFault>
+        ensures { IsPoll self.old self.new replica.old replica.new result }
+    {
+        for _tried in 0..TRIES_MORE {
+            let polling = match self.poll_once(replica) {
+                Ok(polling) => polling,
+                Err(fault) => return Err(fault),
+            };
+            if !is_brief(polling) {
+                return Ok(polling);
+            }
+            pause(self.clock);
+        }
+        self.poll_once(replica)
     }
-}
 
-/// Polls, and takes what comes. Where the board is closed to reads for a moment, or has no memory for its
-/// reply, it is tried again some milliseconds later, ten times in all.
-pub fn poll<C: Clock, S: Source + Drop, K: Sink + Drop>(
-    clock: &C,
-    alloc: Global,
-    line: &mut Line<S, K>,
-    replica: &mut Replica,
-) -> Result<Polling, ClientFault>
-    ensures { IsPoll (line_at line.old.frames (S.known line.old.source) (K.known line.old.sink)) (line_at line.new.frames (S.known line.new.source) (K.known line.new.sink)) replica.old replica.new result }
-{
-    for _tried in 0..TRIES_MORE {
-        let polling = match poll_once(alloc, line, replica) {
-            Ok(polling) => polling,
+    /// Polls once, and takes what comes. After a fault the line is of no further use.
+    fn poll_once(&mut self, replica: &mut Replica) -> Result<Polling, ClientFault>
+        ensures { IsPollOnce self.old self.new replica.old replica.new result }
+    {
+        let Ok(request) = request_body(self.alloc, Asking::Poll) else {
+            return Err(ClientFault::Memory);
+        };
+        let first = match self.ask(&request) {
+            Ok(first) => first,
             Err(fault) => return Err(fault),
         };
-        if !is_brief(polling) {
-            return Ok(polling);
+        match polled_in(&first) {
+            Polled::Refused(number) => Ok(Polling::Refused(number)),
+            Polled::Faulty => Err(ClientFault::NoReply),
+            Polled::Whole => match self.hear_text(replica, Announced::Plane) {
+                Ok(()) => Ok(Polling::Whole),
+                Err(fault) => Err(fault),
+            },
+            Polled::Edits(count) => match self.hear_texts(replica, count) {
+                Ok(()) => Ok(Polling::Edits(count)),
+                Err(fault) => Err(fault),
+            },
         }
-        pause(clock);
     }
-    poll_once(alloc, line, replica)
 }
 
 /// Whether a poll was refused for a moment: 30 where reads are closed, 255 where memory was wanted.

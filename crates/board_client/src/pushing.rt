@@ -1,15 +1,13 @@
 //! Pushes.
 
 ghost use Rattle.std.specs.Prelude.{IsTrue, ◌↔◌};
-ghost use Rattle.board_client.specs.Client.{line_at};
 ghost use Rattle.board_client.specs.Pushing.{IsPush, IsPushOnce, IsPushRefusedForAMoment};
 
 use crate::fault::ClientFault;
-use crate::hearing::ask;
+use crate::server::Server;
 use crate::tries::{TRIES_MORE, pause};
 use client_protocol::{Answer, answer_in};
 use devices::{Sink, Source};
-use frame_line::Line;
 use message_frames::Framed;
 use std::time::Clock;
 
@@ -22,43 +20,38 @@ pub enum Pushing {
     Refused(u8),
 }
 
-/// Pushes a request. Where the board's inbox is full, or memory was wanted, so that the board does not have
-/// the edit, the same bytes are pushed again some milliseconds later, ten times in all.
-pub fn push<C: Clock, S: Source + Drop, K: Sink + Drop>(
-    clock: &C,
-    line: &mut Line<S, K>,
-    request: &Framed,
-) -> Result<Pushing, ClientFault>
-    ensures { IsPush request.now (line_at line.old.frames (S.known line.old.source) (K.known line.old.sink)) (line_at line.new.frames (S.known line.new.source) (K.known line.new.sink)) result }
-{
-    for _tried in 0..TRIES_MORE {
-        let pushing = match push_once(line, request) {
-            Ok(pushing) => pushing,
+impl<'a, C: Clock, S: Source + Drop, K: Sink + Drop> Server<'a, C, S, K> {
+    /// Pushes a request. Where the board's inbox is full, or memory was wanted, so that the board does not
+    /// have the edit, the same bytes are pushed again some milliseconds later, ten times in all.
+    pub fn push(&mut self, request: &Framed) -> Result<Pushing, ClientFault>
+        ensures { IsPush request.now self.old self.new result }
+    {
+        for _tried in 0..TRIES_MORE {
+            let pushing = match self.push_once(request) {
+                Ok(pushing) => pushing,
+                Err(fault) => return Err(fault),
+            };
+            if !is_brief(pushing) {
+                return Ok(pushing);
+            }
+            pause(self.clock);
+        }
+        self.push_once(request)
+    }
+
+    /// Says a request whose answer is one byte, and hears it.
+    pub(crate) fn push_once(&mut self, request: &Framed) -> Result<Pushing, ClientFault>
+        ensures { IsPushOnce request.now self.old self.new result }
+    {
+        let reply = match self.ask(request) {
+            Ok(reply) => reply,
             Err(fault) => return Err(fault),
         };
-        if !is_brief(pushing) {
-            return Ok(pushing);
+        match answer_in(&reply) {
+            Answer::Done => Ok(Pushing::Done),
+            Answer::Refused(number) => Ok(Pushing::Refused(number)),
+            Answer::Faulty => Err(ClientFault::NoReply),
         }
-        pause(clock);
-    }
-    push_once(line, request)
-}
-
-/// Says a request whose answer is one byte, and hears it.
-pub(crate) fn push_once<S: Source + Drop, K: Sink + Drop>(
-    line: &mut Line<S, K>,
-    request: &Framed,
-) -> Result<Pushing, ClientFault>
-    ensures { IsPushOnce request.now (line_at line.old.frames (S.known line.old.source) (K.known line.old.sink)) (line_at line.new.frames (S.known line.new.source) (K.known line.new.sink)) result }
-{
-    let reply = match ask(line, request) {
-        Ok(reply) => reply,
-        Err(fault) => return Err(fault),
-    };
-    match answer_in(&reply) {
-        Answer::Done => Ok(Pushing::Done),
-        Answer::Refused(number) => Ok(Pushing::Refused(number)),
-        Answer::Faulty => Err(ClientFault::NoReply),
     }
 }
 

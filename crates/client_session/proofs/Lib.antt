@@ -1,5 +1,7 @@
 pub mod ShownLaws
 pub mod FreshLaws
-pub mod SeatLaws
+pub mod ToldLaws
 pub mod PasteLaws
 pub mod WaitLaws
+pub mod JoinLaws
+pub mod DrawnLaws

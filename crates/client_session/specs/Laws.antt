@@ -8,9 +8,9 @@ use Rattle.replica_core.specs.Replica.{IsReplica}
 use Rattle.replica_events.specs.declared.edit_spec.EditSpec.{EditSpec}
 use Rattle.cell_changes.specs.Changes.{AreChanges}
 use Rattle.board_client.specs.declared.polling.Polling.TheVariants as polling
-use Rattle.client_session.specs.declared.drawing.Outcome.{Outcome}
+use Rattle.client_session.specs.declared.outcome.Outcome.{Outcome}
 use Rattle.client_session.specs.declared.joining.Telling.{Telling}
-use Rattle.client_session.specs.declared.seat.Seat.{Seat}
+use Rattle.client_session.specs.declared.workspace.Workspace.{Workspace}
 use Rattle.client_session.specs.Drawing.{DrawsAndTells}
 use Rattle.client_session.specs.Joining.{IsFresh}
 use Rattle.client_session.specs.Lines.{now_line}
@@ -23,24 +23,24 @@ IsShownAs plane None = ⊤
 IsShownAs plane (Some shown) = AreSame (map_of shown) (map_of plane)
 
 -- what is told of the board, where cells that look different are, is what the replica holds
-pub record IsShown (s : Seat) : Type 0 where
+pub record IsShown (s : Workspace) : Type 0 where
   pub shown : IsShownAs s.replica.plane s.shown
 
--- So it is of a new seat, and so it stays behind a poll, whatever it brought, and behind a drawing.
+-- So it is of a client that joins, and so it stays behind a poll, whatever it brought, and behind a drawing.
 pub record ShowsWhatItHolds : Type 0 where
-  pub joined : (telling : Telling) (number : ℕ) (rule : GenerationsRule) (s : Seat) → IsFresh telling number rule s → IsShown s
-  pub edits : (count : ℕ) (m n : Moment) → IsReplica m.seat.replica → IsShown m.seat → Polls (polling.Edits count) m n → IsShown n.seat
-  pub whole : (m n : Moment) → Polls polling.Whole m n → IsShown n.seat
-  pub refused : (number : ℕ) (m n : Moment) → IsShown m.seat → Polls (polling.Refused number) m n → IsShown n.seat
-  pub drawn : (after : ℕ) (spec : EditSpec) (outcome : Outcome) (m n : Moment) → IsReplica m.seat.replica → IsShown m.seat → DrawsAndTells after spec m n outcome → IsShown n.seat
+  pub joined : (telling : Telling) (number : ℕ) (rule : GenerationsRule) (s : Workspace) → IsFresh telling number rule s → IsShown s
+  pub edits : (count : ℕ) (m n : Moment) → IsReplica m.workspace.replica → IsShown m.workspace → Polls (polling.Edits count) m n → IsShown n.workspace
+  pub whole : (m n : Moment) → Polls polling.Whole m n → IsShown n.workspace
+  pub refused : (number : ℕ) (m n : Moment) → IsShown m.workspace → Polls (polling.Refused number) m n → IsShown n.workspace
+  pub drawn : (after : ℕ) (spec : EditSpec) (outcome : Outcome) (m n : Moment) → IsReplica m.workspace.replica → IsShown m.workspace → DrawsAndTells after spec m n outcome → IsShown n.workspace
 
 -- a line tells the cells whose state is another one in the replica's map than before
 pub record TellsDifferences (m n : Moment) (out : List ℕ) : Type 0 where
   pub cells : List Cell
-  pub changes : AreChanges (map_of m.seat.replica.plane) (map_of n.seat.replica.plane) cells
+  pub changes : AreChanges (map_of m.workspace.replica.plane) (map_of n.workspace.replica.plane) cells
   pub told : n.out ≡ out ++ now_line cells
 
 -- Where cells that look different are told and what is told is what the replica holds, before and behind a poll that brought
 -- edits, it tells just those cells.
 abbrev pub TellsWhatChanged : Type 0
-TellsWhatChanged = (count : ℕ) (m n : Moment) (shown : StampedPlane) → m.seat.shown ≡ Some shown → IsShown m.seat → IsShown n.seat → Polls (polling.Edits count) m n → TellsDifferences m n m.out
+TellsWhatChanged = (count : ℕ) (m n : Moment) (shown : StampedPlane) → m.workspace.shown ≡ Some shown → IsShown m.workspace → IsShown n.workspace → Polls (polling.Edits count) m n → TellsDifferences m n m.out

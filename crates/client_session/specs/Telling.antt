@@ -12,9 +12,9 @@ use Rattle.held_plane.specs.Held.{IsAsBefore}
 use Rattle.held_plane.specs.Wanted.{IsFullOfNeeds}
 use Rattle.cell_changes.specs.Changes.{AreChanges}
 use Rattle.client_session.specs.Lines.{edit_lines, now_line, whole_line}
-use Rattle.client_session.specs.declared.fault.SeatFault.{SeatFault}
-use Rattle.client_session.specs.declared.fault.SeatFault.TheVariants as faults
-use Rattle.client_session.specs.declared.seat.Seat.{Seat}
+use Rattle.client_session.specs.declared.fault.CommandFault.{CommandFault}
+use Rattle.client_session.specs.declared.fault.CommandFault.TheVariants as faults
+use Rattle.client_session.specs.declared.workspace.Workspace.{Workspace}
 use Rattle.client_session.specs.Moment.{IsCutShort, IsWant}
 use Rattle.board_client.specs.declared.polling.Polling.{Polling}
 use Rattle.board_client.specs.declared.polling.Polling.TheVariants.{Edits, Whole, Refused}
@@ -48,19 +48,19 @@ ShowsAll plane None None = ⊤
 ShowsAll plane (Some before) (Some after) = ShowsMap (map_of plane) after
 ShowsAll plane _ _ = ⊥
 
--- edits behind so many of the journal are told, each in a line, or what they change; those of the seat's own are told only where a push was refused by 30
-pub record TellsBehind (known : ℕ) (old new : Seat) (out out' : List ℕ) : Type 0 where
+-- edits behind so many of the journal are told, each in a line, or what they change; those of the client's own are told only where a push was refused by 30
+pub record TellsBehind (known : ℕ) (old new : Workspace) (out out' : List ℕ) : Type 0 where
   pub told : TellsCame (edit_lines old.closed old.replica.number (drop known old.replica.journal)) (drop known old.replica.journal) old.shown new.shown out out'
   pub kept : new ≡ record old { shown = new.shown }
 
 -- that a whole plane came is told alone; the count of edits starts anew
-pub record TellsWhole (old new : Seat) (out out' : List ℕ) : Type 0 where
+pub record TellsWhole (old new : Workspace) (out out' : List ℕ) : Type 0 where
   pub told : out' ≡ out ++ whole_line
   pub shown : ShowsAll old.replica.plane old.shown new.shown
   pub kept : new ≡ record old { shown = new.shown; counted = length old.replica.journal }
 
--- what is told of a poll, by a seat whose replica took what came behind so many edits of its journal; of a refusal nothing
-abbrev pub TellsPoll : Polling → ℕ → Seat → Seat → List ℕ → List ℕ → Type 0
+-- what is told of a poll, by a client whose replica took what came behind so many edits of its journal; of a refusal nothing
+abbrev pub TellsPoll : Polling → ℕ → Workspace → Workspace → List ℕ → List ℕ → Type 0
 TellsPoll (Edits count) known old new out out' = TellsBehind known old new out out'
 TellsPoll Whole known old new out out' = TellsWhole old new out out'
 TellsPoll (Refused number) known old new out out' = (new ≡ old) × (out' ≡ out)
@@ -68,7 +68,7 @@ TellsPoll (Refused number) known old new out out' = (new ≡ old) × (out' ≡ o
 -- ---- where room is wanting for that
 
 -- a plane's want, as the client's
-abbrev pub want_of : StoreFault → SeatFault
+abbrev pub want_of : StoreFault → CommandFault
 want_of stores.Memory = faults.Memory
 want_of stores.StoreFull = faults.StoreFull
 
@@ -112,13 +112,13 @@ AllFindsNoRoom plane None = ⊥
 AllFindsNoRoom plane (Some shown) = MapFindsNoRoom plane
 
 -- a whole plane came whose map finds none, and nothing is told
-pub record WholeFindsNoRoom (old new : Seat) (out out' : List ℕ) : Type 0 where
+pub record WholeFindsNoRoom (old new : Workspace) (out out' : List ℕ) : Type 0 where
   pub full : AllFindsNoRoom old.replica.plane old.shown
   pub kept : new ≡ old
   pub told : out' ≡ out
 
--- what a poll brought finds none, by a seat whose replica took what came behind so many edits of its journal
-abbrev pub PollFindsNoRoom : Polling → ℕ → Seat → Seat → List ℕ → List ℕ → Type 0
+-- what a poll brought finds none, by a client whose replica took what came behind so many edits of its journal
+abbrev pub PollFindsNoRoom : Polling → ℕ → Workspace → Workspace → List ℕ → List ℕ → Type 0
 PollFindsNoRoom (Edits count) known old new out out' = CameFindsNoRoom (drop known old.replica.journal) old.shown new.shown out out'
 PollFindsNoRoom Whole known old new out out' = WholeFindsNoRoom old new out out'
 PollFindsNoRoom (Refused number) known old new out out' = ⊥
@@ -126,7 +126,7 @@ PollFindsNoRoom (Refused number) known old new out out' = ⊥
 -- ---- all of it
 
 -- it is told; a refusal by 21 ends the client, as does a want of memory, or of room for the map that is told
-abbrev pub IsPollingTold : {A : Type 0} → Polling → ℕ → Seat → Seat → List ℕ → List ℕ → Result A SeatFault → Type 0
+abbrev pub IsPollingTold : {A : Type 0} → Polling → ℕ → Workspace → Workspace → List ℕ → List ℕ → Result A CommandFault → Type 0
 IsPollingTold polling known old new out out' (Ok done) = (polling ≢ Refused 21) × TellsPoll polling known old new out out'
 IsPollingTold polling known old new out out' (Err (faults.Refused number)) = (number ≡ 21) × (polling ≡ Refused 21) × (new ≡ old) × (out' ≡ out)
 IsPollingTold polling known old new out out' (Err fault) = IsWant (PollFindsNoRoom polling known old new out out') fault × IsCutShort old new out out'

@@ -1,83 +1,81 @@
-//! Texts of what a seat's replica holds.
+//! Texts of what a client's replica holds.
 
 ghost use Rattle.std.specs.Prelude.{◌≡◌};
-ghost use Rattle.client_session.specs.Exporting.{IsExportAnswer, IsExportCommand, IsExportPrint, IsExportTextCommand, IsSaveCommand, IsStateAnswer};
-ghost use Rattle.client_session.specs.Moment.{moment};
+ghost use Rattle.client_session.specs.Exporting.{ExportsNow, ExportsTextNow, IsExportAnswer, IsExportCommand, IsExportPrint, IsExportTextCommand, IsSaveCommand, IsStateAnswer};
 
-use crate::fault::SeatFault;
+use crate::client::Client;
+use crate::fault::CommandFault;
 use crate::polling::News;
-use crate::seat::Seat;
+use crate::workspace::Workspace;
 use devices::{Sink, Source};
-use frame_line::Line;
 use genedit_lib::push_line;
 use replica_core::{Fault, Reply};
 use std::alloc::Global;
 use std::time::Clock;
 
-impl Seat {
+impl<'a, C: Clock, S: Source + Drop, K: Sink + Drop> Client<'a, C, S, K> {
     /// Polls, tells what came, and prints the cells so many generations later as an RLE text, or why they are
     /// not exported, as `genedit run` does.
-    pub fn export<C: Clock, S: Source + Drop, K: Sink + Drop>(
-        &mut self,
-        clock: &C,
-        alloc: Global,
-        line: &mut Line<S, K>,
-        out: &mut Vec<u8>,
-        generation: u32,
-    ) -> Result<(), SeatFault>
-        ensures { IsExportCommand generation (moment S.known K.known line.old self.old out.old.items) (moment S.known K.known line.new self.new out.new.items) result }
+    pub fn export(&mut self, generation: u32) -> Result<(), CommandFault>
+        ensures { IsExportCommand generation self.old self.new result }
     {
-        match self.news(clock, alloc, line, out) {
+        match self.news() {
             Ok(News::Refused) => Ok(()),
-            Ok(News::Edits | News::Whole) => self.print_export(alloc, out, generation),
+            Ok(News::Edits | News::Whole) => self.export_now(generation),
             Err(fault) => Err(fault),
         }
     }
 
     /// Polls, tells what came, and gives the cells so many generations later as an RLE text. `None` where
     /// the poll was refused, or the export, whose refusal is printed.
-    pub fn export_text<C: Clock, S: Source + Drop, K: Sink + Drop>(
-        &mut self,
-        clock: &C,
-        alloc: Global,
-        line: &mut Line<S, K>,
-        out: &mut Vec<u8>,
-        generation: u32,
-    ) -> Result<Option<Vec<u8>>, SeatFault>
-        ensures { IsExportTextCommand (λ text. text.items) generation (moment S.known K.known line.old self.old out.old.items) (moment S.known K.known line.new self.new out.new.items) result }
+    pub fn export_text(&mut self, generation: u32) -> Result<Option<Vec<u8>>, CommandFault>
+        ensures { IsExportTextCommand (λ text. text.items) generation self.old self.new result }
     {
-        match self.news(clock, alloc, line, out) {
+        match self.news() {
             Ok(News::Refused) => Ok(None),
-            Ok(News::Edits | News::Whole) => self.exported(alloc, out, generation),
+            Ok(News::Edits | News::Whole) => self.export_text_now(generation),
             Err(fault) => Err(fault),
         }
     }
 
     /// Polls, tells what came, and gives the bytes of a message of the replica's map. `None` where the poll
     /// was refused.
-    pub fn save<C: Clock, S: Source + Drop, K: Sink + Drop>(
-        &mut self,
-        clock: &C,
-        alloc: Global,
-        line: &mut Line<S, K>,
-        out: &mut Vec<u8>,
-    ) -> Result<Option<Vec<u8>>, SeatFault>
-        ensures { IsSaveCommand (λ text. text.items) (moment S.known K.known line.old self.old out.old.items) (moment S.known K.known line.new self.new out.new.items) result }
+    pub fn save(&mut self) -> Result<Option<Vec<u8>>, CommandFault>
+        ensures { IsSaveCommand (λ text. text.items) self.old self.new result }
     {
-        match self.news(clock, alloc, line, out) {
+        match self.news() {
             Ok(News::Refused) => Ok(None),
-            Ok(News::Edits | News::Whole) => self.saved(),
+            Ok(News::Edits | News::Whole) => self.workspace.saved(),
             Err(fault) => Err(fault),
         }
     }
 
+    /// The export behind its poll.
+    fn export_now(&mut self, generation: u32) -> Result<(), CommandFault>
+        ensures { ExportsNow generation self.old self.new result }
+    {
+        let alloc = self.server.alloc();
+        self.workspace
+            .print_export(alloc, &mut self.out, generation)
+    }
+
+    /// The text of an export behind its poll.
+    fn export_text_now(&mut self, generation: u32) -> Result<Option<Vec<u8>>, CommandFault>
+        ensures { ExportsTextNow (λ text. text.items) generation self.old self.new result }
+    {
+        let alloc = self.server.alloc();
+        self.workspace.exported(alloc, &mut self.out, generation)
+    }
+}
+
+impl Workspace {
     /// The bytes of a message of the replica's map.
-    fn saved(&self) -> Result<Option<Vec<u8>>, SeatFault>
+    fn saved(&self) -> Result<Option<Vec<u8>>, CommandFault>
         ensures { IsStateAnswer (λ text. text.items) self.now result }
     {
         match self.replica.state() {
             Ok(text) => Ok(Some(text)),
-            Err(_) => Err(SeatFault::Memory),
+            Err(_) => Err(CommandFault::Memory),
         }
     }
 
@@ -87,7 +85,7 @@ impl Seat {
         alloc: Global,
         out: &mut Vec<u8>,
         generation: u32,
-    ) -> Result<(), SeatFault>
+    ) -> Result<(), CommandFault>
         ensures { IsExportPrint generation self.now out.old.items out.new.items result }
     {
         match self.exported(alloc, out, generation) {
@@ -106,13 +104,13 @@ impl Seat {
         alloc: Global,
         out: &mut Vec<u8>,
         generation: u32,
-    ) -> Result<Option<Vec<u8>>, SeatFault>
+    ) -> Result<Option<Vec<u8>>, CommandFault>
         ensures { IsExportAnswer (λ text. text.items) generation self.now out.old.items out.new.items result }
     {
         match self.replica.export(generation) {
             Ok(text) => Ok(Some(text)),
-            Err(Fault::Memory) => Err(SeatFault::Memory),
-            Err(Fault::StoreFull) => Err(SeatFault::StoreFull),
+            Err(Fault::Memory) => Err(CommandFault::Memory),
+            Err(Fault::StoreFull) => Err(CommandFault::StoreFull),
             Err(fault) => {
                 push_line(alloc, out, &Reply::Refused(fault))?;
                 Ok(None)

@@ -8,7 +8,7 @@ use std::alloc::{AllocError, AllocFailed};
 
 /// Why a client ends.
 #[derive(Clone, Copy, Debug, PartialEq, Eq)]
-pub enum SeatFault {
+pub enum CommandFault {
     /// The line failed, what came is no reply, or what came, or was drawn, is not taken.
     Client(ClientFault),
     /// The greeting was refused, by this number of the table of faults; or a poll was, by 21.
@@ -19,13 +19,13 @@ pub enum SeatFault {
     StoreFull,
 }
 
-impl From<AllocError> for SeatFault {
+impl From<AllocError> for CommandFault {
     ghost use Rattle.std.specs.Prelude.{◌≡◌};
-    ghost use Rattle.client_session.specs.declared.fault.SeatFault.TheVariants.{Memory};
+    ghost use Rattle.client_session.specs.declared.fault.CommandFault.TheVariants.{Memory};
 
     ghost from_gives = { λ _ fault. fault ≡ Memory };
 
-    fn from(_error: AllocError) -> SeatFault {
-        SeatFault::Memory
+    fn from(_error: AllocError) -> CommandFault {
+        CommandFault::Memory
     }
 }

@@ -1,26 +1,25 @@
 //! Joining a board.
 
-ghost use Rattle.std.specs.Prelude.{◌≤◌, IfOk, OnErr};
-ghost use mathlib.Core.List.{IsPrefix};
-ghost use Rattle.client_session.specs.Joining.{HasNumber, IsFresh, IsJoined, IsJoining, SeatsAs};
-ghost use Rattle.board_client.specs.Client.{line_at};
+ghost use Rattle.std.specs.Prelude.{◌≡◌, ◌≤◌, IfOk};
+ghost use Rattle.client_session.specs.Joining.{HasNumber, IsFresh, IsJoining, SetsUp};
 
-use crate::fault::SeatFault;
+use crate::client::Client;
+use crate::fault::CommandFault;
 use crate::lines::push_joined;
-use crate::seat::Seat;
 use crate::telling::{ROOM, blank};
-use board_client::{ClientFault, greet};
+use crate::workspace::Workspace;
+use board_client::{ClientFault, Server};
 use client_protocol::Greeting;
 use devices::{Sink, Source};
-use frame_line::Line;
 use genedit_lib::Patterns;
 use generations_rule::Rule;
 use keyed_hash::HashKey;
 use replica_core::Replica;
 use std::alloc::{AllocError, Global};
+use std::marker::Model;
 use std::time::Clock;
 
-/// How a seat tells what a poll brought.
+/// How a client tells what a poll brought.
 #[derive(Clone, Copy, Debug, PartialEq, Eq)]
 pub enum Telling {
     /// Each edit.
@@ -29,81 +28,115 @@ pub enum Telling {
     Changes,
 }
 
-impl Seat {
-    /// Greets the server, prints `joined SEAT RULE`, polls, and tells what came. What the seat holds is found
-    /// by a key's hashes.
-    pub fn join<C: Clock, S: Source + Drop, K: Sink + Drop>(
-        clock: &C,
-        alloc: Global,
-        line: &mut Line<S, K>,
-        out: &mut Vec<u8>,
-        telling: Telling,
-        key: HashKey,
-    ) -> Result<Seat, SeatFault>
-        ensures { IsJoining telling (line_at line.old.frames (S.known line.old.source) (K.known line.old.sink)) (line_at line.new.frames (S.known line.new.source) (K.known line.new.sink)) out.old.items out.new.items result }
+/// A client that did not join: why, the server, and what was printed by then. Contracts see it as `NotJoined`.
+#[derive(Drop)]
+pub struct Unjoined<'a, C: Clock, S: Source + Drop, K: Sink + Drop> {
+    pub(crate) fault: CommandFault,
+    pub(crate) server: Server<'a, C, S, K>,
+    pub(crate) out: Vec<u8>,
+}
+
+impl<'a, C: Clock, S: Source + Drop, K: Sink + Drop> Model for Unjoined<'a, C, S, K> {
+    ghost use Rattle.client_session.specs.Joining.{NotJoined};
+
+    ghost Value = { NotJoined };
+
+    ghost view = { λ u. record { fault = u.fault; line = u.server; out = u.out.items } };
+}
+
+impl<'a, C: Clock, S: Source + Drop, K: Sink + Drop> Unjoined<'a, C, S, K> {
+    /// Why it did not join.
+    pub fn fault(&self) -> CommandFault
+        ensures { result ≡ self.now.fault }
     {
-        let greeting = match greet(clock, alloc, line) {
-            Ok(greeting) => greeting,
-            Err(fault) => return Err(SeatFault::Client(fault)),
-        };
-        let mut seat = match seated(alloc, out, &greeting, telling, key) {
-            Ok(seat) => seat,
-            Err(fault) => return Err(fault),
-        };
-        match seat.follow(clock, alloc, line, out) {
-            Ok(()) => Ok(seat),
-            Err(fault) => Err(fault),
-        }
+        self.fault
+    }
+
+    /// What was printed by then.
+    pub fn printed(&self) -> &[u8]
+        ensures { result.now ≡ self.now.out }
+    {
+        &self.out
     }
 }
 
-/// The seat that a greeting gave, which is printed.
-fn seated(
+impl<'a, C: Clock, S: Source + Drop, K: Sink + Drop> Client<'a, C, S, K> {
+    /// Greets the server, prints `joined SEAT RULE`, polls, and tells what came. What the client holds is
+    /// found by a key's hashes.
+    pub fn join(
+        mut server: Server<'a, C, S, K>,
+        telling: Telling,
+        key: HashKey,
+    ) -> Result<Client<'a, C, S, K>, Unjoined<'a, C, S, K>>
+        ensures { IsJoining telling server.entry result }
+    {
+        let alloc = server.alloc();
+        let mut out = Vec::new(alloc);
+        let greeting = match server.greet() {
+            Ok(greeting) => greeting,
+            Err(fault) => {
+                let fault = CommandFault::Client(fault);
+                return Err(Unjoined { fault, server, out });
+            }
+        };
+        let workspace = match set_up(alloc, &mut out, &greeting, telling, key) {
+            Ok(workspace) => workspace,
+            Err(fault) => return Err(Unjoined { fault, server, out }),
+        };
+        let mut client = Client {
+            server,
+            workspace,
+            out,
+        };
+        match client.follow() {
+            Ok(()) => Ok(client),
+            Err(fault) => Err(client.unjoined(fault)),
+        }
+    }
+
+    /// The client as one that did not join, for this reason.
+    fn unjoined(self, fault: CommandFault) -> Unjoined<'a, C, S, K>
+        ensures { result ≡ record { fault = fault; line = self.entry.line; out = self.entry.out } }
+    {
+        let Client {
+            server,
+            workspace: _,
+            out,
+        } = self;
+        Unjoined { fault, server, out }
+    }
+}
+
+/// What a client works with at the seat that a greeting gave, which is printed.
+fn set_up(
     alloc: Global,
     out: &mut Vec<u8>,
     greeting: &Greeting,
     telling: Telling,
     key: HashKey,
-) -> Result<Seat, SeatFault>
+) -> Result<Workspace, CommandFault>
     requires { HasNumber greeting.now }
-    ensures { SeatsAs telling greeting.now out.old.items out.new.items result }
+    ensures { SetsUp telling greeting.now out.old.items out.new.items result }
 {
     match greeting {
-        Greeting::Seat(number, rule) => match joined(alloc, out, *number, rule, telling, key) {
-            Ok(seat) => Ok(seat),
-            Err(_) => Err(SeatFault::Memory),
-        },
-        Greeting::Refused(number) => Err(SeatFault::Refused(*number)),
-        Greeting::Faulty => Err(SeatFault::Client(ClientFault::NoReply)),
+        Greeting::Seat(number, rule) => {
+            let workspace = fresh(alloc, *number, *rule, telling, key)?;
+            push_joined(alloc, out, *number, rule)?;
+            Ok(workspace)
+        }
+        Greeting::Refused(number) => Err(CommandFault::Refused(*number)),
+        Greeting::Faulty => Err(CommandFault::Client(ClientFault::NoReply)),
     }
 }
 
-/// The seat of a number at a board of a rule, which is printed.
-fn joined(
-    alloc: Global,
-    out: &mut Vec<u8>,
-    number: u16,
-    rule: &Rule,
-    telling: Telling,
-    key: HashKey,
-) -> Result<Seat, AllocError>
-    requires { 1 ≤ number }
-    ensures joined { IfOk result (λ seat. IsJoined telling number rule.now seat out.old.items out.new.items) }
-    ensures kept { OnErr result (IsPrefix out.old.items out.new.items) }
-{
-    let seat = fresh(alloc, number, *rule, telling, key)?;
-    push_joined(alloc, out, number, rule)?;
-    Ok(seat)
-}
-
-/// A seat that was handed nothing.
+/// What a client works with that was handed nothing.
 fn fresh(
     alloc: Global,
     number: u16,
     rule: Rule,
     telling: Telling,
     key: HashKey,
-) -> Result<Seat, AllocError>
+) -> Result<Workspace, AllocError>
     requires { 1 ≤ number }
     ensures { IfOk result (IsFresh telling number rule) }
 {
@@ -115,7 +148,7 @@ fn fresh(
         Telling::Edits => None,
         Telling::Changes => Some(blank(alloc, key)?),
     };
-    Ok(Seat {
+    Ok(Workspace {
         replica,
         patterns: Patterns::new(alloc),
         shown,

@@ -1,8 +1,8 @@
-//! What holds of seats: the contract of a function that does nothing.
+//! What holds of clients: the contract of a function that does nothing.
 
 ghost use Rattle.client_session.specs.Laws.{ShowsWhatItHolds, TellsWhatChanged};
 
-/// What a seat told of the board, where it tells the cells that look different, is what its replica holds;
+/// What a client told of the board, where it tells the cells that look different, is what its replica holds;
 /// and behind each poll it tells just the cells whose state is another one there than before.
 pub fn session_laws()
     ensures holds { ShowsWhatItHolds }

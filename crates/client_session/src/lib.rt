@@ -2,23 +2,27 @@
 //! replica of its own, and tells in lines what came and what was done.
 #![tactic(auto)]
 
-mod drawing;
+mod client;
+mod drawn;
 mod exporting;
 mod fault;
 mod joining;
 mod laws;
 mod lines;
 mod naming;
+mod outcome;
+mod pasting;
 mod polling;
-mod seat;
 mod showing;
 mod telling;
 mod waiting;
+mod workspace;
 
-pub use board_client::leave;
-pub use drawing::{Corner, Outcome};
-pub use fault::SeatFault;
-pub use joining::Telling;
+pub use client::Client;
+pub use fault::CommandFault;
+pub use joining::{Telling, Unjoined};
 pub use laws::session_laws;
-pub use seat::Seat;
+pub use outcome::Outcome;
+pub use pasting::{Corner, PasteMode};
 pub use waiting::{Patience, end_of, time_until};
+pub use workspace::Workspace;

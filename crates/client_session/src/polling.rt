@@ -3,17 +3,17 @@
 ghost use Rattle.std.specs.Prelude.{◌≡◌, drop, IfErr, OnErr, OnOk};
 ghost use Rattle.client_session.specs.Waiting.{IsCount};
 ghost use Rattle.client_session.specs.Lines.{edits_line, late_line};
-ghost use Rattle.client_session.specs.Moment.{IsCutShort, IsNumberTold, IsWant, moment};
+ghost use Rattle.client_session.specs.Moment.{IsCutShort, IsWant, TellsCount, others};
 ghost use Rattle.client_session.specs.News.{IsFollowing, IsNews, IsPollTold};
 ghost use Rattle.client_session.specs.Telling.{CameFindsNoRoom, IsPollingTold, TellsBehind, TellsWhole, WholeFindsNoRoom};
 
-use crate::fault::SeatFault;
-use crate::lines::{push_edits_line, push_late_line, push_refusal, push_whole};
-use crate::seat::{Seat, behind};
-use crate::telling::{show_all, tell_came};
-use board_client::{Polling, poll};
+use crate::client::Client;
+use crate::fault::CommandFault;
+use crate::lines::{push_edits, push_edits_line, push_late_line, push_refusal, push_whole};
+use crate::telling::{show_all, tell_changes};
+use crate::workspace::{Workspace, behind};
+use board_client::Polling;
 use devices::{Sink, Source};
-use frame_line::Line;
 use std::alloc::Global;
 use std::time::Clock;
 
@@ -28,19 +28,13 @@ pub(crate) enum News {
     Refused,
 }
 
-impl Seat {
+impl<'a, C: Clock, S: Source + Drop, K: Sink + Drop> Client<'a, C, S, K> {
     /// Polls, and tells what came: `whole`, or else each edit, or the cells that look different. Of a
     /// refusal nothing is told.
-    pub fn follow<C: Clock, S: Source + Drop, K: Sink + Drop>(
-        &mut self,
-        clock: &C,
-        alloc: Global,
-        line: &mut Line<S, K>,
-        out: &mut Vec<u8>,
-    ) -> Result<(), SeatFault>
-        ensures { IsFollowing (moment S.known K.known line.old self.old out.old.items) (moment S.known K.known line.new self.new out.new.items) result }
+    pub fn follow(&mut self) -> Result<(), CommandFault>
+        ensures { IsFollowing self.old self.new result }
     {
-        match self.told_poll(clock, alloc, line, out) {
+        match self.told_poll() {
             Ok(_) => Ok(()),
             Err(fault) => Err(fault),
         }
@@ -49,64 +43,76 @@ impl Seat {
     /// Polls, tells what came, and then prints `edits K`, K being how many edits of others came since a
     /// number of edits, or a whole plane, was last told. Behind `whole` nothing more is printed, and of a
     /// refused poll the refusal alone.
-    pub fn poll<C: Clock, S: Source + Drop, K: Sink + Drop>(
-        &mut self,
-        clock: &C,
-        alloc: Global,
-        line: &mut Line<S, K>,
-        out: &mut Vec<u8>,
-    ) -> Result<(), SeatFault>
-        ensures { IsCount (moment S.known K.known line.old self.old out.old.items) (moment S.known K.known line.new self.new out.new.items) result }
+    pub fn poll(&mut self) -> Result<(), CommandFault>
+        ensures { IsCount self.old self.new result }
     {
-        match self.news(clock, alloc, line, out) {
-            Ok(News::Edits) => self.tell_count(out),
+        match self.news() {
+            Ok(News::Edits) => self.tell_count(),
             Ok(News::Whole | News::Refused) => Ok(()),
             Err(fault) => Err(fault),
         }
     }
 
     /// The poll that a command begins with. Its refusal is printed.
-    pub(crate) fn news<C: Clock, S: Source + Drop, K: Sink + Drop>(
-        &mut self,
-        clock: &C,
-        alloc: Global,
-        line: &mut Line<S, K>,
-        out: &mut Vec<u8>,
-    ) -> Result<News, SeatFault>
-        ensures { IsNews (moment S.known K.known line.old self.old out.old.items) (moment S.known K.known line.new self.new out.new.items) result }
+    pub(crate) fn news(&mut self) -> Result<News, CommandFault>
+        ensures { IsNews self.old self.new result }
     {
-        match self.told_poll(clock, alloc, line, out) {
+        match self.told_poll() {
             Ok(Polling::Edits(_)) => Ok(News::Edits),
             Ok(Polling::Whole) => Ok(News::Whole),
-            Ok(Polling::Refused(number)) => match push_refusal(alloc, out, number) {
-                Ok(()) => Ok(News::Refused),
-                Err(_) => Err(SeatFault::Memory),
-            },
+            Ok(Polling::Refused(number)) => {
+                match push_refusal(self.server.alloc(), &mut self.out, number) {
+                    Ok(()) => Ok(News::Refused),
+                    Err(_) => Err(CommandFault::Memory),
+                }
+            }
             Err(fault) => Err(fault),
         }
     }
 
     /// Polls, and tells what came. A refusal by 21 ends the client: what the board had to hand out is lost.
-    fn told_poll<C: Clock, S: Source + Drop, K: Sink + Drop>(
-        &mut self,
-        clock: &C,
-        alloc: Global,
-        line: &mut Line<S, K>,
-        out: &mut Vec<u8>,
-    ) -> Result<Polling, SeatFault>
-        ensures { IsPollTold (moment S.known K.known line.old self.old out.old.items) (moment S.known K.known line.new self.new out.new.items) result }
+    fn told_poll(&mut self) -> Result<Polling, CommandFault>
+        ensures { IsPollTold self.old self.new result }
     {
-        let known = self.replica.journal().len();
-        let polling = match poll(clock, alloc, line, &mut self.replica) {
+        let alloc = self.server.alloc();
+        let known = self.workspace.replica.journal().len();
+        let polling = match self.server.poll(&mut self.workspace.replica) {
             Ok(polling) => polling,
-            Err(fault) => return Err(SeatFault::Client(fault)),
+            Err(fault) => return Err(CommandFault::Client(fault)),
         };
-        match self.tell(alloc, polling, known, out) {
+        match self.workspace.tell(alloc, polling, known, &mut self.out) {
             Ok(()) => Ok(polling),
             Err(fault) => Err(fault),
         }
     }
 
+    /// How many edits of others came since a number of edits, or a whole plane, was last told.
+    pub fn others(&self) -> usize
+        ensures { result ≡ others self.now.workspace }
+    {
+        self.workspace.others()
+    }
+
+    /// Tells how many edits of others came, and counts anew.
+    pub(crate) fn tell_count(&mut self) -> Result<(), CommandFault>
+        ensures { TellsCount edits_line self.old self.new result }
+    {
+        push_edits_line(&mut self.out, self.workspace.others() as u64)?;
+        self.workspace.counted = self.workspace.replica.journal().len();
+        Ok(())
+    }
+
+    /// The same, where fewer came than were awaited.
+    pub(crate) fn tell_late(&mut self) -> Result<(), CommandFault>
+        ensures { TellsCount late_line self.old self.new result }
+    {
+        push_late_line(&mut self.out, self.workspace.others() as u64)?;
+        self.workspace.counted = self.workspace.replica.journal().len();
+        Ok(())
+    }
+}
+
+impl Workspace {
     /// Tells what a poll brought, behind so many edits of the journal.
     fn tell(
         &mut self,
@@ -114,13 +120,13 @@ impl Seat {
         polling: Polling,
         known: usize,
         out: &mut Vec<u8>,
-    ) -> Result<(), SeatFault>
+    ) -> Result<(), CommandFault>
         ensures { IsPollingTold polling known self.old self.new out.old.items out.new.items result }
     {
         match polling {
             Polling::Edits(_) => self.tell_behind(alloc, known, out),
             Polling::Whole => self.tell_whole(alloc, out),
-            Polling::Refused(21) => Err(SeatFault::Refused(21)),
+            Polling::Refused(21) => Err(CommandFault::Refused(21)),
             Polling::Refused(_) => Ok(()),
         }
     }
@@ -131,19 +137,24 @@ impl Seat {
         alloc: Global,
         known: usize,
         out: &mut Vec<u8>,
-    ) -> Result<(), SeatFault>
+    ) -> Result<(), CommandFault>
         ensures told { OnOk result (TellsBehind known self.old self.new out.old.items out.new.items) }
         ensures want { IfErr result (IsWant (CameFindsNoRoom (drop known self.old.replica.journal) self.old.shown self.new.shown out.old.items out.new.items)) }
         ensures cut { OnErr result (IsCutShort self.old self.new out.old.items out.new.items) }
         ensures replica { self.new.replica ≡ self.old.replica }
     {
-        let number = self.replica.number();
         let came = behind(self.replica.journal(), known);
-        tell_came(alloc, &mut self.shown, out, came, number, self.closed)
+        match &mut self.shown {
+            Some(shown) => tell_changes(alloc, shown, out, came),
+            None => {
+                push_edits(out, came, self.replica.number(), self.closed)?;
+                Ok(())
+            }
+        }
     }
 
     /// Tells that a whole plane came, and counts edits anew.
-    fn tell_whole(&mut self, alloc: Global, out: &mut Vec<u8>) -> Result<(), SeatFault>
+    fn tell_whole(&mut self, alloc: Global, out: &mut Vec<u8>) -> Result<(), CommandFault>
         ensures told { OnOk result (TellsWhole self.old self.new out.old.items out.new.items) }
         ensures want { IfErr result (IsWant (WholeFindsNoRoom self.old self.new out.old.items out.new.items)) }
         ensures cut { OnErr result (IsCutShort self.old self.new out.old.items out.new.items) }
@@ -151,24 +162,6 @@ impl Seat {
     {
         show_all(alloc, &mut self.shown, self.replica.plane())?;
         push_whole(out)?;
-        self.counted = self.replica.journal().len();
-        Ok(())
-    }
-
-    /// Tells how many edits of others came, and counts anew.
-    pub(crate) fn tell_count(&mut self, out: &mut Vec<u8>) -> Result<(), SeatFault>
-        ensures { IsNumberTold edits_line self.old self.new out.old.items out.new.items result }
-    {
-        push_edits_line(out, self.others() as u64)?;
-        self.counted = self.replica.journal().len();
-        Ok(())
-    }
-
-    /// The same, where fewer came than were awaited.
-    pub(crate) fn tell_late(&mut self, out: &mut Vec<u8>) -> Result<(), SeatFault>
-        ensures { IsNumberTold late_line self.old self.new out.old.items out.new.items result }
-    {
-        push_late_line(out, self.others() as u64)?;
         self.counted = self.replica.journal().len();
         Ok(())
     }

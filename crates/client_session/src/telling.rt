@@ -6,10 +6,9 @@ ghost use Rattle.stamped_tree.specs.Plane.{map_of};
 ghost use Rattle.stamped_writes.specs.Write.{unwritten};
 ghost use Rattle.client_session.specs.Moment.{IsWant};
 ghost use Rattle.client_session.specs.Telling.{AllFindsNoRoom, AreEditsAdded, CameFindsNoRoom, ChangesFindNoRoom, FindsNoRoom, MapFindsNoRoom, ShowsAll, ShowsEdits, ShowsMap, TellsCame, TellsChanges, want_of};
-ghost use Rattle.client_session.specs.Lines.{edit_lines};
 
-use crate::fault::SeatFault;
-use crate::lines::{push_edits, push_now};
+use crate::fault::CommandFault;
+use crate::lines::push_now;
 use cell_changes::Watched;
 use edit_stamps::Edit;
 use held_plane::{Added, HeldPlane};
@@ -21,35 +20,13 @@ use std::alloc::{AllocError, Global};
 /// How many squares the plane that was told may have, as the replica's own.
 pub(crate) const ROOM: u32 = 0x400_0000;
 
-/// Tells edits that came: each of them, or the cells that look different.
-pub(crate) fn tell_came(
-    alloc: Global,
-    shown: &mut Option<HeldPlane>,
-    out: &mut Vec<u8>,
-    edits: &[Edit],
-    number: u16,
-    closed: bool,
-) -> Result<(), SeatFault>
-    ensures told { OnOk result (TellsCame (edit_lines closed number edits.now) edits.now shown.old shown.new out.old.items out.new.items) }
-    ensures want { IfErr result (IsWant (CameFindsNoRoom edits.now shown.old shown.new out.old.items out.new.items)) }
-    ensures kept { OnErr result (IsPrefix out.old.items out.new.items) }
-{
-    match shown {
-        Some(shown) => tell_changes(alloc, shown, out, edits),
-        None => {
-            push_edits(out, edits, number, closed)?;
-            Ok(())
-        }
-    }
-}
-
-/// Tells the cells that look different by an edit of the seat's own, where such cells are told.
+/// Tells the cells that look different by an edit of the client's own, where such cells are told.
 pub(crate) fn tell_own(
     alloc: Global,
     shown: &mut Option<HeldPlane>,
     out: &mut Vec<u8>,
     edits: &[Edit],
-) -> Result<(), SeatFault>
+) -> Result<(), CommandFault>
     ensures told { OnOk result (TellsCame [] edits.now shown.old shown.new out.old.items out.new.items) }
     ensures want { IfErr result (IsWant (CameFindsNoRoom edits.now shown.old shown.new out.old.items out.new.items)) }
     ensures kept { OnErr result (IsPrefix out.old.items out.new.items) }
@@ -61,12 +38,12 @@ pub(crate) fn tell_own(
 }
 
 /// Tells the cells that look different once edits are joined into what was told.
-fn tell_changes(
+pub(crate) fn tell_changes(
     alloc: Global,
     shown: &mut HeldPlane,
     out: &mut Vec<u8>,
     edits: &[Edit],
-) -> Result<(), SeatFault>
+) -> Result<(), CommandFault>
     ensures told { OnOk result (TellsChanges edits.now shown.old shown.new out.old.items out.new.items) }
     ensures want { IfErr result (IsWant (ChangesFindNoRoom edits.now shown.old shown.new out.old.items out.new.items)) }
     ensures kept { OnErr result (IsPrefix out.old.items out.new.items) }
@@ -81,7 +58,7 @@ fn changed_cells(
     alloc: Global,
     shown: &mut HeldPlane,
     edits: &[Edit],
-) -> Result<Vec<Cell>, SeatFault>
+) -> Result<Vec<Cell>, CommandFault>
     ensures shows { IfOk result (λ cells. ShowsEdits edits.now shown.old shown.new cells.items) }
     ensures want { IfErr result (IsWant (FindsNoRoom (AreEditsAdded edits.now) shown.old shown.new)) }
 {
@@ -99,7 +76,7 @@ pub(crate) fn show_all(
     alloc: Global,
     shown: &mut Option<HeldPlane>,
     plane: &Plane,
-) -> Result<(), SeatFault>
+) -> Result<(), CommandFault>
     ensures shown { OnOk result (ShowsAll plane.now shown.old shown.new) }
     ensures want { IfErr result (IsWant (AllFindsNoRoom plane.now shown.old)) }
     ensures err { OnErr result (shown.new ≡ shown.old) }
@@ -111,7 +88,7 @@ pub(crate) fn show_all(
 }
 
 /// A plane with the same map.
-fn held(alloc: Global, plane: &Plane) -> Result<HeldPlane, SeatFault>
+fn held(alloc: Global, plane: &Plane) -> Result<HeldPlane, CommandFault>
     ensures shows { IfOk result (ShowsMap (map_of plane.now)) }
     ensures want { IfErr result (IsWant (MapFindsNoRoom plane.now)) }
 {
@@ -130,11 +107,11 @@ pub(crate) fn blank(alloc: Global, key: HashKey) -> Result<HeldPlane, AllocError
 }
 
 /// A plane's want, as the client's.
-fn want_of(fault: StoreFault) -> SeatFault
+fn want_of(fault: StoreFault) -> CommandFault
     ensures { result ≡ want_of fault }
 {
     match fault {
-        StoreFault::Memory => SeatFault::Memory,
-        StoreFault::StoreFull => SeatFault::StoreFull,
+        StoreFault::Memory => CommandFault::Memory,
+        StoreFault::StoreFull => CommandFault::StoreFull,
     }
 }

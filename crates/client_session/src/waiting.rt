@@ -1,14 +1,11 @@
 //! Waiting for edits of others.
 
-ghost use Rattle.client_session.specs.Moment.{moment};
 ghost use Rattle.client_session.specs.Waiting.{IsWait};
 
-use crate::fault::SeatFault;
+use crate::client::Client;
+use crate::fault::CommandFault;
 use crate::polling::News;
-use crate::seat::Seat;
 use devices::{Sink, Source};
-use frame_line::Line;
-use std::alloc::Global;
 use std::thread;
 use std::time::{Clock, Duration, Instant};
 
@@ -22,42 +19,35 @@ pub struct Patience {
     pub interval: u32,
 }
 
-impl Seat {
+impl<'a, C: Clock, S: Source + Drop, K: Sink + Drop> Client<'a, C, S, K> {
     /// Polls again and again, and tells what came. It ends by `edits K` once K, how many edits of others
     /// came since a number of edits, or a whole plane, was last told, is at least the number that is awaited;
     /// by `late K` once the time is over, which a clock that cannot be read says at once, or 2^32 polls were
     /// made; and behind `whole` or a refused poll, of which the refusal is printed.
-    pub fn wait<C: Clock, S: Source + Drop, K: Sink + Drop>(
-        &mut self,
-        clock: &C,
-        alloc: Global,
-        line: &mut Line<S, K>,
-        out: &mut Vec<u8>,
-        awaited: u32,
-        patience: Patience,
-    ) -> Result<(), SeatFault>
-        ensures { IsWait awaited (moment S.known K.known line.old self.old out.old.items) (moment S.known K.known line.new self.new out.new.items) result }
+    pub fn wait(&mut self, awaited: u32, patience: Patience) -> Result<(), CommandFault>
+        ensures { IsWait awaited self.old self.new result }
     {
+        let clock = self.server.clock();
         let end = end_of(clock, patience.milliseconds);
         for _turn in 0..TURNS {
-            match self.news(clock, alloc, line, out) {
+            match self.news() {
                 Ok(News::Edits) => {}
                 Ok(News::Whole) => return Ok(()),
                 Ok(News::Refused) => return Ok(()),
                 Err(fault) => return Err(fault),
             }
             if self.others() >= awaited as usize {
-                return self.tell_count(out);
+                return self.tell_count();
             }
             let Some(left) = time_until(clock, end) else {
-                return self.tell_late(out);
+                return self.tell_late();
             };
             thread::sleep(
                 clock,
                 left.min(Duration::from_millis(u64::from(patience.interval))),
             );
         }
-        self.tell_late(out)
+        self.tell_late()
     }
 }
 

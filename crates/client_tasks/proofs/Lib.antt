@@ -1,3 +1,3 @@
 pub mod SavedLaws
-pub mod DrawingLaws
+pub mod PieceLaws
 pub mod OpeningLaws

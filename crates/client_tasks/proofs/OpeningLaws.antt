@@ -14,23 +14,15 @@ use Rattle.delta_exchange.specs.Versions.{IsReadableStateText}
 use Rattle.replica_core.specs.declared.event.Reply.TheVariants as reply
 use Rattle.replica_core.specs.declared.fault.Fault.TheVariants as faults
 use Rattle.genedit_lib.specs.Output.{reply_line}
-use Rattle.board_client.specs.Client.{LineState}
-use Rattle.client_session.specs.declared.drawing.Outcome.{Outcome}
-use Rattle.client_session.specs.declared.drawing.Outcome.TheVariants.{Refused}
-use Rattle.client_session.specs.declared.fault.SeatFault.{SeatFault}
-use Rattle.client_session.specs.declared.fault.SeatFault.TheVariants.{Memory, StoreFull}
-use Rattle.client_session.specs.declared.seat.Seat.{Seat}
+use Rattle.client_session.specs.declared.outcome.Outcome.{Outcome}
+use Rattle.client_session.specs.declared.outcome.Outcome.TheVariants.{Refused}
+use Rattle.client_session.specs.declared.fault.CommandFault.{CommandFault}
+use Rattle.client_session.specs.declared.fault.CommandFault.TheVariants.{Memory, StoreFull}
 use Rattle.client_session.specs.Moment.{IsPrinted, Moment}
-use Rattle.client_tasks.specs.Opening.{IsOpened, IsRefusalTold, IsSaved, OpensBoard, OpensBy, OpensSaved, want_of}
+use Rattle.client_tasks.specs.Opening.{IsOpened, IsSaved, OpensBoard, OpensBy, OpensSaved, want_of}
 use Rattle.client_tasks.specs.Opening.OpensBoard.{draws, lacks_memory, lacks_room, refuses}
 
--- a refusal that is told while line and seat stay
-pub printed : (text : List ℕ) (line : LineState) (seat : Seat) (out out' : List ℕ) (result : Result Outcome SeatFault) → IsRefusalTold text out out' result
-    → IsPrinted Refused text (record { line = line; seat = seat; out = out }) (record { line = line; seat = seat; out = out' }) result
-printed text line seat out out' (Ok came) told = (told.0, record { line = refl; seat = refl; out = told.1 })
-printed text line seat out out' (Err fault) told = (told.0, record { line = refl; seat = refl; out = told.1 })
-
-pub opens_saved : (text : List ℕ) (r : GenerationsRule) (m n : Moment) (result : Result Outcome SeatFault) (cells : List Cell) (counter : ℕ) → r ≡ m.seat.replica.rule
+pub opens_saved : (text : List ℕ) (r : GenerationsRule) (m n : Moment) (result : Result Outcome CommandFault) (cells : List Cell) (counter : ℕ) → r ≡ m.workspace.replica.rule
     → IsSaved r text cells counter → OpensSaved cells counter m n result → OpensBoard text m n result
 opens_saved text r m n result cells counter own saved opens = draws cells counter (subst (λ (g : GenerationsRule). IsSaved g text cells counter) own saved) opens
 
@@ -44,12 +36,12 @@ never_wanted fault none (inr full) = full_is fault none full where
   full_is reads.StoreFull none is = absurd (cc)
   full_is _ none is = absurd (cc)
 
-pub opens_not : (text : List ℕ) (r : GenerationsRule) (m n : Moment) (result : Result Outcome SeatFault) (fault : ReadFault) → r ≡ m.seat.replica.rule → want_of fault ≡ None
+pub opens_not : (text : List ℕ) (r : GenerationsRule) (m n : Moment) (result : Result Outcome CommandFault) (fault : ReadFault) → r ≡ m.workspace.replica.rule → want_of fault ≡ None
     → IsWantOrFull fault ⊎ (message_of r text ≡ Err fault) → IsPrinted Refused (reply_line (reply.Refused (faults.Read fault))) m n result → OpensBoard text m n result
 opens_not text r m n result fault own none (inl want) told = absurd (never_wanted fault none want)
 opens_not text r m n result fault own none (inr refused) told = refuses fault (subst (λ (g : GenerationsRule). message_of g text ≡ Err fault) own refused) told
 
-pub opens_wanting : (text : List ℕ) (r : GenerationsRule) (m : Moment) (fault : ReadFault) (want : SeatFault) → r ≡ m.seat.replica.rule → want_of fault ≡ Some want
+pub opens_wanting : (text : List ℕ) (r : GenerationsRule) (m : Moment) (fault : ReadFault) (want : CommandFault) → r ≡ m.workspace.replica.rule → want_of fault ≡ Some want
     → ((meant : Writes) → IsTellableMap r.states meant → IsReadableStateText r meant text → fault ≡ reads.StoreFull → IsMapTooLargeFor (2 ^ 26) meant) → (fault ≡ reads.StoreFull → MayWantRoom (2 ^ 26) text) → OpensBoard text m m (Err want)
 opens_wanting text r m reads.Memory want own is large long = let same : want ≡ Memory = cc in lacks_memory (ap (λ w. Err w) same, refl)
 opens_wanting text r m reads.StoreFull want own is large long =
@@ -63,6 +55,6 @@ opens_wanting text r m reads.StoreFull want own is large long =
 opens_wanting text r m _ want own is large long = absurd (cc)
 
 -- a text that begins as a state is opened as a board
-pub opened : (text : List ℕ) (m n : Moment) (result : Result Outcome SeatFault) (read : Result Bool ReadFault) (delta : Bool) → read ≡ begins_as_delta text → read ≡ Ok delta → delta ≡ false
+pub opened : (text : List ℕ) (m n : Moment) (result : Result Outcome CommandFault) (read : Result Bool ReadFault) (delta : Bool) → read ≡ begins_as_delta text → read ≡ Ok delta → delta ≡ false
     → OpensBoard text m n result → IsOpened text m n result
 opened text m n result read delta is told state opens = subst (λ r. OpensBy r text m n result) (sym (sym is ∙ told ∙ ap (λ b. Ok b) state)) opens

@@ -1,24 +1,23 @@
 -- What each command of a client does at a board, and what is left to its caller.
-use Rattle.std.specs.Prelude.{◌≡◌, ℕ, ℤ, List, ◌++◌, codes, option_map, Option, Some, None, Result, Ok, Err}
+use Rattle.std.specs.Prelude.{◌≡◌, ℕ, ℤ, List, ◌++◌, codes, Option, Some, None, Result, Ok, Err}
 use mathlib.Core.List.{IsPrefix}
 use Rattle.std.specs.Global.{Vec}
 use Rattle.generations_rule.specs.Place.{at_place}
 use Rattle.multistate_rle.specs.Reading.{parsed}
 use Rattle.replica_core.specs.declared.event.Reply.TheVariants as reply
-use Rattle.replica_events.specs.declared.edit_spec.EditSpec.TheVariants as spec
 use Rattle.stamped_tree.specs.Plane.{map_of}
 use Rattle.genedit_lib.specs.Output.{naming_text, reply_line, with_text}
 use Rattle.genedit_lib.specs.Patterns.{pattern_in}
 use Rattle.client_commands.specs.declared.command.ClientCommand.{ClientCommand}
 use Rattle.client_commands.specs.declared.command.ClientCommand.TheVariants as command
-use Rattle.client_session.specs.declared.drawing.Outcome.{Outcome}
-use Rattle.client_session.specs.declared.drawing.Outcome.TheVariants as outcome
-use Rattle.client_session.specs.declared.fault.SeatFault.{SeatFault}
-use Rattle.client_session.specs.declared.fault.SeatFault.TheVariants.{Memory}
-use Rattle.client_session.specs.declared.seat.Seat.{Seat}
+use Rattle.client_session.specs.declared.outcome.Outcome.{Outcome}
+use Rattle.client_session.specs.declared.outcome.Outcome.TheVariants as outcome
+use Rattle.client_session.specs.declared.fault.CommandFault.{CommandFault}
+use Rattle.client_session.specs.declared.fault.CommandFault.TheVariants.{Memory}
+use Rattle.client_session.specs.declared.pasting.PasteMode.TheVariants.{Copy, Or}
 use Rattle.client_session.specs.Drawing.{IsDrawCommand, IsPaste}
 use Rattle.client_session.specs.Exporting.{IsExportCommand, IsExportTextCommand, IsSaveCommand}
-use Rattle.client_session.specs.Moment.{Moment}
+use Rattle.client_session.specs.Moment.{IsPrinted, KeepsAllButNames, Moment}
 use Rattle.client_session.specs.Waiting.{IsCount, IsWait}
 use Rattle.client_tasks.specs.declared.done.Done.{Done}
 use Rattle.client_tasks.specs.declared.done.Done.TheVariants.{Told, InDoubt, Write, Open, Sleep, Leave}
@@ -35,48 +34,47 @@ abbrev pub to_file : List ℕ → Option (Vec ℕ) → Done
 to_file file (Some text) = Write file text
 to_file file None = Told
 
-abbrev pub left_behind : {A : Type 0} → (A → Done) → Result A SeatFault → Result Done SeatFault
+abbrev pub left_behind : {A : Type 0} → (A → Done) → Result A CommandFault → Result Done CommandFault
 left_behind left (Ok answer) = Ok (left answer)
 left_behind left (Err fault) = Err fault
 
--- a call of the seat was made, which did as P says, and this is left behind it
-pub record Comes {A : Type 0} (P : Result A SeatFault → Type 0) (left : A → Done) (result : Result Done SeatFault) : Type 0 where
-  pub called : Result A SeatFault
+-- a call of the client was made, which did as P says, and this is left behind it
+pub record Comes {A : Type 0} (P : Result A CommandFault → Type 0) (left : A → Done) (result : Result Done CommandFault) : Type 0 where
+  pub called : Result A CommandFault
   pub does : P called
   pub behind : result ≡ left_behind left called
 
 -- nothing was done at the board
-abbrev pub Leaves : Done → Moment → Moment → Result Done SeatFault → Type 0
+abbrev pub Leaves : Done → Moment → Moment → Result Done CommandFault → Type 0
 Leaves done m n result = (result ≡ Ok done) × (n ≡ m)
 
 -- ---- names and cells
 
 -- memory is wanting for a name: each name stands for what it did, and what was printed before stands
-pub record LacksNaming (old new : Seat) (out out' : List ℕ) : Type 0 where
-  pub names : (other : List ℕ) → pattern_in new.patterns other ≡ pattern_in old.patterns other
-  pub kept : new ≡ record old { patterns = new.patterns }
-  pub printed : IsPrefix out out'
+pub record LacksNaming (m n : Moment) : Type 0 where
+  pub names : (other : List ℕ) → pattern_in n.workspace.patterns other ≡ pattern_in m.workspace.patterns other
+  pub kept : KeepsAllButNames m n
+  pub printed : IsPrefix m.out n.out
 
 -- a text was given a name, if it is a pattern's, and its line printed; or memory is wanting
-abbrev pub IsNaming : List ℕ → List ℕ → Seat → Seat → List ℕ → List ℕ → Result Done SeatFault → Type 0
-IsNaming name text old new out out' (Ok done) =
-    (done ≡ Told) × (out' ≡ out ++ (naming_text name (parsed text) ++ codes "\n"))
-    × ((other : List ℕ) → pattern_in new.patterns other ≡ with_text (pattern_in old.patterns) name (parsed text) other) × (new ≡ record old { patterns = new.patterns })
-IsNaming name text old new out out' (Err fault) = (fault ≡ Memory) × LacksNaming old new out out'
+abbrev pub IsNaming : List ℕ → List ℕ → Moment → Moment → Result Done CommandFault → Type 0
+IsNaming name text m n (Ok done) =
+    (done ≡ Told) × (n.out ≡ m.out ++ (naming_text name (parsed text) ++ codes "\n"))
+    × ((other : List ℕ) → pattern_in n.workspace.patterns other ≡ with_text (pattern_in m.workspace.patterns) name (parsed text) other) × KeepsAllButNames m n
+IsNaming name text m n (Err fault) = (fault ≡ Memory) × LacksNaming m n
 
 -- the write at a coordinate was printed; or memory is wanting, and what was printed before stands
-abbrev pub IsShowing : ℤ → ℤ → Seat → List ℕ → List ℕ → Result Done SeatFault → Type 0
-IsShowing x y seat out out' (Ok done) = (done ≡ Told) × (out' ≡ out ++ reply_line (reply.Shown (map_of seat.replica.plane (at_place x y))))
-IsShowing x y seat out out' (Err fault) = (fault ≡ Memory) × IsPrefix out out'
+abbrev pub IsShowing : ℤ → ℤ → Moment → Moment → Result Done CommandFault → Type 0
+IsShowing x y m n result = IsPrinted Told (reply_line (reply.Shown (map_of m.workspace.replica.plane (at_place x y)))) m n result
 
 -- ---- commands
 
-abbrev pub IsCarriedOut : ClientCommand → Moment → Moment → Result Done SeatFault → Type 0
+abbrev pub IsCarriedOut : ClientCommand → Moment → Moment → Result Done CommandFault → Type 0
 IsCarriedOut (command.Draw drawing) m n result = Comes (IsDrawCommand 0 drawing m n) behind_drawing result
-IsCarriedOut (command.Pattern name text) m n result = (n.line ≡ m.line) × IsNaming name text m.seat n.seat m.out n.out result
-IsCarriedOut (command.Copy at) m n result = Comes (IsPaste (option_map (λ pattern. spec.Copy pattern at.x at.y) (pattern_in m.seat.patterns at.name)) m n) behind_drawing result
-IsCarriedOut (command.Or at) m n result = Comes (IsPaste (option_map (λ pattern. spec.Or pattern at.x at.y) (pattern_in m.seat.patterns at.name)) m n) behind_drawing result
-IsCarriedOut (command.Show x y) m n result = (n.line ≡ m.line) × (n.seat ≡ m.seat) × IsShowing x y m.seat m.out n.out result
+IsCarriedOut (command.Pattern name text) m n result = IsNaming name text m n result
+IsCarriedOut (command.Copy at) m n result = Comes (IsPaste Copy at.name (record { x = at.x; y = at.y }) m n) behind_drawing result
+IsCarriedOut (command.Or at) m n result = Comes (IsPaste Or at.name (record { x = at.x; y = at.y }) m n) behind_drawing result
+IsCarriedOut (command.Show x y) m n result = IsShowing x y m n result
 IsCarriedOut (command.Export generation None) m n result = Comes (IsExportCommand generation m n) (λ _. Told) result
 IsCarriedOut (command.Export generation (Some file)) m n result = Comes (IsExportTextCommand (λ (text : Vec ℕ). text.items) generation m n) (to_file file) result
 IsCarriedOut (command.Poll) m n result = Comes (IsCount m n) (λ _. Told) result

@@ -1,59 +1,41 @@
 //! Commands.
 
 ghost use Rattle.std.specs.Prelude.{◌≡◌};
-ghost use Rattle.client_session.specs.Moment.{moment};
 ghost use Rattle.client_tasks.specs.Carrying.{IsCarriedOut, IsNaming, IsShowing};
 
 use crate::done::{Done, drawn, told, written};
 use client_commands::{ClientCommand, Placement, Wait};
-use client_session::{Corner, Patience, Seat, SeatFault};
+use client_session::{Client, CommandFault, Corner, PasteMode, Patience};
 use devices::{Sink, Source};
-use frame_line::Line;
 use genedit_script::{PatternName, PatternText};
-use std::alloc::Global;
 use std::time::Clock;
 
 /// Does what a command asks for at the board, and answers what is left to do. A wait lets so many
 /// milliseconds pass between two polls.
 pub fn carry_out<C: Clock, S: Source + Drop, K: Sink + Drop>(
-    clock: &C,
-    alloc: Global,
-    line: &mut Line<S, K>,
-    seat: &mut Seat,
-    out: &mut Vec<u8>,
+    client: &mut Client<'_, C, S, K>,
     command: ClientCommand,
     interval: u32,
-) -> Result<Done, SeatFault>
-    ensures { IsCarriedOut command (moment S.known K.known line.old seat.old out.old.items) (moment S.known K.known line.new seat.new out.new.items) result }
+) -> Result<Done, CommandFault>
+    ensures { IsCarriedOut command client.old client.new result }
 {
     match command {
-        ClientCommand::Draw(spec) => drawn(seat.draw(clock, alloc, line, out, 0, &spec)),
-        ClientCommand::Pattern(name, text) => named(alloc, seat, out, name, &text),
+        ClientCommand::Draw(spec) => drawn(client.draw(0, &spec)),
+        ClientCommand::Pattern(name, text) => named(client, name, &text),
         ClientCommand::Copy(placed) => {
-            drawn(seat.copy(clock, alloc, line, out, &placed.name, corner_of(&placed)))
+            drawn(client.paste(PasteMode::Copy, &placed.name, corner_of(&placed)))
         }
         ClientCommand::Or(placed) => {
-            drawn(seat.or(clock, alloc, line, out, &placed.name, corner_of(&placed)))
+            drawn(client.paste(PasteMode::Or, &placed.name, corner_of(&placed)))
         }
-        ClientCommand::Show(x, y) => shown(alloc, seat, out, x, y),
-        ClientCommand::Export(generation, None) => {
-            told(seat.export(clock, alloc, line, out, generation))
-        }
+        ClientCommand::Show(x, y) => shown(client, x, y),
+        ClientCommand::Export(generation, None) => told(client.export(generation)),
         ClientCommand::Export(generation, Some(file)) => {
-            written(file, seat.export_text(clock, alloc, line, out, generation))
+            written(file, client.export_text(generation))
         }
-        ClientCommand::Save(file) => written(file, seat.save(clock, alloc, line, out)),
-        ClientCommand::Poll => told(seat.poll(clock, alloc, line, out)),
-        ClientCommand::Wait(wait) => {
-            told(seat.wait(
-                clock,
-                alloc,
-                line,
-                out,
-                wait.edits,
-                patience_of(wait, interval),
-            ))
-        }
+        ClientCommand::Save(file) => written(file, client.save()),
+        ClientCommand::Poll => told(client.poll()),
+        ClientCommand::Wait(wait) => told(client.wait(wait.edits, patience_of(wait, interval))),
         ClientCommand::Sleep(milliseconds) => Ok(Done::Sleep(milliseconds)),
         ClientCommand::Open(file) => Ok(Done::Open(file)),
         ClientCommand::Bye => Ok(Done::Leave),
@@ -77,27 +59,29 @@ fn patience_of(wait: Wait, interval: u32) -> Patience {
 }
 
 /// Gives a pattern a name.
-fn named(
-    alloc: Global,
-    seat: &mut Seat,
-    out: &mut Vec<u8>,
+fn named<C: Clock, S: Source + Drop, K: Sink + Drop>(
+    client: &mut Client<'_, C, S, K>,
     name: PatternName,
     text: &PatternText,
-) -> Result<Done, SeatFault>
-    ensures { IsNaming name text.now seat.old seat.new out.old.items out.new.items result }
+) -> Result<Done, CommandFault>
+    ensures { IsNaming name text.now client.old client.new result }
 {
-    match seat.name_pattern(alloc, out, name, text) {
+    match client.name_pattern(name, text) {
         Ok(()) => Ok(Done::Told),
-        Err(_) => Err(SeatFault::Memory),
+        Err(_) => Err(CommandFault::Memory),
     }
 }
 
 /// Shows a cell.
-fn shown(alloc: Global, seat: &Seat, out: &mut Vec<u8>, x: i32, y: i32) -> Result<Done, SeatFault>
-    ensures { IsShowing x y seat.now out.old.items out.new.items result }
+fn shown<C: Clock, S: Source + Drop, K: Sink + Drop>(
+    client: &mut Client<'_, C, S, K>,
+    x: i32,
+    y: i32,
+) -> Result<Done, CommandFault>
+    ensures { IsShowing x y client.old client.new result }
 {
-    match seat.show(alloc, out, x, y) {
+    match client.show(x, y) {
         Ok(()) => Ok(Done::Told),
-        Err(_) => Err(SeatFault::Memory),
+        Err(_) => Err(CommandFault::Memory),
     }
 }

@@ -5,7 +5,7 @@ ghost use Rattle.client_tasks.specs.Carrying.{behind_drawing, left_behind, to_fi
 ghost use Rattle.client_tasks.specs.declared.done.Done.TheVariants.{Told};
 
 use client_commands::FileName;
-use client_session::{Outcome, SeatFault};
+use client_session::{CommandFault, Outcome};
 
 /// What is left to do behind a command, beside the board.
 #[derive(Debug, Drop)]
@@ -25,7 +25,7 @@ pub enum Done {
 }
 
 /// Behind a call that tells all.
-pub(crate) fn told(ended: Result<(), SeatFault>) -> Result<Done, SeatFault>
+pub(crate) fn told(ended: Result<(), CommandFault>) -> Result<Done, CommandFault>
     ensures { result ≡ left_behind (λ _. Told) ended }
 {
     match ended {
@@ -35,7 +35,7 @@ pub(crate) fn told(ended: Result<(), SeatFault>) -> Result<Done, SeatFault>
 }
 
 /// Behind a drawing.
-pub(crate) fn drawn(outcome: Result<Outcome, SeatFault>) -> Result<Done, SeatFault>
+pub(crate) fn drawn(outcome: Result<Outcome, CommandFault>) -> Result<Done, CommandFault>
     ensures { result ≡ left_behind behind_drawing outcome }
 {
     match outcome {
@@ -48,8 +48,8 @@ pub(crate) fn drawn(outcome: Result<Outcome, SeatFault>) -> Result<Done, SeatFau
 /// Behind a call that gives a text for a file, or none.
 pub(crate) fn written(
     file: FileName,
-    text: Result<Option<Vec<u8>>, SeatFault>,
-) -> Result<Done, SeatFault>
+    text: Result<Option<Vec<u8>>, CommandFault>,
+) -> Result<Done, CommandFault>
     ensures { result ≡ left_behind (to_file file) text }
 {
     match text {

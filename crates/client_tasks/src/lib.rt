@@ -1,11 +1,11 @@
-//! What each command of a client comes to at a board: which of the seat's calls it is, and how a file's
+//! What each command of a client comes to at a board: which of its calls it is, and how a file's
 //! text is drawn again. What is left to its caller are files, time and the end.
 #![tactic(auto)]
 
 mod carrying;
 mod done;
-mod drawing;
 mod opening;
+mod pieces;
 mod refusing;
 mod saved;
 

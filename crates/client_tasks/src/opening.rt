@@ -2,20 +2,17 @@
 
 ghost use Rattle.std.specs.Prelude.{◌≡◌, ◌<◌, ◌^◌, Ok, false};
 ghost use Rattle.delta_exchange.specs.MessageReading.{begins_as_delta};
-ghost use Rattle.client_session.specs.Moment.{moment};
 ghost use Rattle.client_tasks.specs.Opening.{IsOpened, OpensBoard, OpensPattern, OpensSaved, want_of};
 
-use crate::drawing::draw_all;
+use crate::pieces::draw_all;
 use crate::refusing::{refuse, refuse_text};
 use crate::saved::{Saved, saved_in, suffice};
-use client_session::{Outcome, Seat, SeatFault};
+use client_session::{Client, CommandFault, Outcome};
 use delta_exchange::{ReadFault, is_delta};
 use devices::{Sink, Source};
-use frame_line::Line;
 use multistate_rle::{RleFault, parse};
 use replica_core::Fault;
 use replica_events::EditSpec;
-use std::alloc::Global;
 use std::time::Clock;
 
 /// Draws what a text holds: where it begins as a state the cells that are not dead of the board that was
@@ -24,87 +21,71 @@ use std::time::Clock;
 /// nothing said on the line; so it is of a full clock, where counters do not suffice for all edits of a
 /// board. Behind an edit that is refused, or may be, no more is drawn.
 pub fn open<C: Clock, S: Source + Drop, K: Sink + Drop>(
-    clock: &C,
-    alloc: Global,
-    line: &mut Line<S, K>,
-    seat: &mut Seat,
-    out: &mut Vec<u8>,
+    client: &mut Client<'_, C, S, K>,
     text: &[u8],
-) -> Result<Outcome, SeatFault>
-    ensures { IsOpened text.now (moment S.known K.known line.old seat.old out.old.items) (moment S.known K.known line.new seat.new out.new.items) result }
+) -> Result<Outcome, CommandFault>
+    ensures { IsOpened text.now client.old client.new result }
 {
     match is_delta(text) {
-        Ok(false) => open_board(clock, alloc, line, seat, out, text),
-        Ok(true) | Err(_) => open_pattern(clock, alloc, line, seat, out, text),
+        Ok(false) => open_board(client, text),
+        Ok(true) | Err(_) => open_pattern(client, text),
     }
 }
 
 fn open_board<C: Clock, S: Source + Drop, K: Sink + Drop>(
-    clock: &C,
-    alloc: Global,
-    line: &mut Line<S, K>,
-    seat: &mut Seat,
-    out: &mut Vec<u8>,
+    client: &mut Client<'_, C, S, K>,
     text: &[u8],
-) -> Result<Outcome, SeatFault>
+) -> Result<Outcome, CommandFault>
     requires { begins_as_delta text.now ≡ Ok false }
-    ensures { OpensBoard text.now (moment S.known K.known line.old seat.old out.old.items) (moment S.known K.known line.new seat.new out.new.items) result }
+    ensures { OpensBoard text.now client.old client.new result }
 {
-    let key = seat.replica.plane().key();
-    match saved_in(alloc, &seat.replica.rule(), key, text) {
-        Ok(saved) => open_saved(clock, alloc, line, seat, out, &saved),
+    let replica = client.replica();
+    match saved_in(client.alloc(), &replica.rule(), replica.plane().key(), text) {
+        Ok(saved) => open_saved(client, &saved),
         Err(fault) => match want_of(fault) {
             Some(want) => Err(want),
-            None => refuse(alloc, out, Fault::Read(fault)),
+            None => refuse(client, Fault::Read(fault)),
         },
     }
 }
 
 /// What is wanting where a text could not be read for that; nothing where it is refused.
-fn want_of(fault: ReadFault) -> Option<SeatFault>
+fn want_of(fault: ReadFault) -> Option<CommandFault>
     ensures { result ≡ want_of fault }
 {
     match fault {
-        ReadFault::Memory => Some(SeatFault::Memory),
-        ReadFault::StoreFull => Some(SeatFault::StoreFull),
+        ReadFault::Memory => Some(CommandFault::Memory),
+        ReadFault::StoreFull => Some(CommandFault::StoreFull),
         _ => None,
     }
 }
 
 /// Draws a saved board again.
 fn open_saved<C: Clock, S: Source + Drop, K: Sink + Drop>(
-    clock: &C,
-    alloc: Global,
-    line: &mut Line<S, K>,
-    seat: &mut Seat,
-    out: &mut Vec<u8>,
+    client: &mut Client<'_, C, S, K>,
     saved: &Saved,
-) -> Result<Outcome, SeatFault>
+) -> Result<Outcome, CommandFault>
     requires { saved.now.counter < 2 ^ 48 }
-    ensures { OpensSaved saved.now.cells.items saved.now.counter (moment S.known K.known line.old seat.old out.old.items) (moment S.known K.known line.new seat.new out.new.items) result }
+    ensures { OpensSaved saved.now.cells.items saved.now.counter client.old client.new result }
 {
-    if !suffice(seat.replica.plane(), saved.counter, &saved.cells) {
-        return refuse(alloc, out, Fault::ClockFull);
+    if !suffice(client.replica().plane(), saved.counter, &saved.cells) {
+        return refuse(client, Fault::ClockFull);
     }
-    draw_all(clock, alloc, line, seat, out, saved.counter, &saved.cells)
+    draw_all(client, saved.counter, &saved.cells)
 }
 
 fn open_pattern<C: Clock, S: Source + Drop, K: Sink + Drop>(
-    clock: &C,
-    alloc: Global,
-    line: &mut Line<S, K>,
-    seat: &mut Seat,
-    out: &mut Vec<u8>,
+    client: &mut Client<'_, C, S, K>,
     text: &[u8],
-) -> Result<Outcome, SeatFault>
-    ensures { OpensPattern text.now (moment S.known K.known line.old seat.old out.old.items) (moment S.known K.known line.new seat.new out.new.items) result }
+) -> Result<Outcome, CommandFault>
+    ensures { OpensPattern text.now client.old client.new result }
 {
-    match parse(alloc, text) {
+    match parse(client.alloc(), text) {
         Ok(pattern) => {
             let (x, y) = pattern.pos();
-            seat.draw(clock, alloc, line, out, 0, &EditSpec::Or(pattern, x, y))
+            client.draw(0, &EditSpec::Or(pattern, x, y))
         }
-        Err(RleFault::Memory) => Err(SeatFault::Memory),
-        Err(fault) => refuse_text(alloc, out, fault),
+        Err(RleFault::Memory) => Err(CommandFault::Memory),
+        Err(fault) => refuse_text(client, fault),
     }
 }

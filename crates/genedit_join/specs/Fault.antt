@@ -2,8 +2,8 @@
 use Rattle.std.specs.Prelude.{ℕ, List, None, codes}
 use Rattle.board_client.specs.declared.fault.ClientFault.{ClientFault}
 use Rattle.board_client.specs.declared.fault.ClientFault.TheVariants as client
-use Rattle.client_session.specs.declared.fault.SeatFault.{SeatFault}
-use Rattle.client_session.specs.declared.fault.SeatFault.TheVariants as seat
+use Rattle.client_session.specs.declared.fault.CommandFault.{CommandFault}
+use Rattle.client_session.specs.declared.fault.CommandFault.TheVariants as command
 use Rattle.frame_line.specs.declared.fault.LineFault.{LineFault}
 use Rattle.frame_line.specs.declared.fault.LineFault.TheVariants as line
 use Rattle.genedit_io.specs.declared.fault.RunFault.TheVariants.{Memory, Refused, StoreFull}
@@ -49,8 +49,8 @@ fault_of_client (client.Text fault) = fault_of_text fault
 fault_of_client client.Memory = memory_wanted
 
 -- a refusal, of the greeting or of a poll, is told as such
-abbrev pub fault_of_seat : SeatFault → JoinFault
-fault_of_seat (seat.Client fault) = fault_of_client fault
-fault_of_seat (seat.Refused number) = Run (Refused number None)
-fault_of_seat seat.Memory = memory_wanted
-fault_of_seat seat.StoreFull = Run StoreFull
+abbrev pub fault_of_command : CommandFault → JoinFault
+fault_of_command (command.Client fault) = fault_of_client fault
+fault_of_command (command.Refused number) = Run (Refused number None)
+fault_of_command command.Memory = memory_wanted
+fault_of_command command.StoreFull = Run StoreFull

@@ -1,7 +1,7 @@
 //! The connection to a server.
 
 use crate::fault::JoinFault;
-use devices::{ReadSource, Sink, Source, WriteSink};
+use devices::{ReadSource, WriteSink};
 use frame_line::Line;
 use std::alloc::Global;
 use std::net::{IpAddr, Ipv4Addr, Net, SocketAddr, TcpListener, TcpStream};
@@ -67,13 +67,4 @@ fn streams<R: Net<Listener = TcpListener, Stream = TcpStream>>(
     let source = stream.try_clone().ok()?;
     let sink = stream.try_clone().ok()?;
     Some((source, sink, stream))
-}
-
-/// Lets a line go. By hand, since what a line is made of need not be there to be dropped.
-pub(crate) fn let_go<S: Source + Drop, K: Sink + Drop>(line: Line<S, K>) {
-    let Line {
-        frames: _,
-        source: _,
-        sink: _,
-    } = line;
 }

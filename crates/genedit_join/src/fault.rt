@@ -4,7 +4,7 @@ ghost use Rattle.std.specs.Prelude.{◌≡◌};
 ghost use Rattle.genedit_join.specs.Fault.{fault_of_client, fault_of_line, fault_of_text};
 
 use board_client::ClientFault;
-use client_session::SeatFault;
+use client_session::CommandFault;
 use frame_line::LineFault;
 use genedit_io::RunFault;
 use replica_core::Fault;
@@ -81,18 +81,18 @@ impl From<RunFault> for JoinFault {
     }
 }
 
-impl From<SeatFault> for JoinFault {
+impl From<CommandFault> for JoinFault {
     ghost use Rattle.std.specs.Prelude.{◌≡◌};
-    ghost use Rattle.genedit_join.specs.Fault.{fault_of_seat};
+    ghost use Rattle.genedit_join.specs.Fault.{fault_of_command};
 
-    ghost from_gives = { λ from fault. fault ≡ fault_of_seat from };
+    ghost from_gives = { λ from fault. fault ≡ fault_of_command from };
 
-    fn from(fault: SeatFault) -> JoinFault {
+    fn from(fault: CommandFault) -> JoinFault {
         match fault {
-            SeatFault::Client(fault) => of_client(fault),
-            SeatFault::Refused(number) => JoinFault::Run(RunFault::Refused(number, None)),
-            SeatFault::Memory => JoinFault::Run(RunFault::Memory),
-            SeatFault::StoreFull => JoinFault::Run(RunFault::StoreFull),
+            CommandFault::Client(fault) => of_client(fault),
+            CommandFault::Refused(number) => JoinFault::Run(RunFault::Refused(number, None)),
+            CommandFault::Memory => JoinFault::Run(RunFault::Memory),
+            CommandFault::StoreFull => JoinFault::Run(RunFault::StoreFull),
         }
     }
 }

@@ -1,6 +1,6 @@
 //! Files that commands name.
 
-ghost use Rattle.std.specs.Prelude.{◌≡◌, ◌++◌, codes, decimal, OnOk};
+ghost use Rattle.std.specs.Prelude.{◌≡◌, IfOk};
 ghost use Rattle.genedit_join.specs.Files.{refused_line, wrote_line};
 
 use client_commands::FileName;
@@ -115,27 +115,24 @@ fn read_bytes<R: Files>(rt: &R, alloc: Global, path: &str) -> io::Result<Vec<u8>
 }
 
 /// That a file was written, and how many bytes it has.
-pub(crate) fn push_wrote(out: &mut Vec<u8>, bytes: u64, name: &FileName) -> Result<(), AllocError>
-    ensures { OnOk result (out.new.items ≡ out.old.items ++ wrote_line bytes name.now) }
+pub(crate) fn wrote_text(alloc: Global, bytes: u64, name: &FileName) -> Result<Vec<u8>, AllocError>
+    ensures { IfOk result (λ text. text.items ≡ wrote_line bytes name.now) }
 {
+    let mut out = Vec::new(alloc);
     out.extend_from_slice(b"wrote ")?;
     out.extend_from_slice(Buffer::new().format(bytes).as_bytes())?;
     out.push(b' ')?;
     out.extend_from_slice(name.as_bytes())?;
     out.push(b'\n')?;
-    Ok(())
+    Ok(out)
 }
 
 /// A refusal, as it is printed.
-pub(crate) fn push_refused(
-    alloc: Global,
-    out: &mut Vec<u8>,
-    refusal: RunFault,
-) -> Result<(), AllocError>
-    ensures { OnOk result (out.new.items ≡ out.old.items ++ refused_line refusal) }
+pub(crate) fn refused_text(alloc: Global, refusal: RunFault) -> Result<Vec<u8>, AllocError>
+    ensures { IfOk result (λ text. text.items ≡ refused_line refusal) }
 {
-    let text = refusal.to_string(alloc)?;
-    out.extend_from_slice(text.as_bytes())?;
+    let mut out = Vec::new(alloc);
+    out.extend_from_slice(refusal.to_string(alloc)?.as_bytes())?;
     out.push(b'\n')?;
-    Ok(())
+    Ok(out)
 }

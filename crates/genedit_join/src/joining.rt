@@ -1,12 +1,13 @@
 //! A client from its first line to its last.
 
-use crate::client::{Client, Going, Pace};
-use crate::connection::{Hold, StreamLine, StreamSink, StreamSource, connect, let_go};
+use crate::connection::{Hold, connect};
 use crate::fault::{JoinFault, of_client};
+use crate::joined::{Going, Joined, Pace};
 use crate::telling::{tell_doubt, tell_fault, tell_open_block};
 use crate::typed::{Typed, typed_lines};
+use board_client::Server;
 use client_commands::{Dictation, Heard};
-use client_session::{Seat, SeatFault, Telling, leave};
+use client_session::{Client, CommandFault, Telling};
 use crossbeam_channel::{Receiver, RecvTimeoutError};
 use devices::{Sink, Source};
 use genedit_io::{RunFault, push_output};
@@ -19,8 +20,8 @@ use std::thread::Threads;
 use std::time::Clock;
 
 /// How a client joins a board.
-#[derive(Clone, Copy, Debug, PartialEq, Eq)]
-pub struct Options {
+#[derive(Clone, Copy)]
+pub struct JoinOptions {
     /// The port at which the server listens on this machine.
     pub port: u16,
     /// How many milliseconds are let pass between two polls, 1 to 60,000.
@@ -28,11 +29,19 @@ pub struct Options {
     /// Whether it polls while no command comes.
     pub is_following: bool,
     pub telling: Telling,
+    /// By whose hashes the client finds what it holds.
+    pub key: HashKey,
 }
 
-/// Joins a board and carries out the commands of a source, one a line, to `bye` or the end of the source,
-/// and then leaves. Each line is pushed before anything else is waited for. Lines at fault are told on standard
-/// error, and passed over.
+/// Where a client's commands come from, one a line, and where what it prints goes.
+pub struct Terminal<S, O> {
+    pub source: S,
+    pub sink: O,
+}
+
+/// Joins a board and carries out the commands of a terminal, to `bye` or the end of its source, and then
+/// leaves. Each line is pushed before anything else is waited for. Lines at fault are told on standard error,
+/// and passed over.
 pub fn join<
     R: Net<Listener = TcpListener, Stream = TcpStream>
         + Threads
@@ -46,56 +55,40 @@ pub fn join<
         + Sync
         + 'static,
     S: Source + Send + Drop + 'static,
-    O: Sink,
->(
-    rt: &R,
-    alloc: Global,
-    options: Options,
-    key: HashKey,
-    source: S,
-    sink: &mut O,
-) -> Result<(), JoinFault> {
+    O: Sink + Drop,
+>(rt: &R, alloc: Global, options: JoinOptions, terminal: Terminal<S, O>) -> Result<(), JoinFault> {
+    let Terminal { source, mut sink } = terminal;
     let (line, hold) = connect(rt, alloc, options.port)?;
     hold.limit();
-    let mut client = seated(rt, alloc, options, key, line, sink)?;
+    let mut joined = joined_at(rt, Server::new(rt, alloc, line), options, &mut sink)?;
     hold.unlimit();
-    client.push_printed(sink)?;
+    joined.push_printed(&mut sink)?;
     let typed = typed_lines(*rt, alloc, source)?;
-    let carried_out = carry_out_all(rt, alloc, &mut client, &typed, sink);
-    client.push_printed(sink)?;
-    carried_out?;
-    farewell(alloc, &mut client, &hold)
+    let obeyed = obey_all(&mut joined, &typed, &mut sink);
+    joined.push_printed(&mut sink)?;
+    obeyed?;
+    farewell(&mut joined, &hold)
 }
 
 /// A client that was greeted. Where its first poll ends it, what was printed by then is pushed.
-fn seated<C: Clock, O: Sink>(
-    clock: &C,
-    alloc: Global,
-    options: Options,
-    key: HashKey,
-    mut line: StreamLine,
+fn joined_at<'a, R: Clock, S: Source + Drop, K: Sink + Drop, O: Sink>(
+    rt: &'a R,
+    server: Server<'a, R, S, K>,
+    options: JoinOptions,
     sink: &mut O,
-) -> Result<Client<StreamSource, StreamSink>, JoinFault> {
-    let mut out = Vec::new(alloc);
-    match Seat::join(clock, alloc, &mut line, &mut out, options.telling, key) {
-        Ok(seat) => Ok(Client {
-            line,
-            seat,
-            pace: Pace {
-                interval: options.interval,
-                is_following: options.is_following,
-            },
-            out,
-        }),
-        Err(fault) => {
-            let_go(line);
-            Err(unseated(fault, &out, sink))
-        }
+) -> Result<Joined<'a, R, S, K>, JoinFault> {
+    let pace = Pace {
+        interval: options.interval,
+        is_following: options.is_following,
+    };
+    match Client::join(server, options.telling, options.key) {
+        Ok(client) => Ok(Joined { rt, client, pace }),
+        Err(unjoined) => Err(not_joined(unjoined.fault(), unjoined.printed(), sink)),
     }
 }
 
-/// Why there is no seat, once what was printed is pushed. Where nothing was, no greeting came.
-fn unseated<O: Sink>(fault: SeatFault, out: &[u8], sink: &mut O) -> JoinFault {
+/// Why a client did not join, once what was printed is pushed. Where nothing was, no greeting came.
+fn not_joined<O: Sink>(fault: CommandFault, out: &[u8], sink: &mut O) -> JoinFault {
     if out.is_empty() {
         return unanswered(fault);
     }
@@ -105,8 +98,8 @@ fn unseated<O: Sink>(fault: SeatFault, out: &[u8], sink: &mut O) -> JoinFault {
     }
 }
 
-/// Why there is no seat: where nothing comes at the greeting, no server answers.
-fn unanswered(fault: SeatFault) -> JoinFault {
+/// Why a client did not join: where nothing comes at the greeting, no server answers.
+fn unanswered(fault: CommandFault) -> JoinFault {
     match JoinFault::from(fault) {
         JoinFault::Gone => JoinFault::NoServer,
         fault => fault,
@@ -114,20 +107,19 @@ fn unanswered(fault: SeatFault) -> JoinFault {
 }
 
 /// Carries out commands to the one that leaves, or to the end of the lines.
-fn carry_out_all<R: Wait + Clock + Files + Eprint, S: Source + Drop, K: Sink + Drop, O: Sink>(
-    rt: &R,
-    alloc: Global,
-    client: &mut Client<S, K>,
+fn obey_all<R: Wait + Clock + Files + Eprint, S: Source + Drop, K: Sink + Drop, O: Sink>(
+    joined: &mut Joined<'_, R, S, K>,
     typed: &Receiver<Typed, Global>,
     sink: &mut O,
 ) -> Result<(), JoinFault> {
+    let (rt, alloc) = (joined.rt, joined.client.alloc());
     let mut dictation = Dictation::new(alloc);
     for _ in rt.forever() {
-        client.push_printed(sink)?;
-        match next_typed(rt, client.pace, typed) {
-            Next::Nothing => client.follow(rt, alloc)?,
+        joined.push_printed(sink)?;
+        match next_typed(rt, joined.pace, typed) {
+            Next::Nothing => joined.follow()?,
             Next::Line(line) => {
-                if hear(rt, alloc, client, &mut dictation, &line, sink)? == Going::Leaving {
+                if hear(joined, &mut dictation, &line, sink)? == Going::Leaving {
                     return Ok(());
                 }
             }
@@ -179,9 +171,7 @@ fn typed_next(typed: Typed) -> Next {
 
 /// Hears a line, and does what it asks for.
 fn hear<R: Clock + Files + Eprint, S: Source + Drop, K: Sink + Drop, O: Sink>(
-    rt: &R,
-    alloc: Global,
-    client: &mut Client<S, K>,
+    joined: &mut Joined<'_, R, S, K>,
     dictation: &mut Dictation,
     line: &[u8],
     sink: &mut O,
@@ -189,13 +179,13 @@ fn hear<R: Clock + Files + Eprint, S: Source + Drop, K: Sink + Drop, O: Sink>(
     match dictation.hear(line)? {
         Heard::Nothing => Ok(Going::On),
         Heard::Faulty(number) => {
-            tell_fault(rt, alloc, number, line)?;
+            tell_fault(joined.rt, joined.client.alloc(), number, line)?;
             Ok(Going::On)
         }
         Heard::Command(command) => {
-            let going = client.carry_out(rt, alloc, command, sink)?;
+            let going = joined.obey(command, sink)?;
             if going == Going::InDoubt {
-                tell_doubt(rt);
+                tell_doubt(joined.rt);
             }
             Ok(going)
         }
@@ -203,13 +193,12 @@ fn hear<R: Clock + Files + Eprint, S: Source + Drop, K: Sink + Drop, O: Sink>(
 }
 
 /// Leaves the board; the answer is not awaited for longer than the patience.
-fn farewell<S: Source + Drop, K: Sink + Drop>(
-    alloc: Global,
-    client: &mut Client<S, K>,
+fn farewell<R: Clock, S: Source + Drop, K: Sink + Drop>(
+    joined: &mut Joined<'_, R, S, K>,
     hold: &Hold,
 ) -> Result<(), JoinFault> {
     hold.limit();
-    match leave(alloc, &mut client.line) {
+    match joined.client.leave() {
         Ok(_) => Ok(()),
         Err(fault) => Err(of_client(fault)),
     }

@@ -2,13 +2,13 @@
 //! goes to standard output.
 #![tactic(auto)]
 
-mod client;
 mod connection;
 mod fault;
 mod files;
+mod joined;
 mod joining;
 mod telling;
 mod typed;
 
 pub use fault::JoinFault;
-pub use joining::{Options, join};
+pub use joining::{JoinOptions, Terminal, join};

@@ -12,6 +12,6 @@ mod spelling;
 pub use command::{Command, Paste, PatternName, PatternText};
 pub use fault::ScriptFault;
 pub use laws::script_laws;
-pub use line::{Line, Lines, says_something, without_return};
+pub use line::{Lines, ScriptLine, says_something, without_return};
 pub use script::{Script, read_script};
 pub use spelling::{area_of, command_in, opened_in, replicas_in, rule_in};

@@ -9,7 +9,7 @@ use text_scan::split_word;
 
 /// A line of a text.
 #[derive(Clone, Copy, Debug)]
-pub struct Line<'a> {
+pub struct ScriptLine<'a> {
     /// Counted from 1, skipped lines included.
     pub number: u64,
     pub text: &'a [u8],
@@ -39,7 +39,7 @@ impl<'a> Lines<'a> {
     }
 
     /// The next line, whatever it says.
-    pub fn next_line(&mut self) -> Option<Line<'a>>
+    pub fn next_line(&mut self) -> Option<ScriptLine<'a>>
         ensures line { MatchOption result
             (lines_from self.old.number self.old.rest.now ≡ [])
             (λ line. lines_from self.old.number self.old.rest.now
@@ -55,11 +55,11 @@ impl<'a> Lines<'a> {
             number: number + 1,
             rest,
         };
-        Some(Line { number, text })
+        Some(ScriptLine { number, text })
     }
 
     /// The next line that is not skipped.
-    pub fn next_spoken(&mut self) -> Option<Line<'a>>
+    pub fn next_spoken(&mut self) -> Option<ScriptLine<'a>>
         ensures line { MatchOption result
             (past_skipped (lines_from self.old.number self.old.rest.now) ≡ [])
             (λ line. past_skipped (lines_from self.old.number self.old.rest.now)

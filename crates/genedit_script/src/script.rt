@@ -7,7 +7,7 @@ ghost use Rattle.genedit_script.specs.ScriptFault.{IsFaultOf};
 
 use crate::command::{Command, PatternName, PatternText};
 use crate::fault::ScriptFault;
-use crate::line::{Line, Lines};
+use crate::line::{Lines, ScriptLine};
 use crate::spelling::{command_in, opened_in, replicas_in, rule_in};
 use command_words::Keyword;
 use generations_rule::Rule;
@@ -104,7 +104,7 @@ fn head_in(lines: &mut Lines<'_>) -> Result<(Rule, u16), u64>
 }
 
 /// The next line that is not skipped, or the number of the line behind the last.
-fn required_line<'a>(lines: &mut Lines<'a>) -> Result<Line<'a>, u64>
+fn required_line<'a>(lines: &mut Lines<'a>) -> Result<ScriptLine<'a>, u64>
     ensures line { IfOk result (λ line. past_skipped (lines_from lines.old.number lines.old.rest.now)
         ≡ record { number = line.number; text = line.text.now } ∷ lines_from lines.new.number lines.new.rest.now) }
     ensures all { lines.new.number + length (lines_of lines.new.rest.now) ≡ lines.old.number + length (lines_of lines.old.rest.now) }
@@ -132,7 +132,11 @@ fn commands_in(alloc: Global, mut lines: Lines<'_>) -> Result<Vec<Command>, Scri
 
 /// The command of a line that is not skipped; where the line opens a block, the lines up to its
 /// `end` are taken.
-fn command_at(alloc: Global, line: Line<'_>, lines: &mut Lines<'_>) -> Result<Command, ScriptFault>
+fn command_at(
+    alloc: Global,
+    line: ScriptLine<'_>,
+    lines: &mut Lines<'_>,
+) -> Result<Command, ScriptFault>
     ensures command { IfOk result (λ command. (all : List NumberedLine)
         → past_skipped all ≡ record { number = line.entry.number; text = line.entry.text.now } ∷ lines_from lines.old.number lines.old.rest.now
         → commands_spelled None all ≡ onto command (commands_spelled None (lines_from lines.new.number lines.new.rest.now))) }

@@ -2,8 +2,8 @@
 use Rattle.std.specs.Prelude.{ℕ, Bool, List, Option, option_map, Result, Ok, Err}
 use Rattle.generations_rule.specs.Rule.{GenerationsRule}
 use Rattle.genedit_io.specs.declared.fault.RunFault.{RunFault}
-use Rattle.genedit_words.specs.declared.task.Client.{Client}
-use Rattle.genedit_words.specs.declared.task.Server.{Server}
+use Rattle.genedit_words.specs.declared.task.JoinTask.{JoinTask}
+use Rattle.genedit_words.specs.declared.task.ServeTask.{ServeTask}
 use Rattle.genedit_words.specs.declared.task.Task.{Task}
 use Rattle.genedit_words.specs.declared.task.Task.TheVariants as task
 
@@ -20,10 +20,10 @@ pub record Viewed : Type 0 where
 pub data Told : Type 0 where
   Run : Told
   Rle : (rule : GenerationsRule) → Told
-  Serve : (server : Server) → Told
+  Serve : (server : ServeTask) → Told
   Check : (file : Option (List ℕ)) → Told
   View : (viewed : Viewed) → Told
-  Join : (client : Client) → Told
+  Join : (client : JoinTask) → Told
 
 -- what a task is, by its texts
 abbrev pub told_of : Task → Told

@@ -17,7 +17,7 @@ use Rattle.genedit_io.specs.declared.fault.RunFault.{RunFault}
 use Rattle.genedit_io.specs.declared.fault.RunFault.TheVariants.{Memory, Refused}
 use Rattle.genedit_words.specs.declared.ending.Ending.{Ending}
 use Rattle.genedit_words.specs.declared.ending.Ending.TheVariants as ending
-use Rattle.genedit_words.specs.declared.task.Client.{Client}
+use Rattle.genedit_words.specs.declared.task.JoinTask.{JoinTask}
 use Rattle.genedit_words.specs.Told.{Told, Viewed, Check, Join, Rle, Run, Serve, View}
 
 -- the rule, or the refusal with which the program ends
@@ -187,7 +187,7 @@ abbrev pub interval_asked : List Row → ℕ
 interval_asked rows = unwrap_or (number_of (codes "every") rows) 50
 
 -- a client that polls at this port
-abbrev pub client_at : List Row → ℕ → Client
+abbrev pub client_at : List Row → ℕ → JoinTask
 client_at rows port = record { port = port; interval = interval_asked rows; is_following = is_set (codes "follow") rows; tells_changes = is_set (codes "changes") rows }
 
 -- a client at the port that the option spells

@@ -9,5 +9,5 @@ mod words;
 
 pub use commands::{JOIN_HELP, SCRIPT_HELP};
 pub use ending::Ending;
-pub use task::{Client, Server, Task, Viewing};
+pub use task::{JoinTask, ServeTask, Task, Viewing};
 pub use words::{asked, given};

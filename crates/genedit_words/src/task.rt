@@ -4,7 +4,7 @@ use generations_rule::Rule;
 
 /// A server of a board.
 #[derive(Clone, Copy)]
-pub struct Server {
+pub struct ServeTask {
     pub rule: Rule,
     /// 0 for any that is free.
     pub port: u16,
@@ -14,7 +14,7 @@ pub struct Server {
 
 /// A client of a board that is served.
 #[derive(Clone, Copy)]
-pub struct Client {
+pub struct JoinTask {
     pub port: u16,
     /// How many milliseconds are let pass between two polls, 1 to 60,000.
     pub interval: u16,
@@ -50,7 +50,7 @@ pub enum Task<'a> {
     /// A picture is drawn.
     View(Viewing<'a>),
     /// A board is served.
-    Serve(Server),
+    Serve(ServeTask),
     /// A board that is served is joined.
-    Join(Client),
+    Join(JoinTask),
 }

@@ -8,7 +8,7 @@ ghost use Rattle.genedit_words.specs.Words.{Asks, EndsWords, check_asked, interv
 
 use crate::commands::command;
 use crate::ending::Ending;
-use crate::task::{Client, Server, Task, Viewing};
+use crate::task::{JoinTask, ServeTask, Task, Viewing};
 use clap::ArgMatches;
 use genedit_io::RunFault;
 use generations_rule::Rule;
@@ -84,7 +84,7 @@ fn serve<'a>(words: &ArgMatches<'a>) -> Result<Task<'a>, RunFault>
     let rule = rule(words)?;
     let port = number(words, "port");
     let sessions = number(words, "sessions");
-    Ok(Task::Serve(Server {
+    Ok(Task::Serve(ServeTask {
         rule,
         port,
         sessions,
@@ -97,7 +97,7 @@ fn join<'a>(words: &ArgMatches<'a>) -> Task<'a>
     ensures asked { join_asked (rows_of (found_of words.now)) ≡ Some (Ok (told_of result)) }
     ensures range { IsInRange result }
 {
-    Task::Join(Client {
+    Task::Join(JoinTask {
         port: number(words, "port"),
         interval: interval(words),
         is_following: is_set(words, "follow"),

@@ -1,4 +1,4 @@
-use Rattle.client_session.proofs.SeatLaws.{shows_what_it_holds, tells_what_changed}
+use Rattle.client_session.proofs.ToldLaws.{shows_what_it_holds, tells_what_changed}
 use Rattle.client_session.proofs.laws.session_laws.Goals as goal
 
 pub returns-clause-holds : goal.returns-clause-holds

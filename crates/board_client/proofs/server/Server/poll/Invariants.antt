@@ -1,0 +1,8 @@
+use Rattle.std.proofs.Common.{◌≡◌}
+use Rattle.board_client.specs.Polling.{IsMomentaryPollRefusal, poll_request}
+use Rattle.board_client.specs.Tries.{IsRefused}
+use Rattle.board_client.proofs.server.Server.poll.Given as goal
+
+-- the poll was refused for a moment so often
+abbrev pub invariant-loop-tried : goal.invariant-loop-tried
+invariant-loop-tried g l = IsRefused IsMomentaryPollRefusal poll_request l._tried l.fn.self l.self × (l.replica ≡ l.fn.replica)

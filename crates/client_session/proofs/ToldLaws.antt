@@ -1,0 +1,135 @@
+-- What is told of a board is what the replica holds.
+use Rattle.std.proofs.Common.{◌≡◌, ℕ, true, List, [], ◌∷◌, ◌++◌, Option, Some, None, Result, Ok, Err, length, drop, refl, sym, ap, subst, ◌∙◌}
+use Rattle.generations_rule.specs.Rule.{GenerationsRule}
+use Rattle.edit_stamps.specs.Edit.{PlaneEdit, greatest}
+use Rattle.stamped_writes.specs.Write.{Writes, AreSame, greater, joined, unwritten}
+use Rattle.stamped_tree.specs.Plane.{StampedPlane, map_of}
+use Rattle.delta_exchange.specs.declared.message.Content.{Content}
+use Rattle.delta_exchange.specs.declared.message.Content.TheVariants as contents
+use Rattle.delta_exchange.specs.MessageReading.{Told, ToldEdits, ToldMap, HasContentTold, begins_as_delta, message_of, told_as}
+use Rattle.delta_exchange.specs.Reading.{delta_of}
+use Rattle.delta_exchange.specs.declared.fault.ReadFault.{ReadFault}
+use Rattle.stamped_tree.specs.Tree.{Tree}
+use Rattle.generations_rule.specs.Refusal.{◌>>=◌}
+use Rattle.replica_core.specs.Replica.{ReplicaState, IsReplica, Takes}
+use Rattle.board_client.specs.Hearing.{AreDeltas, AreTaken, IsTaken}
+use Rattle.board_client.specs.declared.publishing.Drawing.{Drawing}
+use Rattle.board_client.specs.declared.publishing.Drawing.TheVariants.{Drawn, Refused, Unpublished}
+use Rattle.board_client.specs.Drawing.{IsDrawing}
+use Rattle.replica_events.specs.declared.edit_spec.EditSpec.{EditSpec}
+use Rattle.pattern_cells.specs.declared.cell.Cell.{Cell}
+use Rattle.pattern_cells.specs.Cells.{place_of}
+use Rattle.cell_changes.specs.Changes.{AreChanges}
+use Rattle.client_session.specs.declared.joining.Telling.{Telling}
+use Rattle.client_session.specs.declared.joining.Telling.TheVariants.{Edits, Changes}
+use Rattle.client_session.specs.declared.workspace.Workspace.{Workspace}
+use Rattle.client_session.specs.Drawing.{TellsDrawing}
+use Rattle.client_session.specs.Joining.{IsBlank}
+use Rattle.client_session.specs.Lines.{drawn_line, now_line}
+use Rattle.client_session.specs.Moment.{Moment}
+use Rattle.client_session.specs.Telling.{ShowsAll, TellsCame}
+use Rattle.client_session.specs.Laws.{IsShown, IsShownAs, ShowsWhatItHolds, TellsWhatChanged}
+use Rattle.client_session.proofs.FreshLaws.{Grows, HoldsAll, grows_by, grows_not, grows_on, joins_behind}
+
+-- ---- what a replica takes
+
+abbrev GrowsTo : ReplicaState → ReplicaState → Type 0
+GrowsTo r s = Grows r.journal s.journal (map_of r.plane) (map_of s.plane)
+
+took : (r s : ReplicaState) (content : Content) (edits : List PlaneEdit) → HoldsAll r.journal (map_of r.plane) → content ≡ contents.Edits edits → Takes r s content → GrowsTo r s
+took r s content edits held is t =
+    let taken : Takes r s (contents.Edits edits) = subst (Takes r s) is t in
+    grows_by r.journal s.journal edits (map_of r.plane) (map_of s.plane) held taken.journal taken.map
+
+never_map : (edits : Result (List PlaneEdit) ReadFault) (tree : Tree) → (edits >>= (λ es. Ok (ToldEdits es))) ≡ Ok (ToldMap tree) → ⊥
+never_map (Ok edits) tree is = absurd cc
+never_map (Err fault) tree is = absurd cc
+
+-- a text that begins as a delta tells edits
+told_edits : (rule : GenerationsRule) (text : List ℕ) (content : Content) (told : Told) → begins_as_delta text ≡ Ok true → message_of rule text ≡ Ok told → HasContentTold content told
+    → (edits : List PlaneEdit) × (content ≡ contents.Edits edits)
+told_edits rule text (contents.Edits edits) told begins means has = (edits, refl)
+told_edits rule text (contents.State plane) (ToldEdits edits) begins means has = absurd has
+told_edits rule text (contents.State plane) (ToldMap tree) begins means has = absurd (never_map (delta_of rule text) tree (subst (λ b. (b >>= told_as rule text) ≡ Ok (ToldMap tree)) begins means))
+
+took_all : (texts : List (List ℕ)) (r s : ReplicaState) → HoldsAll r.journal (map_of r.plane) → AreDeltas texts → AreTaken r texts s → GrowsTo r s
+took_all [] r s held deltas taken = grows_not r.journal s.journal (map_of r.plane) (map_of s.plane) held (ap (λ x. x.journal) taken) (λ c. ap (λ (x : ReplicaState). map_of x.plane c) taken)
+took_all (text ∷ texts) r s held deltas taken =
+    let one : IsTaken r text taken.0 = taken.1 in
+    let edits = told_edits r.rule text one.told.2.0 one.told.0 deltas.0 one.told.1 one.told.2.1 in
+    let first : GrowsTo r taken.0 = took r taken.0 one.told.2.0 edits.0 held edits.1 one.told.2.2 in
+    grows_on r.journal taken.0.journal s.journal (map_of r.plane) (map_of taken.0.plane) (map_of s.plane) first (took_all texts taken.0 s first.held deltas.1 taken.2)
+
+-- ---- what is told
+
+shown_behind : (before after : Option StampedPlane) (p q : StampedPlane) (lines : List ℕ) (came : List PlaneEdit) (out told : List ℕ) → IsShownAs p before → AreSame (map_of q) (joined (map_of p) (greatest came))
+    → TellsCame lines came before after out told → IsShownAs q after
+shown_behind None None p q lines came out told shown grown tells = tt
+shown_behind None (Some after) p q lines came out told shown grown tells = absurd tells
+shown_behind (Some before) None p q lines came out told shown grown tells = absurd tells
+shown_behind (Some before) (Some after) p q lines came out told shown grown tells = λ c. tells.shows.joins c ∙ ap (λ w. greater w (greatest came c)) (shown c) ∙ sym (grown c)
+
+all_shown : (before after : Option StampedPlane) (p : StampedPlane) → ShowsAll p before after → IsShownAs p after
+all_shown None None p shows = tt
+all_shown None (Some after) p shows = absurd shows
+all_shown (Some before) None p shows = absurd shows
+all_shown (Some before) (Some after) p shows = shows.shows
+
+still_shown : (s t : Workspace) → t.shown ≡ s.shown → t.replica ≡ s.replica → IsShown s → IsShown t
+still_shown s t shown replica is = record { shown = subst (λ (x : Option StampedPlane). IsShownAs t.replica.plane x) (sym shown) (subst (λ (r : ReplicaState). IsShownAs r.plane s.shown) (sym replica) is.shown) }
+
+blank_shown : (telling : Telling) (shown : Option StampedPlane) (p : StampedPlane) → AreSame (map_of p) (λ _. unwritten) → IsBlank telling shown → IsShownAs p shown
+blank_shown Edits None p new blank = tt
+blank_shown Edits (Some plane) p new blank = absurd blank
+blank_shown Changes None p new blank = absurd blank
+blank_shown Changes (Some plane) p new blank = λ c. blank.shows c ∙ sym (new c)
+
+-- behind a drawing, by what came of it
+drawn_shown : (drawing : Drawing) (after : ℕ) (spec : EditSpec) (m n : Moment) → IsReplica m.workspace.replica → IsShown m.workspace → IsDrawing after spec m.line n.line m.workspace.replica n.workspace.replica (Ok drawing)
+    → TellsDrawing drawing (length m.workspace.replica.journal) (record m.workspace { replica = n.workspace.replica }) n.workspace m.out n.out → IsShown n.workspace
+drawn_shown (Drawn counter) after spec m n is shown d tells =
+    let e : PlaneEdit = d.2.0 in
+    let takes = d.2.2.1.1 in
+    record {
+      shown = shown_behind m.workspace.shown n.workspace.shown m.workspace.replica.plane n.workspace.replica.plane [] (drop (length m.workspace.replica.journal) n.workspace.replica.journal) (m.out ++ drawn_line counter n.workspace.replica.number) n.out
+          shown.shown (joins_behind m.workspace.replica.journal n.workspace.replica.journal (map_of m.workspace.replica.plane) (map_of n.workspace.replica.plane)
+          (took m.workspace.replica n.workspace.replica takes.0 (e ∷ []) is.journal.held takes.1 takes.2)) tells.told;
+    }
+drawn_shown (Refused fault) after spec m n is shown d tells = still_shown m.workspace n.workspace (ap (λ s. s.shown) tells.1) d.2.1.1 shown
+drawn_shown (Unpublished number) after spec m n is shown d tells = still_shown m.workspace n.workspace (ap (λ s. s.shown) tells.kept) d.2.2.1 shown
+
+pub shows_what_it_holds : ShowsWhatItHolds
+shows_what_it_holds = record {
+  joined = λ telling number rule s fresh. record { shown = blank_shown telling s.shown s.replica.plane fresh.replica.map fresh.shown };
+  edits = λ count m n is shown p. record {
+    shown = shown_behind m.workspace.shown n.workspace.shown m.workspace.replica.plane n.workspace.replica.plane _ (drop (length m.workspace.replica.journal) n.workspace.replica.journal) m.out n.out shown.shown
+        (joins_behind m.workspace.replica.journal n.workspace.replica.journal (map_of m.workspace.replica.plane) (map_of n.workspace.replica.plane)
+        (took_all p.polled.last.texts m.workspace.replica n.workspace.replica is.journal.held p.polled.last.deltas p.polled.last.taken)) p.told.told;
+  };
+  whole = λ m n p. record { shown = all_shown m.workspace.shown n.workspace.shown n.workspace.replica.plane p.told.shown };
+  refused = λ number m n shown p. still_shown m.workspace n.workspace (ap (λ s. s.shown) p.told.0) p.polled.last.kept shown;
+  drawn = λ after spec outcome m n is shown d. drawn_shown d.drawing after spec m n is shown d.drawn d.told;
+}
+
+-- ---- what changed
+
+alike : (p q r s : Writes) (cells : List Cell) → AreSame p r → AreSame q s → AreChanges p q cells → AreChanges r s cells
+alike p q r s cells first last changes = record {
+  sorted = changes.sorted;
+  changed = λ cell. (
+    λ has. (sym (ap (λ w. w.state) (last (place_of cell))) ∙ ((changes.changed cell).0 has).0, λ e. ((changes.changed cell).0 has).1 (ap (λ w. w.state) (first (place_of cell)) ∙ e)),
+    λ both. (changes.changed cell).1 (ap (λ w. w.state) (last (place_of cell)) ∙ both.0, λ e. both.1 (sym (ap (λ w. w.state) (first (place_of cell))) ∙ e)),
+  );
+}
+
+told_as_changed : (before after : Option StampedPlane) (shown p q : StampedPlane) (lines : List ℕ) (came : List PlaneEdit) (out told : List ℕ) → before ≡ Some shown → IsShownAs p before → IsShownAs q after
+    → TellsCame lines came before after out told → (cells : List Cell) × AreChanges (map_of p) (map_of q) cells × (told ≡ out ++ now_line cells)
+told_as_changed (Some before) (Some after) shown p q lines came out told is first last tells =
+    (tells.cells, alike (map_of before) (map_of after) (map_of p) (map_of q) tells.cells first last tells.shows.changes, tells.told)
+told_as_changed (Some before) None shown p q lines came out told is first last tells = absurd tells
+told_as_changed None after shown p q lines came out told is first last tells = absurd cc
+
+pub tells_what_changed : TellsWhatChanged
+tells_what_changed count m n shown is first last p =
+    let t = told_as_changed m.workspace.shown n.workspace.shown shown m.workspace.replica.plane n.workspace.replica.plane _ (drop (length m.workspace.replica.journal) n.workspace.replica.journal) m.out n.out is first.shown last.shown p.told.told in
+    record { cells = t.0; changes = t.1; told = t.2 }

@@ -1,5 +1,0 @@
-use Rattle.client_session.proofs.PasteLaws.{pastes}
-use Rattle.client_session.proofs.seat.Seat.or.Goals as goal
-
-pub returns : goal.returns
-returns g c = pastes _ _ _ _ _ c.in-Ok.ensures.spec c.paste.ensures

@@ -1,0 +1,133 @@
+//! Drawings, and what is told of them.
+
+ghost use Rattle.std.specs.Prelude.{◌≡◌, ◌++◌, drop, false, IfErr, OnErr, OnOk};
+ghost use Rattle.client_session.specs.Drawing.{DrawingFindsNoRoom, DrawsAs, IsDrawCommand, TellsDrawing, TellsDrawn};
+ghost use Rattle.client_session.specs.Lines.{drawn_line, refusal_line};
+ghost use Rattle.client_session.specs.declared.outcome.Outcome.TheVariants.{Refused};
+ghost use Rattle.client_session.specs.Moment.{IsCutShort, IsPrinted, IsWant};
+ghost use Rattle.client_session.specs.Telling.{CameFindsNoRoom};
+
+use crate::client::Client;
+use crate::fault::CommandFault;
+use crate::lines::{push_drawn, push_refusal};
+use crate::outcome::{CLOSED, Outcome, outcome_of};
+use crate::polling::News;
+use crate::telling::tell_own;
+use crate::workspace::{Workspace, behind};
+use board_client::Drawing;
+use devices::{Sink, Source};
+use genedit_lib::push_line;
+use replica_core::Reply;
+use replica_events::EditSpec;
+use std::alloc::Global;
+use std::time::Clock;
+
+impl<'a, C: Clock, S: Source + Drop, K: Sink + Drop> Client<'a, C, S, K> {
+    /// Polls, tells what came, and draws an edit with a counter above a given one too, 0 where none is:
+    /// `drawn C R`, and where cells that look different are told those behind it; or a refusal of the edit,
+    /// of the poll or of the push. Once a push was refused by 30 it is `refused 30 Closed`, and nothing is
+    /// pushed.
+    pub fn draw(&mut self, after: u64, spec: &EditSpec) -> Result<Outcome, CommandFault>
+        ensures { IsDrawCommand after spec.now self.old self.new result }
+    {
+        match self.news() {
+            Ok(News::Refused) => Ok(Outcome::Refused),
+            Ok(News::Edits | News::Whole) => self.draw_now(after, spec),
+            Err(fault) => Err(fault),
+        }
+    }
+
+    /// The drawing behind its poll.
+    fn draw_now(&mut self, after: u64, spec: &EditSpec) -> Result<Outcome, CommandFault>
+        ensures { DrawsAs self.old.workspace.closed after spec.now self.old self.new result }
+    {
+        if self.is_closed() {
+            return self.tell_closed();
+        }
+        self.draw_open(after, spec)
+    }
+
+    /// Whether a push was refused by 30.
+    fn is_closed(&self) -> bool
+        ensures { result ≡ self.now.workspace.closed }
+    {
+        self.workspace.closed
+    }
+
+    /// Tells that the board is closed to it.
+    fn tell_closed(&mut self) -> Result<Outcome, CommandFault>
+        ensures { IsPrinted Refused (refusal_line 30) self.old self.new result }
+    {
+        match push_refusal(self.server.alloc(), &mut self.out, CLOSED) {
+            Ok(()) => Ok(Outcome::Refused),
+            Err(_) => Err(CommandFault::Memory),
+        }
+    }
+
+    /// The drawing of a client to which the board is not closed.
+    fn draw_open(&mut self, after: u64, spec: &EditSpec) -> Result<Outcome, CommandFault>
+        ensures { DrawsAs false after spec.now self.old self.new result }
+    {
+        let alloc = self.server.alloc();
+        let known = self.workspace.replica.journal().len();
+        let drawing = match self.server.draw(&mut self.workspace.replica, after, spec) {
+            Ok(drawing) => drawing,
+            Err(fault) => return Err(CommandFault::Client(fault)),
+        };
+        match self
+            .workspace
+            .tell_drawing(alloc, drawing, known, &mut self.out)
+        {
+            Ok(()) => {}
+            Err(fault) => return Err(fault),
+        }
+        Ok(outcome_of(drawing))
+    }
+}
+
+impl Workspace {
+    /// Tells what came of a drawing, behind so many edits of the journal.
+    fn tell_drawing(
+        &mut self,
+        alloc: Global,
+        drawing: Drawing,
+        known: usize,
+        out: &mut Vec<u8>,
+    ) -> Result<(), CommandFault>
+        ensures told { OnOk result (TellsDrawing drawing known self.old self.new out.old.items out.new.items) }
+        ensures want { IfErr result (IsWant (DrawingFindsNoRoom drawing known self.old self.new out.old.items out.new.items)) }
+        ensures cut { OnErr result (IsCutShort self.old self.new out.old.items out.new.items) }
+        ensures replica { self.new.replica ≡ self.old.replica }
+    {
+        match drawing {
+            Drawing::Drawn(counter) => self.tell_drawn(alloc, counter, known, out),
+            Drawing::Refused(fault) => {
+                push_line(alloc, out, &Reply::Refused(fault))?;
+                Ok(())
+            }
+            Drawing::Unpublished(number) => {
+                push_refusal(alloc, out, number)?;
+                self.closed = number == CLOSED;
+                Ok(())
+            }
+        }
+    }
+
+    /// Tells that an edit was drawn, and the cells that look different by it.
+    fn tell_drawn(
+        &mut self,
+        alloc: Global,
+        counter: u64,
+        known: usize,
+        out: &mut Vec<u8>,
+    ) -> Result<(), CommandFault>
+        ensures told { OnOk result (TellsDrawn counter known self.old self.new out.old.items out.new.items) }
+        ensures want { IfErr result (IsWant (CameFindsNoRoom (drop known self.old.replica.journal) self.old.shown self.new.shown (out.old.items ++ drawn_line counter self.old.replica.number) out.new.items)) }
+        ensures cut { OnErr result (IsCutShort self.old self.new out.old.items out.new.items) }
+        ensures replica { self.new.replica ≡ self.old.replica }
+    {
+        push_drawn(out, counter, self.replica.number())?;
+        let own = behind(self.replica.journal(), known);
+        tell_own(alloc, &mut self.shown, out, own)
+    }
+}
