@@ -1,6 +1,7 @@
 -- What is exported and saved.
-use Rattle.std.specs.Prelude.{◌≡◌, ◌⊎◌, ◌^◌, ℕ, List, ◌++◌, Option, Some, None, Result, Ok, Err}
+use Rattle.std.specs.Prelude.{◌≡◌, ◌⊎◌, ℕ, List, ◌++◌, Option, Some, None, Result, Ok, Err}
 use mathlib.Core.List.{IsPrefix}
+use Rattle.square_store.specs.Limits.{usual_room}
 use Rattle.delta_exchange.specs.StateText.{IsStateText}
 use Rattle.export.specs.declared.fault.ExportFault.{ExportFault}
 use Rattle.export.specs.Export.{IsRoomWanted}
@@ -31,7 +32,7 @@ IsTextGiven bytes_of generation s out out' None = PrintsExportRefusal generation
 -- memory is wanting, and what was printed before stands; or room for the run of a universe, and nothing is printed
 abbrev pub IsExportWant : ℕ → Workspace → List ℕ → List ℕ → CommandFault → Type 0
 IsExportWant generation s out out' Memory = IsPrefix out out'
-IsExportWant generation s out out' StoreFull = IsRoomWanted s.replica.rule s.replica.plane generation (2 ^ 26) × (out' ≡ out)
+IsExportWant generation s out out' StoreFull = IsRoomWanted s.replica.rule s.replica.plane generation usual_room × (out' ≡ out)
 IsExportWant generation s out out' fault = ⊥
 
 -- an export's text, or its refusal, which is printed; or memory or room is wanting

@@ -1,6 +1,7 @@
 -- What joining a board does.
-use Rattle.std.specs.Prelude.{◌≡◌, ◌⊎◌, ⊤, ℕ, ◌≤◌, ◌^◌, false, List, [], ◌++◌, Option, Some, None, Result, Ok, Err}
+use Rattle.std.specs.Prelude.{◌≡◌, ◌⊎◌, ⊤, ℕ, ◌≤◌, false, List, [], ◌++◌, Option, Some, None, Result, Ok, Err}
 use mathlib.Core.List.{IsPrefix}
+use Rattle.square_store.specs.Limits.{usual_room}
 use Rattle.generations_rule.specs.Rule.{GenerationsRule}
 use Rattle.stamped_writes.specs.Write.{unwritten}
 use Rattle.stamped_tree.specs.Plane.{StampedPlane}
@@ -31,7 +32,7 @@ IsBlank _ _ = ⊥
 
 -- of a client that was handed nothing, and drew nothing
 pub record IsFresh (telling : Telling) (number : ℕ) (rule : GenerationsRule) (s : Workspace) : Type 0 where
-  pub replica : IsNew rule number (2 ^ 26) s.replica
+  pub replica : IsNew rule number usual_room s.replica
   pub patterns : (name : List ℕ) → pattern_in s.patterns name ≡ no_patterns name
   pub shown : IsBlank telling s.shown
   pub counted : s.counted ≡ 0

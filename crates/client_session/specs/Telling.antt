@@ -1,5 +1,6 @@
 -- What is told of edits and planes that came.
-use Rattle.std.specs.Prelude.{◌≡◌, ◌≢◌, ⊤, ℕ, ◌^◌, List, ◌++◌, length, drop, Option, Some, None, Result, Ok, Err}
+use Rattle.std.specs.Prelude.{◌≡◌, ◌≢◌, ⊤, ℕ, List, ◌++◌, length, drop, Option, Some, None, Result, Ok, Err}
+use Rattle.square_store.specs.Limits.{usual_room}
 use Rattle.pattern_cells.specs.declared.cell.Cell.{Cell}
 use Rattle.stamped_writes.specs.Write.{Writes, AreSame, joined, unwritten}
 use Rattle.edit_stamps.specs.Edit.{PlaneEdit, greatest}
@@ -40,7 +41,7 @@ TellsCame lines edits _ _ out out' = ⊥
 -- a plane shows this map, and has room for 2^26 squares
 pub record ShowsMap (map : Writes) (shown : StampedPlane) : Type 0 where
   pub shows : AreSame (map_of shown) map
-  pub room : shown.store.room ≡ 2 ^ 26
+  pub room : shown.store.room ≡ usual_room
 
 -- where a map is told, it is a plane's from now on
 abbrev pub ShowsAll : StampedPlane → Option StampedPlane → Option StampedPlane → Type 0

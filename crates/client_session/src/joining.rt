@@ -6,7 +6,7 @@ ghost use Rattle.client_session.specs.Joining.{HasNumber, IsFresh, IsJoining, Se
 use crate::client::Client;
 use crate::fault::CommandFault;
 use crate::lines::push_joined;
-use crate::telling::{ROOM, blank};
+use crate::telling::blank;
 use crate::workspace::Workspace;
 use board_client::{ClientFault, Server};
 use client_protocol::Greeting;
@@ -15,6 +15,7 @@ use genedit_lib::Patterns;
 use generations_rule::Rule;
 use keyed_hash::HashKey;
 use replica_core::Replica;
+use stamped_tree::Limits;
 use std::alloc::{AllocError, Global};
 use std::marker::Model;
 use std::time::Clock;
@@ -140,7 +141,7 @@ fn fresh(
     requires { 1 ≤ number }
     ensures { IfOk result (IsFresh telling number rule) }
 {
-    let replica = match Replica::with_room_and_key(alloc, rule, number, ROOM, key) {
+    let replica = match Replica::within(alloc, rule, number, Limits::of_key(key)) {
         Ok(replica) => replica,
         Err(_) => return Err(AllocError),
     };

@@ -24,5 +24,5 @@ pub use joining::{Telling, Unjoined};
 pub use laws::session_laws;
 pub use outcome::Outcome;
 pub use pasting::{Corner, PasteMode};
-pub use waiting::{Patience, end_of, time_until};
+pub use waiting::{Patience, end_of, rest_within, time_until};
 pub use workspace::Workspace;

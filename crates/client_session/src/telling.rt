@@ -14,11 +14,8 @@ use edit_stamps::Edit;
 use held_plane::{Added, HeldPlane};
 use keyed_hash::HashKey;
 use pattern_cells::Cell;
-use stamped_tree::{Plane, StoreFault};
+use stamped_tree::{Limits, Plane, StoreFault};
 use std::alloc::{AllocError, Global};
-
-/// How many squares the plane that was told may have, as the replica's own.
-pub(crate) const ROOM: u32 = 0x400_0000;
 
 /// Tells the cells that look different by an edit of the client's own, where such cells are told.
 pub(crate) fn tell_own(
@@ -99,11 +96,11 @@ fn held(alloc: Global, plane: &Plane) -> Result<HeldPlane, CommandFault>
     }
 }
 
-/// A plane where nothing was written.
+/// A plane where nothing was written, with as much room as the replica's own.
 pub(crate) fn blank(alloc: Global, key: HashKey) -> Result<HeldPlane, AllocError>
     ensures { IfOk result (ShowsMap (λ _. unwritten)) }
 {
-    HeldPlane::with_room_and_key(alloc, ROOM, key)
+    HeldPlane::new(alloc, Limits::of_key(key))
 }
 
 /// A plane's want, as the client's.

@@ -1,5 +1,7 @@
 //! Waiting for edits of others.
 
+ghost use Rattle.std.specs.Duration.{as_nanos};
+ghost use Rattle.std.specs.Prelude.{◌≡◌, ◌*◌, min};
 ghost use Rattle.client_session.specs.Waiting.{IsWait};
 
 use crate::client::Client;
@@ -42,13 +44,18 @@ impl<'a, C: Clock, S: Source + Drop, K: Sink + Drop> Client<'a, C, S, K> {
             let Some(left) = time_until(clock, end) else {
                 return self.tell_late();
             };
-            thread::sleep(
-                clock,
-                left.min(Duration::from_millis(u64::from(patience.interval))),
-            );
+            thread::sleep(clock, rest_within(left, patience.interval));
         }
         self.tell_late()
     }
+}
+
+/// How long nothing is done between two polls: an interval of so many milliseconds, but no longer than what
+/// is left.
+pub fn rest_within(left: Duration, interval: u32) -> Duration
+    ensures { as_nanos result ≡ min (as_nanos left) (interval * 1_000_000) }
+{
+    left.min(Duration::from_millis(u64::from(interval)))
 }
 
 /// When so many milliseconds will be over; `None` where the clock cannot be read.

@@ -1,6 +1,7 @@
 -- Texts that are opened as boards.
 use Rattle.std.proofs.Common.{◌≡◌, ◌∙◌, ℕ, Bool, false, List, Some, None, Result, Ok, Err, refl, sym, ap, subst, inl, inr}
-use Rattle.std.specs.Prelude.{◌⊎◌, ◌^◌}
+use Rattle.std.specs.Prelude.{◌⊎◌}
+use Rattle.square_store.specs.Limits.{usual_room}
 use Rattle.generations_rule.specs.Rule.{GenerationsRule}
 use Rattle.pattern_cells.specs.declared.cell.Cell.{Cell}
 use Rattle.stamped_writes.specs.Write.{Writes}
@@ -42,7 +43,7 @@ opens_not text r m n result fault own none (inl want) told = absurd (never_wante
 opens_not text r m n result fault own none (inr refused) told = refuses fault (subst (λ (g : GenerationsRule). message_of g text ≡ Err fault) own refused) told
 
 pub opens_wanting : (text : List ℕ) (r : GenerationsRule) (m : Moment) (fault : ReadFault) (want : CommandFault) → r ≡ m.workspace.replica.rule → want_of fault ≡ Some want
-    → ((meant : Writes) → IsTellableMap r.states meant → IsReadableStateText r meant text → fault ≡ reads.StoreFull → IsMapTooLargeFor (2 ^ 26) meant) → (fault ≡ reads.StoreFull → MayWantRoom (2 ^ 26) text) → OpensBoard text m m (Err want)
+    → ((meant : Writes) → IsTellableMap r.states meant → IsReadableStateText r meant text → fault ≡ reads.StoreFull → IsMapTooLargeFor usual_room meant) → (fault ≡ reads.StoreFull → MayWantRoom usual_room text) → OpensBoard text m m (Err want)
 opens_wanting text r m reads.Memory want own is large long = let same : want ≡ Memory = cc in lacks_memory (ap (λ w. Err w) same, refl)
 opens_wanting text r m reads.StoreFull want own is large long =
     let same : want ≡ StoreFull = cc in

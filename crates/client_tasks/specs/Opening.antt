@@ -1,5 +1,6 @@
 -- What the opening of a text draws.
-use Rattle.std.specs.Prelude.{◌≡◌, ◌⊎◌, ⊤, ℕ, ◌+◌, ◌/◌, ◌%◌, ◌==◌, ◌<◌, ◌≤◌, ◌^◌, max, nat_le, if◌then◌else◌, Bool, true, false, List, ◌++◌, codes, length, take, drop, Option, Some, None, Result, Ok, Err}
+use Rattle.std.specs.Prelude.{◌≡◌, ◌⊎◌, ⊤, ℕ, ◌+◌, ◌/◌, ◌%◌, ◌==◌, ◌<◌, ◌≤◌, max, nat_le, if◌then◌else◌, Bool, true, false, List, ◌++◌, codes, length, take, drop, Option, Some, None, Result, Ok, Err}
+use Rattle.square_store.specs.Limits.{usual_room}
 use Rattle.generations_rule.specs.Rule.{GenerationsRule}
 use Rattle.pattern_cells.specs.declared.cell.Cell.{Cell}
 use Rattle.multistate_rle.specs.declared.fault.RleFault.{RleFault}
@@ -88,8 +89,8 @@ OpensSaved cells counter m n result = (stamp : ℕ) × IsGreatestStamp stamp (ma
 pub record LacksRoom (r : GenerationsRule) (text : List ℕ) (m n : Moment) (result : Result Outcome CommandFault) : Type 0 where
   pub full : result ≡ Err StoreFull
   pub nothing : n ≡ m
-  pub long : MayWantRoom (2 ^ 26) text
-  pub large : (meant : Writes) → IsTellableMap r.states meant → IsReadableStateText r meant text → IsMapTooLargeFor (2 ^ 26) meant
+  pub long : MayWantRoom usual_room text
+  pub large : (meant : Writes) → IsTellableMap r.states meant → IsReadableStateText r meant text → IsMapTooLargeFor usual_room meant
 
 -- what is wanting where a text could not be read for that
 abbrev pub want_of : ReadFault → Option CommandFault

@@ -1,6 +1,7 @@
 //! Boards that were saved.
 
 ghost use Rattle.std.specs.Prelude.{◌≡◌, ◌⊎◌, ◌<◌, ◌^◌, ℕ, IfErr, IfOk, Ok, Err, false, length};
+ghost use Rattle.square_store.specs.Limits.{usual_room};
 ghost use Rattle.stamped_writes.specs.Write.{Writes};
 ghost use Rattle.edit_stamps.specs.PlaneMap.{IsGreatestStamp};
 ghost use Rattle.stamped_tree.specs.Plane.{map_of};
@@ -11,16 +12,13 @@ ghost use Rattle.delta_exchange.specs.Versions.{IsReadableStateText};
 ghost use Rattle.delta_exchange.specs.MessageReading.{MayWantRoom, begins_as_delta, message_of};
 ghost use Rattle.client_tasks.specs.Opening.{IsSaved, edits_for, suffice};
 
-use delta_exchange::{ReadFault, read_within_with_key};
+use delta_exchange::{ReadFault, read_within};
 use edit_stamps::{MOST_CELLS, Stamp, counter_of};
 use generations_rule::Rule;
 use keyed_hash::HashKey;
 use pattern_cells::Cell;
-use stamped_tree::Plane;
+use stamped_tree::{Limits, Plane};
 use std::alloc::Global;
-
-/// How many squares the plane of a state may have, as a replica's.
-const ROOM: u32 = 0x400_0000;
 
 /// What is drawn again of a board that was saved.
 #[derive(Debug, Drop)]
@@ -42,10 +40,10 @@ pub(crate) fn saved_in(
     ensures saved { IfOk result (λ saved. IsSaved rule.now text.now saved.cells.items saved.counter) }
     ensures small { IfOk result (λ saved. saved.counter < 2 ^ 48) }
     ensures fault { IfErr result (λ fault. IsWantOrFull fault ⊎ (message_of rule.now text.now ≡ Err fault)) }
-    ensures full { IfErr result (λ fault. fault ≡ ReadFault.StoreFull → MayWantRoom (2 ^ 26) text.now) }
-    ensures too_large { IfErr result (λ fault. (meant : Writes) → IsTellableMap rule.now.states meant → IsReadableStateText rule.now meant text.now → fault ≡ ReadFault.StoreFull → IsMapTooLargeFor (2 ^ 26) meant) }
+    ensures full { IfErr result (λ fault. fault ≡ ReadFault.StoreFull → MayWantRoom usual_room text.now) }
+    ensures too_large { IfErr result (λ fault. (meant : Writes) → IsTellableMap rule.now.states meant → IsReadableStateText rule.now meant text.now → fault ≡ ReadFault.StoreFull → IsMapTooLargeFor usual_room meant) }
 {
-    let message = match read_within_with_key(alloc, rule, text, ROOM, key) {
+    let message = match read_within(alloc, rule, text, Limits::of_key(key)) {
         Ok(message) => message,
         Err(fault) => return Err(fault),
     };

@@ -4,7 +4,7 @@ use crate::fault::JoinFault;
 use crate::files::{FileFault, read_whole, refused_text, write_whole, wrote_text};
 use crate::telling::warn_of_rule;
 use client_commands::{ClientCommand, FileName};
-use client_session::{Client, Outcome, end_of, time_until};
+use client_session::{Client, Outcome, end_of, rest_within, time_until};
 use client_tasks::{Done, carry_out, open};
 use devices::{Sink, Source};
 use genedit_io::{RunFault, push_output};
@@ -78,7 +78,7 @@ impl<'a, R: Clock, S: Source + Drop, K: Sink + Drop> Joined<'a, R, S, K> {
             let Some(left) = time_until(self.rt, end) else {
                 return Ok(());
             };
-            thread::sleep(self.rt, left.min(self.pace.interval()));
+            thread::sleep(self.rt, rest_within(left, u32::from(self.pace.interval)));
             self.follow()?;
             self.push_printed(sink)?;
         }

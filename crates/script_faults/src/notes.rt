@@ -5,6 +5,7 @@ ghost use Rattle.std.specs.Option.{is_none, option_to_list};
 ghost use Rattle.std.specs.Str.Lines.{lines as lines_of};
 ghost use Rattle.text_scan.specs.Words.{words};
 ghost use Rattle.genedit_script.specs.Script.{lines_from, opening_spelled, script_of};
+ghost use Rattle.script_faults.specs.declared.note.Note.TheVariants.{Fault};
 ghost use Rattle.script_faults.specs.Faults.{faulty_end, faulty_lines, fault_lines, has_end, if_faulty, is_faulty, opens};
 ghost use Rattle.script_faults.specs.Laws.{Begin};
 
@@ -168,7 +169,8 @@ fn note_behind(due: Due, line: u64) -> Option<Note>
 }
 
 fn fault_at(line: Line<'_>, finding: Finding) -> Note
-    ensures { fault_lines (result ∷ []) ≡ line.entry.number ∷ [] }
+    ensures note { result ≡ Fault (record { line = line.entry.number; column = finding.column; width = finding.width }) finding.reason }
+    ensures lines { fault_lines (result ∷ []) ≡ line.entry.number ∷ [] }
 {
     let place = Place {
         line: line.number,
