@@ -1,12 +1,12 @@
 //! Commands: what each prints, and what is left behind it.
 
-use crate::clients::Client;
+use crate::clients::{Guest, join, name, obey, told};
 use crate::refusals::{CLOSED, NO_PLACE, refuse};
 use client_commands::FileName;
 use client_session::Telling;
 use client_tasks::Done;
 use edit_stamps::Cell;
-use memory_board::{Board, Shared};
+use memory_board::{MemoryBoard, Shared, line_to};
 use std::alloc::{AllocError, Global};
 use std::process::Abort;
 use std::test::Fail;
@@ -150,34 +150,33 @@ fn another_draws(board: &Shared) -> Result<(), Fail> {
 }
 
 /// Obeys a line: what is left behind it, in words, and what it prints are these.
-fn obey<R: Abort + Clock>(
+fn obey_row<R: Abort + Clock>(
     rt: &R,
-    alloc: Global,
-    client: &mut Client,
+    client: &mut Guest<'_, R>,
     line: &str,
-    (left, told): (&str, &str),
+    (left, printed): (&str, &str),
 ) -> Result<(), Fail> {
-    let done = client.obey(rt, alloc, line)?;
-    assert_eq!(rt; words_of(alloc, &done)?.as_str(), left, "{line}");
-    assert_eq!(rt; client.told(alloc)?.as_str(), told, "{line}");
+    let done = obey(client, line)?;
+    assert_eq!(rt; words_of(client.alloc(), &done)?.as_str(), left, "{line}");
+    assert_eq!(rt; told(client)?.as_str(), printed, "{line}");
     Ok(())
 }
 
 #[test]
 fn each_command_once(rt: HostRuntime) -> Result<(), Fail> {
     let alloc = rt.alloc();
-    let board = Board::shared(alloc, 2)?;
-    let mut a = Client::join(&rt, alloc, &board, 1, Telling::Edits)?;
-    a.name(alloc, PATTERN)?;
+    let board = MemoryBoard::shared(alloc, 2)?;
+    let mut a = join(&rt, alloc, line_to(alloc, &board, 1)?, Telling::Edits)?;
+    name(&mut a, PATTERN)?;
     assert_eq!(rt;
-        a.told(alloc)?.as_str(),
+        told(&mut a)?.as_str(),
         "joined 1 /2/3\npattern p 1 1 1 0 0 0\n"
     );
     for row in &ROWS {
         if row.draws {
             another_draws(&board)?;
         }
-        obey(&rt, alloc, &mut a, row.line, (row.left, row.told))?;
+        obey_row(&rt, &mut a, row.line, (row.left, row.told))?;
     }
     Ok(())
 }
@@ -189,13 +188,8 @@ fn state_of(board: &Shared) -> Result<Vec<u8>, Fail> {
 }
 
 /// The file and the text that a client has written.
-fn saved<C: Clock>(
-    clock: &C,
-    alloc: Global,
-    client: &mut Client,
-    line: &str,
-) -> Result<(FileName, Vec<u8>), Fail> {
-    match client.obey(clock, alloc, line)? {
+fn saved<C: Clock>(client: &mut Guest<'_, C>, line: &str) -> Result<(FileName, Vec<u8>), Fail> {
+    match obey(client, line)? {
         Done::Write(file, text) => Ok((file, text)),
         _ => Err(Fail::from("nothing is written")),
     }
@@ -204,20 +198,19 @@ fn saved<C: Clock>(
 #[test]
 fn a_board_is_saved(rt: HostRuntime) -> Result<(), Fail> {
     let alloc = rt.alloc();
-    let board = Board::shared(alloc, 2)?;
-    let mut a = Client::join(&rt, alloc, &board, 1, Telling::Edits)?;
+    let board = MemoryBoard::shared(alloc, 2)?;
+    let mut a = join(&rt, alloc, line_to(alloc, &board, 1)?, Telling::Edits)?;
     another_draws(&board)?;
-    let (file, text) = saved(&rt, alloc, &mut a, "save my.board")?;
+    let (file, text) = saved(&mut a, "save my.board")?;
     assert_eq!(rt; file.as_bytes(), b"my.board".as_slice());
     assert_eq!(rt; text, state_of(&board)?);
     assert_eq!(rt;
-        a.told(alloc)?.as_str(),
+        told(&mut a)?.as_str(),
         "joined 1 /2/3\nedit 1 2 cells 0 9 1\n"
     );
     refuse(&board, NO_PLACE)?;
-    obey(
+    obey_row(
         &rt,
-        alloc,
         &mut a,
         "save my.board",
         ("told", "refused 31 NoPlace\n"),
@@ -227,13 +220,13 @@ fn a_board_is_saved(rt: HostRuntime) -> Result<(), Fail> {
 #[test]
 fn a_drawing_in_doubt(rt: HostRuntime) -> Result<(), Fail> {
     let alloc = rt.alloc();
-    let board = Board::shared(alloc, 1)?;
-    let mut a = Client::join(&rt, alloc, &board, 1, Telling::Edits)?;
-    a.name(alloc, PATTERN)?;
-    a.told(alloc)?;
+    let board = MemoryBoard::shared(alloc, 1)?;
+    let mut a = join(&rt, alloc, line_to(alloc, &board, 1)?, Telling::Edits)?;
+    name(&mut a, PATTERN)?;
+    told(&mut a)?;
     refuse(&board, CLOSED)?;
     for (line, left) in [("copy p 0 0", "in doubt"), ("cells 0 0 1", "told")] {
-        obey(&rt, alloc, &mut a, line, (left, "refused 30 Closed\n"))?;
+        obey_row(&rt, &mut a, line, (left, "refused 30 Closed\n"))?;
     }
     Ok(())
 }

@@ -1,11 +1,11 @@
 //! Eight clients that draw by chance: in the end all hold what the board holds, and what any order of their
 //! edits comes to.
 
-use crate::clients::Client;
+use crate::clients::{Guest, join, name, obey, told};
 use crate::texts::replica;
 use crate::told_cells::Told;
 use client_session::Telling;
-use memory_board::{Board, Shared};
+use memory_board::{MemoryBoard, Shared, line_to};
 use rand_core::utils::NextWord;
 use rand_pcg::Pcg32;
 use replica_core::Replica;
@@ -22,8 +22,8 @@ const QUIET: (u32, u32) = (3, 196);
 
 /// A client, and what it told.
 #[derive(Drop)]
-struct Member {
-    client: Client,
+struct Member<'a> {
+    client: Guest<'a, HostRuntime>,
     told: Told,
     is_quiet: bool,
     tells_changes: bool,
@@ -83,7 +83,7 @@ fn command(
 const PATTERN: &str = "rule /2/3\nreplicas 1\npattern p\nx = 4, y = 3\nA.BA$2.A$B2A!\nend\n";
 
 /// Clients at the seats of a board, every other one of which tells the cells that look different.
-fn joined(rt: &HostRuntime, board: &Shared) -> Result<Vec<Member>, Fail> {
+fn joined<'a>(rt: &'a HostRuntime, board: &Shared) -> Result<Vec<Member<'a>>, Fail> {
     let alloc = rt.alloc();
     let mut members = Vec::new(alloc);
     for seat in 1..=CLIENTS {
@@ -93,8 +93,8 @@ fn joined(rt: &HostRuntime, board: &Shared) -> Result<Vec<Member>, Fail> {
         } else {
             Telling::Edits
         };
-        let mut client = Client::join(rt, alloc, board, seat, telling)?;
-        client.name(alloc, PATTERN)?;
+        let mut client = join(rt, alloc, line_to(alloc, board, seat)?, telling)?;
+        name(&mut client, PATTERN)?;
         members.push(Member {
             client,
             told: Told::new(alloc),
@@ -105,44 +105,38 @@ fn joined(rt: &HostRuntime, board: &Shared) -> Result<Vec<Member>, Fail> {
     Ok(members)
 }
 
-impl Member {
+impl<'a> Member<'a> {
     /// Gives a command, and hears what is told.
-    fn give(&mut self, rt: &HostRuntime, line: &str) -> Result<(), Fail> {
-        let alloc = rt.alloc();
-        self.client.obey(rt, alloc, line)?;
-        let printed = self.client.told(alloc)?;
+    fn give(&mut self, line: &str) -> Result<(), Fail> {
+        obey(&mut self.client, line)?;
+        let printed = told(&mut self.client)?;
         self.told
-            .hear(printed.as_str(), self.client.seat.replica.plane())
+            .hear(printed.as_str(), self.client.replica().plane())
     }
 
     /// Whether what it told is what it holds; of one that tells edits nothing is said.
     fn told_what_it_holds(&self) -> Result<bool, Fail> {
-        let held = self.client.seat.replica.plane().walk()?;
+        let held = self.client.replica().plane().walk()?;
         Ok(!self.tells_changes || self.told.cells()? == held)
     }
 }
 
 /// A round: a command of each client.
-fn round(
-    rt: &HostRuntime,
-    random: &mut Pcg32,
-    members: &mut [Member],
-    round: u32,
-) -> Result<(), Fail> {
+fn round(random: &mut Pcg32, members: &mut [Member<'_>], round: u32) -> Result<(), Fail> {
     for member in members {
-        let line = command(rt.alloc(), random, member.is_quiet, round)?;
-        member.give(rt, line.as_str())?;
+        let line = command(member.client.alloc(), random, member.is_quiet, round)?;
+        member.give(line.as_str())?;
     }
     Ok(())
 }
 
 /// All rounds, and a poll of each client.
-fn rounds(rt: &HostRuntime, random: &mut Pcg32, members: &mut [Member]) -> Result<(), Fail> {
+fn rounds(random: &mut Pcg32, members: &mut [Member<'_>]) -> Result<(), Fail> {
     for number in 0..ROUNDS {
-        round(rt, random, members, number)?;
+        round(random, members, number)?;
     }
     for member in members {
-        member.give(rt, "poll")?;
+        member.give("poll")?;
     }
     Ok(())
 }
@@ -193,14 +187,10 @@ fn places(alloc: Global, count: usize) -> Result<Vec<u32>, AllocError> {
 
 /// How many clients saved another state than this, told other cells than they hold, or were sent a plane and
 /// drew behind it.
-fn counted(
-    rt: &HostRuntime,
-    members: &mut [Member],
-    state: &[u8],
-) -> Result<(u32, u32, u32), Fail> {
+fn counted(members: &mut [Member<'_>], state: &[u8]) -> Result<(u32, u32, u32), Fail> {
     let (mut others, mut mistold, mut drew_behind) = (0_u32, 0_u32, 0_u32);
     for member in members {
-        let saved = member.client.save(rt, rt.alloc())?.ok_or("save")?;
+        let saved = member.client.save()?.ok_or("save")?;
         if saved.as_slice() != state {
             others = others.saturating_add(1);
         }
@@ -225,13 +215,13 @@ fn held(board: &Shared) -> Result<(Vec<u8>, usize, u32), Fail> {
 fn eight_clients_agree(rt: HostRuntime) -> Result<(), Fail> {
     let alloc = rt.alloc();
     let mut random = Pcg32::new(2026, 71);
-    let board = Board::shared(alloc, CLIENTS)?;
+    let board = MemoryBoard::shared(alloc, CLIENTS)?;
     let mut members = joined(&rt, &board)?;
-    rounds(&rt, &mut random, &mut members)?;
+    rounds(&mut random, &mut members)?;
     let (state, edits, planes) = held(&board)?;
     assert!(rt; edits > 1024, "{edits}");
     assert_eq!(rt; planes, 2);
     assert_eq!(rt; shuffled_state(alloc, &mut random, &board, edits)?, state);
-    assert_eq!(rt; counted(&rt, &mut members, &state)?, (0, 0, 2));
+    assert_eq!(rt; counted(&mut members, &state)?, (0, 0, 2));
     Ok(())
 }

@@ -1,9 +1,11 @@
 //! What commands print.
 
+use crate::clients::dot;
 use crate::plays::{A, Act, B, Party, Step, play};
 use client_session::{Outcome, Telling};
 use edit_stamps::Rect;
 use std::test::Fail;
+use std::time::Clock;
 
 /// The first two cells of row 0.
 const TWO_CELLS: Rect = Rect {
@@ -124,10 +126,10 @@ static WHOLE_PLANE: [Step; 6] = [
 ];
 
 /// Has A draw so many cells of row 0, each by itself.
-fn draw_row(rt: &HostRuntime, party: &mut Party, width: i32) -> Result<(), Fail> {
+fn draw_row<C: Clock>(party: &mut Party<'_, C>, width: i32) -> Result<(), Fail> {
     let a = party.clients.get_mut(A).ok_or("client")?;
     for x in 0..width {
-        a.dot(rt, rt.alloc(), x, 0, 1)?;
+        dot(a, x, 0, 1)?;
     }
     Ok(())
 }
@@ -135,13 +137,13 @@ fn draw_row(rt: &HostRuntime, party: &mut Party, width: i32) -> Result<(), Fail>
 #[test]
 fn a_whole_plane(rt: HostRuntime) -> Result<(), Fail> {
     let mut party = Party::join(&rt, rt.alloc(), &[Telling::Edits, Telling::Changes])?;
-    draw_row(&rt, &mut party, 1025)?;
-    party.play(&rt, rt.alloc(), &WHOLE_PLANE)?;
+    draw_row(&mut party, 1025)?;
+    party.play(&rt, &WHOLE_PLANE)?;
     let [a, b] = party.clients.as_mut_slice() else {
         return Err(Fail::from("two clients"));
     };
-    let ours = a.save(&rt, rt.alloc())?;
+    let ours = a.save()?;
     assert!(rt; ours.is_some());
-    assert_eq!(rt; ours, b.save(&rt, rt.alloc())?);
+    assert_eq!(rt; ours, b.save()?);
     Ok(())
 }

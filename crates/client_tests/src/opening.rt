@@ -1,11 +1,12 @@
 //! Texts that are opened: what is drawn of them, and what is refused.
 
-use crate::clients::{Client, cell};
+use crate::clients::{Guest, cell, join, told};
 use crate::plays::{A, Act, Party, Step, play};
 use crate::refusals::asked;
 use crate::texts::{Text, replica, state_by};
 use client_session::{Outcome, Telling};
-use memory_board::{Board, Shared};
+use client_tasks::open;
+use memory_board::{MemoryBoard, Shared, line_to};
 use std::alloc::Global;
 use std::process::Abort;
 use std::test::Fail;
@@ -68,10 +69,10 @@ static ABOVE_THE_BOARD: [Step; 3] = [
 #[test]
 fn counters_are_above_those_of_the_file_and_of_the_board(rt: HostRuntime) -> Result<(), Fail> {
     let mut party = Party::join(&rt, rt.alloc(), &[Telling::Edits])?;
-    party.play(&rt, rt.alloc(), &ABOVE_THE_FILE)?;
+    party.play(&rt, &ABOVE_THE_FILE)?;
     let a = party.clients.get_mut(A).ok_or("client")?;
-    a.draw_after(&rt, rt.alloc(), 99, &cell(rt.alloc(), 0, 0, 2)?)?;
-    party.play(&rt, rt.alloc(), &ABOVE_THE_BOARD)
+    a.draw(99, &cell(rt.alloc(), 0, 0, 2)?)?;
+    party.play(&rt, &ABOVE_THE_BOARD)
 }
 
 /// A text that is refused, and what is printed of it.
@@ -135,15 +136,14 @@ static REFUSED: [Refused; 9] = [
 /// Opens a text that is refused.
 fn open_refused<R: Abort + Clock>(
     rt: &R,
-    alloc: Global,
     board: &Shared,
-    client: &mut Client,
+    client: &mut Guest<'_, R>,
     row: &Refused,
 ) -> Result<(), Fail> {
     let (polls, _) = asked(board)?;
-    let outcome = client.open(rt, alloc, row.text);
+    let outcome = open(client, row.text);
     assert_eq!(rt; outcome, Ok(Outcome::Refused), "{}", row.told);
-    assert_eq!(rt; client.told(alloc)?.as_str(), row.told);
+    assert_eq!(rt; told(client)?.as_str(), row.told);
     let polls = polls.saturating_add(row.polls);
     assert_eq!(rt; asked(board)?, (polls, 0), "{}", row.told);
     Ok(())
@@ -152,11 +152,11 @@ fn open_refused<R: Abort + Clock>(
 #[test]
 fn texts_that_are_refused(rt: HostRuntime) -> Result<(), Fail> {
     let alloc = rt.alloc();
-    let board = Board::shared(alloc, 1)?;
-    let mut a = Client::join(&rt, alloc, &board, 1, Telling::Edits)?;
-    a.told(alloc)?;
+    let board = MemoryBoard::shared(alloc, 1)?;
+    let mut a = join(&rt, alloc, line_to(alloc, &board, 1)?, Telling::Edits)?;
+    told(&mut a)?;
     for row in &REFUSED {
-        open_refused(&rt, alloc, &board, &mut a, row)?;
+        open_refused(&rt, &board, &mut a, row)?;
     }
     Ok(())
 }
@@ -179,7 +179,7 @@ static NOTHING: [Step; 3] = [
 fn a_cleared_board_has_nothing_to_draw(rt: HostRuntime) -> Result<(), Fail> {
     let mut party = Party::join(&rt, rt.alloc(), &[Telling::Edits])?;
     let a = party.clients.get_mut(A).ok_or("client")?;
-    let outcome = a.open(&rt, rt.alloc(), &cleared(rt.alloc())?);
+    let outcome = open(a, &cleared(rt.alloc())?);
     assert_eq!(rt; outcome, Ok(Outcome::Refused));
-    party.play(&rt, rt.alloc(), &NOTHING)
+    party.play(&rt, &NOTHING)
 }

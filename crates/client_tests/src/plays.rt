@@ -1,11 +1,12 @@
 //! Plays: what the clients of a board do, step by step, and what they print.
 
-use crate::clients::Client;
+use crate::clients::{Guest, dot, join, name, obey, told};
 use crate::refusals::{asked, refuse};
 use crate::texts::Text;
 use client_session::{Outcome, Telling};
+use client_tasks::open;
 use edit_stamps::Rect;
-use memory_board::{Board, Refusals, Shared};
+use memory_board::{MemoryBoard, Refusals, Shared, line_to};
 use replica_events::EditSpec;
 use std::alloc::Global;
 use std::process::Abort;
@@ -50,9 +51,9 @@ pub enum Step {
 
 /// A board and its clients, in the order of their seats.
 #[derive(Drop)]
-pub struct Party {
+pub struct Party<'a, C: Clock> {
     pub board: Shared,
-    pub clients: Vec<Client>,
+    pub clients: Vec<Guest<'a, C>>,
 }
 
 /// Has the clients of a board, who tell so, take steps.
@@ -63,44 +64,36 @@ pub fn play<R: Abort + Clock>(
     steps: &[Step],
 ) -> Result<(), Fail> {
     let mut party = Party::join(rt, alloc, tellings)?;
-    party.play(rt, alloc, steps)
+    party.play(rt, steps)
 }
 
-impl Party {
+impl<'a, C: Clock> Party<'a, C> {
     /// A client at each seat of a board, who tells so.
-    pub fn join<C: Clock>(clock: &C, alloc: Global, tellings: &[Telling]) -> Result<Party, Fail> {
-        let board = Board::shared(alloc, u16::try_from(tellings.len())?)?;
+    pub fn join(clock: &'a C, alloc: Global, tellings: &[Telling]) -> Result<Party<'a, C>, Fail> {
+        let board = MemoryBoard::shared(alloc, u16::try_from(tellings.len())?)?;
         let mut clients = Vec::new(alloc);
         for telling in tellings {
             let seat = u16::try_from(clients.len())?.saturating_add(1);
-            clients.push(Client::join(clock, alloc, &board, seat, *telling)?)?;
+            let line = line_to(alloc, &board, seat)?;
+            clients.push(join(clock, alloc, line, *telling)?)?;
         }
         Ok(Party { board, clients })
     }
+}
 
-    pub fn play<R: Abort + Clock>(
-        &mut self,
-        rt: &R,
-        alloc: Global,
-        steps: &[Step],
-    ) -> Result<(), Fail> {
+impl<'a, R: Abort + Clock> Party<'a, R> {
+    pub fn play(&mut self, rt: &R, steps: &[Step]) -> Result<(), Fail> {
         for (number, step) in steps.iter().enumerate() {
-            self.take(rt, alloc, number, step)?;
+            self.take(rt, number, step)?;
         }
         Ok(())
     }
 
-    fn take<R: Abort + Clock>(
-        &mut self,
-        rt: &R,
-        alloc: Global,
-        number: usize,
-        step: &Step,
-    ) -> Result<(), Fail> {
+    fn take(&mut self, rt: &R, number: usize, step: &Step) -> Result<(), Fail> {
         match step {
             Step::Does(place, act) => {
                 let client = self.clients.get_mut(*place).ok_or("client")?;
-                does(rt, alloc, client, number, act)?;
+                does(rt, client, number, act)?;
             }
             Step::Refuse(refusals) => refuse(&self.board, *refusals)?,
             Step::HandOut(most) => {
@@ -119,31 +112,30 @@ impl Party {
 
 fn does<R: Abort + Clock>(
     rt: &R,
-    alloc: Global,
-    client: &mut Client,
+    client: &mut Guest<'_, R>,
     number: usize,
     act: &Act,
 ) -> Result<(), Fail> {
     match act {
         Act::Dot(x, y, state, outcome) => {
-            let drawn = client.dot(rt, alloc, *x, *y, *state)?;
+            let drawn = dot(client, *x, *y, *state)?;
             assert_eq!(rt; drawn, *outcome, "step {number}");
         }
         Act::Clear(area, outcome) => {
-            let drawn = client.draw(rt, alloc, &EditSpec::Clear(*area))?;
+            let drawn = client.draw(0, &EditSpec::Clear(*area))?;
             assert_eq!(rt; drawn, *outcome, "step {number}");
         }
         Act::Open(text, outcome) => {
-            let drawn = client.open(rt, alloc, &text.made(alloc)?)?;
+            let drawn = open(client, &text.made(client.alloc())?)?;
             assert_eq!(rt; drawn, *outcome, "step {number}");
         }
-        Act::Name(script) => client.name(alloc, script)?,
+        Act::Name(script) => name(client, script)?,
         Act::Obey(line) => {
-            client.obey(rt, alloc, line)?;
+            obey(client, line)?;
         }
-        Act::Poll => client.poll(rt, alloc)?,
-        Act::Follow => client.follow(rt, alloc)?,
-        Act::Told(text) => assert_eq!(rt; client.told(alloc)?.as_str(), *text, "step {number}"),
+        Act::Poll => client.poll()?,
+        Act::Follow => client.follow()?,
+        Act::Told(text) => assert_eq!(rt; told(client)?.as_str(), *text, "step {number}"),
     }
     Ok(())
 }

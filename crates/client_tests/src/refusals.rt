@@ -1,7 +1,7 @@
 //! What is refused.
 
 use crate::plays::{A, Act, B, Party, Step, play};
-use client_session::{Outcome, SeatFault, Telling};
+use client_session::{CommandFault, Outcome, Telling};
 use edit_stamps::Rect;
 use memory_board::{Refusals, Shared};
 use std::test::Fail;
@@ -150,15 +150,14 @@ static REFUSED_STILL: [Step; 3] = [
 
 #[test]
 fn refused_polls(rt: HostRuntime) -> Result<(), Fail> {
-    let alloc = rt.alloc();
-    let mut party = Party::join(&rt, alloc, &[Telling::Edits])?;
-    party.play(&rt, alloc, &REFUSED_POLLS)?;
+    let mut party = Party::join(&rt, rt.alloc(), &[Telling::Edits])?;
+    party.play(&rt, &REFUSED_POLLS)?;
     let a = party.clients.get_mut(A).ok_or("client")?;
-    assert!(rt; a.export_text(&rt, alloc, 0)?.is_none());
-    assert!(rt; a.save(&rt, alloc)?.is_none());
-    party.play(&rt, alloc, &REFUSED_STILL)?;
+    assert!(rt; a.export_text(0)?.is_none());
+    assert!(rt; a.save()?.is_none());
+    party.play(&rt, &REFUSED_STILL)?;
     let a = party.clients.get_mut(A).ok_or("client")?;
-    assert_eq!(rt; a.follow(&rt, alloc), Err(SeatFault::Refused(21)));
-    assert_eq!(rt; a.poll(&rt, alloc), Err(SeatFault::Refused(21)));
+    assert_eq!(rt; a.follow(), Err(CommandFault::Refused(21)));
+    assert_eq!(rt; a.poll(), Err(CommandFault::Refused(21)));
     Ok(())
 }

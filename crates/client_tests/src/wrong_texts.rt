@@ -1,13 +1,13 @@
 //! Texts from a board that are none, or not what was announced: they end the client, and its replica holds
 //! what it took before.
 
-use crate::clients::Client;
+use crate::clients::{Guest, dot, join, told};
 use crate::texts::{replica, state_by, write_cell};
 use board_client::ClientFault;
-use client_session::{SeatFault, Telling};
+use client_session::{CommandFault, Telling};
 use delta_exchange::ReadFault;
 use edit_stamps::Cell;
-use memory_board::{Board, Shared, WrongPoll};
+use memory_board::{MemoryBoard, Shared, WrongPoll, line_to};
 use replica_core::Fault;
 use std::alloc::Global;
 use std::test::Fail;
@@ -77,21 +77,22 @@ fn polled(
     rt: &HostRuntime,
     announces_plane: bool,
     text: Vec<u8>,
-) -> Result<(Result<(), SeatFault>, bool), Fail> {
+) -> Result<(Result<(), CommandFault>, bool), Fail> {
     let alloc = rt.alloc();
-    let board = Board::shared(alloc, 1)?;
-    let mut a = Client::join(rt, alloc, &board, 1, Telling::Changes)?;
-    a.dot(rt, alloc, 0, 0, 1)?;
+    let board = MemoryBoard::shared(alloc, 1)?;
+    let mut a = join(rt, alloc, line_to(alloc, &board, 1)?, Telling::Changes)?;
+    dot(&mut a, 0, 0, 1)?;
     answer_by(&board, announces_plane, text)?;
-    let ended = a.poll(rt, alloc);
-    Ok((ended, is_as_before(alloc, &mut a)?))
+    let ended = a.poll();
+    Ok((ended, is_as_before(&mut a)?))
 }
 
 /// Whether a client holds and told the origin alone.
-fn is_as_before(alloc: Global, client: &mut Client) -> Result<bool, Fail> {
-    let replica = &client.seat.replica;
-    let is_held = replica.state()? == state_behind(alloc, ORIGIN)? && replica.journal().len() == 1;
-    Ok(is_held && client.told(alloc)?.as_str() == "joined 1 /2/3\ndrawn 1 1\nnow 0 0 1\n")
+fn is_as_before(client: &mut Guest<'_, HostRuntime>) -> Result<bool, Fail> {
+    let replica = client.replica();
+    let is_held = replica.state()? == state_behind(client.alloc(), ORIGIN)?
+        && replica.journal().len() == 1;
+    Ok(is_held && told(client)?.as_str() == "joined 1 /2/3\ndrawn 1 1\nnow 0 0 1\n")
 }
 
 /// The edit of seat 1 that writes state 1 at the origin, as docs/FORMATS.md says.
@@ -110,7 +111,7 @@ fn texts_that_were_not_announced(rt: HostRuntime) -> Result<(), Fail> {
     for wrong in &WRONG {
         let text = text_of(rt.alloc(), wrong)?;
         let (ended, is_as_before) = polled(&rt, wrong.announces_plane, text)?;
-        assert_eq!(rt; ended, Err(SeatFault::Client(wrong.fault)));
+        assert_eq!(rt; ended, Err(CommandFault::Client(wrong.fault)));
         assert!(rt; is_as_before);
     }
     Ok(())
@@ -132,7 +133,7 @@ fn bytes_that_are_no_text(rt: HostRuntime) -> Result<(), Fail> {
     let alloc = rt.alloc();
     for (bytes, fault) in BYTES {
         let (ended, is_as_before) = polled(&rt, false, Vec::from_slice(alloc, bytes)?)?;
-        assert_eq!(rt; ended, Err(SeatFault::Client(fault)));
+        assert_eq!(rt; ended, Err(CommandFault::Client(fault)));
         assert!(rt; is_as_before);
     }
     Ok(())

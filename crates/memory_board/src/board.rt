@@ -15,7 +15,7 @@ const OWN_NUMBER: u16 = 65535;
 
 /// A board of seats 1, 2, .. under `/2/3`. What was published stands in a replica's journal.
 #[derive(Drop)]
-pub struct Board {
+pub struct MemoryBoard {
     alloc: Global,
     replica: Replica,
     sides: Vec<Side>,
@@ -61,18 +61,18 @@ pub struct WrongPoll {
 }
 
 /// A board that its lines share.
-pub type Shared = Rc<RefCell<Board>>;
+pub type Shared = Rc<RefCell<MemoryBoard>>;
 
 /// The first body of a reply that announces a plane.
 const PLANE: [u8; 5] = [0, 255, 255, 255, 255];
 
-impl Board {
+impl MemoryBoard {
     /// A board of so many seats, where nothing was drawn.
-    pub fn new(alloc: Global, seats: u16) -> Result<Board, Fault> {
+    pub fn new(alloc: Global, seats: u16) -> Result<MemoryBoard, Fault> {
         let Ok(rule) = Rule::parse(b"/2/3") else {
             return Err(Fault::OtherRule);
         };
-        Ok(Board {
+        Ok(MemoryBoard {
             alloc,
             replica: Replica::new(alloc, rule, OWN_NUMBER)?,
             sides: sides(alloc, seats)?,
@@ -87,7 +87,7 @@ impl Board {
     }
 
     pub fn shared(alloc: Global, seats: u16) -> Result<Shared, Fault> {
-        let board = Board::new(alloc, seats)?;
+        let board = MemoryBoard::new(alloc, seats)?;
         match Rc::new(alloc, RefCell::new(board)) {
             Ok(shared) => Ok(shared),
             Err(_) => Err(Fault::Memory),

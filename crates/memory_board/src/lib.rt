@@ -6,5 +6,5 @@ mod ends;
 mod refusal;
 mod side;
 
-pub use board::{Board, Refusals, Shared, WrongPoll};
+pub use board::{MemoryBoard, Refusals, Shared, WrongPoll};
 pub use ends::{Replies, Requests, line_to};

@@ -14,9 +14,9 @@ use Rattle.script_faults.specs.declared.note.Note.TheVariants.{Fault, Warning}
 use Rattle.script_faults.specs.Faults.{is_fault, fault_lines}
 use Rattle.script_faults.specs.Laws.{Begin}
 use Rattle.script_check.specs.declared.refusals.Refusal.{Refusal}
-use Rattle.script_check.specs.declared.check.Outcome.{Outcome}
+use Rattle.script_check.specs.declared.check.CheckOutcome.{CheckOutcome}
 use Rattle.script_check.specs.Check.{AreRefused, IsRefusedRun, outcome_of}
-use Rattle.script_check.specs.declared.check.Outcome.TheVariants.{Clean, Told}
+use Rattle.script_check.specs.declared.check.CheckOutcome.TheVariants.{Clean, Told}
 
 pub no_lines : (notes : List Note) → list_any is_fault notes ≡ false → fault_lines notes ≡ []
 no_lines [] none = refl
@@ -48,14 +48,14 @@ not_faulty text notes fault first none (inl (inr stopped)) = inl stopped
 not_faulty text notes fault first none (inr want) = inr want
 
 -- a push that was made, told with another value
-pub push_made : (old new : KnownSink) (pushed : Result (Unit {0}) RunFault) (made : Unit {0}) (outcome : Outcome) (out : List ℕ) → pushed ≡ Ok made → IsPush old new pushed out →
-    IsPush {A = Outcome} {E = RunFault} old new (Ok outcome) out
+pub push_made : (old new : KnownSink) (pushed : Result (Unit {0}) RunFault) (made : Unit {0}) (outcome : CheckOutcome) (out : List ℕ) → pushed ≡ Ok made → IsPush old new pushed out →
+    IsPush {A = CheckOutcome} {E = RunFault} old new (Ok outcome) out
 push_made old new (Ok u) made outcome out is push = record { added = push.added; pushes = push.pushes; failures = push.failures }
 push_made old new (Err fault) made outcome out is push = absurd (cc)
 
 -- and one that failed
 pub push_failed : (old new : KnownSink) (pushed : Result (Unit {0}) RunFault) (fault : RunFault) (out : List ℕ) → pushed ≡ Err fault → IsPush old new pushed out →
-    IsPush {A = Outcome} {E = RunFault} old new (Err fault) out
+    IsPush {A = CheckOutcome} {E = RunFault} old new (Err fault) out
 push_failed old new (Ok u) fault out is push = absurd (cc)
 push_failed old new (Err other) fault out is push = record { added = push.added; pushes = push.pushes; failures = push.failures }
 

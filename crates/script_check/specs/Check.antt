@@ -15,8 +15,8 @@ use Rattle.script_faults.specs.declared.note.Place.{Place}
 use Rattle.script_faults.specs.Faults.{command_lines, fault_lines, faulty_lines}
 use Rattle.script_faults.specs.Laws.{Begin}
 use Rattle.script_check.specs.declared.refusals.Refusal.{Refusal}
-use Rattle.script_check.specs.declared.check.Outcome.{Outcome}
-use Rattle.script_check.specs.declared.check.Outcome.TheVariants.{Clean, Told}
+use Rattle.script_check.specs.declared.check.CheckOutcome.{CheckOutcome}
+use Rattle.script_check.specs.declared.check.CheckOutcome.TheVariants.{Clean, Told}
 use Rattle.script_check.specs.Block.{fault_place}
 use Rattle.script_check.specs.Report.{IsReportText}
 
@@ -80,13 +80,13 @@ AreRefused text [] refusals = IsRefusedRun text refusals
 AreRefused text (line ∷ lines) refusals = refusals ≡ []
 
 -- what comes of faulty lines and refusals
-abbrev pub outcome_of : List ℕ → List Refusal → Outcome
+abbrev pub outcome_of : List ℕ → List Refusal → CheckOutcome
 outcome_of [] [] = Clean
 outcome_of [] (refusal ∷ refusals) = Told
 outcome_of (line ∷ lines) refusals = Told
 
 -- what comes of a text
-pub record ComesTo (text : List ℕ) (outcome : Outcome) : Type 0 where
+pub record ComesTo (text : List ℕ) (outcome : CheckOutcome) : Type 0 where
   pub refusals : List Refusal
   pub refused : AreRefused text (faulty_lines text) refusals
   pub is : outcome ≡ outcome_of (faulty_lines text) refusals

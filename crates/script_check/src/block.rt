@@ -6,7 +6,7 @@ ghost use Rattle.text_scan.specs.Bytes.{is_space_or_tab};
 ghost use Rattle.genedit_script.specs.Script.{lines_from, opens_comment};
 ghost use Rattle.script_check.specs.Block as block;
 
-use genedit_script::{Line, Lines};
+use genedit_script::{Lines, ScriptLine};
 use script_faults::Place;
 
 /// The number of `Header` in the table of faults.
@@ -78,7 +78,7 @@ fn header_place(mut lines: Lines<'_>) -> Option<Place>
     None
 }
 
-fn may_stand_in_front(line: Line<'_>) -> bool
+fn may_stand_in_front(line: ScriptLine<'_>) -> bool
     ensures { result ≡ block.stands_in_front line.entry.text.now }
 {
     is_comment(line.text) || is_blank(line.text)

@@ -22,7 +22,7 @@ const TURNS: u64 = 1 << 32;
 
 /// What a check comes to.
 #[derive(Clone, Copy, Debug, PartialEq, Eq)]
-pub enum Outcome {
+pub enum CheckOutcome {
     /// No fault, and nothing would be refused; there may be warnings.
     Clean,
     /// Some line is at fault, or some command would be refused.
@@ -45,16 +45,16 @@ impl Report {
     ghost use Rattle.script_faults.specs.Faults.{fault_lines};
     ghost use Rattle.script_check.specs.Check.{outcome_of};
 
-    pub fn outcome(&self) -> Outcome
+    pub fn outcome(&self) -> CheckOutcome
         ensures { result ≡ outcome_of (fault_lines self.now.notes.notes.items) self.now.refusals.items }
     {
         if has_fault(&self.notes.notes) {
-            return Outcome::Told;
+            return CheckOutcome::Told;
         }
         if self.refusals.as_slice().is_empty() {
-            Outcome::Clean
+            CheckOutcome::Clean
         } else {
-            Outcome::Told
+            CheckOutcome::Told
         }
     }
 }
@@ -89,7 +89,7 @@ pub fn check_script<S: Source, K: Sink>(
     name: &[u8],
     source: &mut S,
     sink: &mut K,
-) -> Result<Outcome, RunFault>
+) -> Result<CheckOutcome, RunFault>
     ensures outcome { IfOk result (λ outcome. (text : List ℕ) × IsReadWhole (2 ^ 32) text (S.known source.old) (S.known source.new) × ComesTo text outcome) }
     ensures run { IsRun (ReportsAs name.now) IsStopped (2 ^ 32) result (S.known source.old) (S.known source.new) K.known sink.old sink.new }
 {

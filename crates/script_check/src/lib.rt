@@ -8,5 +8,5 @@ mod refusals;
 mod report;
 mod words;
 
-pub use check::{Outcome, Report, check_script, checked};
+pub use check::{CheckOutcome, Report, check_script, checked};
 pub use refusals::{Refusal, refusals_in};
