@@ -1,53 +1,28 @@
 //! A client at a board in memory.
 
+use board_client::Server;
 use client_commands::{ClientCommand, Dictation, Heard};
-use client_session::{Seat, SeatFault, Telling};
-use frame_line::Line;
+use client_session::{Client, CommandFault, Telling};
 use keyed_hash::HashKey;
 use memory_board::{Replies, Requests, Shared, line_to};
 use std::alloc::Global;
 use std::time::Clock;
 
 /// A client at a board in memory.
-pub struct Client {
-    pub line: Line<Replies, Requests>,
-    pub seat: Seat,
-}
+pub type Guest<'a, C> = Client<'a, C, Replies, Requests>;
 
-/// By hand, since what a line is made of need not be there to be dropped.
-impl Drop for Client {
-    fn drop(self) {
-        let Client { line, seat: _ } = self;
-        let_go(line);
-    }
-}
-
-fn let_go(line: Line<Replies, Requests>) {
-    let Line {
-        frames: _,
-        source: _,
-        sink: _,
-    } = line;
-}
-
-impl Client {
-    /// Joins a board at a seat, from 1.
-    pub fn join<C: Clock>(
-        clock: &C,
-        alloc: Global,
-        board: &Shared,
-        number: u16,
-        out: &mut Vec<u8>,
-        telling: Telling,
-    ) -> Result<Client, SeatFault> {
-        let mut line = line_to(alloc, board, number)?;
-        match Seat::join(clock, alloc, &mut line, out, telling, HashKey::fixed()) {
-            Ok(seat) => Ok(Client { line, seat }),
-            Err(fault) => {
-                let_go(line);
-                Err(fault)
-            }
-        }
+/// Joins a board at a seat, from 1.
+pub fn join<'a, C: Clock>(
+    clock: &'a C,
+    alloc: Global,
+    board: &Shared,
+    number: u16,
+    telling: Telling,
+) -> Result<Guest<'a, C>, CommandFault> {
+    let server = Server::new(clock, alloc, line_to(alloc, board, number)?);
+    match Client::join(server, telling, HashKey::fixed()) {
+        Ok(client) => Ok(client),
+        Err(unjoined) => Err(unjoined.fault()),
     }
 }
 

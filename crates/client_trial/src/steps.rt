@@ -43,7 +43,7 @@ pub struct Step {
 
 pub static STEPS: [Step; 21] = [
     Step {
-        call: "Seat::join",
+        call: "Client::join",
         draws: &[Cell {
             x: 9,
             y: 9,

@@ -1,7 +1,7 @@
 //! How a call was answered.
 
 use board_client::ClientFault;
-use client_session::SeatFault;
+use client_session::CommandFault;
 use frame_line::LineFault;
 use replica_core::Fault;
 
@@ -19,10 +19,10 @@ pub enum Verdict {
 }
 
 impl Verdict {
-    pub fn of_fault(fault: SeatFault) -> Verdict {
+    pub fn of_fault(fault: CommandFault) -> Verdict {
         match fault {
-            SeatFault::Memory | SeatFault::Client(ClientFault::Memory) => Verdict::Want,
-            SeatFault::Client(
+            CommandFault::Memory | CommandFault::Client(ClientFault::Memory) => Verdict::Want,
+            CommandFault::Client(
                 ClientFault::Line(LineFault::Memory) | ClientFault::Text(Fault::Memory),
             ) => Verdict::Lost,
             _ => Verdict::Neither,

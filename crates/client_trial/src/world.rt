@@ -1,12 +1,12 @@
 //! A board in memory, and a client that is at it.
 
-use crate::client::{Client, command_of};
+use crate::client::{Guest, command_of, join};
 use crate::steps::{Act, Left, Step};
 use crate::verdict::Verdict;
-use client_session::{Outcome, SeatFault, Telling, leave};
+use client_session::{CommandFault, Outcome, Telling};
 use client_tasks::{Done, carry_out, open};
 use edit_stamps::Cell;
-use memory_board::{Board, Shared};
+use memory_board::{MemoryBoard, Shared};
 use replica_core::{Fault, Replica};
 use std::alloc::Global;
 use std::time::Clock;
@@ -16,11 +16,12 @@ pub const SEATS: u16 = 3;
 
 /// A board in memory, and a client that is at its first seat once it joined.
 #[derive(Drop)]
-pub struct World {
+pub struct World<'a, C: Clock> {
+    pub clock: &'a C,
     pub alloc: Global,
     pub telling: Telling,
     board: Shared,
-    client: Option<Client>,
+    client: Option<Guest<'a, C>>,
     /// What was saved last.
     saved: Vec<u8>,
     /// How many requests had come, and how many edits stood there, before the call.
@@ -28,12 +29,13 @@ pub struct World {
     edits: usize,
 }
 
-impl World {
-    pub fn new(alloc: Global, telling: Telling) -> Result<World, Fault> {
+impl<'a, C: Clock> World<'a, C> {
+    pub fn new(clock: &'a C, alloc: Global, telling: Telling) -> Result<World<'a, C>, Fault> {
         Ok(World {
+            clock,
             alloc,
             telling,
-            board: Board::shared(alloc, SEATS)?,
+            board: MemoryBoard::shared(alloc, SEATS)?,
             client: None,
             saved: Vec::new(alloc),
             requests: 0,
@@ -54,36 +56,37 @@ impl World {
     }
 
     /// Makes a call.
-    pub fn make<C: Clock>(&mut self, clock: &C, step: &Step) -> Verdict {
-        let mut out = Vec::new(self.alloc);
-        match self.call(clock, &mut out, step) {
-            Ok(is_meant) => Verdict::of(is_meant && out.as_slice() == self.printed(step)),
+    pub fn make(&mut self, step: &Step) -> Verdict {
+        if let Some(client) = &mut self.client {
+            client.clear_printed();
+        }
+        match self.call(step) {
+            Ok(is_meant) => Verdict::of(is_meant && self.has_printed(step)),
             Err(fault) => Verdict::of_fault(fault),
         }
     }
 
-    /// What a call prints.
-    fn printed(&self, step: &Step) -> &'static [u8] {
-        match self.telling {
+    /// Whether the client printed what a call is meant to print.
+    fn has_printed(&self, step: &Step) -> bool {
+        let meant = match self.telling {
             Telling::Edits => step.edits,
             Telling::Changes => step.cells,
+        };
+        match &self.client {
+            Some(client) => client.printed() == meant,
+            None => false,
         }
     }
 
     /// Makes a call; whether it leaves what it is meant to leave.
-    fn call<C: Clock>(
-        &mut self,
-        clock: &C,
-        out: &mut Vec<u8>,
-        step: &Step,
-    ) -> Result<bool, SeatFault> {
+    fn call(&mut self, step: &Step) -> Result<bool, CommandFault> {
         match step.act {
-            Act::Join => self.join(clock, out),
-            Act::Command(lines) => self.carry_out(clock, out, lines, &step.left),
-            Act::Open(text) => self.open(clock, out, text, &step.left),
+            Act::Join => self.join(),
+            Act::Command(lines) => self.carry_out(lines, &step.left),
+            Act::Open(text) => self.open(text, &step.left),
             Act::OpenSaved => {
                 let saved = std::mem::replace(&mut self.saved, Vec::new(self.alloc));
-                let opened = self.open(clock, out, &saved, &step.left);
+                let opened = self.open(&saved, &step.left);
                 self.saved = saved;
                 opened
             }
@@ -91,44 +94,30 @@ impl World {
         }
     }
 
-    fn join<C: Clock>(&mut self, clock: &C, out: &mut Vec<u8>) -> Result<bool, SeatFault> {
-        let client = Client::join(clock, self.alloc, &self.board, 1, out, self.telling)?;
+    fn join(&mut self) -> Result<bool, CommandFault> {
+        let client = join(self.clock, self.alloc, &self.board, 1, self.telling)?;
         self.client = Some(client);
         Ok(true)
     }
 
-    fn carry_out<C: Clock>(
-        &mut self,
-        clock: &C,
-        out: &mut Vec<u8>,
-        lines: &[&[u8]],
-        left: &Left,
-    ) -> Result<bool, SeatFault> {
+    fn carry_out(&mut self, lines: &[&[u8]], left: &Left) -> Result<bool, CommandFault> {
         let Some(command) = command_of(self.alloc, lines) else {
             return Ok(false);
         };
         let Some(client) = &mut self.client else {
             return Ok(false);
         };
-        let (line, seat) = (&mut client.line, &mut client.seat);
-        match carry_out(clock, self.alloc, line, seat, out, command, 5) {
+        match carry_out(client, command, 5) {
             Ok(done) => Ok(self.leaves(done, left)),
             Err(fault) => Err(fault),
         }
     }
 
-    fn open<C: Clock>(
-        &mut self,
-        clock: &C,
-        out: &mut Vec<u8>,
-        text: &[u8],
-        left: &Left,
-    ) -> Result<bool, SeatFault> {
+    fn open(&mut self, text: &[u8], left: &Left) -> Result<bool, CommandFault> {
         let Some(client) = &mut self.client else {
             return Ok(false);
         };
-        let (line, seat) = (&mut client.line, &mut client.seat);
-        match open(clock, self.alloc, line, seat, out, text) {
+        match open(client, text) {
             Ok(Outcome::Drawn) => Ok(matches!(left, Left::Drawn)),
             Ok(Outcome::Refused) => Ok(matches!(left, Left::Refused)),
             Ok(Outcome::InDoubt) => Ok(false),
@@ -136,13 +125,13 @@ impl World {
         }
     }
 
-    fn leave(&mut self) -> Result<bool, SeatFault> {
+    fn leave(&mut self) -> Result<bool, CommandFault> {
         let Some(client) = &mut self.client else {
             return Ok(false);
         };
-        match leave(self.alloc, &mut client.line) {
+        match client.leave() {
             Ok(_) => Ok(true),
-            Err(fault) => Err(SeatFault::Client(fault)),
+            Err(fault) => Err(CommandFault::Client(fault)),
         }
     }
 
@@ -189,30 +178,22 @@ impl World {
     /// Whether the client holds what the board does.
     pub fn agrees(&self) -> bool {
         match (&self.client, self.board.try_borrow()) {
-            (Some(client), Ok(board)) => are_same(&client.seat.replica, board.replica()),
+            (Some(client), Ok(board)) => are_same(client.replica(), board.replica()),
             _ => false,
         }
     }
 
     /// Whether a call that found no memory left the board as it was, or with its one edit, and the client
     /// with nothing that the board has not; and a client that comes then holds what the board does.
-    pub fn is_sound<C: Clock>(&self, clock: &C) -> bool {
-        let mut out = Vec::new(self.alloc);
-        let joined = Client::join(
-            clock,
-            self.alloc,
-            &self.board,
-            SEATS,
-            &mut out,
-            self.telling,
-        );
+    pub fn is_sound(&self) -> bool {
+        let joined = join(self.clock, self.alloc, &self.board, SEATS, self.telling);
         let (Ok(other), Ok(board)) = (joined, self.board.try_borrow()) else {
             return false;
         };
         let edits = board.replica().journal().len();
         let has_one_at_most = edits == self.edits || edits == self.edits.saturating_add(1);
         has_one_at_most
-            && are_same(&other.seat.replica, board.replica())
+            && are_same(other.replica(), board.replica())
             && self.holds_no_more_than(board.replica())
     }
 
@@ -224,7 +205,7 @@ impl World {
         let Ok(mut both) = Replica::new(self.alloc, replica.rule(), 1) else {
             return false;
         };
-        for held in [&client.seat.replica, replica] {
+        for held in [client.replica(), replica] {
             let is_taken = state_of(held).is_some_and(|state| both.take_bytes(&state).is_ok());
             if !is_taken {
                 return false;
@@ -235,7 +216,7 @@ impl World {
 }
 
 /// Has the second seat draw a cell. Where memory is refused it does so once more.
-fn publish(board: &mut Board, cell: Cell) -> Option<()> {
+fn publish(board: &mut MemoryBoard, cell: Cell) -> Option<()> {
     match board.publish_cell(2, cell) {
         Ok(()) => Some(()),
         Err(_) => board.publish_cell(2, cell).ok(),

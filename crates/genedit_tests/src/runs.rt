@@ -170,7 +170,10 @@ fn long_script(alloc: Global) -> Result<Vec<u8>, AllocError> {
     let mut script = Vec::new(alloc);
     script.extend_from_slice(b"rule 345/2/4\nreplicas 1\n")?;
     for number in 0..8000u64 {
-        let (x, y) = (anywhere(number, 2_654_435_761), anywhere(number, 2_246_822_519));
+        let (x, y) = (
+            anywhere(number, 2_654_435_761),
+            anywhere(number, 2_246_822_519),
+        );
         let line = format!(in alloc; "cells 1 {x} {y} 1\n")?;
         script.extend_from_slice(line.as_bytes())?;
     }

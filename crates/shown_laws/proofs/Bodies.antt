@@ -43,8 +43,16 @@ area_len (Some rect) = omega arith
 delta_len : (r : GenerationsRule) (e : PlaneEdit) → IsRule r → IsEdit e → length (delta_text r (e ∷ [])) ≤ 10000000
 delta_len r e rule edit =
     let count : length e.cells ≤ 1048576 = edit.count in
-    omega (arith, rule_len r rule, head_len r, area_len e.area, edit_text_len e, count,
-      length-append (head_text delta_magic 1 r) (to_be_bytes w32 1 ++ (edit_text e ++ [])), length-append (edit_text e) [])
+    omega (
+      arith,
+      rule_len r rule,
+      head_len r,
+      area_len e.area,
+      edit_text_len e,
+      count,
+      length-append (head_text delta_magic 1 r) (to_be_bytes w32 1 ++ (edit_text e ++ [])),
+      length-append (edit_text e) [],
+    )
 
 pub delta_is_body : (r : GenerationsRule) (e : PlaneEdit) → IsRule r → IsEdit e → is_body (delta_text r (e ∷ [])) ≡ true
 delta_is_body r e rule edit = fits (delta_text r (e ∷ [])) _ refl (omega (arith, delta_len r e rule edit))

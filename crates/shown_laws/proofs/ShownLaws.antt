@@ -223,7 +223,7 @@ module _ (r : GenerationsRule) (seat : ℕ) (list : List Entry) (rule : IsRule r
       }
   edits_heard texts (Plane m) frames rest more few tells same = elim (either_whole tells.0 (nat_le (length tells.0) most_body) refl) [
     | inl whole ↦ (let one : polled_body (length texts) ∷ (texts ++ rest) ≡ polled_body whole_mark ∷ (tells.0 ∷ [] ++ more) = same ∙ ap (λ fs. fs ++ more) (tells.2 ∙ whole) in
-      let count : length texts ≡ whole_mark = same_count (length texts) whole_mark (omega (arith, few)) (omega arith) cc in absurd (omega (arith, count, few)))
+        let count : length texts ≡ whole_mark = same_count (length texts) whole_mark (omega (arith, few)) (omega arith) cc in absurd (omega (arith, count, few)))
     | inr refused ↦ (let one : polled_body (length texts) ∷ (texts ++ rest) ≡ (21 ∷ []) ∷ more = same ∙ ap (λ fs. fs ++ more) (tells.2 ∙ refused) in absurd (no_count 21 (length texts) cc))
   ]
   edits_heard texts (Texts gs answers) frames rest more few tells same = absurd tells
@@ -248,14 +248,14 @@ module _ (r : GenerationsRule) (seat : ℕ) (list : List Entry) (rule : IsRule r
       absurd (omega (arith, count, tells.0))
   plane_heard text (Plane m) frames rest more tells same = elim (either_whole tells.0 (nat_le (length tells.0) most_body) refl) [
     | inl whole ↦ (let one : polled_body whole_mark ∷ (text ∷ rest) ≡ polled_body whole_mark ∷ (tells.0 ∷ more) = same ∙ ap (λ fs. fs ++ more) (tells.2 ∙ whole) in
-      let text_is : text ≡ tells.0 = cc in
-      record {
-        written = m;
-        told_is = refl;
-        is_text = subst (IsStateText r m) (sym text_is) tells.1;
-        frames_are = tells.2 ∙ whole ∙ ap (λ t. polled_body whole_mark ∷ t ∷ []) (sym text_is);
-        rest_is = cc;
-      })
+        let text_is : text ≡ tells.0 = cc in
+        record {
+          written = m;
+          told_is = refl;
+          is_text = subst (IsStateText r m) (sym text_is) tells.1;
+          frames_are = tells.2 ∙ whole ∙ ap (λ t. polled_body whole_mark ∷ t ∷ []) (sym text_is);
+          rest_is = cc;
+        })
     | inr refused ↦ (let one : polled_body whole_mark ∷ (text ∷ rest) ≡ (21 ∷ []) ∷ more = same ∙ ap (λ fs. fs ++ more) (tells.2 ∙ refused) in absurd (no_count 21 whole_mark cc))
   ]
   plane_heard text (Texts gs answers) frames rest more tells same = absurd tells
@@ -399,7 +399,7 @@ module _ (r : GenerationsRule) (seat : ℕ) (list : List Entry) (rule : IsRule r
       let asked_is : x.request ∷ (requests_of xs ++ asked.0) ≡ request_in r t.asking ∷ said_by r ts = asked.1 in
       let request : x.request ≡ request_in r t.asking = cc in
       let first = turned earlier x told.0 has.0 E old next holds within (heard_by ts ++ heard.0) (all_pushed xs) t.asking t.hearing askable request
-          (sym (append_assoc (heard_in t.hearing) (heard_by ts) heard.0) ∙ heard.1) one in
+      (sym (append_assoc (heard_in t.hearing) (heard_by ts) heard.0) ∙ heard.1) one in
       shows ts (earlier ++ x ∷ []) xs first.edits next new told.1 has.1 (asked.0, cc) (heard.0, first.rest_is) first.holds first.within rest
 
 pub shows_of_one_list : ShowsOfOneList
