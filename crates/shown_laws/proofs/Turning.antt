@@ -7,7 +7,7 @@ use Rattle.generations_rule.specs.Rule.{GenerationsRule}
 use Rattle.edit_stamps.specs.Edit.{PlaneEdit}
 use Rattle.replica_core.specs.Replica.{ReplicaState}
 use Rattle.replica_core.specs.World.{IsEditUnder}
-use Rattle.board_client.specs.declared.drawing.Drawing.TheVariants.{Drawn, Unpublished}
+use Rattle.board_client.specs.declared.publishing.Drawing.TheVariants.{Drawn, Unpublished}
 use Rattle.board_client.specs.declared.polling.Polling.TheVariants as polls
 use Rattle.client_protocol.specs.Spelling.{polled_body}
 use Rattle.client_protocol.specs.declared.greeting.Greeting.TheVariants.{Seat}

@@ -12,7 +12,7 @@ use Rattle.replica_core.specs.Exporting.{IsExportOf}
 use Rattle.replica_core.specs.Peers.{HoldsEdits}
 use Rattle.replica_core.specs.Replica.{ReplicaState}
 use Rattle.replica_core.specs.World.{IsEditUnder}
-use Rattle.board_client.specs.declared.drawing.Drawing.TheVariants.{Drawn, Unpublished}
+use Rattle.board_client.specs.declared.publishing.Drawing.TheVariants.{Drawn, Unpublished}
 use Rattle.board_client.specs.declared.polling.Polling.TheVariants as polls
 use Rattle.client_protocol.specs.declared.greeting.Greeting.TheVariants.{Seat}
 use Rattle.board_client.specs.Client.{LineState, IsTalk}
