@@ -134,16 +134,19 @@ fn draw_row<C: Clock>(party: &mut Party<'_, C>, width: i32) -> Result<(), Fail> 
     Ok(())
 }
 
+/// What the client at a place saves.
+fn saved_at<C: Clock>(party: &mut Party<'_, C>, place: usize) -> Result<Option<Vec<u8>>, Fail> {
+    let client = party.clients.get_mut(place).ok_or("client")?;
+    Ok(client.save()?)
+}
+
 #[test]
 fn a_whole_plane(rt: HostRuntime) -> Result<(), Fail> {
     let mut party = Party::join(&rt, rt.alloc(), &[Telling::Edits, Telling::Changes])?;
     draw_row(&mut party, 1025)?;
     party.play(&rt, &WHOLE_PLANE)?;
-    let [a, b] = party.clients.as_mut_slice() else {
-        return Err(Fail::from("two clients"));
-    };
-    let ours = a.save()?;
+    let ours = saved_at(&mut party, A)?;
     assert!(rt; ours.is_some());
-    assert_eq!(rt; ours, b.save()?);
+    assert_eq!(rt; ours, saved_at(&mut party, B)?);
     Ok(())
 }

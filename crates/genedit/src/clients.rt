@@ -3,8 +3,8 @@
 use client_session::Telling;
 use devices::{ReadSource, WriteSink};
 use genedit_io::RunFault;
-use genedit_join::Options;
-use genedit_words::Client;
+use genedit_join::{JoinOptions, Terminal};
+use genedit_words::JoinTask;
 use keyed_hash::HashKey;
 use std::alloc::Global;
 use std::io;
@@ -36,13 +36,15 @@ pub fn join<
         + Send
         + Sync
         + 'static,
->(rt: &R, alloc: Global, client: Client) -> Result<u8, RunFault> {
+>(rt: &R, alloc: Global, client: JoinTask) -> Result<u8, RunFault> {
     let Ok(key) = HashKey::drawn(rt) else {
         return Err(RunFault::Read);
     };
-    let source = ReadSource::new(rt.reader());
-    let mut sink = WriteSink::new(io::writer(rt));
-    match genedit_join::join(rt, alloc, options_of(client), key, source, &mut sink) {
+    let terminal = Terminal {
+        source: ReadSource::new(rt.reader()),
+        sink: WriteSink::new(io::writer(rt)),
+    };
+    match genedit_join::join(rt, alloc, options_of(client, key), terminal) {
         Ok(()) => Ok(WELL),
         Err(fault) => {
             let _ = eprintln!(rt; "genedit: {fault}");
@@ -51,8 +53,8 @@ pub fn join<
     }
 }
 
-fn options_of(client: Client) -> Options {
-    Options {
+fn options_of(client: JoinTask, key: HashKey) -> JoinOptions {
+    JoinOptions {
         port: client.port,
         interval: client.interval,
         is_following: client.is_following,
@@ -61,5 +63,6 @@ fn options_of(client: Client) -> Options {
         } else {
             Telling::Edits
         },
+        key,
     }
 }

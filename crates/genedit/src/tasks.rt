@@ -7,10 +7,10 @@ use genedit_io::RunFault;
 use genedit_lib::run_script;
 use genedit_rle::rle_text;
 use genedit_serve::{ServedBoard, listen, serve_on};
-use genedit_words::Server;
+use genedit_words::ServeTask;
 use generations_rule::Rule;
 use keyed_hash::HashKey;
-use script_check::{Outcome, check_script};
+use script_check::{CheckOutcome, check_script};
 use std::alloc::Global;
 use std::net::{Net, TcpListener, TcpStream};
 use std::random::RandomSource;
@@ -68,8 +68,8 @@ fn checked<S: Source>(
 ) -> Result<u8, RunFault> {
     let mut sink = WriteSink::new(io::writer(rt));
     match check_script(alloc, name.as_bytes(), source, &mut sink)? {
-        Outcome::Clean => Ok(WELL),
-        Outcome::Told => Ok(TOLD),
+        CheckOutcome::Clean => Ok(WELL),
+        CheckOutcome::Told => Ok(TOLD),
     }
 }
 
@@ -85,7 +85,7 @@ pub fn serve<
         + Send
         + Sync
         + 'static,
->(rt: &R, alloc: Global, server: Server) -> Result<u8, RunFault>
+>(rt: &R, alloc: Global, server: ServeTask) -> Result<u8, RunFault>
     requires { (1 ≤ server.sessions) × (server.sessions ≤ 64) }
 {
     let Ok(key) = HashKey::drawn(rt) else {

@@ -17,7 +17,7 @@ use crate::note::{Note, Place};
 use crate::reason::Reason;
 use crate::warning::header_warning;
 use command_words::Keyword;
-use genedit_script::{Line, Lines, command_in, opened_in, replicas_in, rule_in};
+use genedit_script::{Lines, ScriptLine, command_in, opened_in, replicas_in, rule_in};
 use generations_rule::Rule;
 use std::alloc::{AllocError, Global};
 
@@ -87,7 +87,7 @@ impl Told {
     }
 
     /// The same behind a line that was due to be something.
-    fn behind(self, due: Due, line: Line<'_>) -> Told {
+    fn behind(self, due: Due, line: ScriptLine<'_>) -> Told {
         match due {
             Due::Rule => Told {
                 rule: rule_in(line.text),
@@ -113,7 +113,7 @@ fn note_at(
     alloc: Global,
     due: Due,
     told: &Told,
-    line: Line<'_>,
+    line: ScriptLine<'_>,
     behind: Lines<'_>,
     closed: bool,
 ) -> Result<Option<Note>, AllocError>
@@ -141,7 +141,7 @@ fn note_at(
 }
 
 /// What is told of a line that opens a block, or should.
-fn block_note(told: &Told, line: Line<'_>, behind: Lines<'_>, closed: bool) -> Option<Note>
+fn block_note(told: &Told, line: ScriptLine<'_>, behind: Lines<'_>, closed: bool) -> Option<Note>
     ensures { fault_lines (option_to_list result) ≡ if_faulty (is_none (opening_spelled (words line.entry.text.now)) || not closed) line.entry.number }
 {
     if closed && opened_in(line.text).is_some() {
@@ -168,7 +168,7 @@ fn note_behind(due: Due, line: u64) -> Option<Note>
     Some(Note::Fault(place, reason))
 }
 
-fn fault_at(line: Line<'_>, finding: Finding) -> Note
+fn fault_at(line: ScriptLine<'_>, finding: Finding) -> Note
     ensures note { result ≡ Fault (record { line = line.entry.number; column = finding.column; width = finding.width }) finding.reason }
     ensures lines { fault_lines (result ∷ []) ≡ line.entry.number ∷ [] }
 {

@@ -6,7 +6,7 @@ ghost use Rattle.script_faults.specs.Faults.{command_lines};
 use crate::due::{Due, Ends, opens_closed};
 use crate::note::Place;
 use crate::word::Words;
-use genedit_script::{Line, Lines};
+use genedit_script::{Lines, ScriptLine};
 use std::alloc::{AllocError, Global};
 
 /// The first words of a script's commands, `pattern` among them, in their order.
@@ -30,7 +30,7 @@ pub fn command_places(alloc: Global, script: &[u8]) -> Result<Vec<Place>, AllocE
 }
 
 /// Where the first word of a line stands.
-fn first_word(line: Line<'_>) -> Place
+fn first_word(line: ScriptLine<'_>) -> Place
     ensures { result.line ≡ line.entry.number }
 {
     match Words::of(line.text).next_word() {

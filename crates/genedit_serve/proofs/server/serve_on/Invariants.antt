@@ -1,5 +1,5 @@
 use Rattle.std.specs.Arc.{arc_value}
-use Rattle.genedit_serve.proofs.server.serve_on_with_key.Given as goal
+use Rattle.genedit_serve.proofs.server.serve_on.Given as goal
 
 -- the board and the inbox that were just opened
 abbrev pub ghosts-serve : goal.ghosts-serve
