@@ -42,8 +42,7 @@ $(PROGRAM): $(SOURCES) crates.txt HANDLES
 bench:
 	@examples/measure
 	@examples/growth $(PROGRAM)
-	@cd crates/bench && rt run -- --time
-	@cd crates/board_bench && rt run -- --time
+	@cd crates/bench_calls && rt run -- --time
 	@cd crates/serve_bench && rt run -- --time
 
 # Runs each call that takes memory with each allocation refused in turn. Needs a C compiler.
