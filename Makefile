@@ -31,7 +31,7 @@ build: $(PROGRAM)
 # What is proved and built with the program: all that the gate reads of the crates, tests and programs
 # that measure aside.
 SOURCES := $(shell find crates -name out -prune -o -name trials -prune -o -name must-fail -prune \
-	-o -path '*_tests/*' -prune -o -path '*bench/*' -prune -o -path '*_trial/*' -prune \
+	-o -path '*_tests/*' -prune -o -path '*bench/*' -prune -o -path '*_calls/*' -prune -o -path '*_trial/*' -prune \
 	-o -path 'crates/samples/*' -prune -o -path 'crates/memory_board/*' -prune \
 	-o \( -name '*.rt' -o -name '*.antt' -o -name src -o -name specs -o -name proofs \) -print)
 
@@ -42,8 +42,7 @@ $(PROGRAM): $(SOURCES) crates.txt HANDLES
 bench:
 	@examples/measure
 	@examples/growth $(PROGRAM)
-	@cd crates/bench && rt run -- --time
-	@cd crates/board_bench && rt run -- --time
+	@cd crates/bench_calls && rt run -- --time
 	@cd crates/serve_bench && rt run -- --time
 
 # Runs each call that takes memory with each allocation refused in turn. Needs a C compiler.
@@ -52,7 +51,7 @@ memory:
 
 # Feeds 3,000 rounds of bytes by chance to each call that reads what others send.
 fuzz:
-	@cd crates/fuzz_trial && rt run -- 3000 7
+	@cd crates/trial_calls && rt run -- fuzz 3000 7
 
 # Tries the wrong bodies that the gate leaves out: the prover must refuse each. `make trial
 # CRATES="a b"` tries those of these crates alone.

@@ -4,8 +4,9 @@ ghost use Rattle.std.specs.Prelude.{◌≤◌};
 
 use anyhow::{Context, Result};
 use devices::WriteSink;
-use genedit_serve::{listen, serve_on};
+use genedit_serve::{ServedBoard, listen, serve_on};
 use generations_rule::Rule;
+use keyed_hash::HashKey;
 use std::alloc::Global;
 use std::net::{Net, TcpListener, TcpStream};
 use std::sync::Wait;
@@ -67,14 +68,12 @@ fn printed<
     requires { (1 ≤ sessions) × (sessions ≤ 64) }
 {
     let mut text = Vec::new(alloc);
-    let end = serve_on(
-        rt,
-        alloc,
-        listener,
+    let board = ServedBoard {
         rule,
         sessions,
-        &mut WriteSink::new(&mut text),
-    );
+        key: HashKey::fixed(),
+    };
+    let end = serve_on(rt, alloc, listener, board, &mut WriteSink::new(&mut text));
     if end.is_err() {
         text.clear();
     }

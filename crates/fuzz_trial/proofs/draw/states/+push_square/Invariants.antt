@@ -1,4 +1,0 @@
-use Rattle.fuzz_trial.proofs.draw.states.+push_square.Given as goal
-
-abbrev pub decreases-push_square : goal.decreases-push_square
-decreases-push_square l = l.above

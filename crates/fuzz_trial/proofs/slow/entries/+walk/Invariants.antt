@@ -1,4 +1,0 @@
-use Rattle.fuzz_trial.proofs.slow.entries.+walk.Given as goal
-
-abbrev pub decreases-walk : goal.decreases-walk
-decreases-walk l = l.above

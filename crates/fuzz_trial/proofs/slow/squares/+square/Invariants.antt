@@ -1,4 +1,0 @@
-use Rattle.fuzz_trial.proofs.slow.squares.+square.Given as goal
-
-abbrev pub decreases-square : goal.decreases-square
-decreases-square l = l.above

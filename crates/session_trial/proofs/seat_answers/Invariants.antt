@@ -1,6 +1,0 @@
-use Rattle.std.specs.Arc.{arc_value}
-use Rattle.session_trial.proofs.seat_answers.Given as goal
-
--- the board and the inbox that were just started
-abbrev pub ghosts-named : goal.ghosts-named
-ghosts-named g a = record { origin = a.opened.publisher.origin; inbox = (arc_value a.opened.drain.queue).table.shared.table_id }
