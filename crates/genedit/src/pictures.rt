@@ -2,7 +2,7 @@
 
 use devices::{ReadSource, Source, WriteSink};
 use genedit_io::RunFault;
-use genedit_view::{BufferedSink, Form, Options, ViewFault, Window, window_of};
+use genedit_view::{BufferedSink, Form, ViewFault, ViewOptions, Window, window_of};
 use genedit_words::Viewing;
 use std::alloc::Global;
 use std::rt::Files;
@@ -28,7 +28,7 @@ pub fn view<R: Files + Input + Print + Eprint>(
         let _ = eprintln!(rt; "genedit: {NO_WINDOW}");
         return Ok(WORDS);
     };
-    let options = Options {
+    let options = ViewOptions {
         form: form(viewing, to_terminal),
         window,
         generation: viewing.generation,
@@ -67,7 +67,7 @@ fn window(viewing: &Viewing<'_>) -> Option<Option<Window>> {
 fn drawn<S: Source>(
     rt: &(impl Print + Eprint),
     alloc: Global,
-    options: &Options,
+    options: &ViewOptions,
     source: &mut S,
 ) -> Result<u8, RunFault> {
     let sink = WriteSink::new(io::writer(rt));

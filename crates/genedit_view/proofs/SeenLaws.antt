@@ -19,7 +19,7 @@ use Rattle.export.specs.declared.fault.ExportFault.TheVariants as exports
 use Rattle.export.specs.Export.{IsExport, IsExportRefused, IsWant, most_cells}
 use Rattle.cell_pictures.specs.Shown.{state_at}
 use Rattle.genedit_view.specs.declared.fault.ViewFault.{ViewFault}
-use Rattle.genedit_view.specs.declared.options.Options.{Options}
+use Rattle.genedit_view.specs.declared.options.ViewOptions.{ViewOptions}
 use Rattle.genedit_view.specs.Fault.{IsViewWant, fault_of_generation, fault_of_state}
 use Rattle.genedit_view.specs.Reading.{IsReadAs, begins_as_state, pattern_seen, state_rule}
 use Rattle.genedit_view.specs.Reading.IsReadAs.{Pattern, State}
@@ -46,7 +46,7 @@ late_told r f h g refusal e same (inr refused) told = inl (record { refusal = re
 
 -- ---- patterns
 
-pub pattern_shown : (o : Options) (text : List ℕ) (r : GenerationsRule) (cells : List Cell) → begins_as_state text ≡ false → o.generation ≡ None →
+pub pattern_shown : (o : ViewOptions) (text : List ℕ) (r : GenerationsRule) (cells : List Cell) → begins_as_state text ≡ false → o.generation ≡ None →
     pattern_seen (is_some o.generation) o.rule text ≡ Ok (r, cells) → is_sorted cells ≡ true → are_nonzero cells ≡ true → AreSeen o text r cells
 pattern_shown o text r cells begins none seen sorted nonzero = record {
   states = state_at cells;
@@ -54,7 +54,7 @@ pattern_shown o text r cells begins none seen sorted nonzero = record {
   are = subst (λ g. AreCellsAt r (state_at cells) g cells) (sym none) (record { sorted = sorted; nonzero = nonzero; states = λ c. refl });
 }
 
-pub pattern_later : (o : Options) (text : List ℕ) (r : GenerationsRule) (cells later : List Cell) (g : ℕ) → begins_as_state text ≡ false → o.generation ≡ Some g →
+pub pattern_later : (o : ViewOptions) (text : List ℕ) (r : GenerationsRule) (cells later : List Cell) (g : ℕ) → begins_as_state text ≡ false → o.generation ≡ Some g →
     pattern_seen (is_some o.generation) o.rule text ≡ Ok (r, cells) → AreCellsAt r (state_at cells) (Some g) later → AreSeen o text r later
 pattern_later o text r cells later g begins some seen are = record {
   states = state_at cells;
@@ -63,11 +63,11 @@ pattern_later o text r cells later g begins some seen are = record {
 }
 
 -- a want where generations are run, or where a state is read
-want_where : (o : Options) (text : List ℕ) (e : ViewFault) → (begins_as_state text ≡ true) ⊎ (is_some o.generation ≡ true) → IsViewWant e → IsWantAt o text e
+want_where : (o : ViewOptions) (text : List ℕ) (e : ViewFault) → (begins_as_state text ≡ true) ⊎ (is_some o.generation ≡ true) → IsViewWant e → IsWantAt o text e
 want_where o text e why (inl memory) = inl memory
 want_where o text e why (inr full) = inr (full, why)
 
-pub pattern_late : (o : Options) (text : List ℕ) (r : GenerationsRule) (cells : List Cell) (g : ℕ) (e : ViewFault) → begins_as_state text ≡ false → o.generation ≡ Some g →
+pub pattern_late : (o : ViewOptions) (text : List ℕ) (r : GenerationsRule) (cells : List Cell) (g : ℕ) (e : ViewFault) → begins_as_state text ≡ false → o.generation ≡ Some g →
     pattern_seen (is_some o.generation) o.rule text ≡ Ok (r, cells) → IsLateRefused r (state_at cells) g e ⊎ IsViewWant e → IsNotSeen o text e ⊎ IsWantAt o text e
 pattern_late o text r cells g e begins some seen (inl late) =
     inl (NoGeneration r (state_at cells) (Pattern cells begins seen refl) (subst (λ n. IsRefusedAt r (state_at cells) n e) (sym some) late))
@@ -84,12 +84,12 @@ want_of_state : (refusal : ReadFault) (e : ViewFault) → IsWantOrFull refusal �
 want_of_state refusal e (inl memory) told = inl (told ∙ ap fault_of_state memory)
 want_of_state refusal e (inr full) told = inr (told ∙ ap fault_of_state full)
 
-state_told : (o : Options) (text : List ℕ) (r : GenerationsRule) (refusal : ReadFault) (e : ViewFault) → begins_as_state text ≡ true → state_rule o.rule text ≡ Some r →
+state_told : (o : ViewOptions) (text : List ℕ) (r : GenerationsRule) (refusal : ReadFault) (e : ViewFault) → begins_as_state text ≡ true → state_rule o.rule text ≡ Some r →
     IsWantOrFull refusal ⊎ (message_of r text ≡ Err refusal) → e ≡ fault_of_state refusal → IsNotSeen o text e ⊎ IsWantAt o text e
 state_told o text r refusal e begins rule (inl want) told = inr (want_where o text e (inl begins) (want_of_state refusal e want told))
 state_told o text r refusal e begins rule (inr refused) told = inl (NoState r refusal begins rule refused told)
 
-pub state_refused : (o : Options) (text : List ℕ) (r : GenerationsRule) (refusal : ReadFault) (e : ViewFault) → begins_as_state text ≡ true → state_rule o.rule text ≡ Some r →
+pub state_refused : (o : ViewOptions) (text : List ℕ) (r : GenerationsRule) (refusal : ReadFault) (e : ViewFault) → begins_as_state text ≡ true → state_rule o.rule text ≡ Some r →
     AnswersAs (StandsForTold r) IsWantOrFull (Err refusal) (message_of r text) → e ≡ fault_of_state refusal → IsNotSeen o text e ⊎ IsWantAt o text e
 state_refused o text r refusal e begins rule exact told =
     state_told o text r refusal e begins rule (answered (StandsForTold r) IsWantOrFull refusal (message_of r text) exact) told
@@ -101,11 +101,11 @@ state_read is_run given text r (content.State q) p begins rule is found =
     let same : p ≡ q = cc in
     State (map_of q) begins rule found.0 found.1 (ap (λ x. states_in_writes (map_of x)) same)
 
-pub state_shown : (o : Options) (text : List ℕ) (r : GenerationsRule) (f : Place → ℕ) (cells : List Cell) → IsReadAs (is_some o.generation) o.rule text r f →
+pub state_shown : (o : ViewOptions) (text : List ℕ) (r : GenerationsRule) (f : Place → ℕ) (cells : List Cell) → IsReadAs (is_some o.generation) o.rule text r f →
     AreCellsAt r f o.generation cells → AreSeen o text r cells
 state_shown o text r f cells read are = record { states = f; read = read; are = are }
 
-pub state_late : (o : Options) (text : List ℕ) (r : GenerationsRule) (f : Place → ℕ) (e : ViewFault) → begins_as_state text ≡ true → IsReadAs (is_some o.generation) o.rule text r f →
+pub state_late : (o : ViewOptions) (text : List ℕ) (r : GenerationsRule) (f : Place → ℕ) (e : ViewFault) → begins_as_state text ≡ true → IsReadAs (is_some o.generation) o.rule text r f →
     IsRefusedAt r f o.generation e ⊎ IsViewWant e → IsNotSeen o text e ⊎ IsWantAt o text e
 state_late o text r f e begins read (inl late) = inl (NoGeneration r f read late)
 state_late o text r f e begins read (inr want) = inr (want_where o text e (inl begins) want)
@@ -116,5 +116,5 @@ sorted_at : (r : GenerationsRule) (f : Place → ℕ) (generation : Option ℕ) 
 sorted_at r f None cells are = are.sorted
 sorted_at r f (Some g) cells are = are.1.are_cells.sorted
 
-pub seen_sorted : (o : Options) (text : List ℕ) (r : GenerationsRule) (cells : List Cell) → AreSeen o text r cells → IsTrue (is_sorted cells)
+pub seen_sorted : (o : ViewOptions) (text : List ℕ) (r : GenerationsRule) (cells : List Cell) → AreSeen o text r cells → IsTrue (is_sorted cells)
 seen_sorted o text r cells seen = sorted_at r seen.states o.generation cells seen.are

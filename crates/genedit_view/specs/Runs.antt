@@ -8,13 +8,13 @@ use Rattle.genedit_io.specs.Runs.{IsLeft, IsReadWhole}
 use Rattle.cell_pictures.specs.Drawn.{IsDrawn}
 use Rattle.genedit_view.specs.declared.fault.ViewFault.{ViewFault}
 use Rattle.genedit_view.specs.declared.fault.ViewFault.TheVariants.{Run}
-use Rattle.genedit_view.specs.declared.options.Options.{Options}
+use Rattle.genedit_view.specs.declared.options.ViewOptions.{ViewOptions}
 use Rattle.genedit_view.specs.Seeing.{IsNotSeen, IsPictureOf, IsWantAt}
 
 -- A view in at most so many pulls. Either the whole of a text came, and its picture went to the sink, which failed where the
 -- view ends with a failed write; or the whole of a text came of which nothing is drawn, or whose picture could not be
 -- worked out; or the source was left. Nothing is pushed, and the sink is as it was, where the view ends otherwise.
-pub data IsView (o : Options) (turns : ℕ) {A : Type 0} (result : Result A ViewFault) (source source' : KnownSource) (known known' : KnownSink) {K : Type 0} (sink sink' : K) : Type 0 where
+pub data IsView (o : ViewOptions) (turns : ℕ) {A : Type 0} (result : Result A ViewFault) (source source' : KnownSource) (known known' : KnownSink) {K : Type 0} (sink sink' : K) : Type 0 where
   Drawn : (text picture : List ℕ) → IsReadWhole turns text source source' → IsPictureOf o text picture → IsDrawn known result picture known'
       → IfErr result (λ fault. fault ≡ Run Write) → IsView o turns result source source' known known' sink sink'
   Refused : (text : List ℕ) (fault : ViewFault) → result ≡ Err fault → IsReadWhole turns text source source' → IsNotSeen o text fault ⊎ IsWantAt o text fault

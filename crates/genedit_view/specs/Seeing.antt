@@ -12,7 +12,7 @@ use Rattle.genedit_io.specs.declared.fault.RunFault.TheVariants.{Memory, StoreFu
 use Rattle.cell_pictures.specs.Picture.{picture_text}
 use Rattle.genedit_view.specs.declared.fault.ViewFault.{ViewFault}
 use Rattle.genedit_view.specs.declared.fault.ViewFault.TheVariants.{NoRule, Run}
-use Rattle.genedit_view.specs.declared.options.Options.{Options}
+use Rattle.genedit_view.specs.declared.options.ViewOptions.{ViewOptions}
 use Rattle.genedit_view.specs.Fault.{fault_of_generation, fault_of_state}
 use Rattle.genedit_view.specs.Reading.{IsReadAs, begins_as_state, pattern_seen, state_rule}
 
@@ -33,25 +33,25 @@ IsRefusedAt r f None fault = ⊥
 IsRefusedAt r f (Some g) fault = IsLateRefused r f g fault
 
 -- the cells that are drawn of a text, and the rule
-pub record AreSeen (o : Options) (text : List ℕ) (r : GenerationsRule) (cells : List Cell) : Type 0 where
+pub record AreSeen (o : ViewOptions) (text : List ℕ) (r : GenerationsRule) (cells : List Cell) : Type 0 where
   pub states : Place → ℕ
   pub read : IsReadAs (is_some o.generation) o.rule text r states
   pub are : AreCellsAt r states o.generation cells
 
 -- a text is drawn as a picture
-pub record IsPictureOf (o : Options) (text picture : List ℕ) : Type 0 where
+pub record IsPictureOf (o : ViewOptions) (text picture : List ℕ) : Type 0 where
   pub rule : GenerationsRule
   pub cells : List Cell
   pub seen : AreSeen o text rule cells
   pub drawn : picture ≡ picture_text o.form rule.states cells o.window
 
 -- a want, which is no part of what a picture means: of memory; or of room for squares, where a state was read or generations were run
-abbrev pub IsWantAt : Options → List ℕ → ViewFault → Type 0
+abbrev pub IsWantAt : ViewOptions → List ℕ → ViewFault → Type 0
 IsWantAt o text fault = (fault ≡ Run Memory) ⊎ ((fault ≡ Run StoreFull) × ((begins_as_state text ≡ true) ⊎ (is_some o.generation ≡ true)))
 
 -- why nothing is drawn of a text: it is no pattern, or one that is refused; a state without a rule, or a text that is no
 -- state; or a generation that is not shown
-pub data IsNotSeen (o : Options) (text : List ℕ) (fault : ViewFault) : Type 0 where
+pub data IsNotSeen (o : ViewOptions) (text : List ℕ) (fault : ViewFault) : Type 0 where
   NoPattern : begins_as_state text ≡ false → pattern_seen (is_some o.generation) o.rule text ≡ Err fault → IsNotSeen o text fault
   NoStateRule : begins_as_state text ≡ true → state_rule o.rule text ≡ None → fault ≡ NoRule → IsNotSeen o text fault
   NoState : (r : GenerationsRule) (refusal : ReadFault) → begins_as_state text ≡ true → state_rule o.rule text ≡ Some r → message_of r text ≡ Err refusal

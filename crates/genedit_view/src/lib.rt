@@ -14,6 +14,6 @@ mod words;
 
 pub use cell_pictures::{BufferedSink, Form, Window};
 pub use fault::ViewFault;
-pub use options::Options;
+pub use options::ViewOptions;
 pub use viewing::{view, view_within};
 pub use words::window_of;

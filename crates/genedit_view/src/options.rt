@@ -5,7 +5,7 @@ use generations_rule::Rule;
 
 /// What is asked of a picture.
 #[derive(Clone, Copy, Debug, PartialEq, Eq)]
-pub struct Options {
+pub struct ViewOptions {
     /// How it is drawn.
     pub form: Form,
     /// Which part of the plane; else the least that shows all cells.

@@ -13,7 +13,7 @@ ghost use Rattle.genedit_view.specs.Seeing.{AreCellsAt, AreSeen, IsLateRefused, 
 use crate::drawn::plane_of;
 use crate::fault::ViewFault;
 use crate::later::{cells_at, in_range};
-use crate::options::Options;
+use crate::options::ViewOptions;
 use crate::pattern::pattern_cells;
 use crate::rule::{begins_as_state, state_rule};
 use crate::seen::SeenCells;
@@ -24,7 +24,7 @@ use stamped_tree::Plane;
 use std::alloc::Global;
 
 /// The cells that are shown of a text, and the rule; or why nothing is.
-pub fn see(alloc: Global, options: &Options, text: &[u8]) -> Result<SeenCells, ViewFault>
+pub fn see(alloc: Global, options: &ViewOptions, text: &[u8]) -> Result<SeenCells, ViewFault>
     ensures seen { IfOk result (λ seen. AreSeen options.now text.now seen.rule seen.cells.items) }
     ensures fault { IfErr result (λ fault. IsNotSeen options.now text.now fault ⊎ IsWantAt options.now text.now fault) }
 {
@@ -35,7 +35,7 @@ pub fn see(alloc: Global, options: &Options, text: &[u8]) -> Result<SeenCells, V
     }
 }
 
-fn see_pattern(alloc: Global, options: &Options, text: &[u8]) -> Result<SeenCells, ViewFault>
+fn see_pattern(alloc: Global, options: &ViewOptions, text: &[u8]) -> Result<SeenCells, ViewFault>
     requires { begins_as_state text.now ≡ false }
     ensures seen { IfOk result (λ seen. AreSeen options.now text.now seen.rule seen.cells.items) }
     ensures fault { IfErr result (λ fault. IsNotSeen options.now text.now fault ⊎ IsWantAt options.now text.now fault) }
@@ -52,7 +52,7 @@ fn see_pattern(alloc: Global, options: &Options, text: &[u8]) -> Result<SeenCell
     })
 }
 
-fn see_state(alloc: Global, options: &Options, text: &[u8]) -> Result<SeenCells, ViewFault>
+fn see_state(alloc: Global, options: &ViewOptions, text: &[u8]) -> Result<SeenCells, ViewFault>
     requires { begins_as_state text.now ≡ true }
     ensures seen { IfOk result (λ seen. AreSeen options.now text.now seen.rule seen.cells.items) }
     ensures fault { IfErr result (λ fault. IsNotSeen options.now text.now fault ⊎ IsWantAt options.now text.now fault) }

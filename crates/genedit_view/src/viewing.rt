@@ -8,7 +8,7 @@ ghost use Rattle.cell_pictures.specs.Picture.{picture_text};
 ghost use Rattle.genedit_view.specs.Runs.{IsView};
 
 use crate::fault::ViewFault;
-use crate::options::Options;
+use crate::options::ViewOptions;
 use crate::seen::SeenCells;
 use crate::shown::see;
 use cell_pictures::{BufferedSink, draw};
@@ -30,7 +30,7 @@ const TURNS: u64 = 1 << 32;
 /// none (22), and more than 2^24 cells (23). Where it is Ok, the sink holds all that was pushed.
 pub fn view<S: Source, K: Sink>(
     alloc: Global,
-    options: &Options,
+    options: &ViewOptions,
     source: &mut S,
     sink: &mut BufferedSink<K>,
 ) -> Result<(), ViewFault>
@@ -43,7 +43,7 @@ pub fn view<S: Source, K: Sink>(
 /// The same with another number of pulls, at most.
 pub fn view_within<S: Source, K: Sink>(
     alloc: Global,
-    options: &Options,
+    options: &ViewOptions,
     source: &mut S,
     sink: &mut BufferedSink<K>,
     turns: u64,
@@ -59,7 +59,7 @@ pub fn view_within<S: Source, K: Sink>(
 /// Draws cells, and pushes all of it.
 fn push_picture<K: Sink>(
     sink: &mut BufferedSink<K>,
-    options: &Options,
+    options: &ViewOptions,
     seen: &SeenCells,
 ) -> Result<(), ViewFault>
     requires { IsTrue (is_sorted seen.now.cells.items) }
@@ -75,7 +75,7 @@ fn push_picture<K: Sink>(
 
 fn draw_whole<K: Sink>(
     sink: &mut BufferedSink<K>,
-    options: &Options,
+    options: &ViewOptions,
     seen: &SeenCells,
 ) -> Result<(), Failed>
     requires { IsTrue (is_sorted seen.now.cells.items) }

@@ -1,12 +1,12 @@
 //! What is shown of a text, as a text.
 
 use devices::{ReadSource, WriteSink};
-use genedit_view::{BufferedSink, Form, Options, ViewFault, view, window_of};
+use genedit_view::{BufferedSink, Form, ViewFault, ViewOptions, view, window_of};
 use generations_rule::Rule;
 use std::alloc::{AllocError, Global};
 
 /// What is asked where nothing else is said.
-pub const ALL: Options = Options {
+pub const ALL: ViewOptions = ViewOptions {
     form: Form::Plain,
     window: None,
     generation: None,
@@ -14,36 +14,36 @@ pub const ALL: Options = Options {
 };
 
 /// The same in this form.
-pub fn in_form(form: Form) -> Options {
-    Options { form, ..ALL }
+pub fn in_form(form: Form) -> ViewOptions {
+    ViewOptions { form, ..ALL }
 }
 
 /// The same of this window; all where it is none.
-pub fn at(form: Form, at: &str, size: &str) -> Options {
-    Options {
+pub fn at(form: Form, at: &str, size: &str) -> ViewOptions {
+    ViewOptions {
         window: window_of(at.as_bytes(), size.as_bytes()),
         ..in_form(form)
     }
 }
 
 /// The same so many generations later.
-pub fn later(generation: u32) -> Options {
-    Options {
+pub fn later(generation: u32) -> ViewOptions {
+    ViewOptions {
         generation: Some(generation),
         ..ALL
     }
 }
 
 /// The same under this rule; that of the text where it is none.
-pub fn under(rule: &str) -> Options {
-    Options {
+pub fn under(rule: &str) -> ViewOptions {
+    ViewOptions {
         rule: Rule::parse(rule.as_bytes()).ok(),
         ..ALL
     }
 }
 
 /// The picture of a text, or its fault, with how many bytes were pushed all the same.
-pub fn shown(alloc: Global, options: &Options, text: &[u8]) -> Result<String, AllocError> {
+pub fn shown(alloc: Global, options: &ViewOptions, text: &[u8]) -> Result<String, AllocError> {
     let mut out = Vec::new(alloc);
     let end = end_of(alloc, options, text, &mut out)?;
     match end {
@@ -54,7 +54,7 @@ pub fn shown(alloc: Global, options: &Options, text: &[u8]) -> Result<String, Al
 
 fn end_of(
     alloc: Global,
-    options: &Options,
+    options: &ViewOptions,
     text: &[u8],
     out: &mut Vec<u8>,
 ) -> Result<Result<(), ViewFault>, AllocError> {
