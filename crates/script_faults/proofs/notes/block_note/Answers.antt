@@ -19,4 +19,4 @@ returns c =
       | else-closed-via-then-closed+else-is_some w ↦ ap (λ none. none || not c.args.closed) (none_meant _ w.opened_in.result _ w.opened_in.ensures (sym w.if-is_some.ensures))
       | else-closed-via-else-closed w ↦ not_closed (is_none (opening_spelled (words c.args.line.text.now))) c.args.closed w.if-closed.false
     ] in
-    c.fault_at.ensures ∙ sym (ap (λ faulty. if_faulty faulty c.args.line.number) faulty)
+    c.fault_at.ensures.lines ∙ sym (ap (λ faulty. if_faulty faulty c.args.line.number) faulty)
