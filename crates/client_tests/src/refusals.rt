@@ -25,7 +25,7 @@ const NOT_YOURS: Refusals = Refusals {
 };
 
 /// Pushes are refused by 29.
-const FULL: Refusals = Refusals {
+pub const FULL: Refusals = Refusals {
     push: 29,
     ..Refusals::NONE
 };
