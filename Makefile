@@ -31,7 +31,7 @@ build: $(PROGRAM)
 # What is proved and built with the program: all that the gate reads of the crates, tests and programs
 # that measure aside.
 SOURCES := $(shell find crates -name out -prune -o -name trials -prune -o -name must-fail -prune \
-	-o -path '*_tests/*' -prune -o -path '*bench/*' -prune -o -path '*_calls/*' -prune -o -path '*_trial/*' -prune \
+	-o -path '*_tests/*' -prune -o -path '*_calls/*' -prune \
 	-o -path 'crates/samples/*' -prune -o -path 'crates/memory_board/*' -prune \
 	-o \( -name '*.rt' -o -name '*.antt' -o -name src -o -name specs -o -name proofs \) -print)
 
@@ -43,7 +43,6 @@ bench:
 	@examples/measure
 	@examples/growth $(PROGRAM)
 	@cd crates/bench_calls && rt run -- --time
-	@cd crates/serve_bench && rt run -- --time
 
 # Runs each call that takes memory with each allocation refused in turn. Needs a C compiler.
 memory:

@@ -10,6 +10,7 @@ mod frames;
 mod kernel;
 mod leaves;
 mod running;
+mod server;
 mod store;
 mod texts;
 
@@ -30,10 +31,11 @@ enum Part {
     Sessions,
     Board,
     Exports,
+    Server,
 }
 
 /// The parts with their words, in the order in which they are run.
-static PARTS: [(Part, &str); 8] = [
+static PARTS: [(Part, &str); 9] = [
     (Part::Kernel, "kernel"),
     (Part::Leaves, "leaves"),
     (Part::Store, "store"),
@@ -42,6 +44,7 @@ static PARTS: [(Part, &str); 8] = [
     (Part::Sessions, "sessions"),
     (Part::Board, "board"),
     (Part::Exports, "exports"),
+    (Part::Server, "server"),
 ];
 
 /// What the command line asks for: all parts, where it names none.
@@ -84,7 +87,7 @@ fn part_of(word: &str) -> Result<Part> {
         }
     }
     bail!(
-        "the parts are kernel, leaves, store, texts, frames, sessions, board, exports: `{word}` is none"
+        "the parts are kernel, leaves, store, texts, frames, sessions, board, exports, server: `{word}` is none"
     )
 }
 
@@ -121,5 +124,6 @@ fn run<R: Networked>(bench: &Bench<R>, part: Part) -> Result<()> {
         Part::Sessions => frames::run_sessions(bench),
         Part::Board => running::run(bench),
         Part::Exports => exports::run(bench),
+        Part::Server => server::run(bench),
     }
 }

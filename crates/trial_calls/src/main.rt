@@ -52,6 +52,7 @@ use std::alloc::{AllocGlobal, Global};
 use std::env;
 use std::sync::Wait;
 use std::thread::Threads;
+use std::time::Clock;
 
 /// What the fuzzer does without words, and with its word alone.
 const FEW: Asked = Asked {
@@ -82,7 +83,7 @@ fn words(rt: &(impl env::Env + AllocGlobal)) -> Result<Vec<String>> {
 }
 
 /// Does what a word and those behind it ask for.
-fn run<R: Threads + Wait + AllocGlobal + Print + Copy + Drop + Send + Sync + 'static>(
+fn run<R: Threads + Wait + Clock + AllocGlobal + Print + Copy + Drop + Send + Sync + 'static>(
     rt: R,
     alloc: Global,
     word: &str,
@@ -105,7 +106,7 @@ fn run<R: Threads + Wait + AllocGlobal + Print + Copy + Drop + Send + Sync + 'st
 }
 
 /// Makes the calls that take memory: those of some parts, or all.
-fn tell_parts<R: Threads + Wait + Print + Copy + Drop + Send + Sync + 'static>(
+fn tell_parts<R: Threads + Wait + Clock + Print + Copy + Drop + Send + Sync + 'static>(
     rt: R,
     alloc: Global,
     words: &[String],

@@ -2,6 +2,8 @@
 //! lines have to be the same.
 
 mod boards;
+mod client;
+mod clients;
 mod clocks;
 mod edits;
 mod engines;
@@ -16,14 +18,17 @@ mod seats;
 mod serving;
 mod sessions;
 mod states;
+mod steps;
 mod texts;
 mod ways;
 mod worked;
+mod world;
 
 use std::alloc::Global;
 use std::io;
 use std::sync::Wait;
 use std::thread::Threads;
+use std::time::Clock;
 
 /// A part of these calls.
 #[derive(Clone, Copy)]
@@ -42,10 +47,11 @@ pub enum Part {
     Board,
     Sessions,
     Seats,
+    Clients,
 }
 
 /// The word of each part.
-pub static PARTS: [(&str, Part); 14] = [
+pub static PARTS: [(&str, Part); 15] = [
     ("texts", Part::Texts),
     ("edits", Part::Edits),
     ("planes", Part::Planes),
@@ -60,13 +66,14 @@ pub static PARTS: [(&str, Part); 14] = [
     ("board", Part::Board),
     ("sessions", Part::Sessions),
     ("seats", Part::Seats),
+    ("clients", Part::Clients),
 ];
 
 /// What a call is named, and whether it answers as it is meant to.
 type Answer = (&'static str, bool);
 
 /// Makes the calls of a part.
-pub fn tell_part<R: Threads + Wait + Print + Copy + Drop + Send + Sync + 'static>(
+pub fn tell_part<R: Threads + Wait + Clock + Print + Copy + Drop + Send + Sync + 'static>(
     rt: R,
     alloc: Global,
     part: Part,
@@ -86,6 +93,7 @@ pub fn tell_part<R: Threads + Wait + Print + Copy + Drop + Send + Sync + 'static
         Part::Board => boards::tell_ways(rt, alloc, "board", &ways::WAYS),
         Part::Sessions => sessions::tell_all(rt, alloc),
         Part::Seats => boards::tell_ways(rt, alloc, "seats", &ways::SESSION),
+        Part::Clients => clients::tell_all(&rt, alloc),
     }
 }
 
@@ -137,8 +145,11 @@ enum Verdict {
     /// As it is meant to be.
     Meant,
     /// There was no memory for it, or for one place of many, beside which the others are as they are meant
-    /// to be.
+    /// to be. What a board replied by then was heard whole.
     Want,
+    /// There was no memory for it, and what a board replied may not have been heard: the line is of no
+    /// further use.
+    Lost,
     Neither,
 }
 
@@ -150,6 +161,14 @@ impl Verdict {
             Verdict::Meant if is_want => Verdict::Want,
             met if is_meant => met,
             _ => Verdict::Neither,
+        }
+    }
+
+    fn of(is_meant: bool) -> Verdict {
+        if is_meant {
+            Verdict::Meant
+        } else {
+            Verdict::Neither
         }
     }
 }

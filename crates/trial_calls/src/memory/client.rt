@@ -26,19 +26,11 @@ pub fn join<'a, C: Clock>(
     }
 }
 
-/// What a line comes to. Where memory is refused it is heard once more.
-fn heard(dictation: &mut Dictation, line: &[u8]) -> Option<Heard> {
-    match dictation.hear(line) {
-        Ok(heard) => Some(heard),
-        Err(_) => dictation.hear(line).ok(),
-    }
-}
-
-/// The command of some lines.
+/// The command of some lines, each heard once more where memory is refused.
 pub fn command_of(alloc: Global, lines: &[&[u8]]) -> Option<ClientCommand> {
     let mut dictation = Dictation::new(alloc);
     for line in lines {
-        if let Heard::Command(command) = heard(&mut dictation, line)? {
+        if let Heard::Command(command) = again!(_, dictation.hear(line)).ok()? {
             return Some(command);
         }
     }

@@ -1,11 +1,12 @@
 //! A board in memory, and a client that is at it.
 
-use crate::client::{Guest, command_of, join};
-use crate::steps::{Act, Left, Step};
-use crate::verdict::Verdict;
+use crate::memory::client::{Guest, command_of, join};
+use crate::memory::steps::{Act, Left, Step};
+use crate::memory::{Verdict, replicas};
+use board_client::ClientFault;
 use client_session::{CommandFault, Outcome, Telling};
 use client_tasks::{Done, carry_out, open};
-use edit_stamps::Cell;
+use frame_line::LineFault;
 use memory_board::{MemoryBoard, Shared};
 use replica_core::{Fault, Replica};
 use std::alloc::Global;
@@ -48,7 +49,7 @@ impl<'a, C: Clock> World<'a, C> {
         let mut board = self.board.try_borrow_mut().ok()?;
         board.most = step.most;
         for cell in step.draws {
-            publish(&mut board, *cell)?;
+            again!(_, board.publish_cell(2, *cell)).ok()?;
         }
         self.requests = board.requests;
         self.edits = board.replica().journal().len();
@@ -62,7 +63,7 @@ impl<'a, C: Clock> World<'a, C> {
         }
         match self.call(step) {
             Ok(is_meant) => Verdict::of(is_meant && self.has_printed(step)),
-            Err(fault) => Verdict::of_fault(fault),
+            Err(fault) => verdict_of(fault),
         }
     }
 
@@ -151,10 +152,7 @@ impl<'a, C: Clock> World<'a, C> {
     /// Whether what was saved is the state of the board.
     fn has_saved_the_board(&self) -> bool {
         match self.board.try_borrow() {
-            Ok(board) => {
-                state_of(board.replica()).is_some_and(|state| state.as_slice()
-                    == self.saved.as_slice())
-            }
+            Ok(board) => replicas::has_state(board.replica(), &self.saved),
             Err(_) => false,
         }
     }
@@ -178,7 +176,7 @@ impl<'a, C: Clock> World<'a, C> {
     /// Whether the client holds what the board does.
     pub fn agrees(&self) -> bool {
         match (&self.client, self.board.try_borrow()) {
-            (Some(client), Ok(board)) => are_same(client.replica(), board.replica()),
+            (Some(client), Ok(board)) => replicas::are_same(client.replica(), board.replica()),
             _ => false,
         }
     }
@@ -193,7 +191,7 @@ impl<'a, C: Clock> World<'a, C> {
         let edits = board.replica().journal().len();
         let has_one_at_most = edits == self.edits || edits == self.edits.saturating_add(1);
         has_one_at_most
-            && are_same(other.replica(), board.replica())
+            && replicas::are_same(other.replica(), board.replica())
             && self.holds_no_more_than(board.replica())
     }
 
@@ -206,35 +204,29 @@ impl<'a, C: Clock> World<'a, C> {
             return false;
         };
         for held in [client.replica(), replica] {
-            let is_taken = state_of(held).is_some_and(|state| both.take_bytes(&state).is_ok());
-            if !is_taken {
+            if !takes_state(&mut both, held) {
                 return false;
             }
         }
-        are_same(&both, replica)
+        replicas::are_same(&both, replica)
     }
 }
 
-/// Has the second seat draw a cell. Where memory is refused it does so once more.
-fn publish(board: &mut MemoryBoard, cell: Cell) -> Option<()> {
-    match board.publish_cell(2, cell) {
-        Ok(()) => Some(()),
-        Err(_) => board.publish_cell(2, cell).ok(),
+/// Whether a replica takes the state of another.
+fn takes_state(taker: &mut Replica, held: &Replica) -> bool {
+    match replicas::state(held) {
+        Some(state) => taker.take_bytes(&state).is_ok(),
+        None => false,
     }
 }
 
-/// The state of a replica. Where memory is refused it is asked once more.
-fn state_of(replica: &Replica) -> Option<Vec<u8>> {
-    match replica.state() {
-        Ok(state) => Some(state),
-        Err(_) => replica.state().ok(),
-    }
-}
-
-/// Whether two replicas hold the same. Where memory is refused they are compared once more.
-fn are_same(a: &Replica, b: &Replica) -> bool {
-    match a.holds_same(b) {
-        Ok(same) => same,
-        Err(_) => a.holds_same(b).unwrap_or(false),
+/// What comes of a call that ends with a fault.
+fn verdict_of(fault: CommandFault) -> Verdict {
+    match fault {
+        CommandFault::Memory | CommandFault::Client(ClientFault::Memory) => Verdict::Want,
+        CommandFault::Client(
+            ClientFault::Line(LineFault::Memory) | ClientFault::Text(Fault::Memory),
+        ) => Verdict::Lost,
+        _ => Verdict::Neither,
     }
 }

@@ -1,8 +1,9 @@
-//! The calls of a session.
+//! The calls of a client's session.
 
-use edit_stamps::Cell;
+use pattern_cells::Cell;
 
 /// A call.
+#[derive(Drop)]
 pub enum Act {
     Join,
     /// The command of these lines.
@@ -15,6 +16,7 @@ pub enum Act {
 }
 
 /// What is left behind it.
+#[derive(Drop)]
 pub enum Left {
     Told,
     /// An edit was drawn of what was opened, or refused.
@@ -28,6 +30,7 @@ pub enum Left {
 }
 
 /// A call of a session, and what comes before and of it.
+#[derive(Drop)]
 pub struct Step {
     pub call: &'static str,
     /// Which cells another seat draws before it, each in an edit of its own.
@@ -41,234 +44,167 @@ pub struct Step {
     pub cells: &'static [u8],
 }
 
+/// A call that prints nothing and leaves nothing, for steps to begin with.
+const SILENT: Step = Step {
+    call: "leave",
+    draws: &[],
+    most: 1024,
+    act: Act::Leave,
+    left: Left::Told,
+    edits: b"",
+    cells: b"",
+};
+
+/// The board once it has eleven edits.
+const BOARD: &[u8] = b"#CXRLE Pos=0,0 Gen=0\nx = 10, y = 10, rule = /2/3\nA4$4.2A3$7.B2$9.A!\n";
+
 pub static STEPS: [Step; 21] = [
     Step {
         call: "Client::join",
-        draws: &[Cell {
-            x: 9,
-            y: 9,
-            state: 1,
-        }],
-        most: 1024,
+        draws: &cells![(9, 9, 1)],
         act: Act::Join,
-        left: Left::Told,
         edits: b"joined 1 /2/3\nedit 1 2 cells 9 9 1\n",
         cells: b"joined 1 /2/3\nnow 9 9 1\n",
+        ..SILENT
     },
     Step {
         call: "cells",
-        draws: &[],
-        most: 1024,
         act: Act::Command(&[b"cells 0 0 1 1 0 1"]),
-        left: Left::Told,
         edits: b"drawn 2 1\n",
         cells: b"drawn 2 1\nnow 0 0 1 1 0 1\n",
+        ..SILENT
     },
     Step {
         call: "clear",
-        draws: &[],
-        most: 1024,
         act: Act::Command(&[b"clear 1 0 1 1"]),
-        left: Left::Told,
         edits: b"drawn 3 1\n",
         cells: b"drawn 3 1\nnow 1 0 0\n",
+        ..SILENT
     },
     Step {
         call: "pattern",
-        draws: &[],
-        most: 1024,
         act: Act::Command(&[b"pattern p", b"x = 2, y = 1", b"A.!", b"end"]),
-        left: Left::Told,
         edits: b"pattern p 2 1 1 0 0 0\n",
         cells: b"pattern p 2 1 1 0 0 0\n",
+        ..SILENT
     },
     Step {
         call: "copy",
-        draws: &[Cell {
-            x: 5,
-            y: 4,
-            state: 2,
-        }],
-        most: 1024,
+        draws: &cells![(5, 4, 2)],
         act: Act::Command(&[b"copy p 4 4"]),
-        left: Left::Told,
         edits: b"edit 4 2 cells 5 4 2\ndrawn 5 1\n",
         cells: b"now 5 4 2\ndrawn 5 1\nnow 4 4 1 5 4 0\n",
+        ..SILENT
     },
     Step {
         call: "or",
-        draws: &[],
-        most: 1024,
         act: Act::Command(&[b"or p 5 4"]),
-        left: Left::Told,
         edits: b"drawn 6 1\n",
         cells: b"drawn 6 1\nnow 5 4 1\n",
+        ..SILENT
     },
     Step {
         call: "or of no pattern",
-        draws: &[],
-        most: 1024,
         act: Act::Command(&[b"or q 5 4"]),
-        left: Left::Told,
         edits: b"refused 38 NoPattern\n",
         cells: b"refused 38 NoPattern\n",
+        ..SILENT
     },
     Step {
         call: "cells outside of the plane",
-        draws: &[],
-        most: 1024,
         act: Act::Command(&[b"cells 1073741824 0 1"]),
-        left: Left::Told,
         edits: b"refused 10 OutOfPlane\n",
         cells: b"refused 10 OutOfPlane\n",
+        ..SILENT
     },
     Step {
         call: "show",
-        draws: &[],
-        most: 1024,
         act: Act::Command(&[b"show 5 4"]),
-        left: Left::Told,
         edits: b"cell 1 6 1\n",
         cells: b"cell 1 6 1\n",
+        ..SILENT
     },
     Step {
         call: "poll of edits",
-        draws: &[
-            Cell {
-                x: 9,
-                y: 9,
-                state: 2,
-            },
-            Cell {
-                x: 8,
-                y: 8,
-                state: 1,
-            },
-        ],
-        most: 1024,
+        draws: &cells![(9, 9, 2), (8, 8, 1)],
         act: Act::Command(&[b"poll"]),
-        left: Left::Told,
         edits: b"edit 7 2 cells 9 9 2\nedit 8 2 cells 8 8 1\nedits 4\n",
         cells: b"now 8 8 1 9 9 2\nedits 4\n",
+        ..SILENT
     },
     Step {
         call: "wait",
-        draws: &[Cell {
-            x: 8,
-            y: 8,
-            state: 0,
-        }],
-        most: 1024,
+        draws: &cells![(8, 8, 0)],
         act: Act::Command(&[b"wait 1 10000"]),
-        left: Left::Told,
         edits: b"edit 9 2 cells 8 8 0\nedits 1\n",
         cells: b"now 8 8 0\nedits 1\n",
+        ..SILENT
     },
     Step {
         call: "wait that is late",
-        draws: &[],
-        most: 1024,
         act: Act::Command(&[b"wait 1 0"]),
-        left: Left::Told,
         edits: b"late 0\n",
         cells: b"late 0\n",
+        ..SILENT
     },
     Step {
         call: "poll of a plane",
-        draws: &[
-            Cell {
-                x: 9,
-                y: 9,
-                state: 1,
-            },
-            Cell {
-                x: 7,
-                y: 7,
-                state: 2,
-            },
-        ],
+        draws: &cells![(9, 9, 1), (7, 7, 2)],
         most: 1,
         act: Act::Command(&[b"poll"]),
-        left: Left::Told,
         edits: b"whole\n",
         cells: b"whole\n",
+        ..SILENT
     },
     Step {
         call: "export",
-        draws: &[],
-        most: 1024,
         act: Act::Command(&[b"export 0"]),
-        left: Left::Told,
-        edits: b"#CXRLE Pos=0,0 Gen=0\nx = 10, y = 10, rule = /2/3\nA4$4.2A3$7.B2$9.A!\n",
-        cells: b"#CXRLE Pos=0,0 Gen=0\nx = 10, y = 10, rule = /2/3\nA4$4.2A3$7.B2$9.A!\n",
+        edits: BOARD,
+        cells: BOARD,
+        ..SILENT
     },
     Step {
         call: "export to a file",
-        draws: &[],
-        most: 1024,
         act: Act::Command(&[b"export 0 board.rle"]),
-        left: Left::Text(
-            b"#CXRLE Pos=0,0 Gen=0\nx = 10, y = 10, rule = /2/3\nA4$4.2A3$7.B2$9.A!\n",
-        ),
-        edits: b"",
-        cells: b"",
+        left: Left::Text(BOARD),
+        ..SILENT
     },
     Step {
         call: "save",
-        draws: &[],
-        most: 1024,
         act: Act::Command(&[b"save board.state"]),
         left: Left::State,
-        edits: b"",
-        cells: b"",
+        ..SILENT
     },
     Step {
         call: "open of an RLE text",
-        draws: &[],
-        most: 1024,
         act: Act::Open(b"#CXRLE Pos=-3,0\nx = 2, y = 1\nAB!"),
         left: Left::Drawn,
         edits: b"drawn 12 1\n",
         cells: b"drawn 12 1\nnow -3 0 1 -2 0 2\n",
+        ..SILENT
     },
     Step {
         call: "open of a state",
-        draws: &[Cell {
-            x: 0,
-            y: 0,
-            state: 2,
-        }],
-        most: 1024,
+        draws: &cells![(0, 0, 2)],
         act: Act::OpenSaved,
         left: Left::Drawn,
         edits: b"edit 13 2 cells 0 0 2\ndrawn 14 1\n",
         cells: b"now 0 0 2\ndrawn 14 1\nnow 0 0 1\n",
+        ..SILENT
     },
     Step {
         call: "open of another text",
-        draws: &[],
-        most: 1024,
         act: Act::Open(b"hello"),
         left: Left::Refused,
         edits: b"refused 4 Header\n",
         cells: b"refused 4 Header\n",
+        ..SILENT
     },
     Step {
         call: "bye",
-        draws: &[],
-        most: 1024,
         act: Act::Command(&[b"bye"]),
         left: Left::Leave,
-        edits: b"",
-        cells: b"",
+        ..SILENT
     },
-    Step {
-        call: "leave",
-        draws: &[],
-        most: 1024,
-        act: Act::Leave,
-        left: Left::Told,
-        edits: b"",
-        cells: b"",
-    },
+    SILENT,
 ];

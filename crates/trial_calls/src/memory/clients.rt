@@ -1,18 +1,31 @@
-//! Sessions, call by call.
+//! Clients' sessions over a board in memory, call by call.
 
-use crate::steps::{STEPS, Step};
-use crate::verdict::Verdict;
-use crate::world::World;
+use crate::memory::steps::{STEPS, Step};
+use crate::memory::world::World;
+use crate::memory::{Verdict, tell};
 use client_session::Telling;
 use std::alloc::Global;
+use std::io;
 use std::time::Clock;
 
-/// A world where nothing was done. Where memory is refused it is made once more.
-fn begun<'a, C: Clock>(clock: &'a C, alloc: Global, telling: Telling) -> Option<World<'a, C>> {
-    match World::new(clock, alloc, telling) {
-        Ok(world) => Some(world),
-        Err(_) => World::new(clock, alloc, telling).ok(),
+/// Tells of a session where edits are told, and of one where cells are that look different.
+pub fn tell_all<R: Print + Clock>(rt: &R, alloc: Global) -> io::Result<()> {
+    tell_calls(rt, "edits told", met(rt, alloc, Telling::Edits))?;
+    tell_calls(rt, "cells told", met(rt, alloc, Telling::Changes))
+}
+
+/// Tells of a session in which so many calls, in order, answered as they are meant to. Behind them all the
+/// client holds what the board does.
+fn tell_calls(rt: &impl Print, told: &str, met: usize) -> io::Result<()> {
+    for (place, step) in STEPS.iter().enumerate() {
+        tell(rt, told, step.call, place < met)?;
     }
+    tell(rt, told, "replica and board", STEPS.len() < met)
+}
+
+/// A world where nothing was done.
+fn begun<'a, C: Clock>(clock: &'a C, alloc: Global, telling: Telling) -> Option<World<'a, C>> {
+    again!(_, World::new(clock, alloc, telling)).ok()
 }
 
 /// A world in which so many calls were made, each as it is meant to be.
@@ -25,7 +38,7 @@ fn brought<'a, C: Clock>(
     let mut world = begun(clock, alloc, telling)?;
     for step in STEPS.iter().take(calls) {
         world.prepare(step)?;
-        if world.make(step) != Verdict::Row {
+        if world.make(step) != Verdict::Meant {
             return None;
         }
     }
@@ -34,7 +47,7 @@ fn brought<'a, C: Clock>(
 
 /// The world behind a call that found no memory, once it is made again, if it is answered then as it is
 /// meant to be: by the same client where that can be, and else in a session of its own.
-fn again<'a, C: Clock>(
+fn made_again<'a, C: Clock>(
     mut world: World<'a, C>,
     place: usize,
     step: &Step,
@@ -48,7 +61,7 @@ fn again<'a, C: Clock>(
         world.prepare(step)?;
     }
     match world.make(step) {
-        Verdict::Row => Some(world),
+        Verdict::Meant => Some(world),
         _ => None,
     }
 }
@@ -61,16 +74,16 @@ fn behind<'a, C: Clock>(
 ) -> Option<World<'a, C>> {
     world.prepare(step)?;
     match world.make(step) {
-        Verdict::Row => Some(world),
-        Verdict::Want => again(world, place, step, false),
-        Verdict::Lost => again(world, place, step, true),
+        Verdict::Meant => Some(world),
+        Verdict::Want => made_again(world, place, step, false),
+        Verdict::Lost => made_again(world, place, step, true),
         Verdict::Neither => None,
     }
 }
 
 /// How many calls of a session, in order, are answered as they are meant to be, and one more where the
 /// client holds what the board does behind them all.
-pub fn met<C: Clock>(clock: &C, alloc: Global, telling: Telling) -> usize {
+fn met<C: Clock>(clock: &C, alloc: Global, telling: Telling) -> usize {
     let Some(mut world) = begun(clock, alloc, telling) else {
         return 0;
     };
@@ -80,9 +93,5 @@ pub fn met<C: Clock>(clock: &C, alloc: Global, telling: Telling) -> usize {
             None => return place,
         }
     }
-    if world.agrees() {
-        STEPS.len().saturating_add(1)
-    } else {
-        STEPS.len()
-    }
+    STEPS.len().saturating_add(usize::from(world.agrees()))
 }
