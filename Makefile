@@ -1,7 +1,7 @@
 .PHONY: test run look build bench memory fuzz trial
 
-# How many checks of the gate run at a time: one a processor, or fewer, so that each can have 4 GB. The
-# most that one has taken is 3.3.
+# How many checks of the gate run at a time: one a processor, or fewer, so that each can have 4 GB. Most take
+# less than that; `trial_calls` takes 6.
 JOBS := $(shell awk -v most="$$(nproc)" '/^MemAvailable/ { n = int($$2 / 4000000); \
 	print n < 1 ? 1 : n < most ? n : most }' /proc/meminfo)
 
