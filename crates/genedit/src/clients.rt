@@ -5,7 +5,7 @@ use devices::{ReadSource, WriteSink};
 use genedit_io::RunFault;
 use genedit_join::{JoinOptions, Terminal};
 use genedit_words::JoinTask;
-use keyed_hash::HashKey;
+use keyed_hash::{HashKey, RandomBytes};
 use std::alloc::Global;
 use std::io;
 use std::io::StdinLock;
@@ -37,7 +37,7 @@ pub fn join<
         + Sync
         + 'static,
 >(rt: &R, alloc: Global, client: JoinTask) -> Result<u8, RunFault> {
-    let Ok(key) = HashKey::drawn(rt) else {
+    let Ok(key) = HashKey::drawn(&mut RandomBytes::of(rt)) else {
         return Err(RunFault::Read);
     };
     let terminal = Terminal {

@@ -9,7 +9,7 @@ use genedit_rle::rle_text;
 use genedit_serve::{ServedBoard, listen, serve_on};
 use genedit_words::ServeTask;
 use generations_rule::Rule;
-use keyed_hash::HashKey;
+use keyed_hash::{HashKey, RandomBytes};
 use script_check::{CheckOutcome, check_script};
 use std::alloc::Global;
 use std::net::{Net, TcpListener, TcpStream};
@@ -88,7 +88,7 @@ pub fn serve<
 >(rt: &R, alloc: Global, server: ServeTask) -> Result<u8, RunFault>
     requires { (1 ≤ server.sessions) × (server.sessions ≤ 64) }
 {
-    let Ok(key) = HashKey::drawn(rt) else {
+    let Ok(key) = HashKey::drawn(&mut RandomBytes::of(rt)) else {
         return Err(RunFault::Read);
     };
     let listener = listen(rt, server.port)?;

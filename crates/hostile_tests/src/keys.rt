@@ -3,25 +3,13 @@
 use crate::telling::{blank, brians_brain};
 use delta_exchange::{ReadFault, read_within, write_state};
 use generations_rule::Rule;
-use keyed_hash::{HashKey, KEY_BYTES};
+use keyed_hash::{HashKey, KEY_BYTES, RandomBytes};
 use replica_core::Replica;
 use stamped_tree::{Limits, Plane};
 use std::alloc::{AllocError, Global};
 use std::io;
 use std::random::RandomSource;
 use std::test::Fail;
-
-/// A source whose bytes are all the same.
-struct Bytes {
-    byte: u8,
-}
-
-impl RandomSource for Bytes {
-    fn fill_bytes(&self, buf: &mut [u8]) -> io::Result<()> {
-        buf.fill(self.byte);
-        Ok(())
-    }
-}
 
 /// A source that gives nothing.
 struct Dry;
@@ -37,16 +25,20 @@ const SEVENS: u64 = 0x0707_0707_0707_0707;
 
 #[test]
 fn a_key_is_made_of_what_the_source_gives(rt: HostRuntime) -> Result<(), Fail> {
-    let key = HashKey::drawn(&Bytes { byte: 7 }).ok().ok_or("key")?;
+    let bytes = [7; KEY_BYTES + 1];
+    let mut left = &bytes[..];
+    let key = HashKey::drawn(&mut left).ok().ok_or("key")?;
     assert_eq!(rt; key.pair(), (SEVENS, SEVENS));
-    assert!(rt; HashKey::drawn(&Dry).is_err());
+    assert_eq!(rt; left.len(), 1);
+    assert!(rt; HashKey::drawn(&mut &bytes[2..]).is_err());
+    assert!(rt; HashKey::drawn(&mut RandomBytes::of(Dry)).is_err());
     Ok(())
 }
 
 #[test]
 fn two_keys_of_the_system_differ(rt: HostRuntime) -> Result<(), Fail> {
-    let one = HashKey::drawn(&rt).ok().ok_or("key")?;
-    let other = HashKey::drawn(&rt).ok().ok_or("key")?;
+    let one = HashKey::drawn(&mut RandomBytes::of(rt)).ok().ok_or("key")?;
+    let other = HashKey::drawn(&mut RandomBytes::of(rt)).ok().ok_or("key")?;
     assert!(rt; one.pair() != other.pair());
     assert!(rt; one.pair() != HashKey::fixed().pair());
     Ok(())

@@ -1,6 +1,5 @@
 -- Numbers come back from their bytes.
-use Rattle.std.proofs.Common.{◌≡◌, ℕ, zero, suc, ◌+◌, ◌*◌, ◌/◌, ◌%◌, ◌^◌, ◌<◌, ◌≤◌, [], ◌∷◌, List, ap, ◌∙◌, refl, arith}
-use Rattle.std.specs.Int.{byte_at, bytes_low_first}
+use Rattle.std.proofs.Common.{◌≡◌, ℕ, ◌^◌, ◌<◌, arith}
 use Rattle.std.specs.Hash.{le_bytes}
 use Rattle.keyed_hash.specs.Keyed.{word_of}
 

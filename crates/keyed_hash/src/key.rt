@@ -1,13 +1,14 @@
 //! Keys of hashes.
 
-ghost use Rattle.std.specs.Prelude.{◌≡◌, ◌<◌, ◌+◌, ℕ, slice_index};
+ghost use Rattle.std.specs.Prelude.{◌≡◌, ◌<◌, ◌+◌, ℕ, slice_index, IfOk};
+ghost use Rattle.keyed_hash.specs.Key.{IsDrawnFrom};
 ghost use Rattle.keyed_hash.specs.Keyed.{started, word_at};
 ghost use Rattle.keyed_hash.specs.declared.key.TheConstants.{FIXED_COLUMNS, FIXED_ROWS};
 
 use crate::hasher::{KeyedHasher, word};
 use std::hash::BuildHasher;
 use std::io;
-use std::random::RandomSource;
+use std::io::Read;
 
 /// How many bytes a key is made of.
 pub const KEY_BYTES: usize = 320;
@@ -33,10 +34,13 @@ impl HashKey {
         }
     }
 
-    /// A key that nobody can foresee, from the system's random bytes. The only error is the system's.
-    pub fn drawn(source: &impl RandomSource) -> io::Result<HashKey> {
+    /// The key of the next bytes of a source: one that nobody can foresee, where those are the system's
+    /// random bytes (`RandomBytes`). The only errors are the source's, and that it ended too early.
+    pub fn drawn<R: Read>(source: &mut R) -> io::Result<HashKey>
+        ensures { IfOk result (IsDrawnFrom (R.remaining source.old) (R.remaining source.new)) }
+    {
         let mut bytes = [0; KEY_BYTES];
-        source.fill_bytes(&mut bytes)?;
+        source.read_exact(&mut bytes)?;
         Ok(HashKey::of_bytes(&bytes))
     }
 

@@ -7,6 +7,8 @@
 
 mod hasher;
 mod key;
+mod random;
 
 pub use hasher::KeyedHasher;
 pub use key::{HashKey, KEY_BYTES};
+pub use random::RandomBytes;

@@ -1,4 +1,3 @@
-use Rattle.std.proofs.Common.{◌≡◌}
 use Rattle.keyed_hash.proofs.WordLaws.{four}
 use Rattle.keyed_hash.proofs.hasher.KeyedHasherHasher.write_u32.Goals as goal
 

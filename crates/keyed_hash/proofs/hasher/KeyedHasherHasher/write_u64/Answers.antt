@@ -1,4 +1,3 @@
-use Rattle.std.proofs.Common.{◌≡◌}
 use Rattle.keyed_hash.proofs.WordLaws.{eight}
 use Rattle.keyed_hash.proofs.hasher.KeyedHasherHasher.write_u64.Goals as goal
 
