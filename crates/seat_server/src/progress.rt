@@ -1,5 +1,6 @@
 //! How far a server is.
 
+use crate::accept::Wake;
 use relay_board::Bell;
 use std::sync::atomic::{AtomicBool, Ordering};
 
@@ -47,9 +48,10 @@ impl Progress {
         self.over.load(Ordering::SeqCst)
     }
 
-    /// The relay takes no more turns: no further session begins.
-    pub fn give_up(&self) {
+    /// The relay takes no more turns: no further session begins. Wakes who waits for a stream.
+    pub fn give_up<W: Wake>(&self, wake: &W) {
         self.given_up.store(true, Ordering::SeqCst);
+        wake.wake();
     }
 
     pub fn has_given_up(&self) -> bool {

@@ -182,8 +182,7 @@ pub fn serve_seats<
     let accepting = attending(rt, alloc, &progress, acceptor, seats)?;
     if let Some(fault) = take_turns(&rt, &mut relay, &progress) {
         drop(relay);
-        progress.give_up();
-        wake.wake();
+        progress.give_up(wake);
         let _ended = accepting.join(&rt);
         return Err(ServerFault::Turn(fault));
     }
