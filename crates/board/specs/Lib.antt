@@ -1,4 +1,5 @@
 pub mod Rules
+pub mod Adding
 pub mod Entries
 pub mod Origins
 pub mod Showing

@@ -1,12 +1,13 @@
 //! A prefix of the published list that was seen, and under how many states it was drawn.
 
-ghost use Rattle.std.specs.Prelude.{◌≡◌, ◌+◌, ◌<◌, ◌≤◌, ◌^◌, ◌++◌, ◌∷◌, ◌⊎◌, ◌↔◌, [], true, length, IsTrue, IfSome, MatchBool};
+ghost use Rattle.std.specs.Prelude.{◌≡◌, ◌+◌, ◌<◌, ◌≤◌, ◌^◌, ◌++◌, ◌∷◌, ◌⊎◌, ◌↔◌, [], true, length, IsTrue, IfErr, IfOk, MatchBool};
 ghost use mathlib.Core.List.{IsPrefix};
 ghost use Rattle.edit_stamps.specs.Edit.{has_states_below};
+ghost use Rattle.board.specs.Adding.{IsAddFault};
 ghost use Rattle.board.specs.Entries.{all_below};
 
 use crate::entry::Entry;
-use crate::history::{History, Prefix};
+use crate::history::{AddFault, History, Prefix};
 
 /// A prefix of the published list that was seen. Each state in it is below the number of states that
 /// the board's rule has. The entries themselves stand in the proofs alone: what is kept is their count,
@@ -54,18 +55,17 @@ impl Front {
         self.prefix.begins(&other.prefix)
     }
 
-    /// The front with one entry more, where the history took it. It takes none beyond 2^62.
-    pub fn with(&self, history: &History, entry: &Entry) -> Option<Front>
+    /// The front with one entry more, which the history took, or why it did not.
+    pub fn with(&self, history: &History, entry: &Entry) -> Result<Front, AddFault>
         requires book { self.now.prefix.seen.book ≡ history.now.head.book }
         requires below { has_states_below self.now.states entry.now.edit ≡ true }
-        ensures same { IfSome result (λ f. (f.prefix.seen.book ≡ self.now.prefix.seen.book) × (f.states ≡ self.now.states)) }
-        ensures added { IfSome result (λ f. f.prefix.seen.log ≡ self.now.prefix.seen.log ++ entry.now ∷ []) }
+        ensures same { IfOk result (λ f. (f.prefix.seen.book ≡ self.now.prefix.seen.book) × (f.states ≡ self.now.states)) }
+        ensures added { IfOk result (λ f. f.prefix.seen.log ≡ self.now.prefix.seen.log ++ entry.now ∷ []) }
+        ensures cause { IfErr result (IsAddFault history.now.head.book self.now.prefix.seen.log) }
     {
         let mut prefix = self.prefix.again();
-        if !history.add(&mut prefix, entry) {
-            return None;
-        }
-        Some(Front {
+        history.add(&mut prefix, entry)?;
+        Ok(Front {
             prefix,
             states: self.states,
         })

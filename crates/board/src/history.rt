@@ -1,7 +1,7 @@
 //! A list of entries that only grows, and prefixes of it that were seen. It stands in the proofs alone
 //! (`logbook`): the program keeps a word that counts it, and a count for each prefix.
 
-ghost use Rattle.std.specs.Prelude.{◌≡◌, ◌+◌, ◌<◌, ◌≤◌, ◌^◌, ◌++◌, ◌∷◌, ◌⊎◌, ◌↔◌, [], length, IsTrue, MatchBool};
+ghost use Rattle.std.specs.Prelude.{◌≡◌, ◌+◌, ◌<◌, ◌≤◌, ◌^◌, ◌++◌, ◌∷◌, ◌⊎◌, ◌↔◌, [], length, IfErr, IsTrue, MatchBool, OnErr, OnOk};
 ghost use mathlib.Core.List.{IsPrefix};
 ghost use Rattle.board.specs.Rules.{head_of};
 
@@ -73,7 +73,18 @@ pub struct Prefix {
     pub ghost counted: { count ≡ length seen.log },
 }
 
+/// Why a history takes no entry.
+#[derive(Drop)]
+pub enum AddFault {
+    /// It has 2^62 entries.
+    Full,
+    /// It is longer than what was seen: somebody else added to it. This much of it was seen then.
+    Longer(Prefix),
+}
+
 impl History {
+    ghost use Rattle.board.specs.Adding.{IsAddFault};
+
     /// An empty history, and the prefix that is all of it.
     pub fn new() -> (History, Prefix)
         ensures empty { result.1.seen.log ≡ [] }
@@ -84,15 +95,17 @@ impl History {
         (History { head }, Prefix { count: 0, seen })
     }
 
-    /// Adds an entry behind all that was seen, and says whether it did. It did not where the history is
-    /// longer than what was seen, or has 2^62 entries; then nothing changed.
-    pub fn add(&self, prefix: &mut Prefix, entry: &Entry) -> bool
+    /// Adds an entry behind all that was seen. After a refusal nothing changed: the history has 2^62 entries,
+    /// or is longer than what was seen, and more of it is told.
+    pub fn add(&self, prefix: &mut Prefix, entry: &Entry) -> Result<(), AddFault>
         requires book { prefix.old.seen.book ≡ self.now.head.book }
         ensures book { prefix.new.seen.book ≡ prefix.old.seen.book }
-        ensures added { MatchBool result (prefix.new.seen.log ≡ prefix.old.seen.log ++ entry.now ∷ []) (prefix.new.seen.log ≡ prefix.old.seen.log) }
+        ensures added { OnOk result (prefix.new.seen.log ≡ prefix.old.seen.log ++ entry.now ∷ []) }
+        ensures same { OnErr result (prefix.new ≡ prefix.old) }
+        ensures cause { IfErr result (IsAddFault self.now.head.book prefix.old.seen.log) }
     {
         if prefix.count >= MOST_ENTRIES {
-            return false;
+            return Err(AddFault::Full);
         }
         let mut seen = prefix.seen.again();
         let mut offer: Offer<Entry, u64, HistoryRule, Nothing> = seen.plain::<Nothing, Entry, Add>(
@@ -104,13 +117,13 @@ impl History {
             .head
             .compare_exchange::<Add, Nothing>(count, count + 1, &mut seen, &mut offer, &mut pen);
         if found != count {
-            return false;
+            return Err(AddFault::Longer(Prefix { count: found, seen }));
         }
         *prefix = Prefix {
             count: count + 1,
             seen,
         };
-        true
+        Ok(())
     }
 }
 

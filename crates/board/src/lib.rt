@@ -21,7 +21,7 @@ pub use board_reader::BoardReader;
 pub use entry::Entry;
 pub use fault::SeatFault;
 pub use front::Front;
-pub use history::{History, HistoryRule, Prefix};
+pub use history::{AddFault, History, HistoryRule, Prefix};
 pub use last::{KEPT, LastEdits};
 pub use poll_news::News;
 pub use publisher::Publisher;

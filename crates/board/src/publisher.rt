@@ -1,9 +1,10 @@
 //! The writer of the board: it adds entries to the list, one at a time, and publishes each.
 
-ghost use Rattle.std.specs.Prelude.{◌≡◌, ◌⊎◌, ◌↔◌, ◌∷◌, ◌++◌, ◌^◌, ◌<◌, IsTrue, [], length, drop, true, None, IfOk, MatchBool, MatchResult, IfSome, IfNone, OnErr};
+ghost use Rattle.std.specs.Prelude.{◌≡◌, ◌⊎◌, ◌↔◌, ◌∷◌, ◌++◌, ◌^◌, ◌<◌, IsTrue, [], length, drop, true, None, IfErr, IfOk, MatchBool, MatchResult, IfSome, IfNone, OnErr};
 ghost use mathlib.Core.List.{IsPrefix};
 ghost use Rattle.left_right.specs.Sides.{view};
 ghost use Rattle.edit_stamps.specs.Edit.{has_states_below};
+ghost use Rattle.board.specs.Adding.{IsAddFault};
 ghost use Rattle.board.specs.Publishing.{Publishes};
 ghost use Rattle.board.specs.Sights.{sight, IsWhole, Keeps};
 ghost use Rattle.board.specs.Origins.{origin, list_of};
@@ -11,7 +12,7 @@ ghost use Rattle.board.specs.Resting.{Rests};
 
 use crate::entry::Entry;
 use crate::front::Front;
-use crate::history::History;
+use crate::history::{AddFault, History};
 use crate::rule::{BoardRule, Note, Sees, Sight};
 use crate::value::{Board, Publication};
 use crate::window::Window;
@@ -144,20 +145,20 @@ impl Publisher {
         writer.take(rt);
     }
 
-    /// Takes an entry in, to be published by the next `show`. False where the history takes no more (2^62),
-    /// and then nothing changed.
-    pub fn announce(&mut self, entry: Entry) -> bool
+    /// Takes an entry in, to be published by the next `show`. After a refusal nothing changed: the list has
+    /// 2^62 entries, or somebody else added to its history, and what was added is told. Nobody can, since
+    /// the history is this publisher's own; no clause knows that.
+    pub fn announce(&mut self, entry: Entry) -> Result<(), AddFault>
         requires list { self.old.announced ≡ self.old.list }
         requires below { has_states_below self.old.origin.states entry.edit ≡ true }
         ensures same { (self.new.list ≡ self.old.list) × (self.new.origin ≡ self.old.origin) }
-        ensures announced { MatchBool result (self.new.announced ≡ self.old.list ++ entry ∷ []) (self.new.announced ≡ self.old.announced) }
+        ensures announced { MatchResult result (λ _. self.new.announced ≡ self.old.list ++ entry ∷ []) (λ _. self.new.announced ≡ self.old.announced) }
+        ensures cause { IfErr result (IsAddFault self.old.origin.book self.old.list) }
     {
-        let Some(front) = self.front.with(&self.history, &entry) else {
-            return false;
-        };
+        let front = self.front.with(&self.history, &entry)?;
         self.front = front.again();
         self.waiting = Some(Publication { entry, front });
-        true
+        Ok(())
     }
 
     /// Publishes what was announced. At `Err`, out of memory, readers see what they saw, and the next call

@@ -81,9 +81,9 @@ impl Absorb<Publication> for Board {
         let Ok(part) = self.plane.add(added) else {
             return Err(AllocError);
         };
-        if !self.own.add(&mut self.prefix, &operation.entry) {
+        let Ok(()) = self.own.add(&mut self.prefix, &operation.entry) else {
             return Err(AllocError);
-        }
+        };
         let _ = self.plane.set_root(part);
         self.last.push(edit);
         self.front = operation.front.again();

@@ -25,7 +25,7 @@ fn published<R: Wait>(rt: &R, mut publisher: Publisher, entry: Entry) -> Option<
     ensures list { IfSome result (λ front. list_of front ≡ entry ∷ []) }
     ensures origin { IfSome result (λ front. origin front ≡ publisher.origin) }
 {
-    if !publisher.announce(entry) {
+    if publisher.announce(entry).is_err() {
         publisher.end(rt);
         return None;
     }

@@ -7,7 +7,7 @@ ghost use Rattle.edit_stamps.specs.Edit.{has_states_below};
 use crate::drawn::{brians_brain, drawn};
 use crate::press::{Press, publish_all};
 use crate::told::{Told, tell, tell_edits};
-use board::{Board, Entry, Front, History, LastEdits, Window};
+use board::{AddFault, Board, Entry, Front, History, LastEdits, Window};
 use inbox::Drain;
 use keyed_hash::HashKey;
 use std::alloc::Global;
@@ -98,7 +98,7 @@ fn fronts(alloc: Global) -> Option<(u64, u64, bool, bool)> {
     let entry = entry(alloc, 1)?;
     let (history, prefix) = History::new();
     let first = Front::first(prefix, 3);
-    let second = first.with(&history, &entry)?;
+    let second = first.with(&history, &entry).ok()?;
     Some((
         first.len(),
         second.again().len(),
@@ -107,19 +107,29 @@ fn fronts(alloc: Global) -> Option<(u64, u64, bool, bool)> {
     ))
 }
 
-/// The same of prefixes; and whether an entry was added once, and once more behind the same prefix.
-fn prefixes(alloc: Global) -> Option<(u64, u64, bool, bool, [bool; 2])> {
+/// How many entries a history is told to have that took no entry; 0 where it took one.
+fn longer(added: Result<(), AddFault>) -> Option<u64> {
+    match added {
+        Ok(()) => Some(0),
+        Err(AddFault::Longer(prefix)) => Some(prefix.len()),
+        Err(AddFault::Full) => None,
+    }
+}
+
+/// The same of prefixes; and how much longer the history is told to be where an entry is added once, and once
+/// more behind the same prefix.
+fn prefixes(alloc: Global) -> Option<(u64, u64, bool, bool, [u64; 2])> {
     let entry = entry(alloc, 1)?;
     let (history, mut first) = History::new();
     let mut second = first.again();
-    let is_added = history.add(&mut second, &entry);
-    let is_added_again = history.add(&mut first, &entry);
+    let first_try = longer(history.add(&mut second, &entry))?;
+    let second_try = longer(history.add(&mut first, &entry))?;
     Some((
         first.len(),
         second.len(),
         first.begins(&second),
         second.begins(&first),
-        [is_added, is_added_again],
+        [first_try, second_try],
     ))
 }
 
@@ -127,7 +137,7 @@ fn prefixes(alloc: Global) -> Option<(u64, u64, bool, bool, [bool; 2])> {
 fn the_shorter_front_begins_the_longer(rt: HostRuntime) {
     assert_eq!(rt; fronts(rt.alloc()), Some((0, 1, true, false)));
     let prefixes = prefixes(rt.alloc());
-    assert_eq!(rt; prefixes, Some((0, 1, true, false, [true, false])));
+    assert_eq!(rt; prefixes, Some((0, 1, true, false, [0, 1])));
 }
 
 /// How many edits are kept of so many, and the last of them.

@@ -44,7 +44,7 @@ fn published<R: Wait>(
     ensures rests { IfOk result (λ p. p.announced ≡ p.list) }
     ensures origin { IfOk result (λ p. p.origin ≡ publisher.origin) }
 {
-    if !publisher.announce(entry) {
+    if publisher.announce(entry).is_err() {
         publisher.end(rt);
         return Err("announced");
     }

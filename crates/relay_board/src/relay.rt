@@ -207,7 +207,7 @@ impl<J: Naming, R: Wait + Drop> Relay<J, R> {
         if let Err(fault) = self.tried.join(Added::Edits(slice::from_ref(&entry.edit))) {
             return Err(turn_fault(fault));
         }
-        if !self.publisher.announce(entry) {
+        if self.publisher.announce(entry).is_err() {
             return Err(TurnFault::Memory);
         }
         self.told = true;

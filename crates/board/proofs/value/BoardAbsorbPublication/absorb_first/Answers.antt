@@ -12,8 +12,8 @@ pub invariant_of-self-2 : goal.invariant_of-self-2
 invariant_of-self-2 c =
     let e : Entry = c.args.operation.now.entry in
     let old : List Entry = c.self.inside.prefix.seen.log in
-    let new : c.add-2.new.prefix.seen.log ≡ old ++ e ∷ [] = c.if-not-add.ensures.added in record {
-      own = c.if-not-add.ensures.book ∙ c.self.invariant.own;
+    let new : c.add-2.new.prefix.seen.log ≡ old ++ e ∷ [] = c.in-Ok-add.ensures.added in record {
+      own = c.in-Ok-add.ensures.book ∙ c.self.invariant.own;
       plane = subst (λ (l : List Entry). AreSame (map_of c.set_root.new.self) (greatest (edits_of l))) (sym new)
           (greatest_more old e (map_of c.self.inside.plane) (map_of c.set_root.new.self) c.self.invariant.plane (λ at. c.set_root.ensures.map at ∙ (rw c.from_ref.ensures.value at c.in-Ok.ensures.joins.joins at)));
       room = c.set_root.ensures.room ∙ (c.in-Ok.ensures.before.room ∙ c.self.invariant.room);
