@@ -19,6 +19,7 @@ one_output script a b x y =
 pub has_one_output : HasOneOutput
 has_one_output text a b x y = one_output y.script a b (subst (λ script. IsScriptOutput script a) (one_script x.script y.script (script_of text) x.read y.read) x.printed) y.printed
 
-pub stopped_at : (script : ScriptValue) → IsStopOf (script_opening script) (script_events script) stops.StoreFull → IsStoppedAt (script_opening script) (script_events script) stops.StoreFull
-stopped_at script (inl at) = at
-stopped_at script (inr memory) = absurd (cc)
+pub stopped_at : (nodes : ℕ) (script : ScriptValue) → IsStopOf nodes (script_opening script) (script_events script) stops.StoreFull
+    → IsStoppedAt nodes (script_opening script) (script_events script) stops.StoreFull
+stopped_at nodes script (inl at) = at
+stopped_at nodes script (inr memory) = absurd (cc)

@@ -33,20 +33,21 @@ script_events script = events_among (steps no_patterns script.commands)
 abbrev pub script_opening : ScriptValue → History
 script_opening script = opening script.rule script.replicas
 
--- the text is a script, and its run was stopped for want of room at one of its events, a draw, a delivery or an export, before which all were replied to
-pub record IsStopped (text : List ℕ) (fault : RunFault) : Type 0 where
+-- the text is a script, and its run was stopped at one of its events, at which there was no room for what it needs, and before which all were
+-- replied to; each replica's plane has room for so many squares
+pub record IsStopped (nodes : ℕ) (text : List ℕ) (fault : RunFault) : Type 0 where
   pub script : ScriptValue
   pub told : fault ≡ StoreFull
   pub read : script_of text ≡ Ok script
-  pub stopped : IsStoppedAt (script_opening script) (script_events script) stops.StoreFull
+  pub stopped : IsStoppedAt nodes (script_opening script) (script_events script) stops.StoreFull
 
 -- the text is no script, or its run was stopped
-abbrev pub IsUnprinted : List ℕ → RunFault → Type 0
-IsUnprinted text fault = IsFaultyScript text fault ⊎ IsStopped text fault
+abbrev pub IsUnprinted : ℕ → List ℕ → RunFault → Type 0
+IsUnprinted nodes text fault = IsFaultyScript text fault ⊎ IsStopped nodes text fault
 
--- the run of a script, in at most so many pulls
-abbrev pub IsScriptRun : ℕ → {A : Type 0} → Result A RunFault → KnownSource → KnownSource → {K : Type 0} → (K → KnownSink) → K → K → Type 0
-IsScriptRun turns result source source' known sink sink' = IsRun PrintsAs IsUnprinted turns result source source' known sink sink'
+-- the run of a script, in at most so many pulls, by replicas whose planes have room for so many squares
+abbrev pub IsScriptRun : (turns nodes : ℕ) → {A : Type 0} → Result A RunFault → KnownSource → KnownSource → {K : Type 0} → (K → KnownSink) → K → K → Type 0
+IsScriptRun turns nodes result source source' known sink sink' = IsRun PrintsAs (IsUnprinted nodes) turns result source source' known sink sink'
 
 -- a text's fault, as the program ends with it
 abbrev pub run_fault_of : ScriptFault → RunFault

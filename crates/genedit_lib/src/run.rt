@@ -1,6 +1,7 @@
 //! Scripts, from a source's bytes to a sink's.
 
 ghost use Rattle.std.specs.Prelude.{◌≡◌, ◌≤◌, ◌⊎◌, ◌^◌, IfOk, IfErr};
+ghost use Rattle.square_store.specs.Limits.{usual_room};
 ghost use Rattle.genedit_io.specs.RunFault.{IsWant};
 ghost use Rattle.genedit_lib.specs.Output.{IsScriptOutput};
 ghost use Rattle.replica_core.specs.World.{AreReplies, HaveRoom, IsStopOf, opening};
@@ -25,13 +26,14 @@ const TURNS: u64 = 1 << 32;
 /// Where it is Ok, exactly one push was made, of all the output, though it be empty; no fault but a
 /// failed push comes after it, and where the run ends otherwise nothing was pushed.
 /// `RunFault::Turns` comes after 2^32 pulls that each gave something, `RunFault::StoreFull` where a
-/// replica would store more than 2^26 squares; `RunFault::Refused` never comes.
+/// replica's plane, a state that is read, or the universe of an export needs more than 2^26 squares;
+/// `RunFault::Refused` never comes.
 pub fn run_script<S: Source, K: Sink>(
     alloc: Global,
     source: &mut S,
     sink: &mut K,
 ) -> Result<(), RunFault>
-    ensures { IsScriptRun (2 ^ 32) result (S.known source.old) (S.known source.new) K.known sink.old sink.new }
+    ensures { IsScriptRun (2 ^ 32) usual_room result (S.known source.old) (S.known source.new) K.known sink.old sink.new }
 {
     run_script_within(alloc, source, sink, TURNS, ROOM)
 }
@@ -45,7 +47,7 @@ pub fn run_script_within<S: Source, K: Sink>(
     nodes: u32,
 ) -> Result<(), RunFault>
     requires { 1 ≤ nodes }
-    ensures { IsScriptRun turns result (S.known source.old) (S.known source.new) K.known sink.old sink.new }
+    ensures { IsScriptRun turns nodes result (S.known source.old) (S.known source.new) K.known sink.old sink.new }
 {
     let text = pull_all(alloc, source, turns)?;
     let out = printed(alloc, &text, nodes)?;
@@ -56,7 +58,7 @@ pub fn run_script_within<S: Source, K: Sink>(
 fn printed(alloc: Global, text: &[u8], nodes: u32) -> Result<Vec<u8>, RunFault>
     requires { 1 ≤ nodes }
     ensures out { IfOk result (λ out. PrintsAs text.now out.items) }
-    ensures fault { IfErr result (λ fault. IsUnprinted text.now fault ⊎ IsWant fault) }
+    ensures fault { IfErr result (λ fault. IsUnprinted nodes text.now fault ⊎ IsWant fault) }
 {
     let script = read_script(alloc, text).map_err(fault_of_script)?;
     let out = script_output(alloc, script, nodes).map_err(fault_of_stop)?;
@@ -67,7 +69,7 @@ fn printed(alloc: Global, text: &[u8], nodes: u32) -> Result<Vec<u8>, RunFault>
 fn script_output(alloc: Global, script: Script, nodes: u32) -> Result<Vec<u8>, Stop>
     requires { 1 ≤ nodes }
     ensures out { IfOk result (λ out. IsScriptOutput script out.items) }
-    ensures stopped { IfErr result (IsStopOf (script_opening script) (script_events script)) }
+    ensures stopped { IfErr result (IsStopOf nodes (script_opening script) (script_events script)) }
 {
     let (rule, replicas) = (script.rule(), script.replicas());
     let plan = planned(alloc, script.into_commands())?;
@@ -86,7 +88,7 @@ fn replies_of(
 ) -> Result<Vec<Reply>, Stop>
     requires { 1 ≤ nodes }
     ensures replies { IfOk result (λ replies. AreReplies (opening rule replicas) events.now replies.items) }
-    ensures stopped { IfErr result (IsStopOf (opening rule replicas) events.now) }
+    ensures stopped { IfErr result (IsStopOf nodes (opening rule replicas) events.now) }
 {
     let (_world, replies) = world_of(alloc, rule, replicas, nodes, events)?;
     Ok(replies)
@@ -103,7 +105,7 @@ fn world_of(
     requires { 1 ≤ nodes }
     ensures replies { IfOk result (λ done. AreReplies (opening rule replicas) events.now done.1.items) }
     ensures room { IfOk result (λ done. HaveRoom nodes done.0.replicas) }
-    ensures stopped { IfErr result (IsStopOf (opening rule replicas) events.now) }
+    ensures stopped { IfErr result (IsStopOf nodes (opening rule replicas) events.now) }
 {
     replay_within(alloc, rule, replicas, nodes, events)
 }

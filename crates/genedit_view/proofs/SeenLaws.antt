@@ -7,12 +7,20 @@ use Rattle.generations_rule.specs.Rule.{GenerationsRule}
 use Rattle.pattern_cells.specs.declared.cell.Cell.{Cell}
 use Rattle.pattern_cells.specs.Cells.{are_nonzero, is_sorted}
 use Rattle.stamped_tree.specs.Plane.{StampedPlane, map_of}
+use Rattle.stamped_writes.specs.Write.{Writes}
+use Rattle.square_store.specs.Limits.{usual_room}
 use Rattle.delta_exchange.specs.declared.fault.ReadFault.{ReadFault}
+use Rattle.delta_exchange.specs.declared.fault.ReadFault.TheVariants as reads
+use Rattle.delta_exchange.specs.Room.{IsMapTooLargeFor}
+use Rattle.delta_exchange.specs.State.{IsTellableMap}
+use Rattle.delta_exchange.specs.Versions.{IsReadableStateText}
+use Rattle.genedit_io.specs.declared.fault.RunFault.TheVariants.{Memory, StoreFull}
+use Rattle.genedit_view.specs.declared.fault.ViewFault.TheVariants.{Run}
 use Rattle.delta_exchange.specs.declared.message.Content.{Content}
 use Rattle.delta_exchange.specs.declared.message.Content.TheVariants as content
 use Rattle.delta_exchange.specs.Fault.{IsWantOrFull}
 use Rattle.delta_exchange.specs.Message.{Shared, plane_of}
-use Rattle.delta_exchange.specs.MessageReading.{IsTextOf, StandsForTold, Told, message_of}
+use Rattle.delta_exchange.specs.MessageReading.{IsTextOf, MayWantRoom, StandsForTold, Told, message_of}
 use Rattle.generation_engine.specs.Universe.{states_in_writes}
 use Rattle.export.specs.declared.fault.ExportFault.{ExportFault}
 use Rattle.export.specs.declared.fault.ExportFault.TheVariants as exports
@@ -23,7 +31,7 @@ use Rattle.genedit_view.specs.declared.options.ViewOptions.{ViewOptions}
 use Rattle.genedit_view.specs.Fault.{IsViewWant, fault_of_generation, fault_of_state}
 use Rattle.genedit_view.specs.Reading.{IsReadAs, begins_as_state, pattern_seen, state_rule}
 use Rattle.genedit_view.specs.Reading.IsReadAs.{Pattern, State}
-use Rattle.genedit_view.specs.Seeing.{AreCellsAt, AreSeen, IsLateRefused, IsNotSeen, IsRefusedAt, IsWantAt}
+use Rattle.genedit_view.specs.Seeing.{AreCellsAt, AreSeen, IsFullAt, IsLateFull, IsLateRefused, IsNotSeen, IsRefusedAt, IsStateTooLarge, IsViewFull, IsWantAt}
 use Rattle.genedit_view.specs.Seeing.IsNotSeen.{NoGeneration, NoState}
 
 -- the end of a call by another's fault
@@ -38,6 +46,13 @@ want_told exports.Memory e want told = inl told
 want_told exports.StoreFull e want told = inr told
 want_told exports.GenRange e want told = absurd want
 want_told exports.TooManyCells e want told = absurd want
+
+-- a full store is told of an export alone that became full
+pub room_of_generation : (refusal : ExportFault) (e : ViewFault) → e ≡ fault_of_generation refusal → e ≡ Run StoreFull → refusal ≡ exports.StoreFull
+room_of_generation exports.StoreFull e told is = refl
+room_of_generation exports.Memory e told is = let other : Run Memory ≡ Run StoreFull = sym told ∙ is in absurd (cc)
+room_of_generation exports.GenRange e told is = let other = sym told ∙ is in absurd (cc)
+room_of_generation exports.TooManyCells e told is = let other = sym told ∙ is in absurd (cc)
 
 pub late_told : (r : GenerationsRule) (f h : Place → ℕ) (g : ℕ) (refusal : ExportFault) (e : ViewFault) → f ≡ h → IsExportRefused r f g most_cells refusal → e ≡ fault_of_generation refusal →
     IsLateRefused r h g e ⊎ IsViewWant e
@@ -62,16 +77,22 @@ pattern_later o text r cells later g begins some seen are = record {
   are = subst (λ n. AreCellsAt r (state_at cells) n later) (sym some) are;
 }
 
--- a want where generations are run, or where a state is read
-want_where : (o : ViewOptions) (text : List ℕ) (e : ViewFault) → (begins_as_state text ≡ true) ⊎ (is_some o.generation ≡ true) → IsViewWant e → IsWantAt o text e
+-- a want, whose room is told
+want_where : (o : ViewOptions) (text : List ℕ) (e : ViewFault) → (e ≡ Run StoreFull → IsStateTooLarge o text ⊎ IsViewFull o text) → IsViewWant e → IsWantAt o text e
 want_where o text e why (inl memory) = inl memory
-want_where o text e why (inr full) = inr (full, why)
+want_where o text e why (inr full) = inr (full, why full)
 
 pub pattern_late : (o : ViewOptions) (text : List ℕ) (r : GenerationsRule) (cells : List Cell) (g : ℕ) (e : ViewFault) → begins_as_state text ≡ false → o.generation ≡ Some g →
-    pattern_seen (is_some o.generation) o.rule text ≡ Ok (r, cells) → IsLateRefused r (state_at cells) g e ⊎ IsViewWant e → IsNotSeen o text e ⊎ IsWantAt o text e
-pattern_late o text r cells g e begins some seen (inl late) =
+    pattern_seen (is_some o.generation) o.rule text ≡ Ok (r, cells) → (e ≡ Run StoreFull → IsLateFull r (state_at cells) g) → IsLateRefused r (state_at cells) g e ⊎ IsViewWant e →
+    IsNotSeen o text e ⊎ IsWantAt o text e
+pattern_late o text r cells g e begins some seen full (inl late) =
     inl (NoGeneration r (state_at cells) (Pattern cells begins seen refl) (subst (λ n. IsRefusedAt r (state_at cells) n e) (sym some) late))
-pattern_late o text r cells g e begins some seen (inr want) = inr (want_where o text e (inr (ap is_some some)) want)
+pattern_late o text r cells g e begins some seen full (inr want) = inr (want_where o text e (λ is. inr (record {
+  rule = r;
+  states = state_at cells;
+  read = Pattern cells begins seen refl;
+  full = subst (λ n. IsFullAt r (state_at cells) n) (sym some) (full is);
+})) want)
 
 -- ---- states
 
@@ -84,15 +105,24 @@ want_of_state : (refusal : ReadFault) (e : ViewFault) → IsWantOrFull refusal �
 want_of_state refusal e (inl memory) told = inl (told ∙ ap fault_of_state memory)
 want_of_state refusal e (inr full) told = inr (told ∙ ap fault_of_state full)
 
+-- a full store is told of a text alone that is read into one
+room_of_state : (refusal : ReadFault) (e : ViewFault) → IsWantOrFull refusal → e ≡ fault_of_state refusal → e ≡ Run StoreFull → refusal ≡ reads.StoreFull
+room_of_state refusal e (inr full) told is = full
+room_of_state refusal e (inl memory) told is = let other : Run Memory ≡ Run StoreFull = sym (told ∙ ap fault_of_state memory) ∙ is in absurd (cc)
+
 state_told : (o : ViewOptions) (text : List ℕ) (r : GenerationsRule) (refusal : ReadFault) (e : ViewFault) → begins_as_state text ≡ true → state_rule o.rule text ≡ Some r →
-    IsWantOrFull refusal ⊎ (message_of r text ≡ Err refusal) → e ≡ fault_of_state refusal → IsNotSeen o text e ⊎ IsWantAt o text e
-state_told o text r refusal e begins rule (inl want) told = inr (want_where o text e (inl begins) (want_of_state refusal e want told))
-state_told o text r refusal e begins rule (inr refused) told = inl (NoState r refusal begins rule refused told)
+    (refusal ≡ reads.StoreFull → IsStateTooLarge o text) → IsWantOrFull refusal ⊎ (message_of r text ≡ Err refusal) → e ≡ fault_of_state refusal → IsNotSeen o text e ⊎ IsWantAt o text e
+state_told o text r refusal e begins rule large (inl want) told =
+    inr (want_where o text e (λ is. inl (large (room_of_state refusal e want told is))) (want_of_state refusal e want told))
+state_told o text r refusal e begins rule large (inr refused) told = inl (NoState r refusal begins rule refused told)
 
 pub state_refused : (o : ViewOptions) (text : List ℕ) (r : GenerationsRule) (refusal : ReadFault) (e : ViewFault) → begins_as_state text ≡ true → state_rule o.rule text ≡ Some r →
+    (refusal ≡ reads.StoreFull → MayWantRoom usual_room text) →
+    ((map : Writes) → IsTellableMap r.states map → IsReadableStateText r map text → refusal ≡ reads.StoreFull → IsMapTooLargeFor usual_room map) →
     AnswersAs (StandsForTold r) IsWantOrFull (Err refusal) (message_of r text) → e ≡ fault_of_state refusal → IsNotSeen o text e ⊎ IsWantAt o text e
-state_refused o text r refusal e begins rule exact told =
-    state_told o text r refusal e begins rule (answered (StandsForTold r) IsWantOrFull refusal (message_of r text) exact) told
+state_refused o text r refusal e begins rule may large exact told =
+    state_told o text r refusal e begins rule (λ full. record { rule = r; begins = begins; ruled = rule; may = may full; large = λ map tellable spelt. large map tellable spelt full })
+    (answered (StandsForTold r) IsWantOrFull refusal (message_of r text) exact) told
 
 pub state_read : (is_run : Bool) (given : Option GenerationsRule) (text : List ℕ) (r : GenerationsRule) (shared : Content) (p : StampedPlane) → begins_as_state text ≡ true →
     state_rule given text ≡ Some r → Some p ≡ plane_of shared → IsTextOf r shared text → IsReadAs is_run given text r (states_in_writes (map_of p))
@@ -106,9 +136,9 @@ pub state_shown : (o : ViewOptions) (text : List ℕ) (r : GenerationsRule) (f :
 state_shown o text r f cells read are = record { states = f; read = read; are = are }
 
 pub state_late : (o : ViewOptions) (text : List ℕ) (r : GenerationsRule) (f : Place → ℕ) (e : ViewFault) → begins_as_state text ≡ true → IsReadAs (is_some o.generation) o.rule text r f →
-    IsRefusedAt r f o.generation e ⊎ IsViewWant e → IsNotSeen o text e ⊎ IsWantAt o text e
-state_late o text r f e begins read (inl late) = inl (NoGeneration r f read late)
-state_late o text r f e begins read (inr want) = inr (want_where o text e (inl begins) want)
+    (e ≡ Run StoreFull → IsFullAt r f o.generation) → IsRefusedAt r f o.generation e ⊎ IsViewWant e → IsNotSeen o text e ⊎ IsWantAt o text e
+state_late o text r f e begins read full (inl late) = inl (NoGeneration r f read late)
+state_late o text r f e begins read full (inr want) = inr (want_where o text e (λ is. inr (record { rule = r; states = f; read = read; full = full is })) want)
 
 -- ---- what is seen can be drawn
 

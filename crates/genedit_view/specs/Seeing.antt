@@ -4,10 +4,17 @@ use Rattle.generations_rule.specs.Place.{Place}
 use Rattle.generations_rule.specs.Rule.{GenerationsRule}
 use Rattle.pattern_cells.specs.declared.cell.Cell.{Cell}
 use Rattle.delta_exchange.specs.declared.fault.ReadFault.{ReadFault}
-use Rattle.delta_exchange.specs.MessageReading.{message_of}
+use Rattle.stamped_writes.specs.Write.{Writes}
+use Rattle.square_store.specs.Limits.{usual_room}
+use Rattle.stamped_tree.specs.Plane.{StampedPlane, map_of}
+use Rattle.delta_exchange.specs.MessageReading.{MayWantRoom, message_of}
+use Rattle.delta_exchange.specs.Room.{IsMapTooLargeFor}
+use Rattle.delta_exchange.specs.State.{IsTellableMap}
+use Rattle.delta_exchange.specs.Versions.{IsReadableStateText}
+use Rattle.generation_engine.specs.Universe.{states_in_writes}
 use Rattle.generation_engine.specs.Walk.{AreCellsOf}
 use Rattle.export.specs.declared.fault.ExportFault.{ExportFault}
-use Rattle.export.specs.Export.{AreExported, IsExport, last_generation, most_cells}
+use Rattle.export.specs.Export.{AreExported, IsExport, IsRoomWanted, last_generation, most_cells}
 use Rattle.genedit_io.specs.declared.fault.RunFault.TheVariants.{Memory, StoreFull}
 use Rattle.cell_pictures.specs.Picture.{picture_text}
 use Rattle.genedit_view.specs.declared.fault.ViewFault.{ViewFault}
@@ -45,9 +52,38 @@ pub record IsPictureOf (o : ViewOptions) (text picture : List ℕ) : Type 0 wher
   pub seen : AreSeen o text rule cells
   pub drawn : picture ≡ picture_text o.form rule.states cells o.window
 
--- a want, which is no part of what a picture means: of memory; or of room for squares, where a state was read or generations were run
+-- ---- wants, which are no part of what a picture means
+
+-- a text is read as a state, and may want more room than 2^26 squares; where it tells a map, no plane of so many holds it
+pub record IsStateTooLarge (o : ViewOptions) (text : List ℕ) : Type 0 where
+  pub rule : GenerationsRule
+  pub begins : begins_as_state text ≡ true
+  pub ruled : state_rule o.rule text ≡ Some rule
+  pub may : MayWantRoom usual_room text
+  pub large : (map : Writes) → IsTellableMap rule.states map → IsReadableStateText rule map text → IsMapTooLargeFor usual_room map
+
+-- a generation of a map of states wants more room than 2^26 squares: of a plane that shows it
+pub record IsLateFull (r : GenerationsRule) (f : Place → ℕ) (g : ℕ) : Type 0 where
+  pub within : g ≤ last_generation
+  pub plane : StampedPlane
+  pub shows : states_in_writes (map_of plane) ≡ f
+  pub wanted : IsRoomWanted r plane g usual_room
+
+-- the generation that is asked for wants more room
+abbrev pub IsFullAt : GenerationsRule → (Place → ℕ) → Option ℕ → Type 0
+IsFullAt r f None = ⊥
+IsFullAt r f (Some g) = IsLateFull r f g
+
+-- that of what is read of a text
+pub record IsViewFull (o : ViewOptions) (text : List ℕ) : Type 0 where
+  pub rule : GenerationsRule
+  pub states : Place → ℕ
+  pub read : IsReadAs (is_some o.generation) o.rule text rule states
+  pub full : IsFullAt rule states o.generation
+
+-- a want of memory; or of room for squares, where a state is too large, or the universe of a generation
 abbrev pub IsWantAt : ViewOptions → List ℕ → ViewFault → Type 0
-IsWantAt o text fault = (fault ≡ Run Memory) ⊎ ((fault ≡ Run StoreFull) × ((begins_as_state text ≡ true) ⊎ (is_some o.generation ≡ true)))
+IsWantAt o text fault = (fault ≡ Run Memory) ⊎ ((fault ≡ Run StoreFull) × (IsStateTooLarge o text ⊎ IsViewFull o text))
 
 -- why nothing is drawn of a text: it is no pattern, or one that is refused; a state without a rule, or a text that is no
 -- state; or a generation that is not shown

@@ -1,10 +1,11 @@
 //! Cells some generations later.
 
-ghost use Rattle.std.specs.Prelude.{◌≡◌, ◌^◌, ◌<◌, ◌≤◌, IfErr, IfOk, OnOk};
+ghost use Rattle.std.specs.Prelude.{◌≡◌, ◌^◌, ◌<◌, ◌≤◌, Err, IfErr, IfOk, OnOk};
 ghost use Rattle.edit_stamps.specs.PlaneMap.{HasStatesBelow};
 ghost use Rattle.stamped_tree.specs.Plane.{map_of};
 ghost use Rattle.generation_engine.specs.Universe.{states_in_writes};
-ghost use Rattle.export.specs.Export.{AreExported, IsExportRefused, most_cells};
+ghost use Rattle.square_store.specs.Limits.{usual_room};
+ghost use Rattle.export.specs.Export.{AreExported, IsExportRefused, IsRoomWanted, most_cells};
 
 use export::{ExportFault, cells_within};
 use generation_engine::Engine;
@@ -42,11 +43,15 @@ pub fn cells_at(
     requires generation { generation ≤ 2 ^ 29 }
     ensures cells { IfOk result (λ cells. AreExported rule.now (states_in_writes (map_of plane.now)) generation most_cells cells.items) }
     ensures err { IfErr result (IsExportRefused rule.now (states_in_writes (map_of plane.now)) generation most_cells) }
+    ensures full { result ≡ Err ExportFault.StoreFull → IsRoomWanted rule.now plane.now generation usual_room }
 {
     // For the proof alone: the call tells that what is held is a rule.
     let _states = rule.states();
     let mut engine = Engine::new(alloc, *rule)?;
     engine.load(plane)?;
-    engine.run(generation)?;
+    let run = engine.run(generation);
+    // The same, of the engine, which is what it was where it became full.
+    engine.universe_laws();
+    run?;
     cells_within(&engine, MOST_CELLS)
 }

@@ -8,7 +8,9 @@ ghost use Rattle.cell_pictures.specs.Shown.{state_at};
 ghost use Rattle.genedit_view.specs.Cells.{ArePatternCells};
 ghost use Rattle.genedit_view.specs.Fault.{IsViewWant};
 ghost use Rattle.genedit_view.specs.Reading.{begins_as_state};
-ghost use Rattle.genedit_view.specs.Seeing.{AreCellsAt, AreSeen, IsLateRefused, IsNotSeen, IsRefusedAt, IsWantAt};
+ghost use Rattle.genedit_io.specs.declared.fault.RunFault.TheVariants.{StoreFull};
+ghost use Rattle.genedit_view.specs.declared.fault.ViewFault.TheVariants.{Run};
+ghost use Rattle.genedit_view.specs.Seeing.{AreCellsAt, AreSeen, IsFullAt, IsLateFull, IsLateRefused, IsNotSeen, IsRefusedAt, IsWantAt};
 
 use crate::drawn::plane_of;
 use crate::fault::ViewFault;
@@ -78,6 +80,7 @@ fn run_cells(
     requires { ArePatternCells true rule.now cells.now }
     ensures cells { IfOk result (λ later. AreCellsAt rule.now (state_at cells.now) (Some generation) later.items) }
     ensures fault { IfErr result (λ fault. IsLateRefused rule.now (state_at cells.now) generation fault ⊎ IsViewWant fault) }
+    ensures full { IfErr result (λ fault. fault ≡ Run StoreFull → IsLateFull rule.now (state_at cells.now) generation) }
 {
     in_range(generation)?;
     let plane = plane_of(alloc, rule, cells)?;
@@ -95,6 +98,7 @@ fn plane_cells(
     requires { HasStatesBelow rule.now.states (map_of plane.now) }
     ensures cells { IfOk result (λ cells. AreCellsAt rule.now (states_in_writes (map_of plane.now)) generation cells.items) }
     ensures fault { IfErr result (λ fault. IsRefusedAt rule.now (states_in_writes (map_of plane.now)) generation fault ⊎ IsViewWant fault) }
+    ensures full { IfErr result (λ fault. fault ≡ Run StoreFull → IsFullAt rule.now (states_in_writes (map_of plane.now)) generation) }
 {
     let Some(generation) = generation else {
         return Ok(plane.walk()?);

@@ -45,7 +45,7 @@ remembered_taken was is text meant false before now taken kept entry =
 pub remembered_refused : (was is : ReplicaState) (text : List ℕ) (meant : Result Told ReadFault) (fault : Fault) (entry : Option ℕ) → IsTakingText {A = Bool} was is text meant (Err fault)
     → IsRemembered was is entry entry
 remembered_refused was is text meant fault entry (inl reading) = subst (λ r. IsRemembered was r entry entry) (sym reading.same) (still_remembered was was entry refl (λ c. refl))
-remembered_refused was is text meant fault entry (inr (inl joining)) = still_remembered was is entry joining.1.unchanged.one.rule joining.1.unchanged.map
+remembered_refused was is text meant fault entry (inr (inl joining)) = still_remembered was is entry joining.2.unchanged.one.rule joining.2.unchanged.map
 remembered_refused was is text meant fault entry (inr (inr refused)) = subst (λ r. IsRemembered was r entry entry) (sym refused.3) (still_remembered was was entry refl (λ c. refl))
 
 -- ---- messages

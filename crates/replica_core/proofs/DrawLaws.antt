@@ -1,5 +1,5 @@
 -- A draw: the stamp of what is drawn, which cells it wins, and what a refusal says.
-use Rattle.std.proofs.Common.{◌≡◌, ◌≢◌, ◌⊎◌, ℕ, ◌+◌, ◌<◌, ◌≤◌, Bool, true, false, [], ◌∷◌, ◌++◌, refl, sym, ◌∙◌, ap, subst, arith, inl, inr}
+use Rattle.std.proofs.Common.{◌≡◌, ◌≢◌, ◌⊎◌, ℕ, ◌+◌, ◌<◌, ◌≤◌, Bool, true, false, [], ◌∷◌, ◌++◌, refl, sym, ◌∙◌, ap, arith, inl, inr}
 use Rattle.std.specs.Prelude.{IsTrue, Option, Some, None, Result, Ok, Err, nat_lt, not}
 use Rattle.std.specs.Result.{IsOk}
 use Rattle.std.proofs.lemmas.Bool.Decides.{nat_tests}
@@ -14,6 +14,7 @@ use Rattle.edit_stamps.specs.PlaneMap.{IsGreatestStamp}
 use Rattle.stamped_tree.specs.Plane.{map_of}
 use Rattle.edit_stamps.specs.Stamp.{counter_in, last_counter, stamp_of}
 use Rattle.stamped_writes.specs.Write.{AreSame, greater, joined}
+use Rattle.delta_exchange.specs.declared.message.Content.TheVariants.{Edits}
 use Rattle.replica_core.specs.declared.fault.Fault.{Fault}
 use Rattle.replica_core.specs.declared.fault.Fault.TheVariants as faults
 use Rattle.replica_events.specs.declared.edit_spec.EditSpec.{EditSpec}
@@ -87,9 +88,9 @@ draws old new n stamp spec e greatest_is next is states one map journal = (
 -- a draw that was refused memory or room
 pub stops : (old new : ReplicaState) (n stamp : ℕ) (spec : EditSpec) (e : PlaneEdit) (fault : Fault)
     → stamp_after (counter_in n) old.number ≡ Ok stamp → or_edit_fault (made old.rule stamp spec) ≡ Ok e
-    → MeetsWant old new fault → IsDraw old new (edit_drawn old.rule (counter_in n) old.number spec) (Err fault)
+    → MeetsWant old new (λ content. content ≡ Edits (e ∷ [])) fault → IsDraw old new (edit_drawn old.rule (counter_in n) old.number spec) (Err fault)
 stops old new n stamp spec e fault next is want =
-    inl (subst IsOk (sym (ap (λ s. s >>= (λ stamp. or_edit_fault (made old.rule stamp spec))) next ∙ is)) refl, want)
+    inl (e, ap (λ s. s >>= (λ stamp. or_edit_fault (made old.rule stamp spec))) next ∙ is, want)
 
 -- a replica that nothing was done to
 pub unchanged : (r : ReplicaState) → IsUnchanged r r
@@ -99,7 +100,7 @@ unchanged r = record { one = record { rule = refl; number = refl; room = refl };
 wants : (r : ReplicaState) (meant : Result PlaneEdit Fault) (made_now : Result PlaneEdit EditFault) (fault : Fault) → IsWant fault
     → fault ≢ faults.StoreFull → meant ≡ or_edit_fault made_now → IsOk made_now → IsDraw r r meant (Err fault)
 wants r meant (Ok e) fault want roomy is ok =
-    inl (subst IsOk (sym is) refl, record { want = want; unchanged = unchanged r; full = λ same. absurd (roomy same) })
+    inl (e, is, record { want = want; unchanged = unchanged r; full = λ same. absurd (roomy same) })
 wants r meant (Err refusal) fault want roomy is ok = absurd (cc)
 
 -- a refusal of the maker is one of the draw

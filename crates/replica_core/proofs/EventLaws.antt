@@ -31,7 +31,7 @@ use Rattle.replica_core.proofs.SideBySide.{beside, numbered_at, numbered_past, s
 pub found : {A : Type 0} (xs : List A) (r i : ℕ) (x : A) (fault : Fault) → 1 ≤ r → i ≡ r - 1 → slice_get xs i ≡ Some x → ok_or (numbered xs r) fault ≡ Ok x
 found xs r i x fault one at there = ap (λ o. ok_or o fault) (numbered_at xs r one ∙ ap (slice_get xs) (sym at) ∙ there)
 
-same_number : (r i : ℕ) → 1 ≤ r → i ≡ r - 1 → suc i ≡ r
+pub same_number : (r i : ℕ) → 1 ≤ r → i ≡ r - 1 → suc i ≡ r
 same_number r i one at = omega (arith, one, at)
 
 -- ---- draws

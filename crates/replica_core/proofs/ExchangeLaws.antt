@@ -12,6 +12,7 @@ use Rattle.stamped_writes.specs.Write.{Writes}
 use Rattle.delta_exchange.specs.declared.fault.ReadFault.{ReadFault}
 use Rattle.delta_exchange.specs.declared.fault.ReadFault.TheVariants as read_faults
 use Rattle.delta_exchange.specs.declared.message.Content.{Content}
+use Rattle.delta_exchange.specs.declared.message.Content.TheVariants as contents
 use Rattle.delta_exchange.specs.Delta.{AreTellable}
 use Rattle.delta_exchange.specs.Fault.{IsWantOrFull}
 use Rattle.delta_exchange.specs.Message.{Shared}
@@ -88,9 +89,9 @@ want_read r text fault room (inl memory) =
 want_read r text fault room (inr full) =
     subst (λ f. MeetsWantReading r r text (fault_of_read f)) (sym full) (record { want = tt; same = refl; full = λ is. room full })
 
-memory_read : (r : ReplicaState) (fault : ReadFault) → fault ≡ read_faults.Memory → MeetsWant r r (fault_of_read fault)
-memory_read r fault memory =
-    subst (λ f. MeetsWant r r (fault_of_read f)) (sym memory) (record { want = tt; unchanged = unchanged r; full = λ is. absurd (cc) })
+memory_read : (r : ReplicaState) (P : Content → Type 0) (fault : ReadFault) → fault ≡ read_faults.Memory → MeetsWant r r P (fault_of_read fault)
+memory_read r P fault memory =
+    subst (λ f. MeetsWant r r P (fault_of_read f)) (sym memory) (record { want = tt; unchanged = unchanged r; full = λ is. absurd (cc) })
 
 -- a text that is refused, or whose reading meets a want
 pub refuses_text : (r : ReplicaState) (rule : GenerationsRule) (text : List ℕ) (meant : Result Told ReadFault) (refusal : ReadFault)
@@ -104,21 +105,34 @@ refuses_text r rule text (Err fault) refusal room (inr same) = inr (inr (refusal
 pub refuses_edits : (r : ReplicaState) (rule : GenerationsRule) (edits : List PlaneEdit) (refusal : ReadFault) (P : Content → Type 0)
     → (refusal ≡ read_faults.StoreFull → begins_as_delta (delta_text rule edits) ≡ Ok false)
     → AnswersAs (StandsForTold rule) IsWantOrFull (Err refusal) (Ok (ToldEdits edits)) → IsTakingOf {A = Bool} r r P (Err (fault_of_read refusal))
-refuses_edits r rule edits refusal P room (inl memory) = memory_read r refusal memory
+refuses_edits r rule edits refusal P room (inl memory) = memory_read r P refusal memory
 refuses_edits r rule edits refusal P room (inr full) = absurd (both_kinds (begins_as_delta (delta_text rule edits)) (delta_begins rule edits) (room full))
 
 -- the text of a map whose reading meets a want
 pub refuses_map : (r : ReplicaState) (rule : GenerationsRule) (p : Writes) (refusal : ReadFault)
     → (refusal ≡ read_faults.StoreFull → IsMapTooLargeFor usual_room p)
     → AnswersAs (StandsForMap rule) IsWantOrFull (Err refusal) (Ok p) → IsTakingMap {A = Bool} r r p (Err (fault_of_read refusal))
-refuses_map r rule p refusal large (inl memory) = inl (memory_read r refusal memory)
+refuses_map r rule p refusal large (inl memory) = inl (memory_read r (λ content. HasMap content p) refusal memory)
 refuses_map r rule p refusal large (inr full) = inr (ap fault_of_read full, refl, large full)
+
+-- what was told is edits, and so is the content
+pub edits_told : (content : Content) (edits : List PlaneEdit) → HasContentTold content (ToldEdits edits) → content ≡ contents.Edits edits
+edits_told (contents.Edits given) edits is = ap contents.Edits is
+edits_told (contents.State plane) edits is = absurd is
+
+-- a want of some content is one of what is as Q says, where the content is
+want_of : (old new : ReplicaState) (content : Content) (Q : Content → Type 0) (fault : Fault) → Q content → MeetsWant old new (λ c. c ≡ content) fault → MeetsWant old new Q fault
+want_of old new content Q fault holds want = record {
+  want = want.want;
+  unchanged = want.unchanged;
+  full = λ is. let full = want.full is in (full.0, subst Q (sym full.1) holds, full.2);
+}
 
 -- a message of the replica's rule
 pub takes_some : {A : Type 0} (old new : ReplicaState) (m : Shared) (P : Content → Type 0) (result : Result A Fault)
     → m.rule ≡ old.rule → P m.content → IsTaking old new m result → IsTakingOf old new P result
 takes_some old new m P (Ok done) same is taking = (m.content, is, taking.1)
-takes_some old new m P (Err fault) same is (inl want) = want.1
+takes_some old new m P (Err fault) same is (inl want) = want_of old new m.content P fault is want.1
 takes_some old new m P (Err fault) same is (inr other) = absurd (other.1 same)
 
 pub takes_map : {A : Type 0} (old new : ReplicaState) (p : Writes) (result : Result A Fault) → IsTakingOf old new (λ content. HasMap content p) result → IsTakingMap old new p result
@@ -129,7 +143,7 @@ takes_map old new p (Err fault) want = inl want
 takes_told : {A : Type 0} (old new : ReplicaState) (text : List ℕ) (told : Told) (result : Result A Fault)
     → IsTakingOf old new (λ content. HasContentTold content told) result → IsTakingText old new text (Ok told) result
 takes_told old new text told (Ok done) takes = (told, refl, takes)
-takes_told old new text told (Err fault) want = inr (inl (refl, want))
+takes_told old new text told (Err fault) want = inr (inl (told, refl, want))
 
 pub takes_text : {A : Type 0} (old new : ReplicaState) (m : Shared) (text : List ℕ) (meant : Result Told ReadFault) (result : Result A Fault)
     → AnswersAs (StandsForTold old.rule) IsWantOrFull (Ok m) meant → IsTaking old new m result → IsTakingText old new text meant result

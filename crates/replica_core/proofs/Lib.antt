@@ -9,7 +9,8 @@ pub mod HistoryLaws
 pub mod HeadlineLaws
 pub mod ReplyLaws
 pub mod PeerLaws
-pub mod RunLaws
+pub mod RoomLaws
+mod RunLaws
 pub mod NotedEdits
 pub mod StateLaws
 pub mod UniverseLaws

@@ -84,6 +84,15 @@ running_goes start done event told reply state new run step keeps =
     }
 
 -- the event that comes next stops the list
-pub running_stops : (start : History) (events done more : List Event) (event : Event) (told : List Reply) (state : WorldState) (stop : Stop) → events ≡ done ++ event ∷ more
-    → IsRunning start done told state → MayStop stop event → IsStopOf start events stop
-running_stops start events done more event told state stop all run may = inl (record { before = done; event = event; more = more; all = all; replies = told; replied = run.replies; may = may })
+pub running_stops : (nodes : ℕ) (start : History) (events done more : List Event) (event : Event) (told : List Reply) (state : WorldState) (stop : Stop) → events ≡ done ++ event ∷ more
+    → IsRunning start done told state → HaveRoom nodes state.replicas
+    → ((w : History) (n : ℕ) → AreEdits w → StandsForWorld w state → HaveRoom n state.replicas → MayStop n w stop event) → IsStopOf nodes start events stop
+running_stops nodes start events done more event told state stop all run room may = inl (record {
+  before = done;
+  event = event;
+  more = more;
+  all = all;
+  replies = told;
+  replied = run.replies;
+  may = may (after_all start done) nodes run.edits run.stands room;
+})

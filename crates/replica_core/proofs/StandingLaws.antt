@@ -16,7 +16,6 @@ use Rattle.delta_exchange.specs.declared.message.Content.TheVariants as contents
 use Rattle.replica_events.specs.declared.edit_spec.EditSpec.{EditSpec}
 use Rattle.edit_stamps.proofs.ClockLaws.{tells_counter}
 use Rattle.delta_exchange.specs.Delta.{AreTellable}
-use Rattle.delta_exchange.specs.MessageReading.{HasMap}
 use Rattle.delta_exchange.specs.Spelling.{delta_text}
 use Rattle.delta_exchange.specs.State.{IsTellableMap}
 use Rattle.delta_exchange.specs.StateText.{IsStateText}
@@ -26,7 +25,7 @@ use Rattle.replica_core.specs.Exchange.{IsTakingMap, IsTakingOf, TakesSome}
 use Rattle.replica_core.proofs.SameMaps.{same_tellable, same_text}
 use Rattle.replica_core.specs.Fault.{IsWant}
 use Rattle.replica_core.specs.Replica.{ReplicaState, DrawsAs, Takes, IsDraw, edit_drawn}
-use Rattle.replica_core.specs.World.{IsStateOf, ReplicaHistory, Sent, Delta, State, StandsFor, StandsForSent, after_drawing, after_message}
+use Rattle.replica_core.specs.World.{Carries, IsStateOf, ReplicaHistory, Sent, Delta, State, StandsFor, StandsForSent, after_drawing, after_message}
 
 -- ---- messages
 
@@ -34,11 +33,6 @@ joins_taken : (taken edits : List PlaneEdit) (old new added : Writes) → AreSam
     → AreSame new (joined old added) → AreSame new (greatest (taken ++ edits))
 joins_taken taken edits old new added held more join c =
     join c ∙ ap (λ w. greater w (added c)) (held c) ∙ ap (greater (greatest taken c)) (more c) ∙ sym (joins_lists taken edits c)
-
--- a content has what was sent
-abbrev pub Carries : Sent → Content → Type 0
-Carries (Delta edits) content = content ≡ contents.Edits edits
-Carries (State edits) content = HasMap content (greatest edits)
 
 takes_edits : (rule : GenerationsRule) (number : ℕ) (h : ReplicaHistory) (edits : List PlaneEdit) (old new : ReplicaState)
     → StandsFor rule number h old → Takes old new (contents.Edits edits) → StandsFor rule number (after_message h (Delta edits)) new
@@ -127,5 +121,5 @@ given_err P Q meant fault is q = subst (λ r. MatchResult r P Q) (sym is) q
 -- a draw that was refused, and met no want
 pub refused_as_meant : (old new : ReplicaState) (meant : Result PlaneEdit Fault) (fault : Fault)
     → IsDraw old new meant (Err fault) → ¬ IsWant fault → (meant ≡ Err fault) × (new ≡ old)
-refused_as_meant old new meant fault (inl want) other = absurd (other want.1.want)
+refused_as_meant old new meant fault (inl want) other = absurd (other want.2.want)
 refused_as_meant old new meant fault (inr is) other = is

@@ -1,6 +1,5 @@
 -- What a replica does to the bytes of messages, and they to it.
 use Rattle.std.specs.Prelude.{◌≡◌, ◌⊎◌, ℕ, ◌+◌, nat_lt, List, length, take, drop, Result, Ok, Err}
-use Rattle.std.specs.Result.{IsOk}
 use Rattle.square_store.specs.Limits.{usual_room}
 use Rattle.generations_rule.specs.Refusal.{when, unless, ◌>>=◌}
 use Rattle.edit_stamps.specs.Edit.{PlaneEdit}
@@ -33,19 +32,20 @@ abbrev pub IsTakingText : {A : Type 0} → ReplicaState → ReplicaState → Lis
 IsTakingText old new text meant (Ok done) = (told : Told) × (meant ≡ Ok told) × TakesSome old new (λ content. HasContentTold content told)
 IsTakingText old new text meant (Err fault) =
     MeetsWantReading old new text fault
-    ⊎ ((IsOk meant × MeetsWant old new fault)
+    ⊎ (((told : Told) × (meant ≡ Ok told) × MeetsWant old new (λ content. HasContentTold content told) fault)
     ⊎ ((refusal : ReadFault) × (meant ≡ Err refusal) × (fault ≡ fault_of_read refusal) × (new ≡ old)))
 
--- Some content that is as P says is taken, or a want is met: room is wanted only where the replica's store is full.
+-- Some content that is as P says is taken, or a want is met where it is joined.
 abbrev pub IsTakingOf : {A : Type 0} → ReplicaState → ReplicaState → (Content → Type 0) → Result A Fault → Type 0
 IsTakingOf old new P (Ok done) = TakesSome old new P
-IsTakingOf old new P (Err fault) = MeetsWant old new fault
+IsTakingOf old new P (Err fault) = MeetsWant old new P fault
 
 -- A map is taken, or a want is met: the plane that it is read into may be full too, where none of so much room holds the map,
 -- which leaves all as it was.
 abbrev pub IsTakingMap : {A : Type 0} → ReplicaState → ReplicaState → Writes → Result A Fault → Type 0
 IsTakingMap old new map (Ok done) = TakesSome old new (λ content. HasMap content map)
-IsTakingMap old new map (Err fault) = MeetsWant old new fault ⊎ ((fault ≡ faults.StoreFull) × (new ≡ old) × IsMapTooLargeFor usual_room map)
+IsTakingMap old new map (Err fault) =
+    MeetsWant old new (λ content. HasMap content map) fault ⊎ ((fault ≡ faults.StoreFull) × (new ≡ old) × IsMapTooLargeFor usual_room map)
 
 -- ---- what is given
 

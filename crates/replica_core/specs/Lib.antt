@@ -1,5 +1,6 @@
 pub mod Fault
 pub mod Replica
+pub mod Room
 pub mod Exchange
 pub mod Exporting
 pub mod World

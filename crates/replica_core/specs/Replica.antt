@@ -1,5 +1,5 @@
 -- A replica, and what a draw and a message do to it.
-use Rattle.std.specs.Prelude.{◌≡◌, ◌≢◌, ◌⊎◌, IsTrue, ℕ, ◌+◌, ◌^◌, ◌<◌, ◌≤◌, not, nat_lt, List, [], ◌∷◌, ◌++◌, length, Result, Ok, Err}
+use Rattle.std.specs.Prelude.{◌≡◌, ◌≢◌, ◌⊎◌, IsTrue, ℕ, ◌+◌, ◌^◌, ◌<◌, ◌≤◌, not, nat_lt, List, [], ◌∷◌, ◌++◌, Result, Ok, Err}
 use Rattle.std.specs.List.{Contains, IsDistinct}
 use Rattle.std.specs.Result.{IsOk}
 use Rattle.generations_rule.specs.Place.{Place}
@@ -17,11 +17,13 @@ use Rattle.replica_events.specs.declared.edit_spec.EditSpec.TheVariants.{Cells, 
 use Rattle.replica_core.specs.declared.fault.Fault.{Fault}
 use Rattle.replica_core.specs.declared.fault.Fault.TheVariants as faults
 use Rattle.delta_exchange.specs.declared.message.Content.{Content}
+use Rattle.delta_exchange.specs.declared.message.Content.TheVariants.{Edits}
 use Rattle.replica_core.specs.Fault.{IsWant, fault_of_edit}
 use Rattle.edit_journal.specs.Journal.{noted}
 use Rattle.delta_exchange.specs.Message.{Shared, writes_in, edits_in}
 use Rattle.delta_exchange.specs.MessageReading.{HasMap, HasRoom}
 use Rattle.stamped_tree.specs.Plane.{StampedPlane, map_of}
+use Rattle.replica_core.specs.Room.{IsFullJoining}
 
 -- what contracts see of a replica
 pub record ReplicaState : Type 0 where
@@ -79,11 +81,12 @@ pub record IsUnchanged (old new : ReplicaState) : Type 0 where
   pub map : AreSame (map_of new.plane) (map_of old.plane)
   pub journal : new.journal ≡ old.journal
 
--- a want: map and journal are as they were, and room is wanted only where the store holds as many squares as it may
-pub record MeetsWant (old new : ReplicaState) (fault : Fault) : Type 0 where
+-- a want, where content is joined that is as P says: map and journal are as they were, and room is wanted only where the plane became
+-- full of what it needs
+pub record MeetsWant (old new : ReplicaState) (P : Content → Type 0) (fault : Fault) : Type 0 where
   pub want : IsWant fault
   pub unchanged : IsUnchanged old new
-  pub full : fault ≡ faults.StoreFull → length new.plane.store.squares ≡ new.plane.store.room
+  pub full : fault ≡ faults.StoreFull → IsFullJoining old.plane new.plane P
 
 -- ---- what each call answers, and what it leaves
 
@@ -99,13 +102,15 @@ pub record IsNew (rule : GenerationsRule) (number nodes : ℕ) (r : ReplicaState
 -- was, or, where nothing is refused, a want, which leaves map and journal as they were.
 abbrev pub IsDraw : ReplicaState → ReplicaState → Result PlaneEdit Fault → Result PlaneEdit Fault → Type 0
 IsDraw old new meant (Ok e) = (meant ≡ Ok e) × DrawsAs old new e
-IsDraw old new meant (Err fault) = (IsOk meant × MeetsWant old new fault) ⊎ ((meant ≡ Err fault) × (new ≡ old))
+IsDraw old new meant (Err fault) =
+    ((e : PlaneEdit) × (meant ≡ Ok e) × MeetsWant old new (λ content. content ≡ Edits (e ∷ [])) fault) ⊎ ((meant ≡ Err fault) × (new ≡ old))
 
 -- A message is taken whole; one of another rule is refused, which leaves all as it was; nothing else is refused, and
 -- only a message of the replica's own rule meets a want, which leaves map and journal as they were.
 abbrev pub IsTaking : {A : Type 0} → ReplicaState → ReplicaState → Shared → Result A Fault → Type 0
 IsTaking old new m (Ok done) = (m.rule ≡ old.rule) × Takes old new m.content
-IsTaking old new m (Err fault) = ((m.rule ≡ old.rule) × MeetsWant old new fault) ⊎ ((fault ≡ faults.OtherRule) × (m.rule ≢ old.rule) × (new ≡ old))
+IsTaking old new m (Err fault) =
+    ((m.rule ≡ old.rule) × MeetsWant old new (λ content. content ≡ m.content) fault) ⊎ ((fault ≡ faults.OtherRule) × (m.rule ≢ old.rule) × (new ≡ old))
 
 -- the edit that is meant; or its refusal; or want of memory, where nothing is refused
 abbrev pub IsMadeAs : Result PlaneEdit Fault → Result PlaneEdit Fault → Type 0

@@ -8,7 +8,7 @@ use Rattle.generations_rule.specs.Place.{at_place}
 use Rattle.generations_rule.specs.Refusal.{◌>>=◌}
 use Rattle.generations_rule.specs.Rule.{GenerationsRule}
 use Rattle.edit_stamps.specs.Edit.{PlaneEdit, IsEdit, greatest, greatest_counter, has_states_below}
-use Rattle.stamped_tree.specs.Plane.{map_of}
+use Rattle.stamped_tree.specs.Plane.{StampedPlane, map_of}
 use Rattle.stamped_writes.specs.Write.{AreSame}
 use Rattle.replica_events.specs.declared.event.Event.{Event}
 use Rattle.replica_events.specs.declared.event.Event.TheVariants.{Draw, SendDelta, SendState, Deliver, Show, Same, Dump, Export}
@@ -19,7 +19,11 @@ use Rattle.replica_core.specs.declared.event.Stop.TheVariants as stops
 use Rattle.replica_core.specs.declared.fault.Fault.{Fault}
 use Rattle.replica_core.specs.declared.fault.Fault.TheVariants as faults
 use Rattle.replica_events.specs.declared.edit_spec.EditSpec.{EditSpec}
+use Rattle.delta_exchange.specs.declared.message.Content.{Content}
+use Rattle.delta_exchange.specs.declared.message.Content.TheVariants as contents
 use Rattle.delta_exchange.specs.Delta.{AreTellable}
+use Rattle.delta_exchange.specs.MessageReading.{HasMap}
+use Rattle.delta_exchange.specs.Room.{IsMapTooLargeFor}
 use Rattle.delta_exchange.specs.Spelling.{delta_text}
 use Rattle.delta_exchange.specs.State.{IsTellableMap}
 use Rattle.delta_exchange.specs.StateText.{IsStateText}
@@ -31,6 +35,7 @@ use Rattle.export.specs.Kept.{IsRunOf}
 use Rattle.replica_core.specs.Fault.{fault_of_export}
 use Rattle.replica_core.specs.Exchange.{entries}
 use Rattle.replica_core.specs.Replica.{ReplicaState, edit_drawn}
+use Rattle.replica_core.specs.Room.{IsFullFor}
 
 -- ---- histories
 
@@ -179,41 +184,69 @@ AreReplies w (event ∷ events) [] = ⊥
 
 -- ---- why a list of events stops
 
--- what may want room: a draw, a delivery and an export
-abbrev pub WantsRoom : Event → Type 0
-WantsRoom (Draw r spec) = ⊤
-WantsRoom (Deliver m r) = ⊤
-WantsRoom (Export r g) = ⊤
-WantsRoom (SendDelta r from count) = ⊥
-WantsRoom (SendState r) = ⊥
-WantsRoom (Show r x y) = ⊥
-WantsRoom (Same a b) = ⊥
-WantsRoom (Dump m) = ⊥
+-- a replica's plane, with room for so many squares, became full of what it needs where an edit that it drew was joined
+pub record IsDrawFull (nodes : ℕ) (w : History) (number : ℕ) (spec : EditSpec) : Type 0 where
+  pub held : ReplicaHistory
+  pub there : replica w number ≡ Ok held
+  pub edit : PlaneEdit
+  pub meant : edit_drawn w.rule (greatest_counter held.taken) number spec ≡ Ok edit
+  pub full : IsFullFor nodes held.taken (λ content. content ≡ contents.Edits (edit ∷ []))
 
--- an event may stop the list: any for want of memory, and for want of room what may want it
-abbrev pub MayStop : Stop → Event → Type 0
-MayStop stops.Memory event = ⊤
-MayStop stops.StoreFull event = WantsRoom event
+-- a content has what was sent
+abbrev pub Carries : Sent → Content → Type 0
+Carries (Delta edits) content = content ≡ contents.Edits edits
+Carries (State edits) content = HasMap content (greatest edits)
 
--- the universe of an export of a replica's plane wants more room than 2^26 squares
-pub record IsExportFull (replicas : List ReplicaState) (number g : ℕ) : Type 0 where
-  pub held : ReplicaState
-  pub there : numbered replicas number ≡ Some held
-  pub wanted : IsRoomWanted held.rule held.plane g usual_room
+-- a map was sent that no plane of 2^26 squares holds
+abbrev pub IsTooLargeToRead : Sent → Type 0
+IsTooLargeToRead (Delta edits) = ⊥
+IsTooLargeToRead (State edits) = IsMapTooLargeFor usual_room (greatest edits)
+
+-- so it became where what was sent was joined; or the plane that a map was read into had no room for it
+pub record IsDeliveryFull (nodes : ℕ) (w : History) (number_sent number : ℕ) : Type 0 where
+  pub held : ReplicaHistory
+  pub there : replica w number ≡ Ok held
+  pub sent : Sent
+  pub given : message w number_sent ≡ Ok sent
+  pub full : IsFullFor nodes held.taken (Carries sent) ⊎ IsTooLargeToRead sent
+
+-- the universe of an export of what a replica took wants more room than 2^26 squares
+pub record IsExportFull (w : History) (number g : ℕ) : Type 0 where
+  pub held : ReplicaHistory
+  pub there : replica w number ≡ Ok held
+  pub plane : StampedPlane
+  pub shows : AreSame (map_of plane) (greatest held.taken)
+  pub wanted : IsRoomWanted w.rule plane g usual_room
+
+-- at an event there was no room for what it needs, where each replica's plane has room for so many squares
+abbrev pub WantsRoom : ℕ → History → Event → Type 0
+WantsRoom nodes w (Draw r spec) = IsDrawFull nodes w r spec
+WantsRoom nodes w (Deliver m r) = IsDeliveryFull nodes w m r
+WantsRoom nodes w (Export r g) = IsExportFull w r g
+WantsRoom nodes w (SendDelta r from count) = ⊥
+WantsRoom nodes w (SendState r) = ⊥
+WantsRoom nodes w (Show r x y) = ⊥
+WantsRoom nodes w (Same a b) = ⊥
+WantsRoom nodes w (Dump m) = ⊥
+
+-- an event may stop the list: any for want of memory, and for want of room one at which there was none
+abbrev pub MayStop : ℕ → History → Stop → Event → Type 0
+MayStop nodes w stops.Memory event = ⊤
+MayStop nodes w stops.StoreFull event = WantsRoom nodes w event
 
 -- all events before one of the list were replied to, and that one may have stopped it
-pub record IsStoppedAt (w : History) (events : List Event) (stop : Stop) : Type 0 where
+pub record IsStoppedAt (nodes : ℕ) (w : History) (events : List Event) (stop : Stop) : Type 0 where
   pub before : List Event
   pub event : Event
   pub more : List Event
   pub all : events ≡ before ++ event ∷ more
   pub replies : List Reply
   pub replied : AreReplies w before replies
-  pub may : MayStop stop event
+  pub may : MayStop nodes (after_all w before) stop event
 
 -- a list stops at one of its events, or for want of memory
-abbrev pub IsStopOf : History → List Event → Stop → Type 0
-IsStopOf w events stop = IsStoppedAt w events stop ⊎ (stop ≡ stops.Memory)
+abbrev pub IsStopOf : ℕ → History → List Event → Stop → Type 0
+IsStopOf nodes w events stop = IsStoppedAt nodes w events stop ⊎ (stop ≡ stops.Memory)
 
 -- ---- the edits of a history
 

@@ -10,10 +10,12 @@ ghost use Rattle.edit_stamps.specs.PlaneMap.{HasStampedWrites, HasStatesBelow, I
 ghost use Rattle.stamped_writes.specs.Write.{unwritten, AreSame, Writes, joined};
 ghost use Rattle.edit_stamps.specs.Edit.{PlaneEdit, IsEdit, has_states_below, writes_of, HaveStatesBelow, greatest};
 ghost use Rattle.edit_journal.specs.Journal.{noted};
-ghost use Rattle.held_plane.specs.Held.{IsAsBefore};
+ghost use Rattle.held_plane.specs.Held.{IsAsBefore, IsJoinedAt, added_writes};
+ghost use Rattle.held_plane.specs.Wanted.{IsJoinedSoFar, IsWantedOf};
 ghost use Rattle.replica_core.specs.Fault.{IsWant};
 ghost use Rattle.delta_exchange.specs.Message.{edits_in, writes_in, IsBelowStates};
 ghost use Rattle.replica_core.specs.Replica.{made, or_edit_fault, stamp_after};
+ghost use Rattle.replica_core.specs.Room.{IsFullOf, IsWantedJoining};
 ghost use Rattle.stamped_tree.specs.Plane.{map_of};
 ghost use Rattle.generation_engine.specs.Universe.{states_in_writes};
 ghost use Rattle.export.specs.Kept.{IsRunOf};
@@ -27,7 +29,7 @@ use generation_engine::Engine;
 use generations_rule::Rule;
 use held_plane::{Added, HeldPlane};
 use replica_events::EditSpec;
-use stamped_tree::{Limits, Plane};
+use stamped_tree::{Limits, Part, Plane};
 use std::alloc::{AllocError, Global};
 use std::marker::Model;
 use std::slice;
@@ -365,6 +367,19 @@ fn make(alloc: Global, rule: &Rule, stamp: Stamp, spec: &EditSpec) -> Result<Edi
     Ok(edit)
 }
 
+/// Adds the square that a plane's root would be if something were joined, and leaves the map as it was.
+fn add(plane: &mut HeldPlane, added: Added<'_>) -> Result<Part, Fault>
+    ensures joins { IfOk result (IsJoinedAt plane.old plane.new (added_writes added.entry)) }
+    ensures before { IsAsBefore plane.old plane.new }
+    ensures err { IfErr result IsWant }
+    ensures full { IfErr result (λ fault. fault ≡ Fault.StoreFull → IsFullOf plane.old plane.new (IsWantedOf (map_of plane.old) added.entry)) }
+{
+    let root = plane.add(added);
+    // For the proof alone: the call tells that each square is stored once.
+    plane.plane().plane_laws(plane.plane());
+    Ok(root?)
+}
+
 /// Joins an edit and notes it. All that may be refused is done before anything changes.
 fn draw_into(plane: &mut HeldPlane, journal: &mut Journal, edit: &Edit) -> Result<(), Fault>
     ensures map { OnOk result (AreSame (map_of plane.new) (joined (map_of plane.old) (writes_of edit.now))) }
@@ -373,10 +388,10 @@ fn draw_into(plane: &mut HeldPlane, journal: &mut Journal, edit: &Edit) -> Resul
     ensures before { OnErr result (IsAsBefore plane.old plane.new) }
     ensures unnoted { OnErr result (journal.new ≡ journal.old) }
     ensures err { IfErr result IsWant }
-    ensures full { IfErr result (λ fault. fault ≡ Fault.StoreFull → length plane.new.store.squares ≡ plane.new.store.room) }
+    ensures full { IfErr result (λ fault. fault ≡ Fault.StoreFull → IsFullOf plane.old plane.new (IsJoinedSoFar (map_of plane.old) (edit.now ∷ []))) }
 {
     let noted = edit.copy()?;
-    let root = plane.add(Added::Edits(slice::from_ref(edit)))?;
+    let root = add(plane, Added::Edits(slice::from_ref(edit)))?;
     journal.push(noted)?;
     let _ = plane.set_root(root);
     Ok(())
@@ -391,7 +406,7 @@ fn take_into(plane: &mut HeldPlane, journal: &mut Journal, content: &Content) ->
     ensures before { OnErr result (IsAsBefore plane.old plane.new) }
     ensures unnoted { OnErr result (journal.new ≡ journal.old) }
     ensures err { IfErr result IsWant }
-    ensures full { IfErr result (λ fault. fault ≡ Fault.StoreFull → length plane.new.store.squares ≡ plane.new.store.room) }
+    ensures full { IfErr result (λ fault. fault ≡ Fault.StoreFull → IsFullOf plane.old plane.new (IsWantedJoining (map_of plane.old) content.now)) }
     ensures edits { OnOk result ((e : PlaneEdit) → Contains (edits_in content.now) e → IsEdit e) }
 {
     match content {
@@ -410,9 +425,9 @@ fn take_edits(plane: &mut HeldPlane, journal: &mut Journal, edits: &[Edit]) -> R
     ensures before { OnErr result (IsAsBefore plane.old plane.new) }
     ensures unnoted { OnErr result (journal.new ≡ journal.old) }
     ensures err { IfErr result IsWant }
-    ensures full { IfErr result (λ fault. fault ≡ Fault.StoreFull → length plane.new.store.squares ≡ plane.new.store.room) }
+    ensures full { IfErr result (λ fault. fault ≡ Fault.StoreFull → IsFullOf plane.old plane.new (IsJoinedSoFar (map_of plane.old) edits.now)) }
 {
-    let root = plane.add(Added::Edits(edits))?;
+    let root = add(plane, Added::Edits(edits))?;
     journal.note(edits)?;
     Ok(plane.set_root(root))
 }
@@ -424,8 +439,8 @@ fn take_map(plane: &mut HeldPlane, other: &Plane) -> Result<bool, Fault>
     ensures room { plane.new.store.room ≡ plane.old.store.room }
     ensures before { OnErr result (IsAsBefore plane.old plane.new) }
     ensures err { IfErr result IsWant }
-    ensures full { IfErr result (λ fault. fault ≡ Fault.StoreFull → length plane.new.store.squares ≡ plane.new.store.room) }
+    ensures full { IfErr result (λ fault. fault ≡ Fault.StoreFull → IsFullOf plane.old plane.new (λ map. AreSame map (joined (map_of plane.old) (map_of other.now)))) }
 {
-    let root = plane.add(Added::Map(other))?;
+    let root = add(plane, Added::Map(other))?;
     Ok(plane.set_root(root))
 }

@@ -1,6 +1,6 @@
 //! Worlds of replicas: lists of events, and their replies.
 
-ghost use Rattle.std.specs.Prelude.{◌≡◌, ◌≤◌, ◌-◌, ◌++◌, ◌∷◌, [], ℕ, List, Option, IfOk, IfErr, IfSome, OnErr, Ok, Err, Some, SomeIff, Contains, length, MatchResult, option_copied, slice_set};
+ghost use Rattle.std.specs.Prelude.{◌≡◌, ◌≤◌, ◌⊎◌, ◌-◌, ◌++◌, ◌∷◌, [], ℕ, List, Option, IfOk, IfErr, IfSome, OnErr, Ok, Err, Some, SomeIff, Contains, length, MatchResult, option_copied, slice_set};
 ghost use Rattle.square_store.specs.Limits.{usual_room};
 ghost use Rattle.edit_stamps.specs.Edit.{IsEdit, PlaneEdit, greatest_counter};
 ghost use Rattle.generations_rule.specs.Rule.{GenerationsRule};
@@ -13,7 +13,9 @@ ghost use Rattle.replica_core.specs.declared.event.Reply.TheVariants as replies;
 ghost use Rattle.replica_core.specs.Exporting.{IsExportFault, IsExportOf};
 ghost use Rattle.replica_core.specs.Fault.{IsWant, stop_of};
 ghost use Rattle.replica_core.specs.Replica.{edit_drawn, IsNew, ReplicaState};
-ghost use Rattle.replica_core.specs.World.{History, IsEditUnder, IsExportFull, IsThere, ReplicaHistory, Sent, opening, after, after_all, after_drawing, after_message, numbered, AreCurrent, AreEdits, AreReplies, HaveRoom, IsRemembered, IsReply, IsStateMessage, IsStateOf, IsStopOf, IsUniverseOf, MayStop, StandSideBySide, StandsFor, StandsForSent, StandsForWorld};
+ghost use Rattle.replica_core.specs.Room.{IsFullFor};
+ghost use Rattle.delta_exchange.specs.declared.message.Content.TheVariants as contents;
+ghost use Rattle.replica_core.specs.World.{Carries, History, IsDeliveryFull, IsDrawFull, IsEditUnder, IsExportFull, IsThere, IsTooLargeToRead, ReplicaHistory, Sent, opening, after, after_all, after_drawing, after_message, numbered, AreCurrent, AreEdits, AreReplies, HaveRoom, IsRemembered, IsReply, IsStateMessage, IsStateOf, IsStopOf, IsUniverseOf, MayStop, StandSideBySide, StandsFor, StandsForSent, StandsForWorld};
 
 use crate::event::{ByteList, Reply, Stop};
 use crate::fault::Fault;
@@ -134,7 +136,7 @@ pub fn replay(
     ensures world { IfOk result (λ done. StandsForWorld (after_all (opening rule n) events.now) done.0) }
     ensures edits { IfOk result (λ done. AreEdits (after_all (opening rule n) events.now)) }
     ensures room { IfOk result (λ done. HaveRoom usual_room done.0.replicas) }
-    ensures stopped { IfErr result (IsStopOf (opening rule n) events.now) }
+    ensures stopped { IfErr result (IsStopOf usual_room (opening rule n) events.now) }
 {
     replay_within(alloc, rule, n, ROOM, events)
 }
@@ -152,7 +154,7 @@ pub fn replay_within(
     ensures world { IfOk result (λ done. StandsForWorld (after_all (opening rule n) events.now) done.0) }
     ensures edits { IfOk result (λ done. AreEdits (after_all (opening rule n) events.now)) }
     ensures room { IfOk result (λ done. HaveRoom nodes done.0.replicas) }
-    ensures stopped { IfErr result (IsStopOf (opening rule n) events.now) }
+    ensures stopped { IfErr result (IsStopOf nodes (opening rule n) events.now) }
 {
     let mut world = World::with_room(alloc, rule, n, nodes)?;
     let mut replies = Vec::with_capacity(alloc, events.len())?;
@@ -204,7 +206,7 @@ fn happen(world: &mut World, event: &Event) -> Result<Reply, Stop>
         IsReply w event.now reply × StandsForWorld (after w event.now) world.new) }
     ensures edits { IfOk result (λ _. (w : History) → AreEdits w → StandsForWorld w world.old → AreEdits (after w event.now)) }
     ensures room { (nodes : ℕ) → HaveRoom nodes world.old.replicas → HaveRoom nodes world.new.replicas }
-    ensures err { IfErr result (λ stop. MayStop stop event.now) }
+    ensures err { IfErr result (λ stop. (w : History) (nodes : ℕ) → AreEdits w → StandsForWorld w world.old → HaveRoom nodes world.old.replicas → MayStop nodes w stop event.now) }
 {
     match event {
         Event::Draw(number, spec) => {
@@ -267,6 +269,8 @@ fn draw(
     ensures remembered { (messages : List (List ℕ)) → AreCurrent replicas.old messages current.old → AreCurrent replicas.new messages current.new }
     ensures length { length current.new ≡ length current.old }
     ensures universe { IfSome universe.old (λ kept. IsUniverseOf replicas.old kept.place kept.engine) → IfSome universe.new (λ kept. IsUniverseOf replicas.new kept.place kept.engine) }
+    ensures full { result ≡ Err Stop.StoreFull → (w : History) (nodes : ℕ) → AreEdits w → StandSideBySide (StandsFor w.rule) w.replicas replicas.old → HaveRoom nodes replicas.old
+        → IsDrawFull nodes w number spec.now }
     ensures err { IfErr result (λ _. IsThere number (length replicas.old)) }
 {
     match index_of(u64::from(number), replicas.len()) {
@@ -305,6 +309,9 @@ fn draw_at(
         (λ e. (reply ≡ replies.Drawn e.stamp) × StandsFor rule replica.old.number (after_drawing h e) replica.new × IsEditUnder rule e)
         (λ fault. (reply ≡ replies.Refused fault) × (replica.new ≡ replica.old))) }
     ensures room { replica.new.plane.store.room ≡ replica.old.plane.store.room }
+    ensures full { result ≡ Err Stop.StoreFull → (rule : GenerationsRule) (h : ReplicaHistory) → ((e : PlaneEdit) → Contains h.taken e → IsEdit e)
+        → StandsFor rule replica.old.number h replica.old
+        → (e : PlaneEdit) × (edit_drawn rule (greatest_counter h.taken) replica.old.number spec.now ≡ Ok e) × IsFullFor replica.old.plane.store.room h.taken (λ content. content ≡ contents.Edits (e ∷ [])) }
     ensures remembered { IsRemembered replica.old replica.new current.old current.new }
 {
     *current = None;
@@ -433,6 +440,8 @@ fn deliver(
     ensures remembered { AreCurrent replicas.old messages.now current.old → AreCurrent replicas.new messages.now current.new }
     ensures length { length current.new ≡ length current.old }
     ensures universe { IfSome universe.old (λ kept. IsUniverseOf replicas.old kept.place kept.engine) → IfSome universe.new (λ kept. IsUniverseOf replicas.new kept.place kept.engine) }
+    ensures full { result ≡ Err Stop.StoreFull → (w : History) (nodes : ℕ) → StandSideBySide (StandsFor w.rule) w.replicas replicas.old
+        → StandSideBySide (λ m. StandsForSent w.rule) w.messages messages.now → HaveRoom nodes replicas.old → IsDeliveryFull nodes w message number }
     ensures err { IfErr result (λ _. IsThere message (length messages.now) × IsThere number (length replicas.old)) }
 {
     let Some(from) = index_of(message, messages.len()) else {
@@ -452,6 +461,8 @@ fn take_at(replica: &mut Replica, current: &mut Option<usize>, text: &[u8]) -> R
         → StandsForSent rule sent text.now
         → (reply ≡ replies.Taken) × StandsFor rule replica.old.number (after_message h sent) replica.new) }
     ensures room { replica.new.plane.store.room ≡ replica.old.plane.store.room }
+    ensures full { result ≡ Err Stop.StoreFull → (rule : GenerationsRule) (h : ReplicaHistory) (sent : Sent) → StandsFor rule replica.old.number h replica.old
+        → StandsForSent rule sent text.now → IsFullFor replica.old.plane.store.room h.taken (Carries sent) ⊎ IsTooLargeToRead sent }
     ensures remembered { IsRemembered replica.old replica.new current.old current.new }
 {
     match replica.take_bytes_noting_change(text) {
@@ -499,7 +510,7 @@ fn export(
     ensures step { IfOk result (λ reply. (w : History) → StandSideBySide (StandsFor w.rule) w.replicas replicas.now → IsReply w (events.Export number generation) reply) }
     ensures universe { IfSome universe.new (λ kept. IsUniverseOf replicas.now kept.place kept.engine) }
     ensures err { IfErr result (λ _. IsThere number (length replicas.now) × (generation ≤ last_generation)) }
-    ensures full { result ≡ Err Stop.StoreFull → IsExportFull replicas.now number generation }
+    ensures full { result ≡ Err Stop.StoreFull → (w : History) → StandSideBySide (StandsFor w.rule) w.replicas replicas.now → IsExportFull w number generation }
 {
     let Some(index) = index_of(u64::from(number), replicas.len()) else {
         return Ok(Reply::Refused(Fault::NoReplica));

@@ -7,6 +7,7 @@ use Rattle.std.specs.List.{list_any}
 use Rattle.devices.specs.Sink.{KnownSink, IsPush}
 use Rattle.genedit_io.specs.declared.fault.RunFault.{RunFault}
 use Rattle.genedit_io.specs.RunFault.{IsWant}
+use Rattle.square_store.specs.Limits.{usual_room}
 use Rattle.genedit_lib.specs.Run.{IsUnprinted, IsStopped}
 use Rattle.genedit_script.specs.Script.{ScriptValue, script_of}
 use Rattle.script_faults.specs.declared.note.Note.{Note}
@@ -40,7 +41,7 @@ no_fault text line (Err n) first is = cc
 
 -- a text of which no fault is told is refused for none
 pub not_faulty : (text : List ℕ) (notes : List Note) (fault : RunFault) → Begin (fault_lines notes) (script_of text) → list_any is_fault notes ≡ false →
-    IsUnprinted text fault ⊎ IsWant fault → IsStopped text fault ⊎ IsWant fault
+    IsUnprinted usual_room text fault ⊎ IsWant fault → IsStopped usual_room text fault ⊎ IsWant fault
 not_faulty text notes fault first none (inl (inl faulty)) =
     let begins : Begin [] (script_of text) = subst (λ (lines : List ℕ). Begin lines (script_of text)) (no_lines notes none) first in
     absurd (no_fault text faulty.line (script_of text) begins faulty.first)

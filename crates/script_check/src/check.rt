@@ -5,6 +5,7 @@ ghost use Rattle.genedit_script.specs.Script.{script_of};
 ghost use Rattle.genedit_io.specs.RunFault.{IsWant};
 ghost use Rattle.genedit_io.specs.Runs.{IsReadWhole, IsRun};
 ghost use Rattle.genedit_lib.specs.Run.{IsStopped};
+ghost use Rattle.square_store.specs.Limits.{usual_room};
 ghost use Rattle.script_faults.specs.Faults.{faulty_lines, fault_lines};
 ghost use Rattle.script_faults.specs.Laws.{Begin};
 ghost use Rattle.script_check.specs.Check.{AreRefused, ComesTo, ReportsAs};
@@ -67,7 +68,7 @@ pub fn checked(alloc: Global, name: &[u8], script: &[u8]) -> Result<Report, RunF
     ensures first { IfOk result (λ report. Begin (fault_lines report.notes.notes.items) (script_of script.now)) }
     ensures refusals { IfOk result (λ report. AreRefused script.now (faulty_lines script.now) report.refusals.items) }
     ensures text { IfOk result (λ report. IsReportText name.now script.now report.notes.notes.items report.refusals.items report.text.items) }
-    ensures stopped { IfErr result (λ fault. IsStopped script.now fault ⊎ IsWant fault) }
+    ensures stopped { IfErr result (λ fault. IsStopped usual_room script.now fault ⊎ IsWant fault) }
 {
     let notes = notes_in(alloc, script)?;
     let refusals = if has_fault(&notes.notes) {
@@ -91,7 +92,7 @@ pub fn check_script<S: Source, K: Sink>(
     sink: &mut K,
 ) -> Result<CheckOutcome, RunFault>
     ensures outcome { IfOk result (λ outcome. (text : List ℕ) × IsReadWhole (2 ^ 32) text (S.known source.old) (S.known source.new) × ComesTo text outcome) }
-    ensures run { IsRun (ReportsAs name.now) IsStopped (2 ^ 32) result (S.known source.old) (S.known source.new) K.known sink.old sink.new }
+    ensures run { IsRun (ReportsAs name.now) (IsStopped usual_room) (2 ^ 32) result (S.known source.old) (S.known source.new) K.known sink.old sink.new }
 {
     let script = pull_all(alloc, source, TURNS)?;
     let report = checked(alloc, name, &script)?;

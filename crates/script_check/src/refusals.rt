@@ -10,6 +10,7 @@ ghost use Rattle.genedit_io.specs.RunFault.{IsWant};
 ghost use Rattle.genedit_lib.specs.Plan.{line_of};
 ghost use Rattle.genedit_lib.specs.Run.{IsUnprinted, run_fault_of, run_fault_of_stop, script_events, script_opening};
 ghost use Rattle.replica_core.specs.World.{IsStopOf};
+ghost use Rattle.square_store.specs.Limits.{usual_room};
 ghost use Rattle.script_check.specs.Check.{AreRefusedOf, IsRefusedRun, number_first, number_third, own_refusal, refusal_in_reply, refusals_among};
 
 use crate::block::fault_place;
@@ -39,7 +40,7 @@ pub struct Refusal {
 /// end with it.
 pub fn refusals_in(alloc: Global, text: &[u8]) -> Result<Vec<Refusal>, RunFault>
     ensures refused { IfOk result (λ refusals. IsRefusedRun text.now refusals.items) }
-    ensures fault { IfErr result (λ fault. IsUnprinted text.now fault ⊎ IsWant fault) }
+    ensures fault { IfErr result (λ fault. IsUnprinted usual_room text.now fault ⊎ IsWant fault) }
 {
     let places = command_places(alloc, text)?;
     let script = read_script(alloc, text).map_err(fault_of_script)?;
@@ -55,7 +56,7 @@ fn script_refusals(
     script: Script,
 ) -> Result<Vec<Refusal>, Stop>
     ensures refused { IfOk result (λ refusals. AreRefusedOf script (lines_from lines.entry.number lines.entry.rest.now) places.now refusals.items) }
-    ensures stopped { IfErr result (IsStopOf (script_opening script) (script_events script)) }
+    ensures stopped { IfErr result (IsStopOf usual_room (script_opening script) (script_events script)) }
 {
     let (rule, replicas) = (script.rule(), script.replicas());
     let plan = planned(alloc, script.into_commands())?;

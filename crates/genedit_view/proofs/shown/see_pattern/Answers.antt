@@ -5,7 +5,9 @@ use Rattle.cell_pictures.specs.Shown.{state_at}
 use Rattle.genedit_view.specs.declared.fault.ViewFault.{ViewFault}
 use Rattle.genedit_view.specs.Fault.{IsViewWant}
 use Rattle.genedit_view.specs.Reading.{pattern_seen}
-use Rattle.genedit_view.specs.Seeing.{AreCellsAt, IsLateRefused, IsNotSeen, IsWantAt}
+use Rattle.genedit_io.specs.declared.fault.RunFault.TheVariants.{StoreFull}
+use Rattle.genedit_view.specs.declared.fault.ViewFault.TheVariants.{Run}
+use Rattle.genedit_view.specs.Seeing.{AreCellsAt, IsLateFull, IsLateRefused, IsNotSeen, IsWantAt}
 use Rattle.genedit_view.proofs.SeenLaws.{at_end, pattern_late, pattern_later, pattern_shown}
 use Rattle.genedit_view.proofs.shown.see_pattern.Goals as goal
 
@@ -28,8 +30,10 @@ returns-in_err-cells-clause-fault c =
     ap (λ (is_run : Bool). pattern_seen is_run o.rule text) (sym c.is_some-is_run.ensures) ∙ c.in_ok-seen.ensures.seen in
     let late : IsLateRefused r (state_at cells) g c.in_err-cells.field-0.0 ⊎ IsViewWant c.in_err-cells.field-0.0 =
     subst (λ (cs : List Cell). IsLateRefused r (state_at cs) g c.in_err-cells.field-0.0 ⊎ IsViewWant c.in_err-cells.field-0.0) c.deref.ensures.value c.in_err-cells.ensures.fault in
+    let full : c.in_err-cells.field-0.0 ≡ Run StoreFull → IsLateFull r (state_at cells) g =
+    subst (λ (cs : List Cell). c.in_err-cells.field-0.0 ≡ Run StoreFull → IsLateFull r (state_at cs) g) c.deref.ensures.value c.in_err-cells.ensures.full in
     at_end c.from_residual-in_err-cells.result _ _ c.from_residual-in_err-cells.ensures.1
-    (λ e told. subst (λ (x : ViewFault). IsNotSeen o text x ⊎ IsWantAt o text x) (sym told) (pattern_late o text r cells g c.in_err-cells.field-0.0 c.requires c.in-Some.is seen late))
+    (λ e told. subst (λ (x : ViewFault). IsNotSeen o text x ⊎ IsWantAt o text x) (sym told) (pattern_late o text r cells g c.in_err-cells.field-0.0 c.requires c.in-Some.is seen full late))
 
 pub returns-clause-seen : goal.returns-clause-seen
 returns-clause-seen c =

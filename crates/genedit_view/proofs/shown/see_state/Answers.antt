@@ -1,4 +1,4 @@
-use Rattle.std.proofs.Common.{◌≡◌, ◌∙◌, sym, subst}
+use Rattle.std.proofs.Common.{◌≡◌, ◌∙◌, ap, sym, subst, Err}
 use Rattle.std.specs.Prelude.{◌⊎◌, Some, is_some}
 use Rattle.stamped_tree.specs.Plane.{map_of}
 use Rattle.generation_engine.specs.Universe.{states_in_writes}
@@ -12,7 +12,8 @@ pub returns-in_err-message-clause-fault : goal.returns-in_err-message-clause-fau
 returns-in_err-message-clause-fault c =
     let rule : state_rule c.args.options.now.rule c.args.text.now ≡ Some c.in-Some.rule = sym c.state_rule.ensures ∙ c.in-Some.is in
     at_end c.from_residual.result _ _ c.from_residual.ensures.1
-    (λ e told. state_refused c.args.options.now c.args.text.now c.in-Some.rule c.in_err-message.field-0.0 e c.requires rule c.in_err-message.ensures.exact told)
+    (λ e told. state_refused c.args.options.now c.args.text.now c.in-Some.rule c.in_err-message.field-0.0 e c.requires rule
+    (λ full. c.in_err-message.ensures.full (ap Err full)) (λ map tellable spelt full. c.in_err-message.ensures.too_large map tellable spelt (ap Err full)) c.in_err-message.ensures.exact told)
 
 pub returns-in_err-cells-clause-fault : goal.returns-in_err-cells-clause-fault
 returns-in_err-cells-clause-fault c =
@@ -23,7 +24,7 @@ returns-in_err-cells-clause-fault c =
     let read = state_read (is_some o.generation) o.rule text r c.in_ok-message.message.content c.in-Some-plane.plane.now c.requires rule c.in-Some-plane.ensures.value c.in_ok-message.ensures.found.1 in
     at_end c.from_residual-in_err-cells.result _ _ c.from_residual-in_err-cells.ensures.1
     (λ e told. subst (λ (x : ViewFault). IsNotSeen o text x ⊎ IsWantAt o text x) (sym told)
-    (state_late o text r (states_in_writes (map_of c.in-Some-plane.plane.now)) c.in_err-cells.field-0.0 c.requires read c.in_err-cells.ensures.fault))
+    (state_late o text r (states_in_writes (map_of c.in-Some-plane.plane.now)) c.in_err-cells.field-0.0 c.requires read c.in_err-cells.ensures.full c.in_err-cells.ensures.fault))
 
 pub returns-clause-seen : goal.returns-clause-seen
 returns-clause-seen c =

@@ -3,6 +3,7 @@ use Rattle.std.proofs.lemmas.Option.{slice_get-get_or}
 use Rattle.std.proofs.lemmas.Result.{IfOk-weaker}
 use Rattle.replica_core.proofs.CurrentLaws.{current_set}
 use Rattle.replica_core.proofs.EventLaws.{draws_in_world, draws_nowhere}
+use Rattle.replica_core.proofs.RoomLaws.{draw_wants}
 use Rattle.replica_core.proofs.world.draw.Goals as goal
 
 pub returns-in-Some-clause-step : goal.returns-in-Some-clause-step
@@ -43,3 +44,13 @@ returns-in-Some-clause-remembered c = λ messages are.
     (slice_get-get_or c.args.replicas.now c.in-Some.index c.index-replicas-index.result (omega (arith, r.0.0, r.0.1, r.1)))
     (slice_get-get_or c.args.current.now c.in-Some.index None (omega (arith, r.0.0, r.0.1, r.1, c.requires)))
     c.draw_at.ensures.remembered are
+
+pub returns-in-Some-clause-full : goal.returns-in-Some-clause-full
+returns-in-Some-clause-full c = λ is w nodes valid side room.
+    let old = get_or c.args.replicas.now c.in-Some.index c.index-replicas-index.result in
+    let r = c.in-Some.ensures in
+    let one : 1 ≤ c.args.number = omega (arith, r.0.0, c.from.ensures) in
+    let at : c.in-Some.index ≡ c.args.number - 1 = r.1 ∙ ap (λ n. n - 1) c.from.ensures in
+    draw_wants w c.args.replicas.now c.args.number c.in-Some.index nodes old c.args.spec.now valid side room one at
+    (slice_get-get_or c.args.replicas.now c.in-Some.index c.index-replicas-index.result (omega (arith, r.0.0, r.0.1, r.1)))
+    (λ h. c.draw_at.ensures.full is w.rule h)

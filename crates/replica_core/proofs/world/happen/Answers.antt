@@ -3,10 +3,11 @@ use Rattle.std.specs.Prelude.{IfSome}
 use Rattle.std.proofs.lemmas.List.{with_items_is}
 use Rattle.std.proofs.lemmas.Result.{IfOk-weaker}
 use Rattle.replica_core.specs.Replica.{ReplicaState}
-use Rattle.replica_core.specs.World.{AreEdits, HaveRoom, IsUniverseOf, after, StandSideBySide, StandsForSent, StandsFor, StandsForWorld}
+use Rattle.replica_core.specs.World.{AreEdits, HaveRoom, IsUniverseOf, after, StandSideBySide, StandsForSent, StandsFor, StandsForWorld, WantsRoom}
 use Rattle.replica_core.proofs.HistoryLaws.{edits_delivered, edits_sent_of, edits_sent_on}
 use Rattle.replica_core.proofs.CurrentLaws.{current_same}
 use Rattle.replica_core.proofs.EventLaws.{goes_by_drawing, goes_by_delivery, goes_by_naming, goes_by_sending}
+use Rattle.replica_core.proofs.RoomLaws.{may_stop, memory_stops, memory_stops_both}
 use Rattle.replica_core.proofs.world.happen.Goals as goal
 
 pub returns-in-Draw-clause-step : goal.returns-in-Draw-clause-step
@@ -109,3 +110,36 @@ invariant_of-world c =
 pub returns-in-Export-clause-room : goal.returns-in-Export-clause-room
 returns-in-Export-clause-room c = λ nodes all.
     subst (λ s. HaveRoom nodes s.replicas) (sym c.world.view_is) all
+
+pub returns-in-Draw-clause-err : goal.returns-in-Draw-clause-err
+returns-in-Draw-clause-err c = may_stop c.draw.result c.args.event.now _ (λ is w nodes valid stands room.
+    let inside = subst (StandsForWorld w) (sym c.world.view_is) stands in
+    subst (λ e. WantsRoom nodes w e) (sym c.in-Draw.is)
+    (c.draw.ensures.full is w nodes valid (subst (StandSideBySide (StandsFor w.rule) w.replicas) (sym c.deref_mut.ensures.value) inside.replicas)
+    (subst (HaveRoom nodes) (sym c.deref_mut.ensures.value) (subst (λ s. HaveRoom nodes s.replicas) (sym c.world.view_is) room))))
+
+pub returns-in-Deliver-clause-err : goal.returns-in-Deliver-clause-err
+returns-in-Deliver-clause-err c = may_stop c.deliver.result c.args.event.now _ (λ is w nodes valid stands room.
+    let inside = subst (StandsForWorld w) (sym c.world.view_is) stands in
+    subst (λ e. WantsRoom nodes w e) (sym c.in-Deliver.is)
+    (c.deliver.ensures.full is w nodes (subst (StandSideBySide (StandsFor w.rule) w.replicas) (sym c.deref_mut-in-Deliver.ensures.value) inside.replicas)
+    (subst (StandSideBySide (λ k. StandsForSent w.rule) w.messages) (sym c.deref-in-Deliver.ensures.value) inside.messages)
+    (subst (HaveRoom nodes) (sym c.deref_mut-in-Deliver.ensures.value) (subst (λ s. HaveRoom nodes s.replicas) (sym c.world.view_is) room))))
+
+pub returns-in-Export-clause-err : goal.returns-in-Export-clause-err
+returns-in-Export-clause-err c = may_stop c.export.result c.args.event.now _ (λ is w nodes valid stands room.
+    let inside = subst (StandsForWorld w) (sym c.world.view_is) stands in
+    subst (λ e. WantsRoom nodes w e) (sym c.in-Export.is)
+    (c.export.ensures.full is w (subst (StandSideBySide (StandsFor w.rule) w.replicas) (sym c.deref-in-Export.ensures.value) inside.replicas)))
+
+pub returns-in-SendDelta-clause-err : goal.returns-in-SendDelta-clause-err
+returns-in-SendDelta-clause-err c = memory_stops c.send_delta.result c.args.event.now _ _ c.send_delta.ensures.err
+
+pub returns-in-SendState-clause-err : goal.returns-in-SendState-clause-err
+returns-in-SendState-clause-err c = memory_stops c.send_state.result c.args.event.now _ _ c.send_state.ensures.err
+
+pub returns-in-Same-clause-err : goal.returns-in-Same-clause-err
+returns-in-Same-clause-err c = memory_stops_both c.same.result c.args.event.now _ _ _ c.same.ensures.err
+
+pub returns-in-Dump-clause-err : goal.returns-in-Dump-clause-err
+returns-in-Dump-clause-err c = memory_stops c.dump.result c.args.event.now _ _ c.dump.ensures.err

@@ -35,9 +35,9 @@ returns-in_err-reply-clause-stopped c =
     let rest : drop i c.args.events.now ≡ c.event-item.result ∷ drop (suc i) c.args.events.now =
     drop-cons c.args.events.now i c.event-item.result c.loop-event-test.true ∙ ap (λ e. e ∷ drop (suc i) c.args.events.now) (sym c.event-item.is) in
     let is = err_from_is_err_and c.from_residual-in_err-reply.result c.from_residual-in_err-reply.ensures.1 in
-    subst (λ r. IfErr r (IsStopOf (opening c.args.rule c.args.n) c.args.events.now)) (sym (is.1 ∙ ap Err is.2))
-    (running_stops (opening c.args.rule c.args.n) c.args.events.now (take i c.args.events.now) (drop (suc i) c.args.events.now) c.event-item.result c.loop-event.replies.items c.loop-event.world
-    c.in_err-reply.field-0.0 (sym (take-append-drop i c.args.events.now) ∙ ap (λ l. take i c.args.events.now ++ l) rest) c.loop-event.invariant.0 c.in_err-reply.ensures.err)
+    subst (λ r. IfErr r (IsStopOf c.args.nodes (opening c.args.rule c.args.n) c.args.events.now)) (sym (is.1 ∙ ap Err is.2))
+    (running_stops c.args.nodes (opening c.args.rule c.args.n) c.args.events.now (take i c.args.events.now) (drop (suc i) c.args.events.now) c.event-item.result c.loop-event.replies.items c.loop-event.world
+    c.in_err-reply.field-0.0 (sym (take-append-drop i c.args.events.now) ∙ ap (λ l. take i c.args.events.now ++ l) rest) c.loop-event.invariant.0 c.loop-event.invariant.1 c.in_err-reply.ensures.err)
 
 pub returns-clause-replies : goal.returns-clause-replies
 returns-clause-replies c =

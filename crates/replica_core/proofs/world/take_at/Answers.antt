@@ -1,6 +1,7 @@
 use Rattle.std.proofs.Common.{if◌then◌else◌, None, refl, sym, ◌∙◌, ap}
 use Rattle.replica_core.proofs.CurrentLaws.{remembered_refused, remembered_taken}
 use Rattle.replica_core.proofs.StandingLaws.{takes_sent}
+use Rattle.replica_core.proofs.RoomLaws.{take_full, wants_room}
 use Rattle.replica_core.proofs.world.take_at.Goals as goal
 use Rattle.replica_core.proofs.world.take_at.Goals.{then-changed, else-changed}
 
@@ -17,3 +18,8 @@ returns-after-changed-clause-remembered c =
 
 pub returns-in-Err-clause-remembered : goal.returns-in-Err-clause-remembered
 returns-in-Err-clause-remembered c = remembered_refused c.args.replica.now c.take_bytes_noting_change.new.self c.args.text.now _ c.in-Err.fault c.args.current.now c.in-Err.ensures.told
+
+pub returns-in-Err-clause-full : goal.returns-in-Err-clause-full
+returns-in-Err-clause-full c = λ is rule h sent stands sends.
+    take_full rule h sent c.args.replica.now c.take_bytes_noting_change.new.self c.args.text.now c.in-Err.fault stands sends (c.in-Err.ensures.edits, c.in-Err.ensures.map)
+    (wants_room c.in-Err.fault c.refused.result c.refused.ensures.err is)

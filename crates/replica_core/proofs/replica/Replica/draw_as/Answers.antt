@@ -1,10 +1,11 @@
-use Rattle.std.proofs.Common.{ℕ, sym, ◌∙◌, subst, ap, refl, Ok, Err}
+use Rattle.std.proofs.Common.{ℕ, [], ◌∷◌, sym, ◌∙◌, subst, ap, refl, Ok, Err}
 use Rattle.std.proofs.Math.Nat.{zero-max}
 use Rattle.std.proofs.lemmas.Result.{err_from_is_err_and}
 use Rattle.edit_stamps.specs.Stamp.{counter_in}
 use Rattle.edit_stamps.specs.Edit.{HaveStatesBelow, IsEdit}
 use Rattle.edit_stamps.specs.PlaneMap.{IsGreatestStamp}
 use Rattle.stamped_tree.specs.Plane.{map_of}
+use Rattle.delta_exchange.specs.declared.message.Content.TheVariants.{Edits}
 use Rattle.replica_core.specs.Replica.{ReplicaState, edit_drawn, IsDraw, IsJournalOf}
 use Rattle.replica_core.proofs.DrawLaws.{draws, next_above, refuses_made, stops}
 use Rattle.replica_core.proofs.NotedEdits.{below_drawn, drawn_behind, drawn_journal, kept}
@@ -59,7 +60,7 @@ returns-in_err-draw_into c =
           (record {
             want = c.in_err-draw_into.ensures.err;
             unchanged = record { one = record { rule = refl; number = refl; room = c.draw_into.ensures.room }; map = c.in_err-draw_into.ensures.before.map; journal = c.in_err-draw_into.ensures.unnoted };
-            full = c.in_err-draw_into.ensures.full;
+            full = λ is. (Edits (c.in_ok-edit.edit ∷ []), refl, c.in_err-draw_into.ensures.full is);
           })),
     )
 

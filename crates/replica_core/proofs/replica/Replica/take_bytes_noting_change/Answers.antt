@@ -12,7 +12,7 @@ use Rattle.delta_exchange.specs.State.{IsTellableMap}
 use Rattle.delta_exchange.specs.Versions.{IsReadableStateText}
 use Rattle.replica_core.specs.Exchange.{IsTakingMap, IsTakingOf, IsTakingText}
 use Rattle.replica_core.specs.Replica.{ReplicaState, IsTaking}
-use Rattle.replica_core.proofs.ExchangeLaws.{refuses_edits, refuses_map, refuses_text, takes_map, takes_some, takes_text}
+use Rattle.replica_core.proofs.ExchangeLaws.{edits_told, refuses_edits, refuses_map, refuses_text, takes_map, takes_some, takes_text}
 use Rattle.replica_core.proofs.replica.Replica.take_bytes_noting_change.Goals as goal
 
 pub returns-in_err-message-clause-told : goal.returns-in_err-message-clause-told
@@ -59,3 +59,14 @@ returns-in_err-message-clause-edits c =
     (λ meant tellable spelt. subst (IsTakingOf old old (λ content. content ≡ Edits meant)) (sym (is.1 ∙ ap Err is.2))
     (refuses_edits old old.rule meant c.in_err-message.field-0.0 (λ content. content ≡ Edits meant)
     (λ full. ap begins_as_delta (sym spelt) ∙ (let wants = c.in_err-message.ensures.full (ap Err full) in wants.state)) (c.in_err-message.ensures.only_edits meant tellable spelt)))
+
+pub returns-clause-edits : goal.returns-clause-edits
+returns-clause-edits c =
+    let old : ReplicaState = record { rule = c.self.inside.rule; number = c.self.inside.number; plane = c.self.inside.plane; journal = c.self.inside.journal } in
+    let taking = subst (λ r. IsTaking r c.take_noting_change.new.self c.in_ok-message.message c.take_noting_change.result) (sym c.self.view_is) c.take_noting_change.ensures.taking in
+    subst (λ r. (meant : List PlaneEdit) → AreTellable r.rule.states meant → c.args.text.now ≡ delta_text r.rule meant
+    → IsTakingOf r c.take_noting_change.new.self (λ content. content ≡ Edits meant) c.take_noting_change.result) c.self.view_is
+    (λ meant tellable spelt.
+    let stands = c.in_ok-message.ensures.only_edits meant tellable spelt in
+    takes_some old c.take_noting_change.new.self c.in_ok-message.message (λ content. content ≡ Edits meant) c.take_noting_change.result stands.0
+    (edits_told c.in_ok-message.message.content meant stands.1) taking)

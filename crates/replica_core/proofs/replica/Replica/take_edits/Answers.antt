@@ -18,7 +18,7 @@ returns-in_err-take_edits c =
     (subst (IsTakingOf (record { rule = c.self.inside.rule; number = c.self.inside.number; plane = c.self.inside.plane; journal = c.self.inside.journal }) new (λ content. content ≡ Edits c.args.edits.now)) (sym (is.1 ∙ ap Err is.2)) (record {
       want = c.in_err-take_edits.ensures.err;
       unchanged = record { one = record { rule = refl; number = refl; room = c.take_edits.ensures.room }; map = c.in_err-take_edits.ensures.before.map; journal = c.in_err-take_edits.ensures.unnoted };
-      full = c.in_err-take_edits.ensures.full;
+      full = λ full. (Edits c.args.edits.now, refl, c.in_err-take_edits.ensures.full full);
     }))
 
 pub returns : goal.returns
