@@ -1,0 +1,5 @@
+pub mod Standing
+pub mod Keep
+pub mod Reopen
+pub mod Memory
+pub mod Rows

@@ -1,0 +1,4 @@
+pub mod Texts
+pub mod Along
+pub mod Moments
+pub mod FoundLaws

@@ -1,0 +1,4 @@
+pub mod Lowered
+pub mod FrontLaws
+pub mod LawProofs
+pub mod Steps
