@@ -13,3 +13,4 @@ pub mod LifeLemmas
 pub mod RunLemmas
 pub mod SetLemmas
 pub mod PutLemmas
+pub mod RoomLemmas

@@ -17,7 +17,7 @@ use Rattle.tile_steps.specs.declared.tile.Tile.{Tile}
 use Rattle.tile_steps.specs.declared.tiles.Corner.{Corner}
 use Rattle.tile_steps.specs.declared.window.WindowPlane.{WindowPlane}
 use Rattle.tile_steps.specs.Steps.{window_state}
-use Rattle.tile_steps.specs.Tiles.{tile_state, state_of, tile_of, Entries, corner_from, place_of, is_corner, ShowsTile, ShowsAround, Shows, IsOnGrid, IsOrigin, IsRight, IsInside, AllInside, AllRight, IsSettled, AreSettledAround, AreSettledBelow, AreLater, IsPut, IsUnderWay, KeepsSettled, AreOnGrid, IsCornerOn, IsOnOtherGrid}
+use Rattle.tile_steps.specs.Tiles.{tile_state, state_of, tile_of, Entries, corner_from, place_of, is_corner, ShowsTile, ShowsAround, Shows, IsOnGrid, IsOrigin, IsRight, IsInside, AllInside, AllRight, IsSettled, AreSettledAround, AreSettledBelow, AreLater, IsPut, IsUnderWay, KeepsSettled, AreOnGrid, IsAlive, IsCornerOn, IsOnOtherGrid}
 use Rattle.tile_steps.specs.Windows.{IsJoined, IsMiddle, Advances, AgreesOnWindow}
 use Rattle.tile_steps.proofs.WindowLemmas.{before, behind, is_behind}
 
@@ -231,13 +231,17 @@ module _ (n : ℕ) (r : GenerationsRule) (g : ℕ) (tiles : Entries n) where
     | inr e ↦ all q t (sym e ∙ is)
   ]
 
-  pub way_put : (room : ℕ) (old new : Entries n) (c : Corner) (tile : Tile n) → IsPut n old new c tile → IsRight n r g tiles (Some tile) c → IsOnOtherGrid n tiles c → length old < room → IsInside 128 c
+  pub way_put : (room : ℕ) (old new : Entries n) (c : Corner) (tile : Tile n) → IsPut n old new c tile → IsRight n r g tiles (Some tile) c → IsOnOtherGrid n tiles c → IsAlive n tile → length old < room → IsInside 128 c
       → IsUnderWay n r g room tiles old → IsUnderWay n r g room tiles new
-  way_put room old new c tile put right grid few inside way = record {
+  way_put room old new c tile put right grid alive few inside way = record {
     right = all_right_put old new c tile put right way.right;
     grid = λ q t is. elim (put_at old new c tile put q) [
       | inl h ↦ subst (IsOnOtherGrid n tiles) h.1 grid
       | inr e ↦ way.grid q t (sym e ∙ is)
+    ];
+    alive = λ q t is. elim (put_at old new c tile put q) [
+      | inl h ↦ subst (IsAlive n) (same_Some tile t (sym h.0 ∙ is)) alive
+      | inr e ↦ way.alive q t (sym e ∙ is)
     ];
     few = let longer : length new ≡ length old + 1 = ap length put.last ∙ length-append old ((c, tile) ∷ []) in omega arith;
     inside = subst (AllInside n) (sym put.last) (All-push (λ (e : Corner × Tile n). IsInside 128 e.0) old (c, tile) way.inside inside);
@@ -247,6 +251,7 @@ module _ (n : ℕ) (r : GenerationsRule) (g : ℕ) (tiles : Entries n) where
   way_none room new none = subst (IsUnderWay n r g room tiles) (sym none) (record {
     right = λ c tile is. absurd (none-some tile is);
     grid = λ c tile is. absurd (none-some tile is);
+    alive = λ c tile is. absurd (none-some tile is);
     few = omega arith;
     inside = All-nil (λ (e : Corner × Tile n). IsInside 128 e.0);
   })
@@ -293,7 +298,7 @@ module _ (n : ℕ) (r : GenerationsRule) (g : ℕ) (tiles : Entries n) where
     | inr e ↦ record { ups = h.ups; downs = h.downs; is = let fact = h.is in omega (arith, ints, e, fact) }
   ]
 
-  around_shows : (origin : ℕ) (f : Place → ℕ) (c : Corner) → IsOrigin origin → Shows n origin tiles f → IsOnGrid (16 - origin) c.x → IsOnGrid (16 - origin) c.y → ShowsAround n tiles f c
+  pub around_shows : (origin : ℕ) (f : Place → ℕ) (c : Corner) → IsOrigin origin → Shows n origin tiles f → IsOnGrid (16 - origin) c.x → IsOnGrid (16 - origin) c.y → ShowsAround n tiles f c
   around_shows origin f c is shows gx gy =
       let left = grid_before origin c.x is gx in
       let right = grid_after origin c.x is gx in

@@ -78,7 +78,7 @@ module _ (n : ℕ) (old new : Entries n) (corner : Corner) (tile : Tile n) (x y 
 
 -- ---- a tile that is held beside the others
 
-flipped : (a b : Corner) → is_corner a b ≡ is_corner b a
+pub flipped : (a b : Corner) → is_corner a b ≡ is_corner b a
 flipped a b = grind (arith, ints)
 
 pub shows_by_reads : (n : ℕ) (old new : Entries n) (f : Place → ℕ) → ((q : Corner) → tile_of n new q ≡ tile_of n old q) → Shows n 0 old f → Shows n 0 new f

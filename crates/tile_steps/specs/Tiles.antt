@@ -135,10 +135,24 @@ pub record AreSettledAround (n : ℕ) (r : GenerationsRule) (g : ℕ) (tiles new
 abbrev pub IsOnOtherGrid : (n : ℕ) → Entries n → Corner → Type 0
 IsOnOtherGrid n tiles c = (origin : ℕ) → IsOrigin origin → AreOnGrid n origin tiles → IsCornerOn (16 - origin) c
 
--- the new tiles are right, on the other grid, few enough and inside
+-- some cell of a tile is not dead
+pub record IsAlive (n : ℕ) (tile : Tile n) : Type 0 where
+  pub column : ℕ
+  pub row : ℕ
+  pub in_columns : column < 32
+  pub in_rows : row < 32
+  pub alive : tile_state n tile column row ≡ 0 → ⊥
+
+-- Whatever map the tiles show, more tiles than there is room for are not dead g generations later: it takes more to show it on the other grid.
+abbrev pub IsRoomWanted : (n : ℕ) → GenerationsRule → ℕ → ℕ → Entries n → Type 0
+IsRoomWanted n r g room tiles =
+    (origin : ℕ) (f : Place → ℕ) → IsOrigin origin → ((c : Place) → f c < r.states) → Shows n origin tiles f → (others : Entries n) → Shows n (16 - origin) others (at r f g) → room < length others
+
+-- the new tiles are right, on the other grid, not dead, few enough and inside
 pub record IsUnderWay (n : ℕ) (r : GenerationsRule) (g room : ℕ) (tiles new : Entries n) : Type 0 where
   pub right : AllRight n r g tiles new
   pub grid : (c : Corner) (tile : Tile n) → tile_of n new c ≡ Some tile → IsOnOtherGrid n tiles c
+  pub alive : (c : Corner) (tile : Tile n) → tile_of n new c ≡ Some tile → IsAlive n tile
   pub few : length new ≤ room
   pub inside : AllInside n new
 

@@ -1,9 +1,11 @@
 //! A step of a whole map of tiles.
 
-ghost use Rattle.std.specs.Prelude.{◌≡◌, ℕ, ◌+◌, ◌^◌, ◌<◌, ◌≤◌, IfOk, OnOk, IsTrue, None, is_some, true, length, slice_get, Some, pos, negsuc, ◌≤ℤ◌, ◌+ℤ◌};
+ghost use Rattle.std.specs.Prelude.{◌≡◌, ℕ, ◌+◌, ◌^◌, ◌<◌, ◌≤◌, IfOk, OnOk, IsTrue, Err, None, is_some, true, length, slice_get, Some, pos, negsuc, ◌≤ℤ◌, ◌+ℤ◌};
+ghost use Rattle.std.specs.List.{IsDistinct};
+ghost use Rattle.std.specs.Map.{keys_of};
 ghost use Rattle.generations_rule.specs.Rule.{IsRule};
 ghost use Rattle.tile_steps.specs.declared.tile.Tile.{Tile};
-ghost use Rattle.tile_steps.specs.Tiles.{AllInside, AllRight, AreLater, AreSettledAround, corner_from, IsInside, IsOnOtherGrid, IsPut, IsRight, IsSettled, IsUnderWay, KeepsSettled, state_of, tile_of, tile_state};
+ghost use Rattle.tile_steps.specs.Tiles.{AllInside, AllRight, AreLater, AreSettledAround, corner_from, IsInside, IsOnOtherGrid, IsPut, IsRight, IsRoomWanted, IsSettled, IsUnderWay, KeepsSettled, is_corner, state_of, tile_of, tile_state};
 
 use crate::fault::TileFault;
 use crate::tile::Tile;
@@ -38,6 +40,7 @@ pub fn later<const N: usize>(
     ensures later { IfOk result (λ new. AreLater N rule.now generations tiles.now.map.entries new.map.entries) }
     ensures inside { IfOk result (λ new. AllInside N new.map.entries) }
     ensures room { IfOk result (λ new. length new.map.entries ≤ room) }
+    ensures full { result ≡ Err TileFault.Full → IsRoomWanted N rule.now generations room tiles.now.map.entries }
 {
     // For the proof alone: the call tells that what is held is a rule.
     let _states = rule.states();
@@ -76,6 +79,7 @@ fn settle_around<const N: usize>(
     ensures way { OnOk result (IsUnderWay N step.now.rule.now step.now.generations step.now.room step.now.tiles.now.map.entries new.new.map.entries) }
     ensures around { OnOk result (AreSettledAround N step.now.rule.now step.now.generations step.now.tiles.now.map.entries new.new.map.entries corner) }
     ensures kept { OnOk result (KeepsSettled N step.now.rule.now step.now.generations step.now.tiles.now.map.entries new.old.map.entries new.new.map.entries) }
+    ensures full { result ≡ Err TileFault.Full → IsRoomWanted N step.now.rule.now step.now.generations step.now.room step.now.tiles.now.map.entries }
 {
     let north_west = beside(corner, -16, -16);
     settle(step, new, work, other, north_west)?;
@@ -105,6 +109,7 @@ fn settle<const N: usize>(
     ensures way { OnOk result (IsUnderWay N step.now.rule.now step.now.generations step.now.room step.now.tiles.now.map.entries new.new.map.entries) }
     ensures settled { OnOk result (IsSettled N step.now.rule.now step.now.generations step.now.tiles.now.map.entries new.new.map.entries corner) }
     ensures kept { OnOk result (KeepsSettled N step.now.rule.now step.now.generations step.now.tiles.now.map.entries new.old.map.entries new.new.map.entries) }
+    ensures full { result ≡ Err TileFault.Full → IsRoomWanted N step.now.rule.now step.now.generations step.now.room step.now.tiles.now.map.entries }
 {
     if is_there(new, corner) {
         return Ok(());
@@ -196,6 +201,7 @@ fn put_tile<const N: usize>(
     ensures put { OnOk result (IsPut N tiles.old.map.entries tiles.new.map.entries corner tile.now) }
     ensures room { OnOk result (length tiles.old.map.entries < room) }
     ensures inside { OnOk result (IsInside 128 corner) }
+    ensures full { result ≡ Err TileFault.Full → (room ≤ length tiles.old.map.entries) × IsDistinct is_corner (keys_of tiles.old.map.entries) }
 {
     if room <= tiles.map.len() {
         return Err(TileFault::Full);

@@ -1,8 +1,8 @@
 //! Tiles of 32 by 32 cells.
 
-ghost use Rattle.std.specs.Prelude.{◌≡◌, ℕ, ◌+◌, ◌^◌, ◌<◌, ◌≤◌, ◌↔◌, ◌==◌, ◌&&◌, IsTrue, replicate, if◌then◌else◌, slice_index};
+ghost use Rattle.std.specs.Prelude.{◌≡◌, ℕ, ◌+◌, ◌^◌, ◌<◌, ◌≤◌, ◌↔◌, ◌==◌, ◌&&◌, IsTrue, false, replicate, if◌then◌else◌, length, slice_index};
 ghost use Rattle.std.specs.Int.{bit_at};
-ghost use Rattle.tile_steps.specs.Tiles.{planes_state, tile_state};
+ghost use Rattle.tile_steps.specs.Tiles.{IsAlive, planes_state, tile_state};
 ghost use Rattle.tile_steps.specs.Windows.{IsDigitSet};
 
 /// One binary digit of the state of each cell of a tile: a number is a row, a bit a column.
@@ -29,7 +29,8 @@ impl<const N: usize> Tile<N> {
 
     /// Whether all cells are dead.
     pub fn is_dead(&self) -> bool
-        ensures { IsTrue result → (x y : ℕ) → x < 32 → y < 32 → tile_state N self.now x y ≡ 0 }
+        ensures dead { IsTrue result → (x y : ℕ) → x < 32 → y < 32 → tile_state N self.now x y ≡ 0 }
+        ensures alive { result ≡ false → IsAlive N self.now }
     {
         for p in 0..N {
             if !is_none(&self.planes[p].rows) {
@@ -70,7 +71,9 @@ impl<const N: usize> Tile<N> {
 }
 
 fn is_none(rows: &[u32; 32]) -> bool
-    ensures { IsTrue result ↔ (rows.now ≡ replicate 32 0) }
+    ensures none { IsTrue result ↔ (rows.now ≡ replicate 32 0) }
+    ensures len { length rows.now ≡ 32 }
+    ensures fits { (y : ℕ) → slice_index rows.now y < 4294967296 }
 {
     *rows == [0; 32]
 }
