@@ -1,0 +1,16 @@
+pub mod BitLemmas
+pub mod AdderLemmas
+pub mod CountLemmas
+pub mod PlaneLemmas
+pub mod StepLemmas
+pub mod RowLemmas
+pub mod PlaneLists
+pub mod TileLists
+pub mod WindowLemmas
+pub mod AdvanceLemmas
+pub mod MapLemmas
+pub mod LifeLemmas
+pub mod RunLemmas
+pub mod SetLemmas
+pub mod PutLemmas
+pub mod RoomLemmas
