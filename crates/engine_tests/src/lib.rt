@@ -1,5 +1,5 @@
 //! Tests of `generation_engine` (universes filled from planes beside the planes' own walks, universes
-//! run beside boards of cells, and room) and of `export`.
+//! run beside boards of cells, and room), of `tile_cells` (soups beside boards of cells) and of `export`.
 #![tactic(auto)]
 
 #[cfg(test)]
@@ -14,3 +14,5 @@ mod rooms;
 mod runs;
 #[cfg(test)]
 mod soups;
+#[cfg(test)]
+mod tiles;

@@ -28,7 +28,7 @@ static AT_ONCE: [(u32, u32); 1] = [(33, 33)];
 static MIDDLE: (i32, i32) = (0, 0);
 
 /// The board's middle where the soup touches a corner of the plane.
-static CORNERS: [(i32, i32); 4] = [
+pub(crate) static CORNERS: [(i32, i32); 4] = [
     (-0x4000_0000 + 24, -0x4000_0000 + 24),
     (0x4000_0000 - 24, -0x4000_0000 + 24),
     (-0x4000_0000 + 24, 0x4000_0000 - 24),
@@ -75,14 +75,14 @@ fn cells_of(alloc: Global, board: &Board, middle: (i32, i32)) -> Result<Vec<Cell
 
 /// A soup under a rule, from a seed, and where its middle lies.
 #[derive(Clone, Copy)]
-struct Soup {
-    rule: Rule,
-    seed: u64,
-    middle: (i32, i32),
+pub(crate) struct Soup {
+    pub(crate) rule: Rule,
+    pub(crate) seed: u64,
+    pub(crate) middle: (i32, i32),
 }
 
 /// The cells of a soup so many generations later.
-fn run(alloc: Global, soup_of: Soup, generation: u32) -> Result<Vec<Cell>, AllocError> {
+pub(crate) fn run(alloc: Global, soup_of: Soup, generation: u32) -> Result<Vec<Cell>, AllocError> {
     let mut board = board_of(alloc, &soup_of.rule, soup_of.seed)?;
     for _ in 0..generation {
         board = board.stepped(alloc, &soup_of.rule)?;
@@ -138,7 +138,7 @@ static RULES: [&[u8]; 5] = [
     b"12/34/256",
 ];
 
-fn in_the_middle(rule: &[u8], seed: u64) -> Result<Soup, Fail> {
+pub(crate) fn in_the_middle(rule: &[u8], seed: u64) -> Result<Soup, Fail> {
     Ok(Soup {
         rule: Rule::parse(rule)?,
         seed,

@@ -12,6 +12,7 @@ use std::random::RandomSource;
 use std::test::Fail;
 
 /// A source that gives nothing.
+#[derive(Drop)]
 struct Dry;
 
 impl RandomSource for Dry {
