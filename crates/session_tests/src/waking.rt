@@ -15,7 +15,7 @@ use std::sync::{Arc, Wait};
 use std::test::Fail;
 use std::thread;
 use std::thread::Threads;
-use std::time::Duration;
+use std::time::{Clock, Duration};
 
 /// A Push of seat 1's edit with counter 1, which writes state 1 at 1 0 under `/2/3`.
 const PUSH: &[u8] =
@@ -42,7 +42,7 @@ struct OneStream<R: Drop> {
     marks: Arc<Marks, Global>,
 }
 
-impl<R: Wait + Drop> Accept<ReadSource<&'static [u8]>, WriteSink<Vec<u8>>> for OneStream<R> {
+impl<R: Clock + Drop> Accept<ReadSource<&'static [u8]>, WriteSink<Vec<u8>>> for OneStream<R> {
     fn accept(&mut self) -> Option<(ReadSource<&'static [u8]>, WriteSink<Vec<u8>>)> {
         if !self.is_given {
             self.is_given = true;
@@ -67,7 +67,10 @@ impl Wake for Marks {
 }
 
 /// Why a board ends whose relay has no room for the first edit.
-fn ended<J: Naming + Send + 'static, R: Threads + Wait + Copy + Drop + Send + Sync + 'static>(
+fn ended<
+    J: Naming + Send + 'static,
+    R: Threads + Wait + Clock + Copy + Drop + Send + Sync + 'static,
+>(
     rt: R,
     alloc: Global,
     opened: Opened<R>,
