@@ -34,5 +34,3 @@ mod served;
 mod streams;
 #[cfg(test)]
 mod texts;
-#[cfg(test)]
-mod waking;
