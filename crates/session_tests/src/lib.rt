@@ -34,3 +34,5 @@ mod served;
 mod streams;
 #[cfg(test)]
 mod texts;
+#[cfg(test)]
+mod waking;

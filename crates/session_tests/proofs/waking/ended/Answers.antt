@@ -1,0 +1,8 @@
+use Rattle.std.specs.Arc.{arc_value}
+use Rattle.crossbeam_queue.specs.Passes.{ruled_capacity}
+use Rattle.session_tests.proofs.FreshSeats.{numbered}
+use Rattle.session_tests.proofs.waking.ended.Goals as goal
+
+pub serve_seats-requires-clause-order : goal.serve_seats-requires-clause-order
+serve_seats-requires-clause-order g c κs within =
+    numbered c.args.opened.rule (ruled_capacity (arc_value c.args.opened.drain.queue)) 0 c.in_ok-relay.seats.items c.in_ok-relay.ensures.seats.0
