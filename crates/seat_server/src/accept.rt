@@ -16,3 +16,9 @@ pub trait Accept<S: Source, K: Sink> {
 pub trait Wake {
     fn wake(&self);
 }
+
+/// Where the streams of sessions come from, and what ends a wait for the next one.
+pub struct Streams<'a, A, W> {
+    pub acceptor: A,
+    pub wake: &'a W,
+}

@@ -10,7 +10,7 @@ ghost use Rattle.seat_server.specs.Sessions.{AreAttended, one_each};
 ghost use Rattle.seat_server.specs.Serving.{GoesOnFrom, IsServed};
 ghost use Rattle.seat_server.specs.Faults.{IsAttendFault, IsCloseFault, IsReason};
 
-use crate::accept::{Accept, Wake};
+use crate::accept::{Accept, Streams, Wake};
 use crate::fault::ServerFault;
 use crate::progress::Progress;
 use crate::sessions::{Attended, all_attended};
@@ -153,8 +153,8 @@ fn closed<J: Naming, R: Wait + Drop, S: Source, K: Sink>(
 ///
 /// `Read` where a stream did not come or a thread could not be started: the relay is closed then, and the
 /// sessions that had begun are served to their end. No clause tells of that, nor of want of memory. `Turn`
-/// where 1,000 turns in a row failed: the relay is dropped, `wake` is called so that nobody waits for a
-/// further stream, and the sessions are served to their end. `Finish` where all seats were served, and the
+/// where 1,000 turns in a row failed: the relay is dropped, the streams' `wake` is called so that nobody
+/// waits for a further one, and the sessions are served to their end. `Finish` where all seats were served, and the
 /// closed relay did not finish with them.
 pub fn serve_seats<
     J: Naming + Send + 'static,
@@ -168,8 +168,7 @@ pub fn serve_seats<
     alloc: Global,
     mut relay: Relay<J, R>,
     seats: Vec<Seat<J>>,
-    acceptor: A,
-    wake: &W,
+    streams: Streams<'_, A, W>,
 ) -> Result<Finished<S, K>, ServerFault>
     requires all { relay.made ≡ length seats.items }
     requires order { Numbered 0 seats.items }
@@ -178,6 +177,7 @@ pub fn serve_seats<
     ensures goes_on { IfOk result (λ f. GoesOnFrom 1000 relay (list_of f.account.front)) }
     ensures reason { IfErr result (IsReason 1000 relay seats.items) }
 {
+    let Streams { acceptor, wake } = streams;
     let progress = Arc::new(alloc, Progress::new(relay.bell()?))?;
     let accepting = attending(rt, alloc, &progress, acceptor, seats)?;
     if let Some(fault) = take_turns(&rt, &mut relay, &progress) {

@@ -6,7 +6,7 @@ ghost use Rattle.std.specs.Arc.{arc_value};
 use devices::{ReadSource, WriteSink};
 use generations_rule::Rule;
 use relay_board::{BoardSize, Naming, Opened, TurnFault, start_within};
-use seat_server::{Accept, ServerFault, Wake, serve_seats};
+use seat_server::{Accept, ServerFault, Streams, Wake, serve_seats};
 use stamped_tree::Limits;
 use std::alloc::Global;
 use std::marker::Brand;
@@ -86,7 +86,11 @@ fn ended<
         is_given: false,
         marks: Arc::try_clone(marks)?,
     };
-    match serve_seats(rt, alloc, relay, seats, acceptor, &**marks) {
+    let streams = Streams {
+        acceptor,
+        wake: &**marks,
+    };
+    match serve_seats(rt, alloc, relay, seats, streams) {
         Ok(_) => Ok(None),
         Err(fault) => Ok(Some(fault)),
     }
