@@ -1,3 +1,4 @@
 pub mod RunFault
+pub mod Cause
 pub mod Runs
 pub mod Rows

@@ -3,6 +3,9 @@ use Rattle.std.specs.Prelude.{◌≡◌, codes, refl, Some, None}
 use Rattle.std.specs.Fmt.{digits}
 use Rattle.genedit_io.specs.declared.fault.RunFault.TheVariants.{Script, Refused, Read, Turns, Write, Memory, StoreFull}
 use Rattle.genedit_io.specs.RunFault.{exit_status, run_fault_text, name_of_number}
+use Rattle.std.specs.declared.io.ErrorKind.TheVariants as kind
+use Rattle.genedit_io.specs.declared.cause.Cause.TheVariants as cause
+use Rattle.genedit_io.specs.Cause.{cause_of, cause_text, file_fault_text, of_new_file, port_fault_text}
 
 -- ---- names
 
@@ -120,6 +123,13 @@ no_pattern = refl
 pub script : name_of_number 39 ≡ codes "Script"
 script = refl
 
+pub no_seat : name_of_number 45 ≡ codes "NoSeat"
+no_seat = refl
+
+-- 40 to 44 are not used
+pub not_used : name_of_number 40 ≡ codes "?"
+not_used = refl
+
 pub no_name : name_of_number 255 ≡ codes "?"
 no_name = refl
 
@@ -165,3 +175,23 @@ status_of_want_of_memory = refl
 
 pub status_of_full_stores : exit_status StoreFull ≡ 5
 status_of_full_stores = refl
+
+-- ---- what the system refuses
+
+pub no_such_file : file_fault_text Read (codes "my.script") (cause_text (cause_of kind.NotFound)) ≡ codes "read fault my.script: there is no such file"
+no_such_file = refl
+
+pub full_disk : file_fault_text (Refused 37 None) (codes "a.rle") (cause_text (cause_of kind.StorageFull)) ≡ codes "refused 37 Write a.rle: the disk is full"
+unfolding digits
+full_disk = refl
+
+-- a file that is to be made is not found where its folder is missing
+pub no_such_folder : cause_text (of_new_file (cause_of kind.NotFound)) ≡ codes "there is no such folder"
+no_such_folder = refl
+
+pub another_cause : cause_of kind.TimedOut ≡ cause.Other
+another_cause = refl
+
+pub taken_port : port_fault_text 7020 (cause_of kind.AddrInUse) ≡ codes "read fault: port 7020 is taken"
+unfolding digits
+taken_port = refl

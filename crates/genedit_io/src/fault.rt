@@ -135,6 +135,7 @@ fn name_of(number: u8) -> &'static str
         37 => "Write",
         38 => "NoPattern",
         39 => "Script",
+        45 => "NoSeat",
         _ => "?",
     }
 }
