@@ -14,7 +14,7 @@ use Rattle.edit_stamps.proofs.PlaceOrder.{before_is_other, before_trans, one_pla
 use Rattle.edit_stamps.proofs.SortedCells.{listed_here, listed_there, sorted_tail}
 use Rattle.stamped_tree.specs.Walk.{AreNonzeroCells}
 use Rattle.stamped_tree.proofs.Gathering.{contains_head, contains_tail}
-use Rattle.cell_changes.specs.Changes.{HaveStatesOf, WatchesJoin, cell_in}
+use Rattle.cell_changes.specs.Changes.{HaveStatesOf, Watches, WatchesJoin, cell_in}
 use Rattle.cell_changes.specs.Put.{IsPlaceOf, MayChange, Puts, SomeMayChange}
 use Rattle.cell_changes.proofs.Lists.{contains_none, contains_cases}
 use Rattle.cell_changes.proofs.SettledCells.{one_cell}
@@ -116,6 +116,21 @@ watches_planes p q own others cells are others_are put after same = record {
     go : (c : Place) → (after c).state ≢ (p c).state → (n : ℕ) → (p c).state ≡ n → Contains cells (cell_in p c)
     go c differ zero e =
         let r = nonzero_listed q others c others_are (λ nothing. differ (state_after c ∙ state_stays (p c) (q c) (nothing ∙ sym e))) in
+        put.put c (r.0, (r.1.0, r.1.1))
+    go c differ (suc n) e =
+        let r = nonzero_listed p own c are (λ nothing. absurd (omega (arith, nothing, e))) in
+        subst (λ d. Contains cells d) (one_cell r.0 (cell_in p c) r.1.1 r.1.2) (put.kept r.0 r.1.0)
+
+-- where a map has another state than another one, it is not 0 in both
+pub watches_both : (p q : Writes) (own others cells : List Cell) → AreNonzeroCells p own → AreNonzeroCells q others → Puts p (IsPlaceOf others) own cells → Watches cells p q
+watches_both p q own others cells are others_are put = record {
+  states = put.states (nonzero_states p own are);
+  changed = λ c differ. go c differ (p c).state refl;
+}
+  where
+    go : (c : Place) → (q c).state ≢ (p c).state → (n : ℕ) → (p c).state ≡ n → Contains cells (cell_in p c)
+    go c differ zero e =
+        let r = nonzero_listed q others c others_are (λ nothing. differ (nothing ∙ sym e)) in
         put.put c (r.0, (r.1.0, r.1.1))
     go c differ (suc n) e =
         let r = nonzero_listed p own c are (λ nothing. absurd (omega (arith, nothing, e))) in

@@ -48,10 +48,11 @@ impl Watched {
         Ok(Watched { cells })
     }
 
-    /// What may change in a plane by a whole map: the cells of both whose state is not 0. Both are walked.
-    /// The only error is want of memory.
+    /// What may change in a plane by a whole map, whether it is joined in or takes the plane's place: the cells
+    /// of both whose state is not 0. Both are walked. The only error is want of memory.
     pub fn of_planes(plane: &Plane, other: &Plane) -> Result<Watched, AllocError>
-        ensures { IfOk result (λ watched. WatchesJoin watched (map_of plane.now) (map_of other.now)) }
+        ensures joined { IfOk result (λ watched. WatchesJoin watched (map_of plane.now) (map_of other.now)) }
+        ensures replaced { IfOk result (λ watched. Watches watched (map_of plane.now) (map_of other.now)) }
     {
         let mut cells = plane.walk()?;
         let others = other.walk()?;
