@@ -1,5 +1,6 @@
 -- The commands of a client, by what the words of a line spell.
-use Rattle.std.specs.Prelude.{ℕ, List, Option, Some, None, option_map, unwrap_or}
+use Rattle.std.specs.Prelude.{ℕ, Bool, true, false, ◌||◌, List, [], ◌∷◌, codes, Option, Some, None, option_map, unwrap_or}
+use Rattle.std.specs.Str.{bytes_eq}
 use Rattle.text_scan.specs.Bytes.{◌>=>◌}
 use Rattle.replica_events.specs.declared.edit_spec.EditSpec.TheVariants.{Cells, Clear}
 use Rattle.command_words.specs.declared.dialect.Dialect.TheVariants.{Client}
@@ -9,6 +10,7 @@ use Rattle.command_words.specs.Values.{cells_spelled}
 use Rattle.genedit_script.specs.Script.{area_of}
 use Rattle.client_commands.specs.declared.command.ClientCommand.{ClientCommand}
 use Rattle.client_commands.specs.declared.command.ClientCommand.TheVariants.{Draw, Copy, Or, Show, Export, Poll, Wait, Sleep, Save, Open, Bye}
+use Rattle.client_commands.specs.declared.command.FileTarget.{FileTarget}
 use Rattle.client_commands.specs.declared.command.Placement.{Placement}
 use Rattle.client_commands.specs.declared.command.Wait as waits
 
@@ -19,14 +21,20 @@ placement_of line = record { name = line.name; x = line.x; y = line.y }
 abbrev pub wait_of : SpelledValue → waits.Wait
 wait_of line = record { edits = line.edits; milliseconds = unwrap_or line.milliseconds 10000 }
 
+-- a file that is written, and whether one that has its name is replaced
+abbrev pub target_of : Bool → List ℕ → FileTarget
+target_of replaces name = record { name = name; replaces = replaces }
+
 -- the commands that draw nothing
 abbrev pub session_asked : SpelledValue → Option ClientCommand
 session_asked line = elim line.keyword [
-  | keyword.Export ↦ Some (Export line.generation line.file)
+  | keyword.Export ↦ Some (Export line.generation (option_map (target_of false) line.file))
+  | keyword.ExportOver ↦ option_map (λ file. Export line.generation (Some (target_of true file))) line.file
   | keyword.Poll ↦ Some Poll
   | keyword.Wait ↦ Some (Wait (wait_of line))
   | keyword.Sleep ↦ option_map Sleep line.milliseconds
-  | keyword.Save ↦ option_map Save line.file
+  | keyword.Save ↦ option_map Save (option_map (target_of false) line.file)
+  | keyword.SaveOver ↦ option_map Save (option_map (target_of true) line.file)
   | keyword.Open ↦ option_map Open line.file
   | keyword.Bye ↦ Some Bye
   | _ ↦ None
@@ -46,3 +54,8 @@ client_command_asked line = elim line.keyword [
 -- the command of some words, if they spell one
 abbrev pub client_command_spelled : List (List ℕ) → Option ClientCommand
 client_command_spelled words = line_spelled Client words >=> client_command_asked
+
+-- whether the first of some words is one with which each script begins one of its first two lines
+abbrev pub begins_script : List (List ℕ) → Bool
+begins_script [] = false
+begins_script (word ∷ words) = bytes_eq word (codes "rule") || bytes_eq word (codes "replicas")

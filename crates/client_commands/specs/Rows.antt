@@ -1,5 +1,5 @@
 -- Worked values of the definitions.
-use Rattle.std.specs.Prelude.{◌≡◌, ℕ, List, [], ◌∷◌, Option, Some, None, codes, refl, pos, negsuc}
+use Rattle.std.specs.Prelude.{◌≡◌, ℕ, true, false, List, [], ◌∷◌, Option, Some, None, codes, refl, pos, negsuc}
 use Rattle.std.specs.Str.Lines.{lines}
 use Rattle.text_scan.specs.Words.{words}
 use Rattle.replica_events.specs.declared.edit_spec.EditSpec.TheVariants.{Cells, Clear}
@@ -8,7 +8,7 @@ use Rattle.client_commands.specs.declared.command.ClientCommand.{ClientCommand}
 use Rattle.client_commands.specs.declared.command.ClientCommand.TheVariants.{Draw, Pattern, Copy, Or, Show, Export, Poll, Wait, Sleep, Save, Open, Bye}
 use Rattle.client_commands.specs.declared.dictation.Heard.{Heard}
 use Rattle.client_commands.specs.declared.dictation.Heard.TheVariants.{Nothing, Command, Faulty}
-use Rattle.client_commands.specs.Commands.{client_command_spelled}
+use Rattle.client_commands.specs.Commands.{begins_script, client_command_spelled, target_of}
 use Rattle.client_commands.specs.Dictation.{lines_heard, heard_by}
 
 -- the command of a line
@@ -66,8 +66,18 @@ shown_past_the_edge = refl
 pub exported : command (codes "export 4") ≡ Some (Export 4 None)
 exported = refl
 
-pub exported_to_a_file : command (codes "export 4 out/a.rle") ≡ Some (Export 4 (Some (codes "out/a.rle")))
+pub exported_to_a_file : command (codes "export 4 out/a.rle") ≡ Some (Export 4 (Some (target_of false (codes "out/a.rle"))))
 exported_to_a_file = refl
+
+pub exported_over_a_file : command (codes "export! 4 a.rle") ≡ Some (Export 4 (Some (target_of true (codes "a.rle"))))
+exported_over_a_file = refl
+
+pub exported_over_no_file : command (codes "export! 4") ≡ None
+exported_over_no_file = refl
+
+-- a script's line is none of a client's
+pub exported_to_a_number : command (codes "export 1 100000") ≡ None
+exported_to_a_number = refl
 
 pub exported_with_a_word_too_many : command (codes "export 1 2 3") ≡ None
 exported_with_a_word_too_many = refl
@@ -75,8 +85,14 @@ exported_with_a_word_too_many = refl
 pub exported_at_no_generation : command (codes "export") ≡ None
 exported_at_no_generation = refl
 
-pub saved : command (codes "save a.rle") ≡ Some (Save (codes "a.rle"))
+pub saved : command (codes "save a.rle") ≡ Some (Save (target_of false (codes "a.rle")))
 saved = refl
+
+pub saved_over_a_file : command (codes "save! a.rle") ≡ Some (Save (target_of true (codes "a.rle")))
+saved_over_a_file = refl
+
+pub saved_to_a_number : command (codes "save 7") ≡ None
+saved_to_a_number = refl
 
 pub saved_to_two_files : command (codes "save a b") ≡ None
 saved_to_two_files = refl
@@ -132,6 +148,12 @@ letters_count = refl
 
 pub no_block_here : command (codes "pattern a") ≡ None
 no_block_here = refl
+
+pub of_a_script_first : begins_script (words (codes "\treplicas 2")) ≡ true
+of_a_script_first = refl
+
+pub of_a_script_later : begins_script (words (codes "cells 1 0 0 1")) ≡ false
+of_a_script_later = refl
 
 -- ---- lines one by one
 

@@ -21,17 +21,17 @@ pub enum ClientCommand {
     Or(Placement),
     /// `show x y`: the cell at x and y is told.
     Show(i32, i32),
-    /// `export G [FILE]`: the text of the cells G generations later is written to the file, or told
-    /// where none is named.
-    Export(u32, Option<FileName>),
+    /// `export G [FILE]`, `export! G FILE`: the text of the cells G generations later is written to the
+    /// file, or told where none is named.
+    Export(u32, Option<FileTarget>),
     /// `poll`: what others drew is asked for.
     Poll,
     /// `wait N [MS]`: edits of others are waited for.
     Wait(Wait),
     /// `sleep MS`: nothing is done for so many milliseconds.
     Sleep(u32),
-    /// `save FILE`: the board is written to the file.
-    Save(FileName),
+    /// `save FILE`, `save! FILE`: the board is written to the file.
+    Save(FileTarget),
     /// `open FILE`: what the file holds is drawn.
     Open(FileName),
     /// `bye`: the client ends.
@@ -52,6 +52,14 @@ pub struct Placement {
 pub struct Wait {
     pub edits: u32,
     pub milliseconds: u32,
+}
+
+/// A file that is written.
+#[derive(Debug, Drop)]
+pub struct FileTarget {
+    pub name: FileName,
+    /// Whether a file that has the name is replaced, whoever wrote it: where the command has a `!`.
+    pub replaces: bool,
 }
 
 /// The name of a file: in a command that was read, a word, so that it has no space and no tab.

@@ -8,7 +8,7 @@ mod dictation;
 mod laws;
 mod spelling;
 
-pub use command::{ClientCommand, FileName, Placement, Wait};
+pub use command::{ClientCommand, FileName, FileTarget, Placement, Wait};
 pub use dictation::{Dictation, Heard};
 pub use laws::command_laws;
-pub use spelling::command_in;
+pub use spelling::{begins_script, command_in};

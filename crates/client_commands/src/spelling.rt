@@ -1,18 +1,19 @@
 //! What the words of a client's line ask for.
 
-ghost use Rattle.std.specs.Prelude.{◌≡◌, IfOk, option_map};
+ghost use Rattle.std.specs.Prelude.{◌≡◌, IfOk, Some, true, option_map};
 ghost use Rattle.text_scan.specs.Words.{words};
 ghost use Rattle.replica_events.specs.declared.edit_spec.EditSpec.TheVariants.{Cells};
 ghost use Rattle.command_words.specs.Spelled.{spelled_of};
 ghost use Rattle.command_words.specs.Values.{cells_spelled};
-ghost use Rattle.client_commands.specs.declared.command.ClientCommand.TheVariants.{Draw};
-ghost use Rattle.client_commands.specs.Commands.{client_command_asked, client_command_spelled, placement_of, session_asked, wait_of};
+ghost use Rattle.client_commands.specs.declared.command.ClientCommand.TheVariants.{Draw, Export};
+ghost use Rattle.client_commands.specs.Commands.{begins_script, client_command_asked, client_command_spelled, placement_of, session_asked, target_of, wait_of};
 
-use crate::command::{ClientCommand, FileName, Placement, Wait};
+use crate::command::{ClientCommand, FileName, FileTarget, Placement, Wait};
 use command_words::{Dialect, Keyword, Spelled, cells_in, read_line};
 use genedit_script::{PatternName, area_of};
 use replica_events::{CellList, EditSpec};
 use std::alloc::{AllocError, Global};
+use text_scan::split_word;
 
 /// How long is waited where a line does not say it.
 const MILLISECONDS: u32 = 10_000;
@@ -48,16 +49,31 @@ fn session_asked(alloc: Global, spelled: &Spelled<'_>) -> Result<Option<ClientCo
 {
     match spelled.keyword {
         Keyword::Export => {
-            let file = file_of(alloc, spelled)?;
+            let file = target_of(alloc, spelled, false)?;
             Ok(Some(ClientCommand::Export(spelled.generation, file)))
         }
+        Keyword::ExportOver => export_over_asked(alloc, spelled),
         Keyword::Poll => Ok(Some(ClientCommand::Poll)),
         Keyword::Wait => Ok(Some(ClientCommand::Wait(wait_of(spelled)))),
         Keyword::Sleep => Ok(spelled.milliseconds.map(ClientCommand::Sleep)),
-        Keyword::Save => Ok(file_of(alloc, spelled)?.map(ClientCommand::Save)),
+        Keyword::Save => Ok(target_of(alloc, spelled, false)?.map(ClientCommand::Save)),
+        Keyword::SaveOver => Ok(target_of(alloc, spelled, true)?.map(ClientCommand::Save)),
         Keyword::Open => Ok(file_of(alloc, spelled)?.map(ClientCommand::Open)),
         Keyword::Bye => Ok(Some(ClientCommand::Bye)),
         _ => Ok(None),
+    }
+}
+
+/// `export! G FILE`
+fn export_over_asked(
+    alloc: Global,
+    spelled: &Spelled<'_>,
+) -> Result<Option<ClientCommand>, AllocError>
+    ensures { IfOk result (λ command. command ≡ option_map (λ file. Export spelled.now.generation (Some (target_of true file))) (option_map (λ word. word.now) spelled.now.file)) }
+{
+    match target_of(alloc, spelled, true)? {
+        Some(file) => Ok(Some(ClientCommand::Export(spelled.generation, Some(file)))),
+        None => Ok(None),
     }
 }
 
@@ -100,5 +116,32 @@ fn file_of(alloc: Global, spelled: &Spelled<'_>) -> Result<Option<FileName>, All
     match spelled.file {
         Some(word) => Ok(Some(FileName::of(alloc, word)?)),
         None => Ok(None),
+    }
+}
+
+/// The file that is written, if one is named.
+fn target_of(
+    alloc: Global,
+    spelled: &Spelled<'_>,
+    replaces: bool,
+) -> Result<Option<FileTarget>, AllocError>
+    ensures { IfOk result (λ file. file ≡ option_map (target_of replaces) (option_map (λ word. word.now) spelled.now.file)) }
+{
+    match spelled.file {
+        Some(word) => {
+            let name = FileName::of(alloc, word)?;
+            Ok(Some(FileTarget { name, replaces }))
+        }
+        None => Ok(None),
+    }
+}
+
+/// Whether a line begins as one of the two with which each script begins.
+pub fn begins_script(line: &[u8]) -> bool
+    ensures { result ≡ begins_script (words line.now) }
+{
+    match split_word(line) {
+        Some((word, _)) => Keyword::Rule.is_named(word) || Keyword::Replicas.is_named(word),
+        None => false,
     }
 }

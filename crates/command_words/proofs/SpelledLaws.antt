@@ -8,13 +8,13 @@ use Rattle.std.proofs.lemmas.Slice.Eq.{bytes_eq-Decides}
 use Rattle.text_scan.specs.Bytes.{◌>=>◌}
 use Rattle.text_scan.specs.Words.{signed_number}
 use Rattle.command_words.specs.declared.argument.Argument.{Argument}
-use Rattle.command_words.specs.declared.argument.Argument.TheVariants.{Rule, Replicas, Name, Replica, OneReplica, X, Y, State, File}
+use Rattle.command_words.specs.declared.argument.Argument.TheVariants.{Rule, Replicas, Name, Replica, OneReplica, X, Y, State, File, NewFile}
 use Rattle.command_words.specs.declared.dialect.Dialect.{Dialect}
 use Rattle.command_words.specs.declared.keyword.Keyword.{Keyword}
 use Rattle.command_words.specs.Arguments.{arguments_of, optional_of}
 use Rattle.command_words.specs.Keywords.{keyword_name, keyword_spelled, keywords_of}
 use Rattle.command_words.specs.Spelled.{SpelledValue, begun, with_word, with_first, with_next, with_all, is_empty, with_optional, is_whole, if_whole, line_spelled}
-use Rattle.command_words.specs.Values.{name_spelled, number_spelled, replicas_spelled, rule_text_spelled, state_spelled}
+use Rattle.command_words.specs.Values.{name_spelled, new_file_spelled, number_spelled, replicas_spelled, rule_text_spelled, state_spelled}
 
 -- what is seen of a line stays as it is where a word is read as an argument
 abbrev pub Keeps : {A : Type 0} → (SpelledValue → A) → Argument → Type 0
@@ -37,6 +37,7 @@ keyword_stays X word line next is = made (λ l. l.keyword) line.keyword (signed_
 keyword_stays Y word line next is = made (λ l. l.keyword) line.keyword (signed_number word) _ next (λ a. refl) is
 keyword_stays State word line next is = made (λ l. l.keyword) line.keyword (state_spelled word) _ next (λ a. refl) is
 keyword_stays File word line next is = made (λ l. l.keyword) line.keyword (Some word) (λ w. record line { file = Some w }) next (λ a. refl) is
+keyword_stays NewFile word line next is = made (λ l. l.keyword) line.keyword (new_file_spelled word) _ next (λ a. refl) is
 keyword_stays number word line next is = made (λ l. l.keyword) line.keyword (number_spelled word) _ next (λ a. refl) is
 
 -- the replica's number stays where no other is read
@@ -55,6 +56,7 @@ replica_stays X other word line next is = made (λ l. l.replica) line.replica (s
 replica_stays Y other word line next is = made (λ l. l.replica) line.replica (signed_number word) _ next (λ a. refl) is
 replica_stays State other word line next is = made (λ l. l.replica) line.replica (state_spelled word) _ next (λ a. refl) is
 replica_stays File other word line next is = made (λ l. l.replica) line.replica (Some word) (λ w. record line { file = Some w }) next (λ a. refl) is
+replica_stays NewFile other word line next is = made (λ l. l.replica) line.replica (new_file_spelled word) _ next (λ a. refl) is
 replica_stays number other word line next is = made (λ l. l.replica) line.replica (number_spelled word) _ next (λ a. refl) is
 
 -- ---- all arguments

@@ -24,10 +24,12 @@ script_arguments keyword.Show = argument.Replica ∷ argument.X ∷ argument.Y �
 script_arguments keyword.Same = argument.OneReplica ∷ argument.OtherReplica ∷ []
 script_arguments keyword.Dump = argument.Message ∷ []
 script_arguments keyword.Export = argument.Replica ∷ argument.Generation ∷ []
+script_arguments keyword.ExportOver = argument.Generation ∷ argument.NewFile ∷ []
 script_arguments keyword.Poll = []
 script_arguments keyword.Wait = argument.Edits ∷ []
 script_arguments keyword.Sleep = argument.Milliseconds ∷ []
-script_arguments keyword.Save = argument.File ∷ []
+script_arguments keyword.Save = argument.NewFile ∷ []
+script_arguments keyword.SaveOver = argument.NewFile ∷ []
 script_arguments keyword.Open = argument.File ∷ []
 script_arguments keyword.Bye = []
 
@@ -43,7 +45,7 @@ arguments_of Client keyword = without_replica (script_arguments keyword)
 
 -- what may stand behind that once, and may be left out
 abbrev pub optional_of : Dialect → Keyword → List Argument
-optional_of Client keyword.Export = argument.File ∷ []
+optional_of Client keyword.Export = argument.NewFile ∷ []
 optional_of Client keyword.Wait = argument.Milliseconds ∷ []
 optional_of dialect keyword = []
 

@@ -3,7 +3,7 @@ use Rattle.std.specs.Prelude.{◌≡◌, [], ◌∷◌, true, false, Some, None,
 use Rattle.text_scan.specs.Words.{words}
 use Rattle.command_words.specs.declared.argument.Argument.TheVariants as argument
 use Rattle.command_words.specs.declared.dialect.Dialect.TheVariants.{Script, Client}
-use Rattle.command_words.specs.declared.keyword.Keyword.TheVariants.{Cells, Clear, Copy, Export, Poll, Replicas, Rule, Show, Wait}
+use Rattle.command_words.specs.declared.keyword.Keyword.TheVariants.{Cells, Clear, Copy, Export, ExportOver, Open, Poll, Replicas, Rule, Save, SaveOver, Show, Wait}
 use Rattle.command_words.specs.Arguments.{arguments_of}
 use Rattle.command_words.specs.Keywords.{keyword_spelled}
 use Rattle.command_words.specs.Spelled.{begun, fits, line_spelled}
@@ -79,6 +79,29 @@ to_no_file = refl
 
 pub to_a_file : line_spelled Client (words (codes "export 4 a.rle")) ≡ Some (record (begun Export []) { generation = 4; file = Some (codes "a.rle") })
 to_a_file = refl
+
+-- a script's export: its second number is no file
+pub to_a_number : line_spelled Client (words (codes "export 1 4")) ≡ None
+to_a_number = refl
+
+pub over_a_file : line_spelled Client (words (codes "export! 4 a.rle")) ≡ Some (record (begun ExportOver []) { generation = 4; file = Some (codes "a.rle") })
+over_a_file = refl
+
+pub over_no_file : line_spelled Client (words (codes "export! 4")) ≡ None
+over_no_file = refl
+
+pub saved : line_spelled Client (words (codes "save 4.state")) ≡ Some (record (begun Save []) { file = Some (codes "4.state") })
+saved = refl
+
+pub saved_over : line_spelled Client (words (codes "save! 4x")) ≡ Some (record (begun SaveOver []) { file = Some (codes "4x") })
+saved_over = refl
+
+pub saved_to_a_number : line_spelled Client (words (codes "save 44")) ≡ None
+saved_to_a_number = refl
+
+-- what is read may have any name
+pub opened_number : line_spelled Client (words (codes "open 44")) ≡ Some (record (begun Open []) { file = Some (codes "44") })
+opened_number = refl
 
 pub waited : line_spelled Client (words (codes "wait 2 30")) ≡ Some (record (begun Wait []) { edits = 2; milliseconds = Some 30 })
 waited = refl

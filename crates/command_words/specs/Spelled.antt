@@ -12,7 +12,7 @@ use Rattle.command_words.specs.declared.keyword.Keyword.TheVariants as keyword
 use Rattle.command_words.specs.declared.spelled.Spelled.{Spelled}
 use Rattle.command_words.specs.Arguments.{arguments_of, optional_of, repeated_of}
 use Rattle.command_words.specs.Keywords.{keyword_spelled}
-use Rattle.command_words.specs.Values.{name_spelled, number_spelled, replicas_spelled, rule_text_spelled, state_spelled}
+use Rattle.command_words.specs.Values.{name_spelled, new_file_spelled, number_spelled, replicas_spelled, rule_text_spelled, state_spelled}
 
 -- the keyword of a line, what its arguments say, and the words that are left
 pub record SpelledValue : Type 0 where
@@ -110,6 +110,7 @@ with_word argument.X word line = option_map (λ x. record line { x = x }) (signe
 with_word argument.Y word line = option_map (λ y. record line { y = y }) (signed_number word)
 with_word argument.State word line = option_map (λ state. record line { state = state }) (state_spelled word)
 with_word argument.File word line = Some (record line { file = Some word })
+with_word argument.NewFile word line = option_map (λ name. record line { file = Some name }) (new_file_spelled word)
 with_word argument word line = option_map (λ n. with_number argument n line) (number_spelled word)
 
 -- whether a word can stand for an argument

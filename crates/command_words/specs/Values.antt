@@ -1,6 +1,6 @@
 -- What single words say.
 use Rattle.std.specs.Prelude.{ℕ, Bool, ◌&&◌, nat_le, if◌then◌else◌, List, [], ◌∷◌, length, Option, Some, None, option_map}
-use Rattle.std.specs.Char.{is_ascii_alphanumeric}
+use Rattle.std.specs.Char.{is_ascii_alphanumeric, is_ascii_digit}
 use Rattle.std.specs.List.{list_all}
 use Rattle.std.specs.Result.{is_ok}
 use Rattle.generations_rule.specs.RuleText.{parsed}
@@ -31,6 +31,10 @@ is_pattern_name word = nat_le 1 (length word) && nat_le (length word) 16 && list
 -- the word, if it is a name
 abbrev pub name_spelled : List ℕ → Option (List ℕ)
 name_spelled word = if is_pattern_name word then Some word else None
+
+-- the word, unless it is digits alone
+abbrev pub new_file_spelled : List ℕ → Option (List ℕ)
+new_file_spelled word = if list_all is_ascii_digit word then None else Some word
 
 -- a coordinate and a state
 abbrev pub cell_spelled : List ℕ → List ℕ → List ℕ → Option Cell

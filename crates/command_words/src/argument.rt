@@ -35,6 +35,8 @@ pub enum Argument {
     Generation,
     /// The name of a file: any word.
     File,
+    /// The name of a file that is written: any word but a number.
+    NewFile,
     /// How many edits are waited for.
     Edits,
     Milliseconds,
@@ -70,7 +72,7 @@ impl Argument {
             Argument::From => "the place of the first edit",
             Argument::Count => "the number of edits",
             Argument::Generation => "the generation",
-            Argument::File => "the file's name",
+            Argument::File | Argument::NewFile => "the file's name",
             Argument::Edits => "the number of awaited edits",
             Argument::Milliseconds => "the number of milliseconds",
         }
@@ -94,7 +96,7 @@ impl Argument {
             Argument::From => "FROM",
             Argument::Count => "COUNT",
             Argument::Generation => "G",
-            Argument::File => "FILE",
+            Argument::File | Argument::NewFile => "FILE",
             Argument::Milliseconds => "MS",
         }
     }
@@ -108,6 +110,7 @@ impl Argument {
             Argument::X | Argument::Y => "-2147483648 to 2147483647",
             Argument::State => "0 to 255",
             Argument::File => "any word",
+            Argument::NewFile => "any word but a number",
             _ => "0 to 4294967295",
         }
     }

@@ -29,7 +29,7 @@ static SCRIPT: [Keyword; 15] = [
     Keyword::Export,
 ];
 
-static CLIENT: [Keyword; 14] = [
+static CLIENT: [Keyword; 16] = [
     Keyword::Cells,
     Keyword::Clear,
     Keyword::Pattern,
@@ -38,10 +38,12 @@ static CLIENT: [Keyword; 14] = [
     Keyword::Or,
     Keyword::Show,
     Keyword::Export,
+    Keyword::ExportOver,
     Keyword::Poll,
     Keyword::Wait,
     Keyword::Sleep,
     Keyword::Save,
+    Keyword::SaveOver,
     Keyword::Open,
     Keyword::Bye,
 ];

@@ -25,10 +25,14 @@ pub enum Keyword {
     Same,
     Dump,
     Export,
+    /// `export!`, which may replace a file.
+    ExportOver,
     Poll,
     Wait,
     Sleep,
     Save,
+    /// `save!`, which may replace a file.
+    SaveOver,
     Open,
     Bye,
 }
@@ -59,10 +63,12 @@ impl Keyword {
             Keyword::Same => "same",
             Keyword::Dump => "dump",
             Keyword::Export => "export",
+            Keyword::ExportOver => "export!",
             Keyword::Poll => "poll",
             Keyword::Wait => "wait",
             Keyword::Sleep => "sleep",
             Keyword::Save => "save",
+            Keyword::SaveOver => "save!",
             Keyword::Open => "open",
             Keyword::Bye => "bye",
         }
@@ -127,9 +133,11 @@ impl Keyword {
             Keyword::Same => &[Argument::OneReplica, Argument::OtherReplica],
             Keyword::Dump => &[Argument::Message],
             Keyword::Export => &[Argument::Replica, Argument::Generation],
+            Keyword::ExportOver => &[Argument::Generation, Argument::NewFile],
             Keyword::Wait => &[Argument::Edits],
             Keyword::Sleep => &[Argument::Milliseconds],
-            Keyword::Save | Keyword::Open => &[Argument::File],
+            Keyword::Save | Keyword::SaveOver => &[Argument::NewFile],
+            Keyword::Open => &[Argument::File],
             Keyword::End | Keyword::Poll | Keyword::Bye => &[],
         }
     }
@@ -139,7 +147,7 @@ impl Keyword {
         ensures { result.now ≡ optional_of dialect self }
     {
         match (dialect, self) {
-            (Dialect::Client, Keyword::Export) => &[Argument::File],
+            (Dialect::Client, Keyword::Export) => &[Argument::NewFile],
             (Dialect::Client, Keyword::Wait) => &[Argument::Milliseconds],
             _ => &[],
         }

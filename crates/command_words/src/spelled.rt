@@ -7,7 +7,7 @@ ghost use Rattle.command_words.specs.Spelled.{is_empty, line_spelled, spelled_of
 use crate::argument::Argument;
 use crate::dialect::Dialect;
 use crate::keyword::Keyword;
-use crate::values::{name_in, replicas_in, rule_in, state_in, unsigned};
+use crate::values::{name_in, new_file_in, replicas_in, rule_in, state_in, unsigned};
 use text_scan::{signed, split_word};
 
 /// What the words of a line spell: the keyword that it begins with, and what is said by each argument
@@ -155,6 +155,10 @@ impl<'a> Spelled<'a> {
             }),
             Argument::File => Some(Spelled {
                 file: Some(word),
+                ..*self
+            }),
+            Argument::NewFile => Some(Spelled {
+                file: Some(new_file_in(word)?),
                 ..*self
             }),
             _ => Some(self.with_number(argument, unsigned(word)?)),

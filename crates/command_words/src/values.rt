@@ -1,10 +1,10 @@
 //! What single words say.
 
 ghost use Rattle.std.specs.Prelude.{◌≡◌, ◌∷◌, [], ◌≤◌, IfOk, IfSome, MatchOption, None, length, option_map};
-ghost use Rattle.std.specs.Char.{is_ascii_alphanumeric};
+ghost use Rattle.std.specs.Char.{is_ascii_alphanumeric, is_ascii_digit};
 ghost use Rattle.std.specs.List.{list_all};
 ghost use Rattle.text_scan.specs.Words.{words};
-ghost use Rattle.command_words.specs.Values.{cell_spelled, cells_spelled, is_pattern_name, name_spelled, number_spelled, replicas_spelled, rule_text_spelled, state_spelled};
+ghost use Rattle.command_words.specs.Values.{cell_spelled, cells_spelled, is_pattern_name, name_spelled, new_file_spelled, number_spelled, replicas_spelled, rule_text_spelled, state_spelled};
 
 use generations_rule::Rule;
 use pattern_cells::Cell;
@@ -64,6 +64,20 @@ fn are_letters_or_digits(word: &[u8]) -> bool
     ensures { result ≡ list_all is_ascii_alphanumeric word.now }
 {
     word.iter().all(|byte| byte.is_ascii_alphanumeric())
+}
+
+/// The word, if it can name a file that is written: digits alone cannot, since a script's line that
+/// exports has such a word there.
+pub fn new_file_in(word: &[u8]) -> Option<&[u8]>
+    ensures { option_map (λ name. name.now) result ≡ new_file_spelled word.now }
+{
+    if are_digits(word) { None } else { Some(word) }
+}
+
+fn are_digits(word: &[u8]) -> bool
+    ensures { result ≡ list_all is_ascii_digit word.now }
+{
+    word.iter().all(|byte| byte.is_ascii_digit())
 }
 
 /// The cells of a line's words, unless they are not three for each cell: two coordinates of 32 bits

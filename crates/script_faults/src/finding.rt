@@ -86,8 +86,8 @@ fn front_of_file(line: &[u8]) -> &[u8]
         return line;
     };
     match Dialect::Client.keyword(word.text) {
-        None | Some(Keyword::Save | Keyword::Open) => {}
-        Some(Keyword::Export) => {
+        None | Some(Keyword::Save | Keyword::SaveOver | Keyword::Open) => {}
+        Some(Keyword::Export | Keyword::ExportOver) => {
             let _generation = words.next_word();
         }
         Some(_) => return line,
