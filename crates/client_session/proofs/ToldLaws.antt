@@ -21,7 +21,7 @@ use Rattle.pattern_cells.specs.declared.cell.Cell.{Cell}
 use Rattle.pattern_cells.specs.Cells.{place_of}
 use Rattle.cell_changes.specs.Changes.{AreChanges}
 use Rattle.client_session.specs.declared.joining.Telling.{Telling}
-use Rattle.client_session.specs.declared.joining.Telling.TheVariants.{Edits, Changes}
+use Rattle.client_session.specs.declared.joining.Telling.TheVariants.{Edits, Changes, Nothing}
 use Rattle.client_session.specs.declared.workspace.Workspace.{Workspace}
 use Rattle.client_session.specs.Drawing.{TellsDrawing}
 use Rattle.client_session.specs.Joining.{IsBlank}
@@ -81,6 +81,8 @@ still_shown s t shown replica is = record { shown = subst (λ (x : Option Stampe
 blank_shown : (telling : Telling) (shown : Option StampedPlane) (p : StampedPlane) → AreSame (map_of p) (λ _. unwritten) → IsBlank telling shown → IsShownAs p shown
 blank_shown Edits None p new blank = tt
 blank_shown Edits (Some plane) p new blank = absurd blank
+blank_shown Nothing None p new blank = tt
+blank_shown Nothing (Some plane) p new blank = absurd blank
 blank_shown Changes None p new blank = absurd blank
 blank_shown Changes (Some plane) p new blank = λ c. blank.shows c ∙ sym (new c)
 

@@ -87,9 +87,13 @@ ExportsTextBehind bytes_of generation news.Refused m n result = Leaves None m n 
 abbrev pub IsExportTextCommand : {B : Type 0} → (B → List ℕ) → ℕ → Moment → Moment → Result (Option B) CommandFault → Type 0
 IsExportTextCommand bytes_of generation m n result = BehindPoll (ExportsTextBehind bytes_of generation) m n result
 
+-- the text of a message of the replica's map is given, and nothing else done
+abbrev pub SavesNow : {B : Type 0} → (B → List ℕ) → Moment → Moment → Result (Option B) CommandFault → Type 0
+SavesNow bytes_of m n result = (n ≡ m) × IsStateAnswer bytes_of m.workspace result
+
 abbrev pub SavesBehind : {B : Type 0} → (B → List ℕ) → News → Moment → Moment → Result (Option B) CommandFault → Type 0
-SavesBehind bytes_of news.Edits m n result = (n ≡ m) × IsStateAnswer bytes_of m.workspace result
-SavesBehind bytes_of news.Whole m n result = (n ≡ m) × IsStateAnswer bytes_of m.workspace result
+SavesBehind bytes_of news.Edits m n result = SavesNow bytes_of m n result
+SavesBehind bytes_of news.Whole m n result = SavesNow bytes_of m n result
 SavesBehind bytes_of news.Refused m n result = Leaves None m n result
 
 abbrev pub IsSaveCommand : {B : Type 0} → (B → List ℕ) → Moment → Moment → Result (Option B) CommandFault → Type 0

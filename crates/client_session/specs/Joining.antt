@@ -1,5 +1,5 @@
 -- What joining a board does.
-use Rattle.std.specs.Prelude.{◌≡◌, ◌⊎◌, ⊤, ℕ, ◌≤◌, false, List, [], ◌++◌, Option, Some, None, Result, Ok, Err}
+use Rattle.std.specs.Prelude.{◌≡◌, ◌⊎◌, ⊤, ℕ, ◌≤◌, Bool, true, false, List, [], ◌++◌, Option, Some, None, Result, Ok, Err}
 use mathlib.Core.List.{IsPrefix}
 use Rattle.square_store.specs.Limits.{usual_room}
 use Rattle.generations_rule.specs.Rule.{GenerationsRule}
@@ -17,7 +17,7 @@ use Rattle.board_client.specs.Greeting.{IsGreeting}
 use Rattle.client_session.specs.declared.fault.CommandFault.{CommandFault}
 use Rattle.client_session.specs.declared.fault.CommandFault.TheVariants.{Client, Refused, Memory}
 use Rattle.client_session.specs.declared.joining.Telling.{Telling}
-use Rattle.client_session.specs.declared.joining.Telling.TheVariants.{Edits, Changes}
+use Rattle.client_session.specs.declared.joining.Telling.TheVariants.{Edits, Changes, Nothing}
 use Rattle.client_session.specs.declared.workspace.Workspace.{Workspace}
 use Rattle.client_session.specs.Lines.{joined_line}
 use Rattle.client_session.specs.Moment.{Moment}
@@ -27,8 +27,14 @@ use Rattle.client_session.specs.Telling.{ShowsMap}
 -- no map is told; or one is where nothing was written
 abbrev pub IsBlank : Telling → Option StampedPlane → Type 0
 IsBlank Edits None = ⊤
+IsBlank Nothing None = ⊤
 IsBlank Changes (Some plane) = ShowsMap (λ _. unwritten) plane
 IsBlank _ _ = ⊥
+
+-- edits that come are not told
+abbrev pub is_quiet : Telling → Bool
+is_quiet Nothing = true
+is_quiet telling = false
 
 -- of a client that was handed nothing, and drew nothing
 pub record IsFresh (telling : Telling) (number : ℕ) (rule : GenerationsRule) (s : Workspace) : Type 0 where
@@ -37,6 +43,7 @@ pub record IsFresh (telling : Telling) (number : ℕ) (rule : GenerationsRule) (
   pub shown : IsBlank telling s.shown
   pub counted : s.counted ≡ 0
   pub open_still : s.closed ≡ false
+  pub quiet : s.quiet ≡ is_quiet telling
 
 -- such a one, and its seat's line was printed
 pub record IsJoined (telling : Telling) (number : ℕ) (rule : GenerationsRule) (s : Workspace) (out out' : List ℕ) : Type 0 where

@@ -1,5 +1,5 @@
 -- What is told of edits and planes that came.
-use Rattle.std.specs.Prelude.{◌≡◌, ◌≢◌, ⊤, ℕ, List, ◌++◌, length, drop, Option, Some, None, Result, Ok, Err}
+use Rattle.std.specs.Prelude.{◌≡◌, ◌≢◌, ⊤, ℕ, if◌then◌else◌, List, [], ◌++◌, length, drop, Option, Some, None, Result, Ok, Err}
 use Rattle.square_store.specs.Limits.{usual_room}
 use Rattle.pattern_cells.specs.declared.cell.Cell.{Cell}
 use Rattle.stamped_writes.specs.Write.{Writes, AreSame, joined, unwritten}
@@ -49,9 +49,13 @@ ShowsAll plane None None = ⊤
 ShowsAll plane (Some before) (Some after) = ShowsMap (map_of plane) after
 ShowsAll plane _ _ = ⊥
 
--- edits behind so many of the journal are told, each in a line, or what they change; those of the client's own are told only where a push was refused by 30
+-- the lines of edits behind so many of the journal; those of the client's own are told only where a push was refused by 30, and by a client that is quiet none
+abbrev pub came_lines : ℕ → Workspace → List ℕ
+came_lines known s = if s.quiet then [] else edit_lines s.closed s.replica.number (drop known s.replica.journal)
+
+-- edits behind so many of the journal are told, each in a line, or what they change
 pub record TellsBehind (known : ℕ) (old new : Workspace) (out out' : List ℕ) : Type 0 where
-  pub told : TellsCame (edit_lines old.closed old.replica.number (drop known old.replica.journal)) (drop known old.replica.journal) old.shown new.shown out out'
+  pub told : TellsCame (came_lines known old) (drop known old.replica.journal) old.shown new.shown out out'
   pub kept : new ≡ record old { shown = new.shown }
 
 -- that a whole plane came is told alone; the count of edits starts anew

@@ -1,7 +1,7 @@
 //! Texts of what a client's replica holds.
 
 ghost use Rattle.std.specs.Prelude.{◌≡◌};
-ghost use Rattle.client_session.specs.Exporting.{ExportsNow, ExportsTextNow, IsExportAnswer, IsExportCommand, IsExportPrint, IsExportTextCommand, IsSaveCommand, IsStateAnswer};
+ghost use Rattle.client_session.specs.Exporting.{ExportsNow, ExportsTextNow, IsExportAnswer, IsExportCommand, IsExportPrint, IsExportTextCommand, IsSaveCommand, IsStateAnswer, SavesNow};
 
 use crate::client::Client;
 use crate::fault::CommandFault;
@@ -45,13 +45,21 @@ impl<'a, C: Clock, S: Source + Drop, K: Sink + Drop> Client<'a, C, S, K> {
     {
         match self.news() {
             Ok(News::Refused) => Ok(None),
-            Ok(News::Edits | News::Whole) => self.workspace.saved(),
+            Ok(News::Edits | News::Whole) => self.save_now(),
             Err(fault) => Err(fault),
         }
     }
 
-    /// The export behind its poll.
-    fn export_now(&mut self, generation: u32) -> Result<(), CommandFault>
+    /// Gives the bytes of a message of the replica's map. Nothing is polled.
+    pub fn save_now(&mut self) -> Result<Option<Vec<u8>>, CommandFault>
+        ensures { SavesNow (λ text. text.items) self.old self.new result }
+    {
+        self.workspace.saved()
+    }
+
+    /// Prints the cells that the replica holds, so many generations later, as an RLE text, or why they are not
+    /// exported. Nothing is polled.
+    pub fn export_now(&mut self, generation: u32) -> Result<(), CommandFault>
         ensures { ExportsNow generation self.old self.new result }
     {
         let alloc = self.server.alloc();
@@ -59,8 +67,9 @@ impl<'a, C: Clock, S: Source + Drop, K: Sink + Drop> Client<'a, C, S, K> {
             .print_export(alloc, &mut self.out, generation)
     }
 
-    /// The text of an export behind its poll.
-    fn export_text_now(&mut self, generation: u32) -> Result<Option<Vec<u8>>, CommandFault>
+    /// Gives the cells that the replica holds, so many generations later, as an RLE text. `None` where the export
+    /// is refused, which is printed. Nothing is polled.
+    pub fn export_text_now(&mut self, generation: u32) -> Result<Option<Vec<u8>>, CommandFault>
         ensures { ExportsTextNow (λ text. text.items) generation self.old self.new result }
     {
         let alloc = self.server.alloc();

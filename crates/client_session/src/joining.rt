@@ -1,7 +1,7 @@
 //! Joining a board.
 
 ghost use Rattle.std.specs.Prelude.{◌≡◌, ◌≤◌, IfOk};
-ghost use Rattle.client_session.specs.Joining.{HasNumber, IsFresh, IsJoining, SetsUp};
+ghost use Rattle.client_session.specs.Joining.{HasNumber, IsFresh, IsJoining, SetsUp, is_quiet};
 
 use crate::client::Client;
 use crate::fault::CommandFault;
@@ -27,6 +27,8 @@ pub enum Telling {
     Edits,
     /// The cells that look different.
     Changes,
+    /// Nothing, beside that a whole plane came.
+    Nothing,
 }
 
 /// A client that did not join: why, the server, and what was printed by then. Contracts see it as `NotJoined`.
@@ -146,7 +148,7 @@ fn fresh(
         Err(_) => return Err(AllocError),
     };
     let shown = match telling {
-        Telling::Edits => None,
+        Telling::Edits | Telling::Nothing => None,
         Telling::Changes => Some(blank(alloc, key)?),
     };
     Ok(Workspace {
@@ -155,5 +157,16 @@ fn fresh(
         shown,
         counted: 0,
         closed: false,
+        quiet: is_quiet(telling),
     })
+}
+
+/// Whether edits that come are not told.
+fn is_quiet(telling: Telling) -> bool
+    ensures { result ≡ is_quiet telling }
+{
+    match telling {
+        Telling::Edits | Telling::Changes => false,
+        Telling::Nothing => true,
+    }
 }

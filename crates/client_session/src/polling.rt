@@ -29,8 +29,8 @@ pub(crate) enum News {
 }
 
 impl<'a, C: Clock, S: Source + Drop, K: Sink + Drop> Client<'a, C, S, K> {
-    /// Polls, and tells what came: `whole`, or else each edit, or the cells that look different. Of a
-    /// refusal nothing is told.
+    /// Polls, and tells what came: `whole`, or else each edit, or the cells that look different, or nothing. Of
+    /// a refusal nothing is told.
     pub fn follow(&mut self) -> Result<(), CommandFault>
         ensures { IsFollowing self.old self.new result }
     {
@@ -143,9 +143,11 @@ impl Workspace {
         ensures cut { OnErr result (IsCutShort self.old self.new out.old.items out.new.items) }
         ensures replica { self.new.replica ≡ self.old.replica }
     {
+        let quiet = self.quiet;
         let came = behind(self.replica.journal(), known);
         match &mut self.shown {
             Some(shown) => tell_changes(alloc, shown, out, came),
+            None if quiet => Ok(()),
             None => {
                 push_edits(out, came, self.replica.number(), self.closed)?;
                 Ok(())

@@ -23,6 +23,8 @@ pub struct Workspace {
     pub counted: usize,
     /// Whether a push was refused by 30. Then nothing is pushed any more.
     pub closed: bool,
+    /// Whether edits that come are not told.
+    pub quiet: bool,
 }
 
 impl Workspace {
