@@ -186,6 +186,7 @@ names_agree = record {
   finishes = finish_names;
   hubs = hub_names;
   services = service_names;
+  seats = λ refused. refl;
 }
 
 -- as many numbers, and as many names, differ as stand in the table

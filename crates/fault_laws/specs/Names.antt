@@ -1,5 +1,5 @@
 -- The names of refusals, which the program keeps in one table, are those of the crates that refuse.
-use Rattle.std.specs.Prelude.{◌≡◌, ℕ, List, Option, None, nat_eq, bytes_eq}
+use Rattle.std.specs.Prelude.{◌≡◌, ℕ, List, Option, None, codes, nat_eq, bytes_eq}
 use Rattle.std.specs.List.{IsDistinct}
 use Rattle.std.specs.Map.{keys_of, values_of}
 use Rattle.generations_rule.specs.declared.fault.RuleFault.{RuleFault}
@@ -58,6 +58,8 @@ pub record NamesAgree : Type 0 where
   pub finishes : (fault : FinishFault) → IsNamed (finish_fault_number fault) None (finish_fault_text fault)
   pub hubs : (fault : HubFault) → IsNamed (hub_fault_number fault) None (hub_fault_text fault)
   pub services : (fault : ServeFault) → IsNamed (serve_fault_number fault) None (serve_fault_text fault)
+  -- a board without a seat left tells its number alone
+  pub seats : IsNamed 45 None (codes "NoSeat")
 
 -- no number has two names, and no name two numbers
 pub record NamesAreDistinct : Type 0 where
