@@ -1,6 +1,6 @@
 //! Records, written.
 
-ghost use Rattle.std.specs.Prelude.{◌≡◌, ◌≤◌, ◌++◌, ◌^◌, length, OnOk};
+ghost use Rattle.std.specs.Prelude.{◌≡◌, ◌≤◌, ◌++◌, ◌^◌, length, OnErr, OnOk};
 ghost use Rattle.std.specs.List.{sum};
 ghost use Rattle.kept_records.specs.Records.{IsBody, digest, head_text, record_text};
 
@@ -14,14 +14,20 @@ pub const HEAD_BYTES: usize = 20;
 pub const MOST_BODY: usize = 1 << 24;
 
 /// Puts a record behind others: a head of 20 bytes, and the body, which has at most 2^24. Where memory is
-/// refused a part of the record may stand there.
+/// refused `out` stays as it was.
 pub fn push_record(out: &mut Vec<u8>, body: &[u8]) -> Result<(), AllocError>
     requires { length body.now ≤ 2 ^ 24 }
     ensures put { OnOk result (out.new.items ≡ out.old.items ++ record_text body.now) }
+    ensures same { OnErr result (out.new.items ≡ out.old.items) }
     ensures body { IsBody body.now }
 {
+    let before = out.len();
     out.extend_from_slice(&head_of(body))?;
-    out.extend_from_slice(body)
+    let added = out.extend_from_slice(body);
+    if added.is_err() {
+        out.truncate(before);
+    }
+    added
 }
 
 /// The head of a body.
