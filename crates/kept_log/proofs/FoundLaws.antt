@@ -79,6 +79,17 @@ pub same_seen : (o : Option History) → Both o o (λ h k. (bytes : List ℕ) �
 same_seen (Some h) = λ bytes seen. seen
 same_seen None = tt
 
+-- nor is anything else seen of one of which a sync failed
+pub doubt_same : (o p : Option History) → Both o p (λ h k. (k ≡ h) ⊎ (k ≡ moves_to h (in_doubt h.now))) → Both o p (λ h k. (bytes : List ℕ) → IsSeen k.now bytes → IsSeen h.now bytes)
+doubt_same (Some h) (Some k) step = seen_so step
+  where
+    seen_so : (k ≡ h) ⊎ (k ≡ moves_to h (in_doubt h.now)) → (bytes : List ℕ) → IsSeen k.now bytes → IsSeen h.now bytes
+    seen_so (inl same) bytes seen = subst (λ (l : History). IsSeen l.now bytes) same seen
+    seen_so (inr moves) bytes seen = subst (λ (l : History). IsSeen l.now bytes) moves seen
+doubt_same (Some h) None step = step
+doubt_same None (Some k) step = step
+doubt_same None None step = tt
+
 pub nothing_done : (kept all : List (List ℕ)) (o : Option History) → IfSome o (λ h. Leaves kept all h.now) → Both o o (Throughout (Leaves kept all))
 nothing_done kept all o leaves = always_still (Leaves kept all) o leaves
 
@@ -95,6 +106,15 @@ read_crash r kept all o p leaves step =
 
 pub read_after : {E : Type 0} (r : Result (Option (Vec ℕ Global)) E) (kept all : List (List ℕ)) (o p q : Option History) → Both o p (Throughout (Leaves kept all)) → Both p q (Reads r) → Both o q (Throughout (Leaves kept all))
 read_after r kept all o p q first step = always_on (Leaves kept all) o p q first (read_crash r kept all p q (in_the_end (Leaves kept all) o p first) step)
+
+pub read_same : {E : Type 0} (r : Result (Option (Vec ℕ Global)) E) (o p q : Option History) → Both o p (λ h k. (bytes : List ℕ) → IsSeen k.now bytes → IsSeen h.now bytes) → Both p q (Reads r)
+    → Both o q (λ h k. (bytes : List ℕ) → IsSeen k.now bytes → IsSeen h.now bytes)
+read_same r (Some h) (Some k) (Some l) same step = λ bytes seen. same bytes (subst (λ (m : History). IsSeen m.now bytes) (read_still r k l step) seen)
+read_same r (Some h) (Some k) None same step = absurd step
+read_same r (Some h) None q same step = absurd same
+read_same r None (Some k) q same step = absurd same
+read_same r None None (Some l) same step = absurd step
+read_same r None None None same step = tt
 
 pub some_read : (E : Type 0) (o p : Option History) (f : Option (Vec ℕ Global)) (v : Vec ℕ Global) → f ≡ Some v → Both o p (Reads {E = E} (Ok f)) → Both o p (λ h k. (k ≡ h) × IsSeen h.now v.items)
 some_read E o p f v e step = subst (λ (x : Option (Vec ℕ Global)). Both o p (Reads {E = E} (Ok x))) e step

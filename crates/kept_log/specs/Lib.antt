@@ -1,4 +1,5 @@
 pub mod Kept
 pub mod Found
 pub mod Faults
+pub mod States
 pub mod FindFaults

@@ -68,7 +68,7 @@ impl<K: Reopen> Found<K> {
 
 /// Reads the records of a file as another process left it, up to where none begins. It is synced first, so
 /// that a crash cannot take back what is read; where that may not help, the file is told as doubtful. Where
-/// it is not read the file is handed back.
+/// it is not read the file is handed back, and holds what it held.
 pub fn find<K: Reopen>(alloc: Global, keep: K) -> Result<Found<K>, (FindFault, K)>
     ensures found { IfOk result (λ f. IsFound (K.known f.keep) f.is_doubtful f.bytes.items (listed f.parts.head f.parts.bodies.items) f.parts.whole) }
     ensures shows { IfOk result (λ f. Shows f.bytes.items (K.known keep)) }
@@ -77,6 +77,7 @@ pub fn find<K: Reopen>(alloc: Global, keep: K) -> Result<Found<K>, (FindFault, K
     ensures crash { (kept : List (List ℕ)) (all : List (List ℕ)) → LeavesNow kept all (K.known keep) → IfOk result (λ f. Always (Leaves kept all) (K.known keep) (K.known f.keep)) }
     ensures crash_err { (kept : List (List ℕ)) (all : List (List ℕ)) → LeavesNow kept all (K.known keep) → IfErr result (λ e. Always (Leaves kept all) (K.known keep) (K.known e.1)) }
     ensures works { IfOk result (λ f. (K.known f.keep).failures ≡ (K.known keep).failures) }
+    ensures same { IfErr result (λ e. Sees (K.known keep) (K.known e.1)) }
     ensures cause { IfErr result (λ e. (K.known e.1).failures ≡ failures_of_find e.0 (K.known keep).failures) }
 {
     let mut keep = keep;
@@ -101,6 +102,7 @@ fn read<K: Reopen>(alloc: Global, keep: &mut K) -> Result<(Vec<u8>, bool), FindF
     ensures shows { IfOk result (λ r. Shows r.0.items (K.known keep.new)) }
     ensures shown { IfOk result (λ r. Shows r.0.items (K.known keep.old)) }
     ensures crash { (kept : List (List ℕ)) (all : List (List ℕ)) → LeavesNow kept all (K.known keep.old) → Always (Leaves kept all) (K.known keep.old) (K.known keep.new) }
+    ensures same { Sees (K.known keep.old) (K.known keep.new) }
     ensures works { OnOk result ((K.known keep.new).failures ≡ (K.known keep.old).failures) }
     ensures cause { IfErr result (λ fault. (fault ≢ FindFault.NoRecord) × ((K.known keep.new).failures ≡ failures_of_find fault (K.known keep.old).failures)) }
 {
@@ -117,7 +119,7 @@ fn read<K: Reopen>(alloc: Global, keep: &mut K) -> Result<(Vec<u8>, bool), FindF
 /// Syncs a file, where that says anything. Whether it is in doubt.
 fn made_ready<K: Reopen>(keep: &mut K) -> Result<bool, Failed>
     ensures ready { IfOk result (λ d. AreReady d (K.known keep.new)) }
-    ensures same { OnOk result (Sees (K.known keep.old) (K.known keep.new)) }
+    ensures same { Sees (K.known keep.old) (K.known keep.new) }
     ensures crash { (kept : List (List ℕ)) (all : List (List ℕ)) → LeavesNow kept all (K.known keep.old) → Always (Leaves kept all) (K.known keep.old) (K.known keep.new) }
     ensures cause { (K.known keep.new).failures ≡ failures_after result (K.known keep.old).failures }
 {

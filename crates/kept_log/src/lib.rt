@@ -10,5 +10,5 @@ mod log;
 mod reopening;
 
 pub use finding::{FindFault, Found, Parts, find};
-pub use log::{Log, LogFault};
+pub use log::{Log, LogFault, LogState};
 pub use reopening::{Reopened, reopen};

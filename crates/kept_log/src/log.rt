@@ -1,11 +1,12 @@
 //! Lists of bodies that are added to.
 
-ghost use Rattle.std.specs.Prelude.{◌≡◌, ◌≢◌, ◌≤◌, ◌↔◌, ◌^◌, ◌++◌, ◌∷◌, [], ℕ, List, length, map, true, Err, IfOk, OnErr, OnOk};
+ghost use Rattle.std.specs.Prelude.{◌≡◌, ◌≢◌, ◌≤◌, ◌↔◌, ◌^◌, ◌++◌, ◌∷◌, [], ℕ, List, length, map, Err, IfOk, OnErr, OnOk};
 ghost use Rattle.std.specs.List.{All};
 ghost use Rattle.devices.specs.Count.{failures_after, one_more};
 ghost use Rattle.kept_records.specs.Records.{AreBodies, IsBody, record_text, records_text};
-ghost use Rattle.kept_log.specs.Faults.{failures_of_begin, failures_of_commit, is_stopped_by};
+ghost use Rattle.kept_log.specs.Faults.{failures_of_begin, failures_of_commit};
 ghost use Rattle.kept_log.specs.Kept.{Always, Keeps, Leaves, LeavesEither, StandsBehind};
+ghost use Rattle.kept_log.specs.States.{state_after};
 
 use kept_devices::{Failed, Keep, Reopen};
 use kept_records::push_record;
@@ -22,32 +23,59 @@ pub enum LogFault {
     Doubtful,
     /// The file failed before. It was not touched.
     Stopped,
+    /// The file has its first body, and was not touched.
+    Begun,
+    /// The file has no first body, and was not touched.
+    Unbegun,
 }
 
-/// A file of records that is added to. Once the file failed it takes nothing more: it is to be opened again.
+/// What a log takes.
+#[derive(Clone, Copy, Debug, PartialEq, Eq)]
+pub enum LogState {
+    /// The file has no byte: it takes the first body alone.
+    Empty,
+    /// The file has its first body: it takes others.
+    Open,
+    /// The file failed: it takes nothing more, and is to be opened again.
+    Failed,
+}
+
+/// A file of records that is added to.
 #[derive(Drop)]
 pub struct Log<K: Keep> {
     pub keep: K,
-    pub is_failed: bool,
+    pub(crate) state: LogState,
 }
 
 impl<K: Keep> Log<K> {
+    /// What it takes.
+    pub fn state(&self) -> LogState
+        ensures { result ≡ self.now.state }
+    {
+        self.state
+    }
+
     /// Adds bodies at the end, by one push and one sync: at `Ok` they are on the disk. A crash at any moment
     /// of it leaves the bodies from before, and of these the first, in order. Where the file fails, what was
-    /// added is cut off again.
+    /// added is cut off again. It is refused as `Unbegun` where the log is empty, and as `Stopped` where it
+    /// failed.
     pub fn commit(&mut self, alloc: Global, bodies: &[Vec<u8>]) -> Result<(), LogFault>
         requires { All (λ v. length v.items ≤ 2 ^ 24) bodies.now }
         ensures kept { (list : List (List ℕ)) → Keeps list (K.known self.old.keep) → OnOk result (Keeps (list ++ map (λ v. v.items) bodies.now) (K.known self.new.keep)) }
         ensures back { (list : List (List ℕ)) → Keeps list (K.known self.old.keep) → result ≡ Err LogFault.CutBack → Keeps list (K.known self.new.keep) }
         ensures crash { (list : List (List ℕ)) → Keeps list (K.known self.old.keep) → Always (Leaves list (list ++ map (λ v. v.items) bodies.now)) (K.known self.old.keep) (K.known self.new.keep) }
         ensures cause { (K.known self.new.keep).failures ≡ failures_of_commit result (K.known self.old.keep).failures }
-        ensures stops { self.new.is_failed ≡ is_stopped_by result self.old.is_failed }
+        ensures state { self.new.state ≡ state_after result self.old.state }
         ensures memory { result ≡ Err LogFault.Memory → self.new ≡ self.old }
-        ensures stopped { (result ≡ Err LogFault.Stopped) ↔ (self.old.is_failed ≡ true) }
-        ensures untouched { self.old.is_failed ≡ true → self.new ≡ self.old }
+        ensures unbegun { (result ≡ Err LogFault.Unbegun) ↔ (self.old.state ≡ LogState.Empty) }
+        ensures stopped { (result ≡ Err LogFault.Stopped) ↔ (self.old.state ≡ LogState.Failed) }
+        ensures never { result ≢ Err LogFault.Begun }
+        ensures untouched { self.old.state ≢ LogState.Open → self.new ≡ self.old }
     {
-        if self.is_failed {
-            return Err(LogFault::Stopped);
+        match self.state {
+            LogState::Empty => return Err(LogFault::Unbegun),
+            LogState::Open => {}
+            LogState::Failed => return Err(LogFault::Stopped),
         }
         let Ok(text) = text_of(alloc, bodies) else {
             return Err(LogFault::Memory);
@@ -55,7 +83,7 @@ impl<K: Keep> Log<K> {
         match write(&mut self.keep, &text) {
             Ok(()) => Ok(()),
             Err(_) => {
-                self.is_failed = true;
+                self.state = LogState::Failed;
                 match self.keep.cut_back() {
                     Ok(()) => Err(LogFault::CutBack),
                     Err(_) => Err(LogFault::Doubtful),
@@ -67,28 +95,35 @@ impl<K: Keep> Log<K> {
 
 impl<K: Reopen> Log<K> {
     /// Puts the first body into a file that holds none, as a new file that takes its place: a crash at any
-    /// moment leaves a file of no byte or the whole record.
+    /// moment leaves a file of no byte or the whole record. It is refused as `Begun` where the log is open,
+    /// and as `Stopped` where it failed.
     pub fn begin(&mut self, alloc: Global, head: &[u8]) -> Result<(), LogFault>
         requires { length head.now ≤ 2 ^ 24 }
         ensures kept { Keeps [] (K.known self.old.keep) → OnOk result (Keeps (head.now ∷ []) (K.known self.new.keep)) }
         ensures crash { Keeps [] (K.known self.old.keep) → Always (LeavesEither [] (record_text head.now)) (K.known self.old.keep) (K.known self.new.keep) }
         ensures cause { (K.known self.new.keep).failures ≡ failures_of_begin result (K.known self.old.keep).failures }
-        ensures stops { self.new.is_failed ≡ is_stopped_by result self.old.is_failed }
+        ensures state { self.new.state ≡ state_after result self.old.state }
         ensures memory { result ≡ Err LogFault.Memory → self.new ≡ self.old }
-        ensures never { result ≢ Err LogFault.CutBack }
-        ensures stopped { (result ≡ Err LogFault.Stopped) ↔ (self.old.is_failed ≡ true) }
-        ensures untouched { self.old.is_failed ≡ true → self.new ≡ self.old }
+        ensures never { (result ≢ Err LogFault.CutBack) × (result ≢ Err LogFault.Unbegun) }
+        ensures begun { (result ≡ Err LogFault.Begun) ↔ (self.old.state ≡ LogState.Open) }
+        ensures stopped { (result ≡ Err LogFault.Stopped) ↔ (self.old.state ≡ LogState.Failed) }
+        ensures untouched { self.old.state ≢ LogState.Empty → self.new ≡ self.old }
     {
-        if self.is_failed {
-            return Err(LogFault::Stopped);
+        match self.state {
+            LogState::Empty => {}
+            LogState::Open => return Err(LogFault::Begun),
+            LogState::Failed => return Err(LogFault::Stopped),
         }
         let Ok(text) = record_of(alloc, head) else {
             return Err(LogFault::Memory);
         };
         match self.keep.replace(&text) {
-            Ok(()) => Ok(()),
+            Ok(()) => {
+                self.state = LogState::Open;
+                Ok(())
+            }
             Err(_) => {
-                self.is_failed = true;
+                self.state = LogState::Failed;
                 Err(LogFault::Doubtful)
             }
         }

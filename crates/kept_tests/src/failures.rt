@@ -1,9 +1,9 @@
-//! Files that could not be cut back, and logs that are stopped.
+//! Files that could not be cut back, and logs that refuse a call for the state that they are in.
 
 use crate::bodies::{are_first, begin, commit, listed, opened, part, ten};
 use crate::crashes::{crashed, failing, live, moment_of};
 use kept_devices::{Keep, MemoryKeep, Reopen};
-use kept_log::LogFault;
+use kept_log::{LogFault, LogState};
 use std::test::Fail;
 
 #[test]
@@ -58,6 +58,45 @@ fn a_later_sync_says_nothing(rt: HostRuntime) -> Result<(), Fail> {
     assert!(rt; keep.now().pending.as_slice() == b"cd".as_slice());
     assert!(rt; keep.cut_back().is_ok() && !keep.is_doubtful());
     assert!(rt; keep.now().durable.as_slice() == b"ab".as_slice() && keep.now().pending.is_empty());
+    Ok(())
+}
+
+#[test]
+fn an_open_log_is_not_begun(rt: HostRuntime) -> Result<(), Fail> {
+    let alloc = rt.alloc();
+    let bodies = ten(alloc)?;
+    let mut log = opened(alloc, MemoryKeep::new(alloc, b"")?)?.log;
+    assert_eq!(rt; log.state(), LogState::Empty);
+    assert!(rt; begin(alloc, &mut log).is_ok());
+    assert!(rt; commit(alloc, &mut log, part(&bodies, 1, 10)).is_ok());
+    let calls = log.keep.calls();
+    assert_eq!(rt; begin(alloc, &mut log), Err(LogFault::Begun));
+    assert_eq!(rt; log.keep.calls(), calls);
+    // nor one that is opened with its head
+    let mut reopened = opened(alloc, log.keep.killed())?;
+    assert_eq!(rt; reopened.log.state(), LogState::Open);
+    assert_eq!(rt; begin(alloc, &mut reopened.log), Err(LogFault::Begun));
+    let found = opened(alloc, reopened.log.keep.killed())?;
+    let got = listed(alloc, &found.head, &found.bodies)?;
+    assert!(rt; got.len() == 10 && are_first(&got, &bodies));
+    Ok(())
+}
+
+#[test]
+fn an_empty_log_takes_its_head_first(rt: HostRuntime) -> Result<(), Fail> {
+    let alloc = rt.alloc();
+    let bodies = ten(alloc)?;
+    let mut log = opened(alloc, MemoryKeep::new(alloc, b"")?)?.log;
+    let calls = log.keep.calls();
+    assert_eq!(rt;
+        commit(alloc, &mut log, part(&bodies, 1, 3)),
+        Err(LogFault::Unbegun)
+    );
+    assert_eq!(rt; log.keep.calls(), calls);
+    let stands = log.keep.now();
+    assert!(rt; stands.durable.is_empty() && stands.pending.is_empty());
+    assert!(rt; begin(alloc, &mut log).is_ok());
+    assert!(rt; commit(alloc, &mut log, part(&bodies, 1, 3)).is_ok());
     Ok(())
 }
 

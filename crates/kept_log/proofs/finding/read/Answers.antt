@@ -1,5 +1,5 @@
 use Rattle.devices.specs.declared.source.Failed.{Failed}
-use Rattle.kept_log.proofs.FoundLaws.{read_after, read_ready, read_shown, read_shows, some_read}
+use Rattle.kept_log.proofs.FoundLaws.{read_after, read_ready, read_same, read_shown, read_shows, some_read}
 use Rattle.kept_log.proofs.finding.read.Goals as goal
 
 pub returns-in-Ok-Some-clause-ready : goal.returns-in-Ok-Some-clause-ready
@@ -19,3 +19,12 @@ returns-in-Ok-None-clause-crash g c kept all leaves = read_after c.read_whole.re
 
 pub returns-in-Err-clause-crash : goal.returns-in-Err-clause-crash
 returns-in-Err-clause-crash g c kept all leaves = read_after c.read_whole.result kept all _ _ _ (c.in-Ok.ensures.crash kept all leaves) c.read_whole.ensures.held
+
+pub returns-in-Ok-Some-clause-same : goal.returns-in-Ok-Some-clause-same
+returns-in-Ok-Some-clause-same g c = read_same c.read_whole.result _ _ _ c.in-Ok.ensures.same c.read_whole.ensures.held
+
+pub returns-in-Ok-None-clause-same : goal.returns-in-Ok-None-clause-same
+returns-in-Ok-None-clause-same g c = read_same c.read_whole.result _ _ _ c.in-Ok.ensures.same c.read_whole.ensures.held
+
+pub returns-in-Err-clause-same : goal.returns-in-Err-clause-same
+returns-in-Err-clause-same g c = read_same c.read_whole.result _ _ _ c.in-Ok.ensures.same c.read_whole.ensures.held

@@ -3,8 +3,11 @@ use Rattle.kept_records.specs.Records.{record_text}
 use Rattle.kept_log.proofs.Moments.{began_so, not_touched}
 use Rattle.kept_log.proofs.log.Log.begin.Goals as goal
 
-pub returns-then-self-clause-crash : goal.returns-then-self-clause-crash
-returns-then-self-clause-crash g c keeps = not_touched (record_text c.args.head.now) _ keeps
+pub returns-in-Open-clause-crash : goal.returns-in-Open-clause-crash
+returns-in-Open-clause-crash g c keeps = not_touched (record_text c.args.head.now) _ keeps
+
+pub returns-in-Failed-clause-crash : goal.returns-in-Failed-clause-crash
+returns-in-Failed-clause-crash g c keeps = not_touched (record_text c.args.head.now) _ keeps
 
 pub returns-in_default-clause-crash : goal.returns-in_default-clause-crash
 returns-in_default-clause-crash g c keeps = not_touched (record_text c.args.head.now) _ keeps

@@ -2,8 +2,11 @@ use Rattle.std.proofs.Common.{map, ◌∙◌}
 use Rattle.kept_log.proofs.Moments.{cut_back_done, cut_back_failed, cut_behind, untouched}
 use Rattle.kept_log.proofs.log.Log.commit.Goals as goal
 
-pub returns-then-self-clause-crash : goal.returns-then-self-clause-crash
-returns-then-self-clause-crash g c list keeps = untouched list (map (λ v. v.items) c.args.bodies.now) _ keeps
+pub returns-in-Empty-clause-crash : goal.returns-in-Empty-clause-crash
+returns-in-Empty-clause-crash g c list keeps = untouched list (map (λ v. v.items) c.args.bodies.now) _ keeps
+
+pub returns-in-Failed-clause-crash : goal.returns-in-Failed-clause-crash
+returns-in-Failed-clause-crash g c list keeps = untouched list (map (λ v. v.items) c.args.bodies.now) _ keeps
 
 pub returns-in_default-clause-crash : goal.returns-in_default-clause-crash
 returns-in_default-clause-crash g c list keeps = untouched list (map (λ v. v.items) c.args.bodies.now) _ keeps
