@@ -18,7 +18,8 @@ pub trait Reopen: Keep {
     fn read_whole(&mut self, alloc: Global) -> Result<Option<Vec<u8>>, Failed>
         ensures { IsRead (Self.known self.old) (Self.known self.new) result };
 
-    /// Cuts it to a length, on the disk.
+    /// Cuts it to a length within what was synced, on the disk. Beyond that it may be refused, and a refusal
+    /// counts as a failure.
     fn cut(&mut self, len: usize) -> Result<(), Failed>
         ensures { IsCut (Self.known self.old) (Self.known self.new) result len };
 

@@ -3,7 +3,7 @@
 ghost use Rattle.std.specs.Prelude.{◌≡◌, None};
 ghost use Rattle.devices.specs.Count.{failures_after};
 
-use crate::beside::{DOUBT, NEW, name_beside, put_in_place, sync_folder};
+use crate::beside::{put_in_place, sync_folder};
 use kept_devices::{Failed, Keep, Reopen};
 use std::alloc::Global;
 use std::fs::{self, File};
@@ -19,8 +19,11 @@ use std::rt::Files;
 #[derive(Drop)]
 pub struct FileKeep<'a, R: Files<File = File>> {
     pub(crate) rt: &'a R,
-    pub(crate) alloc: Global,
     pub(crate) path: String,
+    /// the name of a new file that is to replace it
+    pub(crate) replacement: String,
+    /// the name of the mark that a sync of it failed
+    pub(crate) mark: String,
     pub(crate) file: File,
     /// how many bytes were synced, or found
     pub(crate) synced: u64,
@@ -68,10 +71,10 @@ impl<'a, R: Files<File = File>> FileKeep<'a, R> {
     fn try_replace(&mut self, bytes: &[u8]) -> io::Result<()>
         ensures { self.new.failures ≡ self.old.failures }
     {
-        let new = name_beside(self.alloc, self.path.as_str(), NEW)?;
         let permissions = self.file.metadata()?.permissions();
+        let replacement = self.replacement.as_str();
         let path = self.path.as_str();
-        self.file = put_in_place(self.rt, new.as_str(), path, bytes, permissions)?;
+        self.file = put_in_place(self.rt, replacement, path, bytes, permissions)?;
         let synced = sync_folder(self.rt, self.path.as_str());
         if synced.is_err() {
             self.doubt();
@@ -96,9 +99,7 @@ impl<'a, R: Files<File = File>> FileKeep<'a, R> {
         ensures { self.new.failures ≡ self.old.failures }
     {
         self.is_doubtful = true;
-        if let Ok(mark) = name_beside(self.alloc, self.path.as_str(), DOUBT) {
-            let _made = fs::create(self.rt, mark.as_str());
-        }
+        let _made = fs::create(self.rt, self.mark.as_str());
     }
 
     /// Takes the mark away, if there is one.
@@ -109,9 +110,7 @@ impl<'a, R: Files<File = File>> FileKeep<'a, R> {
             return;
         }
         self.is_doubtful = false;
-        if let Ok(mark) = name_beside(self.alloc, self.path.as_str(), DOUBT) {
-            let _gone = fs::remove_file(self.rt, mark.as_str());
-        }
+        let _gone = fs::remove_file(self.rt, self.mark.as_str());
     }
 
     /// Counts a failure.

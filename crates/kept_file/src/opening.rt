@@ -1,6 +1,6 @@
 //! Files, opened.
 
-use crate::beside::{DOUBT, name_beside, sync_folder};
+use crate::beside::{DOUBT, NEW, name_beside, sync_folder};
 use crate::file::FileKeep;
 use std::alloc::Global;
 use std::fs::{self, File, OpenOptions, TryLockError};
@@ -90,13 +90,16 @@ fn found<'a, R: Files<File = File>>(
     // behind a link stands the file itself, which a new one is to replace
     let path = rt.canonicalize(alloc, path)?.into_string();
     sync_folder(rt, path.as_str())?;
+    // both names are made now, so that no later call wants memory for them
+    let replacement = name_beside(alloc, path.as_str(), NEW)?;
     let mark = name_beside(alloc, path.as_str(), DOUBT)?;
     let is_doubtful = fs::exists(rt, mark.as_str())?;
     let synced = file.metadata()?.len();
     Ok(FileKeep {
         rt,
-        alloc,
         path,
+        replacement,
+        mark,
         file,
         synced,
         is_doubtful,
