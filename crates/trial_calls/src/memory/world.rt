@@ -70,7 +70,7 @@ impl<'a, C: Clock> World<'a, C> {
     /// Whether the client printed what a call is meant to print.
     fn has_printed(&self, step: &Step) -> bool {
         let meant = match self.telling {
-            Telling::Edits => step.edits,
+            Telling::Edits | Telling::Nothing => step.edits,
             Telling::Changes => step.cells,
         };
         match &self.client {
