@@ -5,3 +5,4 @@ pub mod PasteLaws
 pub mod WaitLaws
 pub mod JoinLaws
 pub mod DrawnLaws
+pub mod LineLaws

@@ -28,7 +28,7 @@ use Rattle.client_session.specs.Joining.{IsBlank}
 use Rattle.client_session.specs.Lines.{drawn_line, now_line}
 use Rattle.client_session.specs.Moment.{Moment}
 use Rattle.client_session.specs.Telling.{ShowsAll, TellsCame}
-use Rattle.client_session.specs.Laws.{IsShown, IsShownAs, ShowsWhatItHolds, TellsWhatChanged}
+use Rattle.client_session.specs.Laws.{IsShown, IsShownAs, ShowsWhatItHolds, TellsWhatChanged, TellsWhatTookItsPlace}
 use Rattle.client_session.proofs.FreshLaws.{Grows, HoldsAll, grows_by, grows_not, grows_on, joins_behind}
 
 -- ---- what a replica takes
@@ -69,11 +69,11 @@ shown_behind None (Some after) p q lines came out told shown grown tells = absur
 shown_behind (Some before) None p q lines came out told shown grown tells = absurd tells
 shown_behind (Some before) (Some after) p q lines came out told shown grown tells = λ c. tells.shows.joins c ∙ ap (λ w. greater w (greatest came c)) (shown c) ∙ sym (grown c)
 
-all_shown : (before after : Option StampedPlane) (p : StampedPlane) → ShowsAll p before after → IsShownAs p after
-all_shown None None p shows = tt
-all_shown None (Some after) p shows = absurd shows
-all_shown (Some before) None p shows = absurd shows
-all_shown (Some before) (Some after) p shows = shows.shows
+all_shown : (before after : Option StampedPlane) (p : StampedPlane) (cells : List Cell) → ShowsAll p before after cells → IsShownAs p after
+all_shown None None p cells shows = tt
+all_shown None (Some after) p cells shows = absurd shows
+all_shown (Some before) None p cells shows = absurd shows
+all_shown (Some before) (Some after) p cells shows = shows.shows.shows
 
 still_shown : (s t : Workspace) → t.shown ≡ s.shown → t.replica ≡ s.replica → IsShown s → IsShown t
 still_shown s t shown replica is = record { shown = subst (λ (x : Option StampedPlane). IsShownAs t.replica.plane x) (sym shown) (subst (λ (r : ReplicaState). IsShownAs r.plane s.shown) (sym replica) is.shown) }
@@ -108,7 +108,7 @@ shows_what_it_holds = record {
         (joins_behind m.workspace.replica.journal n.workspace.replica.journal (map_of m.workspace.replica.plane) (map_of n.workspace.replica.plane)
         (took_all p.polled.last.texts m.workspace.replica n.workspace.replica is.journal.held p.polled.last.deltas p.polled.last.taken)) p.told.told;
   };
-  whole = λ m n p. record { shown = all_shown m.workspace.shown n.workspace.shown n.workspace.replica.plane p.told.shown };
+  whole = λ m n p. record { shown = all_shown m.workspace.shown n.workspace.shown n.workspace.replica.plane p.told.cells p.told.shows };
   refused = λ number m n shown p. still_shown m.workspace n.workspace (ap (λ s. s.shown) p.told.0) p.polled.last.kept shown;
   drawn = λ after spec outcome m n is shown d. drawn_shown d.drawing after spec m n is shown d.drawn d.told;
 }
@@ -135,3 +135,15 @@ pub tells_what_changed : TellsWhatChanged
 tells_what_changed count m n shown is first last p =
     let t = told_as_changed m.workspace.shown n.workspace.shown shown m.workspace.replica.plane n.workspace.replica.plane _ (drop (length m.workspace.replica.journal) n.workspace.replica.journal) m.out n.out is first.shown last.shown p.told.told in
     record { cells = t.0; changes = t.1; told = t.2 }
+
+changed_as_a_whole : (before after : Option StampedPlane) (shown p q : StampedPlane) (cells : List Cell) → before ≡ Some shown → IsShownAs p before → ShowsAll q before after cells → AreChanges (map_of p) (map_of q) cells
+changed_as_a_whole (Some before) (Some after) shown p q cells is first shows = alike (map_of before) (map_of q) (map_of p) (map_of q) cells first (λ c. refl) shows.changes
+changed_as_a_whole (Some before) None shown p q cells is first shows = absurd shows
+changed_as_a_whole None after shown p q cells is first shows = absurd cc
+
+pub tells_what_took_its_place : TellsWhatTookItsPlace
+tells_what_took_its_place m n shown is first p = record {
+  cells = p.told.cells;
+  changes = changed_as_a_whole m.workspace.shown n.workspace.shown shown m.workspace.replica.plane n.workspace.replica.plane p.told.cells is first.shown p.told.shows;
+  told = p.told.told;
+}

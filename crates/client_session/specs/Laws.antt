@@ -13,7 +13,7 @@ use Rattle.client_session.specs.declared.joining.Telling.{Telling}
 use Rattle.client_session.specs.declared.workspace.Workspace.{Workspace}
 use Rattle.client_session.specs.Drawing.{DrawsAndTells}
 use Rattle.client_session.specs.Joining.{IsFresh}
-use Rattle.client_session.specs.Lines.{now_line}
+use Rattle.client_session.specs.Lines.{now_line, replaced_lines, whole_line}
 use Rattle.client_session.specs.Moment.{Moment}
 use Rattle.client_session.specs.News.{Polls}
 
@@ -44,3 +44,13 @@ pub record TellsDifferences (m n : Moment) (out : List ℕ) : Type 0 where
 -- edits, it tells just those cells.
 abbrev pub TellsWhatChanged : Type 0
 TellsWhatChanged = (count : ℕ) (m n : Moment) (shown : StampedPlane) → m.workspace.shown ≡ Some shown → IsShown m.workspace → IsShown n.workspace → Polls (polling.Edits count) m n → TellsDifferences m n m.out
+
+-- the line that a whole plane came, and behind it the cells whose state is another one in the replica's map than before
+pub record TellsReplaced (m n : Moment) : Type 0 where
+  pub cells : List Cell
+  pub changes : AreChanges (map_of m.workspace.replica.plane) (map_of n.workspace.replica.plane) cells
+  pub told : n.out ≡ m.out ++ whole_line ++ replaced_lines cells
+
+-- So it is behind a poll that brought a whole plane.
+abbrev pub TellsWhatTookItsPlace : Type 0
+TellsWhatTookItsPlace = (m n : Moment) (shown : StampedPlane) → m.workspace.shown ≡ Some shown → IsShown m.workspace → Polls polling.Whole m n → TellsReplaced m n

@@ -1,5 +1,5 @@
 -- The lines that a client prints.
-use Rattle.std.specs.Prelude.{ℕ, ℤ, Bool, ◌||◌, ◌==◌, not, List, [], ◌∷◌, ◌++◌, codes, decimal, filter, flat_map, Option, Some, None}
+use Rattle.std.specs.Prelude.{ℕ, zero, suc, ℤ, Bool, ◌||◌, ◌==◌, not, nat_lt, if◌then◌else◌, List, [], ◌∷◌, ◌++◌, length, take, drop, codes, decimal, filter, flat_map, Option, Some, None}
 use Rattle.std.specs.Fmt.{signed_decimal}
 use Rattle.generations_rule.specs.Rule.{GenerationsRule}
 use Rattle.generations_rule.specs.RuleText.{text_of}
@@ -65,6 +65,29 @@ now_line (cell ∷ cells) = codes "now" ++ cells_text (cell ∷ cells) ++ codes 
 -- the server sent its plane
 abbrev pub whole_line : List ℕ
 whole_line = codes "whole\n"
+
+-- ---- what looks different behind a whole plane
+
+-- so many lines of at most so many cells each, from the first on; no line where no cell is left
+abbrev pub lines_of : (size lines : ℕ) → List Cell → List ℕ
+lines_of size zero cells = []
+lines_of size (suc lines) cells = now_line (take size cells) ++ lines_of size lines (drop size cells)
+
+-- cells that look different, as they are now, in as many lines of at most so many as they need
+abbrev pub now_lines : ℕ → List Cell → List ℕ
+now_lines size cells = lines_of size (length cells) cells
+
+-- so many cells look different, none of which is told
+abbrev pub many_line : ℕ → List ℕ
+many_line number = codes "many " ++ decimal number ++ codes " cells look different: export 0 has them\n"
+
+-- cells are told in lines of at most so many; of more cells than a limit their number alone is
+abbrev pub lines_within : (most size : ℕ) → List Cell → List ℕ
+lines_within most size cells = if nat_lt most (length cells) then many_line (length cells) else now_lines size cells
+
+-- at most 100,000 cells are told, 1,000 in a line
+abbrev pub replaced_lines : List Cell → List ℕ
+replaced_lines cells = lines_within 100000 1000 cells
 
 -- ---- numbers of edits
 

@@ -1,5 +1,5 @@
 -- What is told of edits and planes that came.
-use Rattle.std.specs.Prelude.{◌≡◌, ◌≢◌, ⊤, ℕ, if◌then◌else◌, List, [], ◌++◌, length, drop, Option, Some, None, Result, Ok, Err}
+use Rattle.std.specs.Prelude.{◌≡◌, ◌≢◌, ℕ, if◌then◌else◌, List, [], ◌++◌, length, drop, Option, Some, None, Result, Ok, Err}
 use Rattle.square_store.specs.Limits.{usual_room}
 use Rattle.pattern_cells.specs.declared.cell.Cell.{Cell}
 use Rattle.stamped_writes.specs.Write.{Writes, AreSame, joined, unwritten}
@@ -12,7 +12,7 @@ use Rattle.held_plane.specs.declared.added.Added.TheVariants as added
 use Rattle.held_plane.specs.Held.{IsAsBefore}
 use Rattle.held_plane.specs.Wanted.{IsFullOfNeeds}
 use Rattle.cell_changes.specs.Changes.{AreChanges}
-use Rattle.client_session.specs.Lines.{edit_lines, now_line, whole_line}
+use Rattle.client_session.specs.Lines.{edit_lines, now_line, replaced_lines, whole_line}
 use Rattle.client_session.specs.declared.fault.CommandFault.{CommandFault}
 use Rattle.client_session.specs.declared.fault.CommandFault.TheVariants as faults
 use Rattle.client_session.specs.declared.workspace.Workspace.{Workspace}
@@ -43,11 +43,16 @@ pub record ShowsMap (map : Writes) (shown : StampedPlane) : Type 0 where
   pub shows : AreSame (map_of shown) map
   pub room : shown.store.room ≡ usual_room
 
--- where a map is told, it is a plane's from now on
-abbrev pub ShowsAll : StampedPlane → Option StampedPlane → Option StampedPlane → Type 0
-ShowsAll plane None None = ⊤
-ShowsAll plane (Some before) (Some after) = ShowsMap (map_of plane) after
-ShowsAll plane _ _ = ⊥
+-- the map that is told is a plane's from now on, and these are the cells whose state is another one there than in the map that was told
+pub record ShowsPlane (plane before after : StampedPlane) (cells : List Cell) : Type 0 where
+  pub shows : ShowsMap (map_of plane) after
+  pub changes : AreChanges (map_of before) (map_of plane) cells
+
+-- the same, where a map is told; else there are no such cells
+abbrev pub ShowsAll : StampedPlane → Option StampedPlane → Option StampedPlane → List Cell → Type 0
+ShowsAll plane None None cells = cells ≡ []
+ShowsAll plane (Some before) (Some after) cells = ShowsPlane plane before after cells
+ShowsAll plane _ _ cells = ⊥
 
 -- the lines of edits behind so many of the journal; those of the client's own are told only where a push was refused by 30, and by a client that is quiet none
 abbrev pub came_lines : ℕ → Workspace → List ℕ
@@ -58,10 +63,11 @@ pub record TellsBehind (known : ℕ) (old new : Workspace) (out out' : List ℕ)
   pub told : TellsCame (came_lines known old) (drop known old.replica.journal) old.shown new.shown out out'
   pub kept : new ≡ record old { shown = new.shown }
 
--- that a whole plane came is told alone; the count of edits starts anew
+-- that a whole plane came is told, and behind it, where a map is told, what looks different; the count of edits starts anew
 pub record TellsWhole (old new : Workspace) (out out' : List ℕ) : Type 0 where
-  pub told : out' ≡ out ++ whole_line
-  pub shown : ShowsAll old.replica.plane old.shown new.shown
+  pub cells : List Cell
+  pub shows : ShowsAll old.replica.plane old.shown new.shown cells
+  pub told : out' ≡ out ++ whole_line ++ replaced_lines cells
   pub kept : new ≡ record old { shown = new.shown; counted = length old.replica.journal }
 
 -- what is told of a poll, by a client whose replica took what came behind so many edits of its journal; of a refusal nothing

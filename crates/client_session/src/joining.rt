@@ -25,7 +25,8 @@ use std::time::Clock;
 pub enum Telling {
     /// Each edit.
     Edits,
-    /// The cells that look different.
+    /// The cells that look different, behind a whole plane too: there at most 1,000 in a line, and where there are
+    /// more than 100,000, how many.
     Changes,
     /// Nothing, beside that a whole plane came.
     Nothing,

@@ -4,7 +4,7 @@ ghost use Rattle.std.specs.Prelude.{◌≡◌, ◌++◌, codes, decimal, OnErr, 
 ghost use mathlib.Core.List.{IsPrefix};
 ghost use Rattle.std.specs.Fmt.{signed_decimal};
 ghost use Rattle.genedit_lib.specs.Output.{stamp_text};
-ghost use Rattle.client_session.specs.Lines.{area_text, cell_text, cells_text, drawn_line, edit_line, edit_lines, edits_line, is_of_another, is_told, joined_line, late_line, nameless_line, now_line, place_text, rect_text, refusal_line, size_text, whole_line};
+ghost use Rattle.client_session.specs.Lines.{area_text, cell_text, cells_text, drawn_line, edit_line, edit_lines, edits_line, is_of_another, is_told, joined_line, late_line, many_line, nameless_line, now_line, now_lines, place_text, rect_text, refusal_line, replaced_lines, size_text, whole_line};
 
 use edit_stamps::{Edit, Rect, Stamp};
 use genedit_io::RunFault;
@@ -13,6 +13,12 @@ use generations_rule::Rule;
 use itoa::Buffer;
 use pattern_cells::Cell;
 use std::alloc::{AllocError, Global};
+
+/// How many cells a line has at most that tells what looks different behind a whole plane.
+const LINE_CELLS: usize = 1000;
+
+/// How many cells are told at most behind a whole plane.
+const MOST_TOLD: usize = 100_000;
 
 /// That the client has a seat of this number, at a board of this rule.
 pub(crate) fn push_joined(
@@ -162,6 +168,41 @@ pub(crate) fn push_whole(out: &mut Vec<u8>) -> Result<(), AllocError>
     ensures kept { OnErr result (IsPrefix out.old.items out.new.items) }
 {
     out.extend_from_slice(b"whole\n")
+}
+
+/// The cells that look different behind a whole plane, as they are now: at most 1,000 in a line. Where there are
+/// more than 100,000, how many they are.
+pub(crate) fn push_replaced(out: &mut Vec<u8>, cells: &[Cell]) -> Result<(), AllocError>
+    ensures told { OnOk result (out.new.items ≡ out.old.items ++ replaced_lines cells.now) }
+    ensures kept { OnErr result (IsPrefix out.old.items out.new.items) }
+{
+    if cells.len() > MOST_TOLD {
+        push_many(out, cells.len() as u64)
+    } else {
+        push_now_lines(out, cells)
+    }
+}
+
+/// The cells that look different, in as many lines of at most 1,000 as they need.
+fn push_now_lines(out: &mut Vec<u8>, cells: &[Cell]) -> Result<(), AllocError>
+    ensures told { OnOk result (out.new.items ≡ out.old.items ++ now_lines 1000 cells.now) }
+    ensures kept { OnErr result (IsPrefix out.old.items out.new.items) }
+{
+    for line in cells.chunks(LINE_CELLS) {
+        push_now(out, line)?;
+    }
+    Ok(())
+}
+
+/// That so many cells look different.
+fn push_many(out: &mut Vec<u8>, number: u64) -> Result<(), AllocError>
+    ensures told { OnOk result (out.new.items ≡ out.old.items ++ many_line number) }
+    ensures kept { OnErr result (IsPrefix out.old.items out.new.items) }
+{
+    out.extend_from_slice(b"many ")?;
+    push_number(out, number)?;
+    out.extend_from_slice(b" cells look different: export 0 has them\n")?;
+    Ok(())
 }
 
 /// A number of edits that came.

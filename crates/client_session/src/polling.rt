@@ -9,7 +9,9 @@ ghost use Rattle.client_session.specs.Telling.{CameFindsNoRoom, IsPollingTold, T
 
 use crate::client::Client;
 use crate::fault::CommandFault;
-use crate::lines::{push_edits, push_edits_line, push_late_line, push_refusal, push_whole};
+use crate::lines::{
+    push_edits, push_edits_line, push_late_line, push_refusal, push_replaced, push_whole,
+};
 use crate::telling::{show_all, tell_changes};
 use crate::workspace::{Workspace, behind};
 use board_client::Polling;
@@ -29,8 +31,8 @@ pub(crate) enum News {
 }
 
 impl<'a, C: Clock, S: Source + Drop, K: Sink + Drop> Client<'a, C, S, K> {
-    /// Polls, and tells what came: `whole`, or else each edit, or the cells that look different, or nothing. Of
-    /// a refusal nothing is told.
+    /// Polls, and tells what came: `whole`, or else each edit, or nothing; or, behind `whole` too, the cells that
+    /// look different. Of a refusal nothing is told.
     pub fn follow(&mut self) -> Result<(), CommandFault>
         ensures { IsFollowing self.old self.new result }
     {
@@ -155,15 +157,17 @@ impl Workspace {
         }
     }
 
-    /// Tells that a whole plane came, and counts edits anew.
+    /// Tells that a whole plane came, and behind it, where such cells are told, those that look different; and
+    /// counts edits anew.
     fn tell_whole(&mut self, alloc: Global, out: &mut Vec<u8>) -> Result<(), CommandFault>
         ensures told { OnOk result (TellsWhole self.old self.new out.old.items out.new.items) }
         ensures want { IfErr result (IsWant (WholeFindsNoRoom self.old self.new out.old.items out.new.items)) }
         ensures cut { OnErr result (IsCutShort self.old self.new out.old.items out.new.items) }
         ensures replica { self.new.replica ≡ self.old.replica }
     {
-        show_all(alloc, &mut self.shown, self.replica.plane())?;
+        let cells = show_all(alloc, &mut self.shown, self.replica.plane())?;
         push_whole(out)?;
+        push_replaced(out, &cells)?;
         self.counted = self.replica.journal().len();
         Ok(())
     }

@@ -5,7 +5,7 @@ ghost use mathlib.Core.List.{IsPrefix};
 ghost use Rattle.stamped_tree.specs.Plane.{map_of};
 ghost use Rattle.stamped_writes.specs.Write.{unwritten};
 ghost use Rattle.client_session.specs.Moment.{IsWant};
-ghost use Rattle.client_session.specs.Telling.{AllFindsNoRoom, AreEditsAdded, CameFindsNoRoom, ChangesFindNoRoom, FindsNoRoom, MapFindsNoRoom, ShowsAll, ShowsEdits, ShowsMap, TellsCame, TellsChanges, want_of};
+ghost use Rattle.client_session.specs.Telling.{AllFindsNoRoom, AreEditsAdded, CameFindsNoRoom, ChangesFindNoRoom, FindsNoRoom, MapFindsNoRoom, ShowsAll, ShowsEdits, ShowsMap, ShowsPlane, TellsCame, TellsChanges, want_of};
 
 use crate::fault::CommandFault;
 use crate::lines::push_now;
@@ -68,20 +68,38 @@ fn changed_cells(
     Ok(cells)
 }
 
-/// Has a whole plane stand for what was told, where the cells that look different are told.
+/// Has a whole plane stand for what was told, where the cells that look different are told; those that do then,
+/// or else none.
 pub(crate) fn show_all(
     alloc: Global,
     shown: &mut Option<HeldPlane>,
     plane: &Plane,
-) -> Result<(), CommandFault>
-    ensures shown { OnOk result (ShowsAll plane.now shown.old shown.new) }
+) -> Result<Vec<Cell>, CommandFault>
+    ensures shows { IfOk result (λ cells. ShowsAll plane.now shown.old shown.new cells.items) }
     ensures want { IfErr result (IsWant (AllFindsNoRoom plane.now shown.old)) }
     ensures err { OnErr result (shown.new ≡ shown.old) }
 {
-    if shown.is_some() {
-        *shown = Some(held(alloc, plane)?);
+    match shown {
+        Some(shown) => replaced_cells(alloc, shown, plane),
+        None => Ok(Vec::new(alloc)),
     }
-    Ok(())
+}
+
+/// Has a plane stand for what was told; the cells that look different then.
+fn replaced_cells(
+    alloc: Global,
+    shown: &mut HeldPlane,
+    plane: &Plane,
+) -> Result<Vec<Cell>, CommandFault>
+    ensures shows { IfOk result (λ cells. ShowsPlane plane.now shown.old shown.new cells.items) }
+    ensures want { IfErr result (IsWant (MapFindsNoRoom plane.now)) }
+    ensures err { OnErr result (shown.new ≡ shown.old) }
+{
+    let watched = Watched::of_planes(shown.plane(), plane)?;
+    let copy = held(alloc, plane)?;
+    let cells = watched.changes(alloc, plane)?;
+    *shown = copy;
+    Ok(cells)
 }
 
 /// A plane with the same map.
