@@ -8,6 +8,7 @@ use Rattle.replica_core.specs.declared.event.Reply.TheVariants as reply
 use Rattle.stamped_tree.specs.Plane.{map_of}
 use Rattle.genedit_lib.specs.Output.{naming_text, reply_line, with_text}
 use Rattle.genedit_lib.specs.Patterns.{pattern_in}
+use Rattle.client_commands.specs.declared.command.FileTarget.{FileTarget}
 use Rattle.client_commands.specs.declared.command.ClientCommand.{ClientCommand}
 use Rattle.client_commands.specs.declared.command.ClientCommand.TheVariants as command
 use Rattle.client_session.specs.declared.outcome.Outcome.{Outcome}
@@ -16,7 +17,7 @@ use Rattle.client_session.specs.declared.fault.CommandFault.{CommandFault}
 use Rattle.client_session.specs.declared.fault.CommandFault.TheVariants.{Memory}
 use Rattle.client_session.specs.declared.pasting.PasteMode.TheVariants.{Copy, Or}
 use Rattle.client_session.specs.Drawing.{IsDrawCommand, IsPaste}
-use Rattle.client_session.specs.Exporting.{IsExportCommand, IsExportTextCommand, IsSaveCommand}
+use Rattle.client_session.specs.Exporting.{ExportsNow, ExportsTextNow, IsExportCommand, IsExportTextCommand, IsSaveCommand, SavesNow}
 use Rattle.client_session.specs.Moment.{IsPrinted, KeepsAllButNames, Moment}
 use Rattle.client_session.specs.Waiting.{IsCount, IsWait}
 use Rattle.client_tasks.specs.declared.done.Done.{Done}
@@ -30,7 +31,7 @@ behind_drawing outcome.Refused = Told
 behind_drawing outcome.InDoubt = InDoubt
 
 -- a text goes to the file; without one, which is refused, nothing is left
-abbrev pub to_file : List ℕ → Option (Vec ℕ) → Done
+abbrev pub to_file : FileTarget → Option (Vec ℕ) → Done
 to_file file (Some text) = Write file text
 to_file file None = Told
 
@@ -83,3 +84,24 @@ IsCarriedOut (command.Sleep milliseconds) m n result = Leaves (Sleep millisecond
 IsCarriedOut (command.Save file) m n result = Comes (IsSaveCommand (λ (text : Vec ℕ). text.items) m n) (to_file file) result
 IsCarriedOut (command.Open file) m n result = Leaves (Open file) m n result
 IsCarriedOut (command.Bye) m n result = Leaves Leave m n result
+
+-- ---- commands behind the end of the server, of what the replica holds, without a poll
+
+-- no server is there to carry a command out
+abbrev pub no_server_line : List ℕ
+no_server_line = codes "no server\n"
+
+abbrev pub IsCarriedOn : ClientCommand → Moment → Moment → Result Done CommandFault → Type 0
+IsCarriedOn (command.Pattern name text) m n result = IsNaming name text m n result
+IsCarriedOn (command.Show x y) m n result = IsShowing x y m n result
+IsCarriedOn (command.Export generation None) m n result = Comes (ExportsNow generation m n) (λ _. Told) result
+IsCarriedOn (command.Export generation (Some file)) m n result = Comes (ExportsTextNow (λ (text : Vec ℕ). text.items) generation m n) (to_file file) result
+IsCarriedOn (command.Save file) m n result = Comes (SavesNow (λ (text : Vec ℕ). text.items) m n) (to_file file) result
+IsCarriedOn (command.Sleep milliseconds) m n result = Leaves (Sleep milliseconds) m n result
+IsCarriedOn (command.Bye) m n result = Leaves Leave m n result
+IsCarriedOn (command.Draw drawing) m n result = IsPrinted Told no_server_line m n result
+IsCarriedOn (command.Copy at) m n result = IsPrinted Told no_server_line m n result
+IsCarriedOn (command.Or at) m n result = IsPrinted Told no_server_line m n result
+IsCarriedOn (command.Poll) m n result = IsPrinted Told no_server_line m n result
+IsCarriedOn (command.Wait wait) m n result = IsPrinted Told no_server_line m n result
+IsCarriedOn (command.Open file) m n result = IsPrinted Told no_server_line m n result

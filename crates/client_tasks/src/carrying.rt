@@ -59,7 +59,7 @@ fn patience_of(wait: Wait, interval: u32) -> Patience {
 }
 
 /// Gives a pattern a name.
-fn named<C: Clock, S: Source + Drop, K: Sink + Drop>(
+pub(crate) fn named<C: Clock, S: Source + Drop, K: Sink + Drop>(
     client: &mut Client<'_, C, S, K>,
     name: PatternName,
     text: &PatternText,
@@ -73,7 +73,7 @@ fn named<C: Clock, S: Source + Drop, K: Sink + Drop>(
 }
 
 /// Shows a cell.
-fn shown<C: Clock, S: Source + Drop, K: Sink + Drop>(
+pub(crate) fn shown<C: Clock, S: Source + Drop, K: Sink + Drop>(
     client: &mut Client<'_, C, S, K>,
     x: i32,
     y: i32,

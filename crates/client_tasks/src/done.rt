@@ -4,7 +4,7 @@ ghost use Rattle.std.specs.Prelude.{◌≡◌};
 ghost use Rattle.client_tasks.specs.Carrying.{behind_drawing, left_behind, to_file};
 ghost use Rattle.client_tasks.specs.declared.done.Done.TheVariants.{Told};
 
-use client_commands::FileName;
+use client_commands::{FileName, FileTarget};
 use client_session::{CommandFault, Outcome};
 
 /// What is left to do behind a command, beside the board.
@@ -15,7 +15,7 @@ pub enum Done {
     /// The same; the board may have the edit that was drawn last, or not.
     InDoubt,
     /// The text goes to the file, and what came of that is printed.
-    Write(FileName, Vec<u8>),
+    Write(FileTarget, Vec<u8>),
     /// The file is read, and its text opened.
     Open(FileName),
     /// So many milliseconds are let pass.
@@ -47,7 +47,7 @@ pub(crate) fn drawn(outcome: Result<Outcome, CommandFault>) -> Result<Done, Comm
 
 /// Behind a call that gives a text for a file, or none.
 pub(crate) fn written(
-    file: FileName,
+    file: FileTarget,
     text: Result<Option<Vec<u8>>, CommandFault>,
 ) -> Result<Done, CommandFault>
     ensures { result ≡ left_behind (to_file file) text }

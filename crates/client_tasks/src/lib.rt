@@ -2,6 +2,7 @@
 //! text is drawn again. What is left to its caller are files, time and the end.
 #![tactic(auto)]
 
+mod alone;
 mod carrying;
 mod done;
 mod opening;
@@ -9,6 +10,7 @@ mod pieces;
 mod refusing;
 mod saved;
 
+pub use alone::carry_on;
 pub use carrying::carry_out;
 pub use done::Done;
 pub use opening::open;

@@ -1,0 +1,49 @@
+//! Commands behind the end of the server.
+
+ghost use Rattle.client_session.specs.Moment.{IsPrinted};
+ghost use Rattle.client_tasks.specs.Carrying.{IsCarriedOn, no_server_line};
+ghost use Rattle.client_tasks.specs.declared.done.Done.TheVariants.{Told};
+
+use crate::carrying::{named, shown};
+use crate::done::{Done, told, written};
+use client_commands::ClientCommand;
+use client_session::{Client, CommandFault};
+use devices::{Sink, Source};
+use std::time::Clock;
+
+/// Does what a command asks for where the server went away: of what the replica holds, and nothing is said on
+/// the line. A command that cannot be carried out so prints `no server`.
+pub fn carry_on<C: Clock, S: Source + Drop, K: Sink + Drop>(
+    client: &mut Client<'_, C, S, K>,
+    command: ClientCommand,
+) -> Result<Done, CommandFault>
+    ensures { IsCarriedOn command client.old client.new result }
+{
+    match command {
+        ClientCommand::Pattern(name, text) => named(client, name, &text),
+        ClientCommand::Show(x, y) => shown(client, x, y),
+        ClientCommand::Export(generation, None) => told(client.export_now(generation)),
+        ClientCommand::Export(generation, Some(file)) => {
+            written(file, client.export_text_now(generation))
+        }
+        ClientCommand::Save(file) => written(file, client.save_now()),
+        ClientCommand::Sleep(milliseconds) => Ok(Done::Sleep(milliseconds)),
+        ClientCommand::Bye => Ok(Done::Leave),
+        ClientCommand::Draw(_)
+        | ClientCommand::Copy(_)
+        | ClientCommand::Or(_)
+        | ClientCommand::Poll
+        | ClientCommand::Wait(_)
+        | ClientCommand::Open(_) => tell_no_server(client),
+    }
+}
+
+/// Prints that there is no server.
+fn tell_no_server<C: Clock, S: Source + Drop, K: Sink + Drop>(
+    client: &mut Client<'_, C, S, K>,
+) -> Result<Done, CommandFault>
+    ensures { IsPrinted Told no_server_line client.old client.new result }
+{
+    client.print(b"no server\n")?;
+    Ok(Done::Told)
+}
