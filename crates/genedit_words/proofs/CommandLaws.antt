@@ -76,6 +76,12 @@ given_follow = with_index 1 (filled (flag (codes "follow")))
 abbrev given_changes : Rule
 given_changes = with_index 1 (filled (flag (codes "changes")))
 
+abbrev given_quiet : Rule
+given_quiet = with_index 1 (filled (flag (codes "quiet")))
+
+abbrev given_no_rescue : Rule
+given_no_rescue = with_index 1 (filled (flag (codes "no-rescue")))
+
 every_well : UsesWell ok false given_every
 every_well = set_well given_every refl (λ rows h. cc) (λ v vs passes. first_passes false (vp.Signed (pos 1) (pos 60000)) v vs passes)
 
@@ -84,6 +90,12 @@ follow_well = flag_well given_follow refl refl refl refl
 
 changes_well : UsesWell ok false given_changes
 changes_well = flag_well given_changes refl refl refl refl
+
+quiet_well : UsesWell ok false given_quiet
+quiet_well = flag_well given_quiet refl refl refl refl
+
+no_rescue_well : UsesWell ok false given_no_rescue
+no_rescue_well = flag_well given_no_rescue refl refl refl refl
 
 -- the arguments of `view` as they are built: the file is the only one with a place
 abbrev given_file : Rule
@@ -150,16 +162,18 @@ serve_well p = go (p given_rule) (p given_port) (p given_sessions) (p (filled he
     go false false false false = tt
 
 join_well : (p : Rule → Bool) → IsWellUsed ok false (find p join_built.rules)
-join_well p = go (p given_port) (p given_every) (p given_follow) (p given_changes) (p (filled help_rule))
+join_well p = go (p given_port) (p given_every) (p given_follow) (p given_changes) (p given_quiet) (p given_no_rescue) (p (filled help_rule))
   where
-    go : (a b c d e : Bool) → IsWellUsed ok false (if a then Some given_port else (if b then Some given_every else (if c then Some given_follow
-        else (if d then Some given_changes else (if e then Some (filled help_rule) else None)))))
-    go true b c d e = port_well
-    go false true c d e = every_well
-    go false false true d e = follow_well
-    go false false false true e = changes_well
-    go false false false false true = help_well
-    go false false false false false = tt
+    go : (a b c d e f g : Bool) → IsWellUsed ok false (if a then Some given_port else (if b then Some given_every else (if c then Some given_follow
+        else (if d then Some given_changes else (if e then Some given_quiet else (if f then Some given_no_rescue else (if g then Some (filled help_rule) else None)))))))
+    go true b c d e f g = port_well
+    go false true c d e f g = every_well
+    go false false true d e f g = follow_well
+    go false false false true e f g = changes_well
+    go false false false false true f g = quiet_well
+    go false false false false false true g = no_rescue_well
+    go false false false false false false true = help_well
+    go false false false false false false false = tt
 
 view_well : (p : Rule → Bool) → IsWellUsed ok false (find p view_built.rules)
 view_well p = go (p given_file) (p given_own_rule) (p given_at) (p given_size) (p given_gen) (p given_plain) (p given_svg) (p (filled help_rule))
@@ -348,7 +362,13 @@ join_has_all words passes =
         plain_default given_every refl,
         (
           (λ rs. fit_default rs given_follow (codes "false") refl refl),
-          ((λ rs. fit_default rs given_changes (codes "false") refl refl), (plain_default (filled help_rule) refl, tt)),
+          (
+            (λ rs. fit_default rs given_changes (codes "false") refl refl),
+            (
+              (λ rs. fit_default rs given_quiet (codes "false") refl refl),
+              ((λ rs. fit_default rs given_no_rescue (codes "false") refl refl), (plain_default (filled help_rule) refl, tt)),
+            ),
+          ),
         ),
       ),
     ) words parts.0 parts.2 in
@@ -359,6 +379,8 @@ join_has_all words passes =
       interval = may_have_number 1 60000 (codes "every") rows fine (λ how v fit. fit);
       follow = has_flag (codes "follow") rows fine (λ how v fit. fit);
       changes = has_flag (codes "changes") rows fine (λ how v fit. fit);
+      quiet = has_flag (codes "quiet") rows fine (λ how v fit. fit);
+      no_rescue = has_flag (codes "no-rescue") rows fine (λ how v fit. fit);
     }
 
 -- ---- which subcommand the words name

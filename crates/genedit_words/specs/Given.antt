@@ -42,6 +42,8 @@ pub record HasClient (rows : List Row) : Type 0 where
   pub interval : MayHaveNumber 1 60000 (codes "every") rows
   pub follow : HasFlag (codes "follow") rows
   pub changes : HasFlag (codes "changes") rows
+  pub quiet : HasFlag (codes "quiet") rows
+  pub no_rescue : HasFlag (codes "no-rescue") rows
 
 -- by the subcommand: whether it is `run`, `rle`, `serve`, `check`, `view`, `join`
 abbrev pub HasBy : Bool → Bool → Bool → Bool → Bool → Bool → List Row → Type 0

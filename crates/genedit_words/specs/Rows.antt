@@ -74,14 +74,19 @@ unfolding clap_on_literals
 flag_with_a_value = refl
 
 client : Asks (genedit (codes "join" ∷ codes "--port" ∷ codes "7020" ∷ []))
-    (Ok (Join (record { port = 7020; interval = 50; is_following = false; tells_changes = false })))
+    (Ok (Join (record { port = 7020; interval = 50; is_following = false; tells_changes = false; is_quiet = false; leaves_no_file = false })))
 unfolding clap_on_literals
 client = (refl, refl)
 
 client_that_follows : Asks (genedit (codes "join" ∷ codes "--follow" ∷ codes "--port=1" ∷ codes "--every=60000" ∷ codes "--changes" ∷ []))
-    (Ok (Join (record { port = 1; interval = 60000; is_following = true; tells_changes = true })))
+    (Ok (Join (record { port = 1; interval = 60000; is_following = true; tells_changes = true; is_quiet = false; leaves_no_file = false })))
 unfolding clap_on_literals
 client_that_follows = (refl, refl)
+
+client_that_is_quiet : Asks (genedit (codes "join" ∷ codes "--no-rescue" ∷ codes "--port=1" ∷ codes "--quiet" ∷ []))
+    (Ok (Join (record { port = 1; interval = 50; is_following = false; tells_changes = false; is_quiet = true; leaves_no_file = true })))
+unfolding clap_on_literals
+client_that_is_quiet = (refl, refl)
 
 client_of_no_port : fault_of genedit_app (genedit (codes "join" ∷ codes "--follow" ∷ [])) ≡ kind.MissingRequiredArgument ∷ []
 unfolding clap_on_literals

@@ -90,7 +90,7 @@ view_shape = record (new_shape (codes "view")) {
 }
 
 abbrev pub join_shape : Shape
-join_shape = record (new_shape (codes "join")) { rules = port_option ∷ every_option ∷ flag (codes "follow") ∷ flag (codes "changes") ∷ [] }
+join_shape = record (new_shape (codes "join")) { rules = port_option ∷ every_option ∷ flag (codes "follow") ∷ flag (codes "changes") ∷ flag (codes "quiet") ∷ flag (codes "no-rescue") ∷ [] }
 
 -- the command line without its subcommands
 abbrev pub top_app : App
@@ -188,7 +188,14 @@ interval_asked rows = unwrap_or (number_of (codes "every") rows) 50
 
 -- a client that polls at this port
 abbrev pub client_at : List Row → ℕ → JoinTask
-client_at rows port = record { port = port; interval = interval_asked rows; is_following = is_set (codes "follow") rows; tells_changes = is_set (codes "changes") rows }
+client_at rows port = record {
+  port = port;
+  interval = interval_asked rows;
+  is_following = is_set (codes "follow") rows;
+  tells_changes = is_set (codes "changes") rows;
+  is_quiet = is_set (codes "quiet") rows;
+  leaves_no_file = is_set (codes "no-rescue") rows;
+}
 
 -- a client at the port that the option spells
 abbrev pub join_asked : List Row → Option (Result Told RunFault)

@@ -1,6 +1,6 @@
 //! The commands of `genedit`, as `clap` reads them, with their help.
 
-ghost use Rattle.std.specs.Prelude.{◌≡◌, IfOk, false};
+ghost use Rattle.std.specs.Prelude.{◌≡◌, IfOk, false, codes};
 ghost use Rattle.clap.specs.Simple.{new_app};
 ghost use Rattle.clap.specs.Words.{app_of, rule_of, shape_of};
 ghost use Rattle.clap.specs.declared.builder.command.Command.TheViews.{out-Command as fields_of};
@@ -79,12 +79,13 @@ const SERVE_HELP: &str = "\
 Serves one board to programs on this machine, each of which speaks the protocol of docs/FORMATS.md over
 a connection to 127.0.0.1. Every user of this machine may connect. A seat is a connection: the first one
 that comes is seat 1, and each that comes counts for ever, also one that was lost. So begin with more
-sessions than people: for a class take --sessions 64. Nobody is let in after the last.
+sessions than people: for a class take --sessions 64. Whoever comes after the last is answered that all
+seats are taken.
 
 It prints `listening PORT`. Once each seat was used and all have ended it prints a line for each of them,
 `session SEAT EDITS ..`, and `closed EDITS`, and ends. Seats that nobody needs any more are used up by
-connections that end at once, as by `nc -z 127.0.0.1 PORT`. Ctrl-C ends it at once: without these lines,
-and with its board, so let somebody save it first.
+connections that end at once, as by `nc -z 127.0.0.1 PORT`. Ctrl-C, SIGTERM, a logout and a terminal that
+is closed end it at once: without these lines, and with its board, so let somebody save it first.
 
 Examples:
   genedit serve --rule 23/3/2 --port 7020 --sessions 64      a class draws Life
@@ -106,6 +107,8 @@ polls, so that the drawing goes over all that others drew by then.
   show x y               prints a cell as it was at the last poll: `cell STATE COUNTER SEAT`
   export G [FILE]        prints the cells G generations later, or writes them to a file, as an RLE text
   save FILE              writes the board to a file as a state, with its stamps
+  export! G FILE         as export, and replaces a file that is there
+  save! FILE             as save, and replaces a file that is there
   open FILE              draws the live and dying cells of a state or of an RLE text, in its place
   poll                   prints what others drew, and `edits K`
   wait N [MS]            polls until others drew N edits, or until MS milliseconds, 10000 if none are
@@ -115,19 +118,28 @@ polls, so that the drawing goes over all that others drew by then.
 
 A drawing prints `drawn COUNTER SEAT`. Edits of others are told as `edit COUNTER SEAT cells x y s ..`, a
 cleared area as `area x y w h` before `cells`; with --changes as `now x y s ..`, the cells that look
-different now, also those by drawings of your own. `whole` says that more came than can be told.
-A file is written whole or not at all: `wrote BYTES FILE`. What is refused prints
-`refused NUMBER NAME`; a line at fault is told on standard error, with its place and its cure, as
+different now, also those by drawings of your own. `whole` says that more came than can be told; with
+--changes the cells that look different follow it. With --quiet no edit is told. A file is written whole
+or not at all: `wrote BYTES FILE`; its name is no number alone. One that is there is replaced only by
+export! and save!, or where this client wrote it. What is refused prints `refused NUMBER NAME`, of a file
+with its name and the cause; a line at fault is told on standard error, with its place and its cure, as
 `genedit check` does; and both go on. Of a board that `open` draws in several edits none is drawn behind
 one that is refused.
 
-The status is 0; 2 where the words are wrong, the board has no seat left, or `refused 21 FrameTooLong` says
-that the client fell more than 1,024 edits behind on a board of more than 2^24 bytes, so poll now and then,
-or use --follow; 3 where no server answers, or it went away; 4 where a write to standard output failed;
-5 without memory.
+Where the server goes away a client at a terminal keeps its board: save, export, show, pattern and bye go on.
+Any other writes its board, unless it was saved, to pazgrot-PORT-SEAT-K.state in its folder, K the first
+number that is free, and says so; with --no-rescue it does not. A server that does not answer is awaited,
+which is said after a second: ten seconds at the greeting and the farewell, else for as long as it takes;
+after ten the board is written so, and Ctrl-C loses nothing.
+
+The status is 0; 1 where a command was refused or a file failed; 2 where a line was at fault, but at a
+terminal 0 for both; 2 also where the words are wrong, the lines are a script, the board has no seat left,
+or `refused 21 FrameTooLong` says that the client fell more than 1,024 edits behind on a board of more than
+2^24 bytes, so poll now and then, or use --follow; 3 where no server answers, or it went away; 4 where a
+write to standard output failed; 5 without memory.
 
 Examples:
-  echo 'cells 1 0 1 2 1 1 0 2 1 1 2 1 2 2 1' | genedit join --port 7020     draws a glider
+  echo 'cells 1 0 1 2 1 1 0 2 1 1 2 1 2 2 1' | genedit join --quiet --port 7020      draws a glider
   genedit join --port 7020 --follow                                        type commands, and see the others";
 
 /// The command line: a version, and the subcommands, one of which has to be given.
@@ -292,12 +304,21 @@ fn serve_command<'a>(alloc: Global) -> Result<Command<'a>, AllocError>
     Ok(command)
 }
 
+/// `join` with its line, its help and how it is used.
+fn titled_join<'a>(alloc: Global) -> Command<'a>
+    ensures app { app_of result ≡ new_app (codes "join") }
+    ensures local { (fields_of result).has_globals ≡ false }
+{
+    titled(alloc, "join", "Draws on a board that is served", JOIN_HELP).override_usage(
+        "genedit join --port <P> [OPTIONS] < COMMANDS",
+    )
+}
+
 fn join_command<'a>(alloc: Global) -> Result<Command<'a>, AllocError>
     ensures shape { IfOk result (λ command. shape_of command ≡ join_shape) }
     ensures local { IfOk result (λ command. (fields_of command).has_globals ≡ false) }
 {
-    let command = titled(alloc, "join", "Draws on a board that is served", JOIN_HELP)
-        .override_usage("genedit join --port <P> [OPTIONS] < COMMANDS")
+    let command = titled_join(alloc)
         .arg(port_argument(alloc, "The port that the server printed"))?
         .arg(every_argument(alloc))?
         .arg(flag(alloc, "follow", "Polls while no command comes"))?
@@ -305,6 +326,12 @@ fn join_command<'a>(alloc: Global) -> Result<Command<'a>, AllocError>
             alloc,
             "changes",
             "Tells the cells that look different, and not each edit",
+        ))?
+        .arg(flag(alloc, "quiet", "Tells nothing of what others drew"))?
+        .arg(flag(
+            alloc,
+            "no-rescue",
+            "Writes no file where the server goes away",
         ))?;
     Ok(command)
 }

@@ -22,6 +22,10 @@ pub struct JoinTask {
     pub is_following: bool,
     /// Whether it tells the cells that look different, and not each edit.
     pub tells_changes: bool,
+    /// Whether it tells nothing of what others drew.
+    pub is_quiet: bool,
+    /// Whether it writes no file where it loses its server.
+    pub leaves_no_file: bool,
 }
 
 /// A picture of a pattern or of a state.

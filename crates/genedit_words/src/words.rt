@@ -102,6 +102,8 @@ fn join<'a>(words: &ArgMatches<'a>) -> Task<'a>
         interval: interval(words),
         is_following: is_set(words, "follow"),
         tells_changes: is_set(words, "changes"),
+        is_quiet: is_set(words, "quiet"),
+        leaves_no_file: is_set(words, "no-rescue"),
     })
 }
 

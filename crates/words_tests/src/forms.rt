@@ -21,7 +21,7 @@ static SCRIPT: [&str; 15] = [
     "export R G",
 ];
 
-static CLIENT: [&str; 14] = [
+static CLIENT: [&str; 16] = [
     "cells x y state ..",
     "clear x y w h",
     "pattern NAME",
@@ -30,10 +30,12 @@ static CLIENT: [&str; 14] = [
     "or NAME x y",
     "show x y",
     "export G [FILE]",
+    "export! G FILE",
     "poll",
     "wait N [MS]",
     "sleep MS",
     "save FILE",
+    "save! FILE",
     "open FILE",
     "bye",
 ];
@@ -58,7 +60,7 @@ fn forms_of_scripts(rt: HostRuntime) -> Result<(), AllocError> {
 
 #[test]
 fn forms_of_clients(rt: HostRuntime) -> Result<(), AllocError> {
-    assert_eq!(rt; Dialect::Client.keywords().len(), 14);
-    assert_eq!(rt; alike(rt.alloc(), Dialect::Client, &CLIENT)?, 14);
+    assert_eq!(rt; Dialect::Client.keywords().len(), 16);
+    assert_eq!(rt; alike(rt.alloc(), Dialect::Client, &CLIENT)?, 16);
     Ok(())
 }

@@ -63,8 +63,8 @@ fn help_of_scripts(rt: HostRuntime) -> Result<(), AllocError> {
 fn help_of_clients(rt: HostRuntime) -> Result<(), AllocError> {
     let forms = told_forms(rt.alloc(), JOIN_HELP)?;
     let told = told_keywords(rt.alloc(), Dialect::Client, &forms)?;
-    assert_eq!(rt; forms.len(), 13);
-    assert_eq!(rt; told, 13);
-    assert_eq!(rt; Dialect::Client.keywords().len(), 14);
+    assert_eq!(rt; forms.len(), 15);
+    assert_eq!(rt; told, 15);
+    assert_eq!(rt; Dialect::Client.keywords().len(), 16);
     Ok(())
 }

@@ -10,7 +10,7 @@ struct Row {
     in_client: bool,
 }
 
-static ROWS: [Row; 8] = [
+static ROWS: [Row; 9] = [
     Row {
         line: b"show 1 0 -1",
         in_script: true,
@@ -24,10 +24,15 @@ static ROWS: [Row; 8] = [
     Row {
         line: b"export 4 2",
         in_script: true,
-        in_client: true,
+        in_client: false,
     },
     Row {
         line: b"export 4 a.rle",
+        in_script: false,
+        in_client: true,
+    },
+    Row {
+        line: b"export! 4 a.rle",
         in_script: false,
         in_client: true,
     },
@@ -96,6 +101,8 @@ fn cells_of_a_line(rt: HostRuntime) -> Result<(), AllocError> {
 fn what_arguments_take(rt: HostRuntime) {
     assert!(rt; Argument::Replicas.fits(b"64") && !Argument::Replicas.fits(b"65"));
     assert!(rt; Argument::File.fits(b"a/b.rle") && !Argument::Name.fits(b"a/b"));
+    assert!(rt; Argument::File.fits(b"44") && !Argument::NewFile.fits(b"44"));
+    assert!(rt; Argument::NewFile.fits(b"4.rle") && Argument::NewFile.fits(b"-4"));
     assert_eq!(rt; Argument::Width.range(), "0 to 4294967295");
     assert_eq!(rt; Argument::Edits.name(), "the number of awaited edits");
 }
