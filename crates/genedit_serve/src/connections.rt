@@ -1,23 +1,41 @@
 //! Connections as streams of sessions.
 
 use crate::address::address;
+use crossbeam_channel::Sender;
 use devices::{ReadSource, WriteSink};
 use seat_server::{Accept, Wake};
+use std::alloc::Global;
 use std::net::{Net, TcpListener, TcpStream};
+use std::sync::Wait;
 
-/// The connections that a listener accepts. Where they are dropped, whoever comes later is refused.
+/// The connections that a listener accepts, one for each seat.
 #[derive(Drop)]
-pub struct Connections {
+pub struct Connections<R> {
+    rt: R,
     listener: TcpListener,
+    /// How many seats have none yet.
+    left: u16,
+    /// Who is told once each has one.
+    seated: Sender<(), Global>,
 }
 
-impl Connections {
-    pub fn of(listener: TcpListener) -> Connections {
-        Connections { listener }
+impl<R> Connections<R> {
+    pub fn of(
+        rt: R,
+        listener: TcpListener,
+        seats: u16,
+        seated: Sender<(), Global>,
+    ) -> Connections<R> {
+        Connections {
+            rt,
+            listener,
+            left: seats,
+            seated,
+        }
     }
 }
 
-impl Accept<ReadSource<TcpStream>, WriteSink<TcpStream>> for Connections {
+impl<R: Wait> Accept<ReadSource<TcpStream>, WriteSink<TcpStream>> for Connections<R> {
     /// A small frame goes out at once: without that, the second of two waits for the other side to confirm
     /// the first.
     fn accept(&mut self) -> Option<(ReadSource<TcpStream>, WriteSink<TcpStream>)> {
@@ -25,6 +43,10 @@ impl Accept<ReadSource<TcpStream>, WriteSink<TcpStream>> for Connections {
         // It is only slower where that fails, as on a connection that is gone already.
         let _ = stream.set_nodelay(true);
         let back = stream.try_clone().ok()?;
+        self.left = self.left.saturating_sub(1);
+        if self.left == 0 {
+            let _ = self.seated.send(&self.rt, ());
+        }
         Some((ReadSource::new(stream), WriteSink::new(back)))
     }
 }

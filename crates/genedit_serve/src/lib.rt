@@ -6,5 +6,6 @@ mod closing;
 mod connections;
 mod fault;
 mod server;
+mod turning;
 
 pub use server::{INBOX, ServedBoard, listen, serve_on};

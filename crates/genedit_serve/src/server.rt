@@ -1,8 +1,13 @@
 //! The server.
 
-ghost use Rattle.std.specs.Prelude.{◌≡◌, ◌≤◌};
+ghost use Rattle.std.specs.Prelude.{◌≡◌, ◌≤◌, IfErr, IfOk, length};
+ghost use mathlib.Core.List.{IsPrefix};
 ghost use Rattle.std.specs.Arc.{arc_value};
 ghost use Rattle.crossbeam_queue.specs.Passes.{ruled_capacity};
+ghost use Rattle.board.specs.Origins.{list_of};
+ghost use Rattle.relay_board.specs.Seating.{Numbered};
+ghost use Rattle.seat_server.specs.Faults.{IsReason};
+ghost use Rattle.seat_server.specs.Serving.{GoesOnFrom, IsServed};
 ghost use Rattle.square_store.specs.Limits.{usual_room};
 ghost use Rattle.genedit_serve.specs.Serving.{Serves, ServesAt};
 
@@ -10,12 +15,13 @@ use crate::address::address;
 use crate::closing::{closing, listening};
 use crate::connections::{Connections, Knock};
 use crate::fault::{server_fault, start_fault};
-use devices::Sink;
-use genedit_io::{RunFault, push_output};
+use crate::turning::Turning;
+use devices::{ReadSource, Sink, WriteSink};
+use genedit_io::{Cause, RunFault, cause_of, push_output};
 use generations_rule::Rule;
 use keyed_hash::HashKey;
-use relay_board::{BoardSize, Naming, Opened, start_within};
-use seat_server::serve_seats;
+use relay_board::{BoardSize, Naming, Opened, Relay, Seat, start_within};
+use seat_server::{Finished, ServerFault, Streams, serve_seats};
 use square_store::Limits;
 use std::alloc::Global;
 use std::marker::Brand;
@@ -37,19 +43,23 @@ pub struct ServedBoard {
     pub key: HashKey,
 }
 
-/// Listens at a port of this machine's loopback, where nobody comes in from outside; at any free one for 0.
-/// `Read` where that cannot be had.
+/// Listens at a port of this machine's loopback, where nobody comes in from outside; at any free one for 0; or
+/// why that cannot be had.
 pub fn listen<R: Net<Listener = TcpListener, Stream = TcpStream>>(
     rt: &R,
     port: u16,
-) -> Result<TcpListener, RunFault> {
-    TcpListener::bind(rt, address(port)).map_err(|_| RunFault::Read)
+) -> Result<TcpListener, Cause> {
+    match TcpListener::bind(rt, address(port)) {
+        Ok(listener) => Ok(listener),
+        Err(error) => Err(cause_of(error.kind())),
+    }
 }
 
-/// Serves a board to the first connections, as many as it has seats, each on a thread of its own: seat 1 to the first that is accepted, and so on. After the last one whoever comes is
-/// refused. The line `listening PORT` is pushed once there is a board; once all sessions have ended, a line
-/// for each, `session I edits K`, with the number of its fault behind it where it ended by one, and the
-/// line `closed L`, L being the length of the published list.
+/// Serves a board to the first connections, as many as it has seats, each on a thread of its own: seat 1 to
+/// the first that is accepted, and so on. Whoever comes after the last one is answered that there is no seat,
+/// as long as a session lasts. The line `listening PORT` is pushed once there is a board; once all sessions
+/// have ended, a line for each, `session I edits K`, with the number of its fault behind it where it ended by
+/// one, and the line `closed L`, L being the length of the published list.
 ///
 /// `Read` where a connection was not accepted or a thread was not started; `StoreFull` or `Memory` where
 /// 1,000 turns of the relay in a row failed so; both once the sessions that had begun have ended. What
@@ -120,12 +130,62 @@ fn serve<
     };
     let line = listening(alloc, port)?;
     push_output(sink, &line)?;
-    let knock = Knock { rt: &rt, port };
-    match serve_seats(rt, alloc, relay, seats, Connections::of(listener), &knock) {
+    match seats_served(rt, alloc, relay, seats, listener) {
         Err(fault) => Err(server_fault(fault)),
         Ok(finished) => {
             let text = closing(alloc, &finished)?;
             push_output(sink, &text)
         }
     }
+}
+
+/// Serves the seats of a relay to the connections of a listener, and turns away whoever comes after the last;
+/// at the end how the sessions ended, and the account. `Read` also where the thread that turns away could not
+/// be started.
+fn seats_served<
+    J: Naming + Send + 'static,
+    R: Net<Listener = TcpListener, Stream = TcpStream>
+        + Threads
+        + Wait
+        + Copy
+        + Drop
+        + Send
+        + Sync
+        + 'static,
+>(
+    rt: R,
+    alloc: Global,
+    relay: Relay<J, R>,
+    seats: Vec<Seat<J>>,
+    listener: TcpListener,
+) -> Result<Finished<ReadSource<TcpStream>, WriteSink<TcpStream>>, ServerFault>
+    requires all { relay.made ≡ length seats.items }
+    requires order { Numbered 0 seats.items }
+    ensures served { IfOk result (λ f. IsServed relay.origin seats.items f) }
+    ensures stays { IfOk result (λ f. IsPrefix relay.list (list_of f.account.front)) }
+    ensures goes_on { IfOk result (λ f. GoesOnFrom 1000 relay (list_of f.account.front)) }
+    ensures reason { IfErr result (IsReason 1000 relay seats.items) }
+{
+    let (Ok(address), Ok(theirs)) = (listener.local_addr(), listener.try_clone()) else {
+        return Err(ServerFault::Read);
+    };
+    let started = match Turning::start(rt, alloc, theirs) {
+        Ok(started) => started,
+        Err(_) => return Err(ServerFault::Memory),
+    };
+    let Some((turning, seated)) = started else {
+        return Err(ServerFault::Read);
+    };
+    let count = u16::try_from(seats.len()).unwrap_or(u16::MAX);
+    let knock = Knock {
+        rt: &rt,
+        port: address.port(),
+    };
+    let streams = Streams {
+        acceptor: Connections::of(rt, listener, count, seated),
+        wake: &knock,
+    };
+    let finished = serve_seats(rt, alloc, relay, seats, streams);
+    turning.end(&rt, &knock);
+    finished
 }

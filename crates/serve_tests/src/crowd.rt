@@ -1,6 +1,6 @@
 //! As many sessions as a board has seats for.
 
-use crate::clients::{BYE, HELLO, connected, is_ended, send};
+use crate::clients::{BYE, HELLO, connected, gets, is_ended, send};
 use crate::served::Served;
 use std::alloc::Global;
 use std::io::{self, Read};
@@ -73,7 +73,7 @@ fn sixty_four_at_once_and_no_more(rt: HostRuntime) -> Result<(), Fail> {
         "seats by the order of their connections"
     );
     assert!(&rt;
-        is_turned_away(&rt, server.port),
+        is_turned_away(&rt, alloc, server.port, &[])?,
         "a seat that the board does not have"
     );
     send_all(&streams, BYE)?;
@@ -84,10 +84,41 @@ fn sixty_four_at_once_and_no_more(rt: HostRuntime) -> Result<(), Fail> {
     Ok(())
 }
 
-/// Whether no connection is made, or one that is cut at once.
-fn is_turned_away<R: Net<Stream = TcpStream>>(rt: &R, port: u16) -> bool {
-    match connected(rt, port) {
-        Err(_) => true,
-        Ok(stream) => is_ended(&stream).unwrap_or(true),
-    }
+/// What is said to a connection behind the last seat.
+const NO_SEAT: &[u8] = b"\x00\x00\x00\x01\x2d";
+
+/// Whether a connection that greets, and says more behind that, is told that there is no seat, and nothing
+/// else.
+fn is_turned_away<R: Net<Stream = TcpStream>>(
+    rt: &R,
+    alloc: Global,
+    port: u16,
+    more: &[u8],
+) -> io::Result<bool> {
+    let stream = connected(rt, port)?;
+    send(&stream, HELLO)?;
+    send(&stream, more)?;
+    Ok(gets(alloc, &stream, NO_SEAT)? && is_ended(&stream)?)
+}
+
+#[test]
+fn whoever_comes_behind_the_last_seat(rt: HostRuntime) -> Result<(), Fail> {
+    let alloc = rt.alloc();
+    let server = Served::start(rt, alloc, 1)?;
+    let first = connected(&rt, server.port)?;
+    send(&first, HELLO)?;
+    assert_eq!(&rt; number_of(&first)?, 1);
+    // one that says nothing holds up nobody, and is closed
+    let silent = connected(&rt, server.port)?;
+    assert!(&rt; is_turned_away(&rt, alloc, server.port, BYE)?);
+    let much = vec![in alloc; 0u8; 100_000]?;
+    assert!(&rt; is_turned_away(&rt, alloc, server.port, &much)?);
+    assert!(&rt; is_ended(&silent)?);
+    send(&first, BYE)?;
+    assert!(&rt; gets(alloc, &first, b"\x00\x00\x00\x01\x00")?);
+    assert_eq!(&rt;
+        server.told(&rt, alloc)?.as_str(),
+        "session 1 edits 0\nclosed 0\n"
+    );
+    Ok(())
 }

@@ -1,7 +1,7 @@
 //! What is refused before anybody is served.
 
 use devices::{Failed, Sink};
-use genedit_io::RunFault;
+use genedit_io::{Cause, RunFault};
 use genedit_serve::{ServedBoard, listen, serve_on};
 use generations_rule::Rule;
 use keyed_hash::HashKey;
@@ -31,7 +31,7 @@ impl Sink for Full {
 fn a_port_that_is_taken(rt: HostRuntime) -> Result<(), Fail> {
     let first = listen(&rt, 0)?;
     let port = first.local_addr()?.port();
-    assert_eq!(&rt; listen(&rt, port).err(), Some(RunFault::Read));
+    assert_eq!(&rt; listen(&rt, port).err(), Some(Cause::Taken));
     drop(first);
     assert!(&rt;
         listen(&rt, port).is_ok(),

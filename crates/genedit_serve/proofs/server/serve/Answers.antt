@@ -5,14 +5,14 @@ use Rattle.relay_board.specs.Seating.{AllFresh}
 use Rattle.genedit_serve.proofs.ServingLaws.{ends, numbered, unserved}
 use Rattle.genedit_serve.proofs.server.serve.Goals as goal
 
-pub serve_seats-requires-clause-order : goal.serve_seats-requires-clause-order
-serve_seats-requires-clause-order g c κs within =
+pub seats_served-requires-clause-order : goal.seats_served-requires-clause-order
+seats_served-requires-clause-order g c κs within =
     numbered c.args.opened.rule (ruled_capacity (arc_value c.args.opened.drain.queue)) 0 c.in-Ok.named.1.items c.in-Ok.ensures.seats.0
 
-pub returns-in-Err-serve_seats : goal.returns-in-Err-serve_seats
-returns-in-Err-serve_seats g c =
+pub returns-in-Err-seats_served : goal.returns-in-Err-seats_served
+returns-in-Err-seats_served g c =
     unserved c.args.opened.rule c.args.opened.count _ _ c.args.port c.deref.result.now c.in_ok-push_output.field-0 (c.deref.ensures.value ∙ c.in_ok-line.ensures) c.in_ok-push_output.ensures.pushed
-    _ c.in-Ok.named.1.items c.in-Err-serve_seats.fault c.server_fault.result
+    _ c.in-Ok.named.1.items c.in-Err-seats_served.fault c.server_fault.result
     (record {
       published = c.in-Ok.ensures.relay.0;
       taken = c.in-Ok.ensures.relay.1;
@@ -22,13 +22,13 @@ returns-in-Err-serve_seats g c =
       squares = c.in-Ok.ensures.relay.6 ∙ c.requires.squares;
     })
     (subst (λ (room : ℕ). AllFresh c.args.opened.rule room 0 c.in-Ok.named.1.items) c.requires.room c.in-Ok.ensures.seats.0, c.in-Ok.ensures.seats.1)
-    c.in-Err-serve_seats.ensures.reason c.server_fault.ensures
+    c.in-Err-seats_served.ensures.reason c.server_fault.ensures
 
 pub returns : goal.returns
 returns g c =
     ends c.args.opened.rule c.args.opened.count _ _ c.args.port c.deref.result.now c.in_ok-push_output.field-0 (c.deref.ensures.value ∙ c.in_ok-line.ensures) c.in_ok-push_output.ensures.pushed
-    c.in-Ok.named.0.origin c.in-Ok.named.1.items c.in-Ok-serve_seats.finished _
-    c.push_output-in-Ok-serve_seats.result c.deref-in-Ok-serve_seats.result.now c.in-Ok.ensures.states
+    c.in-Ok.named.0.origin c.in-Ok.named.1.items c.in-Ok-seats_served.finished _
+    c.push_output-in-Ok-seats_served.result c.deref-in-Ok-seats_served.result.now c.in-Ok.ensures.states
     (subst (λ (room : ℕ). AllFresh c.args.opened.rule room 0 c.in-Ok.named.1.items) c.requires.room c.in-Ok.ensures.seats.0, c.in-Ok.ensures.seats.1)
-    c.in-Ok-serve_seats.ensures.served
-    (c.deref-in-Ok-serve_seats.ensures.value ∙ c.in_ok-text-in-Ok-serve_seats.ensures) c.push_output-in-Ok-serve_seats.ensures.pushed c.push_output-in-Ok-serve_seats.ensures.fault
+    c.in-Ok-seats_served.ensures.served
+    (c.deref-in-Ok-seats_served.ensures.value ∙ c.in_ok-text-in-Ok-seats_served.ensures) c.push_output-in-Ok-seats_served.ensures.pushed c.push_output-in-Ok-seats_served.ensures.fault
