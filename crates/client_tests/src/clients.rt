@@ -3,7 +3,7 @@
 use board_client::Server;
 use client_commands::command_in;
 use client_session::{Client, CommandFault, Outcome, Telling};
-use client_tasks::{Done, carry_out};
+use client_tasks::{Done, carry_on, carry_out};
 use edit_stamps::Cell;
 use frame_line::Line;
 use genedit_script::{Command, PatternName, PatternText, read_script};
@@ -53,6 +53,12 @@ pub fn name<C: Clock>(client: &mut Guest<'_, C>, script: &str) -> Result<(), Fai
 pub fn obey<C: Clock>(client: &mut Guest<'_, C>, line: &str) -> Result<Done, Fail> {
     let command = command_in(client.alloc(), line.as_bytes())?.ok_or("command")?;
     Ok(carry_out(client, command, 5)?)
+}
+
+/// The same, once the server is gone.
+pub fn obey_alone<C: Clock>(client: &mut Guest<'_, C>, line: &str) -> Result<Done, Fail> {
+    let command = command_in(client.alloc(), line.as_bytes())?.ok_or("command")?;
+    Ok(carry_on(client, command)?)
 }
 
 /// What was printed since this was asked last.

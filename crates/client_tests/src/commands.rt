@@ -1,8 +1,8 @@
 //! Commands: what each prints, and what is left behind it.
 
-use crate::clients::{Guest, join, name, obey, told};
+use crate::clients::{Guest, dot, join, name, obey, obey_alone, told};
 use crate::refusals::{CLOSED, NO_PLACE, refuse};
-use client_commands::FileName;
+use client_commands::{FileName, FileTarget};
 use client_session::Telling;
 use client_tasks::Done;
 use edit_stamps::Cell;
@@ -20,7 +20,7 @@ struct Row {
     draws: bool,
 }
 
-static ROWS: [Row; 15] = [
+static ROWS: [Row; 16] = [
     Row {
         line: "cells 0 0 1 1 0 2",
         left: "told",
@@ -88,6 +88,12 @@ static ROWS: [Row; 15] = [
         draws: true,
     },
     Row {
+        line: "export! 0 b.rle",
+        left: "replace b.rle: #CXRLE Pos=0,0 Gen=0\nx = 3, y = 10, rule = /2/3\nA.A$2.A8$A!\n",
+        told: "",
+        draws: false,
+    },
+    Row {
         line: "export 536870913 b.rle",
         left: "told",
         told: "refused 22 GenRange\n",
@@ -118,7 +124,7 @@ fn words_of(alloc: Global, done: &Done) -> Result<String, Fail> {
     match done {
         Done::Told => Ok(String::from_str(alloc, "told")?),
         Done::InDoubt => Ok(String::from_str(alloc, "in doubt")?),
-        Done::Write(file, text) => Ok(written(alloc, file, text)?),
+        Done::Write(target, text) => Ok(written(alloc, target, text)?),
         Done::Open(file) => {
             let name = std::str::from_utf8(file.as_bytes()).ok().ok_or("name")?;
             Ok(format!(in alloc; "open {name}")?)
@@ -129,10 +135,11 @@ fn words_of(alloc: Global, done: &Done) -> Result<String, Fail> {
 }
 
 /// What is written to which file, where it is a text.
-fn written(alloc: Global, file: &FileName, text: &[u8]) -> Result<String, AllocError> {
-    let name = std::str::from_utf8(file.as_bytes()).unwrap_or("?");
+fn written(alloc: Global, target: &FileTarget, text: &[u8]) -> Result<String, AllocError> {
+    let name = std::str::from_utf8(target.name.as_bytes()).unwrap_or("?");
     let text = std::str::from_utf8(text).unwrap_or("?");
-    format!(in alloc; "write {name}: {text}")
+    let verb = if target.replaces { "replace" } else { "write" };
+    format!(in alloc; "{verb} {name}: {text}")
 }
 
 const PATTERN: &str = "rule /2/3\nreplicas 1\npattern p\nx = 1, y = 1\nA!\nend\n";
@@ -190,7 +197,7 @@ fn state_of(board: &Shared) -> Result<Vec<u8>, Fail> {
 /// The file and the text that a client has written.
 fn saved<C: Clock>(client: &mut Guest<'_, C>, line: &str) -> Result<(FileName, Vec<u8>), Fail> {
     match obey(client, line)? {
-        Done::Write(file, text) => Ok((file, text)),
+        Done::Write(target, text) => Ok((target.name, text)),
         _ => Err(Fail::from("nothing is written")),
     }
 }
@@ -227,6 +234,55 @@ fn a_drawing_in_doubt(rt: HostRuntime) -> Result<(), Fail> {
     refuse(&board, CLOSED)?;
     for (line, left) in [("copy p 0 0", "in doubt"), ("cells 0 0 1", "told")] {
         obey_row(&rt, &mut a, line, (left, "refused 30 Closed\n"))?;
+    }
+    Ok(())
+}
+
+/// Commands of a client that lost its server, what is left behind each, and what it prints.
+static ALONE: [(&str, &str, &str); 13] = [
+    ("show 0 0", "told", "cell 2 1 1\n"),
+    (
+        "export 0",
+        "told",
+        "#CXRLE Pos=0,0 Gen=0\nx = 1, y = 1, rule = /2/3\nB!\n",
+    ),
+    (
+        "export 1 b.rle",
+        "write b.rle: #CXRLE Pos=0,0 Gen=1\nx = 0, y = 0, rule = /2/3\n!\n",
+        "",
+    ),
+    ("export 536870913 b.rle", "told", "refused 22 GenRange\n"),
+    ("cells 0 0 1", "told", "no server\n"),
+    ("clear 0 0 1 1", "told", "no server\n"),
+    ("copy p 0 0", "told", "no server\n"),
+    ("or nobody 0 0", "told", "no server\n"),
+    ("poll", "told", "no server\n"),
+    ("wait 1 0", "told", "no server\n"),
+    ("open b.rle", "told", "no server\n"),
+    ("sleep 70", "sleep 70", ""),
+    ("bye", "leave", ""),
+];
+
+#[test]
+fn each_command_without_a_server(rt: HostRuntime) -> Result<(), Fail> {
+    let alloc = rt.alloc();
+    let board = MemoryBoard::shared(alloc, 2)?;
+    let mut a = join(&rt, alloc, line_to(alloc, &board, 1)?, Telling::Edits)?;
+    dot(&mut a, 0, 0, 2)?;
+    told(&mut a)?;
+    // what the board has by now is not asked for
+    another_draws(&board)?;
+    for (line, left, printed) in &ALONE {
+        let done = obey_alone(&mut a, line)?;
+        assert_eq!(rt; words_of(alloc, &done)?.as_str(), *left, "{line}");
+        assert_eq!(rt; told(&mut a)?.as_str(), *printed, "{line}");
+    }
+    match obey_alone(&mut a, "save! my.board")? {
+        Done::Write(target, text) => {
+            assert!(rt; target.replaces);
+            assert_eq!(rt; text, a.replica().state()?);
+        }
+        _ => return Err(Fail::from("nothing is written")),
     }
     Ok(())
 }

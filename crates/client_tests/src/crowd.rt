@@ -110,8 +110,7 @@ impl<'a> Member<'a> {
     fn give(&mut self, line: &str) -> Result<(), Fail> {
         obey(&mut self.client, line)?;
         let printed = told(&mut self.client)?;
-        self.told
-            .hear(printed.as_str(), self.client.replica().plane())
+        self.told.hear(printed.as_str())
     }
 
     /// Whether what it told is what it holds; of one that tells edits nothing is said.

@@ -1,11 +1,9 @@
 //! What commands print.
 
-use crate::clients::dot;
-use crate::plays::{A, Act, B, Party, Step, play};
+use crate::plays::{A, Act, B, Step, play};
 use client_session::{Outcome, Telling};
 use edit_stamps::Rect;
 use std::test::Fail;
-use std::time::Clock;
 
 /// The first two cells of row 0.
 const TWO_CELLS: Rect = Rect {
@@ -80,6 +78,26 @@ fn cells_that_look_different(rt: HostRuntime) -> Result<(), Fail> {
     )
 }
 
+static QUIET: [Step; 9] = [
+    Step::Does(B, Act::Dot(0, 0, 1, Outcome::Drawn)),
+    Step::Does(A, Act::Follow),
+    Step::Does(A, Act::Obey("show 0 0")),
+    Step::Does(A, Act::Poll),
+    Step::HandOut(1),
+    Step::Does(B, Act::Dot(1, 0, 1, Outcome::Drawn)),
+    Step::Does(B, Act::Dot(2, 0, 1, Outcome::Drawn)),
+    Step::Does(A, Act::Dot(3, 0, 1, Outcome::Drawn)),
+    Step::Does(
+        A,
+        Act::Told("joined 1 /2/3\ncell 1 1 2\nedits 1\nwhole\ndrawn 4 1\n"),
+    ),
+];
+
+#[test]
+fn nothing_of_what_others_drew(rt: HostRuntime) -> Result<(), Fail> {
+    play(&rt, rt.alloc(), &[Telling::Nothing, Telling::Edits], &QUIET)
+}
+
 /// A pattern of two cells, one of them dead.
 const PATTERN: &str = "rule /2/3\nreplicas 1\npattern p\nx = 2, y = 1\nA.!\nend\n";
 
@@ -110,43 +128,4 @@ static NAMES: [Step; 10] = [
 #[test]
 fn patterns_by_name(rt: HostRuntime) -> Result<(), Fail> {
     play(&rt, rt.alloc(), &[Telling::Edits], &NAMES)
-}
-
-/// Behind 1,025 cells that A drew: B polls, and is told of two more.
-static WHOLE_PLANE: [Step; 6] = [
-    Step::Does(B, Act::Poll),
-    Step::Does(B, Act::Poll),
-    Step::Does(A, Act::Dot(7, 0, 2, Outcome::Drawn)),
-    Step::Does(A, Act::Dot(8, 0, 1, Outcome::Drawn)),
-    Step::Does(B, Act::Poll),
-    Step::Does(
-        B,
-        Act::Told("joined 2 /2/3\nwhole\nedits 0\nnow 7 0 2\nedits 2\n"),
-    ),
-];
-
-/// Has A draw so many cells of row 0, each by itself.
-fn draw_row<C: Clock>(party: &mut Party<'_, C>, width: i32) -> Result<(), Fail> {
-    let a = party.clients.get_mut(A).ok_or("client")?;
-    for x in 0..width {
-        dot(a, x, 0, 1)?;
-    }
-    Ok(())
-}
-
-/// What the client at a place saves.
-fn saved_at<C: Clock>(party: &mut Party<'_, C>, place: usize) -> Result<Option<Vec<u8>>, Fail> {
-    let client = party.clients.get_mut(place).ok_or("client")?;
-    Ok(client.save()?)
-}
-
-#[test]
-fn a_whole_plane(rt: HostRuntime) -> Result<(), Fail> {
-    let mut party = Party::join(&rt, rt.alloc(), &[Telling::Edits, Telling::Changes])?;
-    draw_row(&mut party, 1025)?;
-    party.play(&rt, &WHOLE_PLANE)?;
-    let ours = saved_at(&mut party, A)?;
-    assert!(rt; ours.is_some());
-    assert_eq!(rt; ours, saved_at(&mut party, B)?);
-    Ok(())
 }

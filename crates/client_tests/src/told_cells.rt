@@ -1,7 +1,6 @@
 //! What a client told of a board by cells that look different, put together again.
 
 use edit_stamps::Cell;
-use stamped_tree::Plane;
 use std::alloc::{AllocError, Global};
 use std::collections::BTreeMap;
 use std::test::Fail;
@@ -26,26 +25,16 @@ impl Told {
         }
     }
 
-    /// Hears what was printed, behind which the client holds a plane: that stands for all where the plane was
-    /// sent whole.
-    pub fn hear(&mut self, printed: &str, plane: &Plane) -> Result<(), Fail> {
+    /// Hears what was printed.
+    pub fn hear(&mut self, printed: &str) -> Result<(), Fail> {
         for line in printed.split('\n') {
             if line == "whole" {
-                self.take_plane(plane)?;
+                self.planes = self.planes.saturating_add(1);
             } else if line.starts_with("drawn ") && self.planes > 0 {
                 self.drawn_behind = self.drawn_behind.saturating_add(1);
             } else if let Some(cells) = line.strip_prefix("now ") {
                 self.hear_cells(cells)?;
             }
-        }
-        Ok(())
-    }
-
-    fn take_plane(&mut self, plane: &Plane) -> Result<(), AllocError> {
-        self.planes = self.planes.saturating_add(1);
-        self.states = BTreeMap::new(self.alloc);
-        for cell in plane.walk()? {
-            self.states.insert((cell.y, cell.x), cell.state)?;
         }
         Ok(())
     }
