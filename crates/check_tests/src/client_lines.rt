@@ -8,7 +8,7 @@ use script_faults::{Reason, client_finding};
 use std::alloc::{AllocError, Global};
 
 /// Words with which a line may begin, those of a client twice.
-static FIRST: [&[u8]; 40] = [
+static FIRST: [&[u8]; 42] = [
     b"cells",
     b"clear",
     b"pattern",
@@ -37,6 +37,8 @@ static FIRST: [&[u8]; 40] = [
     b"save",
     b"open",
     b"bye",
+    b"export!",
+    b"save!",
     b"rule",
     b"replicas",
     b"state",

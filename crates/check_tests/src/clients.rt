@@ -59,7 +59,7 @@ static DRAWN: [Faulty; 11] = [
     },
 ];
 
-static ASKED: [Faulty; 16] = [
+static ASKED: [Faulty; 20] = [
     Faulty {
         line: b"export",
         told: "7: the generation is missing: `export G [FILE]`",
@@ -71,6 +71,22 @@ static ASKED: [Faulty; 16] = [
     Faulty {
         line: b"export 1 a b",
         told: "12: a word too many: `export G [FILE]`",
+    },
+    Faulty {
+        line: b"export 1 4",
+        told: "10: the file's name is any word but a number",
+    },
+    Faulty {
+        line: b"export! 1",
+        told: "10: the file's name is missing: `export! G FILE`",
+    },
+    Faulty {
+        line: b"save 4",
+        told: "6: the file's name is any word but a number",
+    },
+    Faulty {
+        line: b"save! a b",
+        told: "9: a word too many: `save! FILE`",
     },
     Faulty {
         line: b"poll 1",

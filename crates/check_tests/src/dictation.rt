@@ -1,12 +1,12 @@
 //! What lines come to, by the names of the commands in them.
 
-use client_commands::{ClientCommand, Dictation, FileName, Heard, Placement};
+use client_commands::{ClientCommand, Dictation, FileName, FileTarget, Heard, Placement};
 use replica_events::EditSpec;
 use std::alloc::{AllocError, Global};
 use std::test::Fail;
 
 /// A line, and what it comes to at the beginning of all lines.
-static LINES: [(&str, &str); 47] = [
+static LINES: [(&str, &str); 52] = [
     ("cells 0 -1 255 7 8 0", "cells 0 -1 255 7 8 0"),
     ("clear -3 4 5 6", "clear -3 4 5 6"),
     ("copy Glider7 -3 4", "copy Glider7 -3 4"),
@@ -14,11 +14,13 @@ static LINES: [(&str, &str); 47] = [
     ("show -3 4", "show -3 4"),
     ("export 4", "export 4"),
     ("export 4 a.rle", "export 4 a.rle"),
+    ("export! 4 a.rle", "export! 4 a.rle"),
     ("poll", "poll"),
     ("wait 3", "wait 3 10000"),
     ("wait 3 7", "wait 3 7"),
     ("sleep 7", "sleep 7"),
     ("save a.rle", "save a.rle"),
+    ("save! a.rle", "save! a.rle"),
     ("open a.rle", "open a.rle"),
     ("bye", "bye"),
     (" \tpoll\t ", "poll"),
@@ -44,12 +46,15 @@ static LINES: [(&str, &str); 47] = [
     ("show 1 2 3", "fault 1"),
     ("export", "fault 1"),
     ("export 1 2 3", "fault 1"),
+    ("export 1 100000", "fault 1"),
+    ("export! 4", "fault 1"),
     ("poll 1", "fault 1"),
     ("wait", "fault 1"),
     ("wait 4294967296", "fault 1"),
     ("wait 1 2 3", "fault 1"),
     ("sleep", "fault 1"),
     ("save a b", "fault 1"),
+    ("save 7", "fault 1"),
     ("open", "fault 1"),
     ("bye bye", "fault 1"),
     ("pattern abcdefghijklmno09", "fault 1"),
@@ -146,14 +151,17 @@ fn told_command(alloc: Global, command: &ClientCommand) -> Result<String, AllocE
         ClientCommand::Or(placement) => told_placement(alloc, "or", placement),
         ClientCommand::Show(x, y) => format!(in alloc; "show {x} {y}"),
         ClientCommand::Export(generation, None) => format!(in alloc; "export {generation}"),
-        ClientCommand::Export(generation, Some(file)) => {
-            let file = word(alloc, file.as_bytes())?;
-            format!(in alloc; "export {generation} {file}")
+        ClientCommand::Export(generation, Some(target)) => {
+            let name = format!(in alloc; "export{} {generation}", sign_of(target))?;
+            told_file(alloc, name.as_str(), &target.name)
         }
         ClientCommand::Poll => format!(in alloc; "poll"),
         ClientCommand::Wait(wait) => format!(in alloc; "wait {} {}", wait.edits, wait.milliseconds),
         ClientCommand::Sleep(milliseconds) => format!(in alloc; "sleep {milliseconds}"),
-        ClientCommand::Save(file) => told_file(alloc, "save", file),
+        ClientCommand::Save(target) => {
+            let name = format!(in alloc; "save{}", sign_of(target))?;
+            told_file(alloc, name.as_str(), &target.name)
+        }
         ClientCommand::Open(file) => told_file(alloc, "open", file),
         ClientCommand::Bye => format!(in alloc; "bye"),
     }
@@ -186,6 +194,11 @@ fn told_placement(
 ) -> Result<String, AllocError> {
     let name = word(alloc, placement.name.as_bytes())?;
     format!(in alloc; "{command} {name} {} {}", placement.x, placement.y)
+}
+
+/// What stands behind the word of a command whose file may replace one.
+fn sign_of(target: &FileTarget) -> &'static str {
+    if target.replaces { "!" } else { "" }
 }
 
 fn told_file(alloc: Global, command: &str, file: &FileName) -> Result<String, AllocError> {
