@@ -2,6 +2,8 @@
 use Rattle.std.proofs.Common.{◌≡◌, ℕ, zero, suc, ◌+◌, ◌-◌, ◌<◌, ◌≤◌, ◌⊎◌, List, [], ◌∷◌, length, refl, inl, inr, sym, ◌∙◌, ap, subst, arith, ℤ, pos, negsuc, Bool, true, false, rules}
 use Rattle.std.specs.Prelude.{◌+ℤ◌, ◌-ℤ◌, ◌≤ℤ◌, nat_abs, cond, is_some, slice_get, Option, Some, None}
 use Rattle.std.specs.Cmp.{first_so, second_so}
+use Rattle.std.specs.List.{IsDistinct}
+use Rattle.std.specs.Map.{keys_of}
 use Rattle.std.specs.Ordering.{int_eq}
 use Rattle.std.proofs.lemmas.Bool.Decides.{Decides-int_eq}
 use Rattle.std.proofs.lemmas.Int.{ints}
@@ -138,7 +140,7 @@ east_of origin k is h = elim is [
 ]
 
 -- what is there, is something
-there_is : {A : Type 0} (o : Option A) → is_some o ≡ true → (x : A) × (o ≡ Some x)
+pub there_is : {A : Type 0} (o : Option A) → is_some o ≡ true → (x : A) × (o ≡ Some x)
 there_is (Some x) h = (x, refl)
 there_is None h = absurd (search (rules, h))
 
@@ -231,9 +233,9 @@ module _ (n : ℕ) (r : GenerationsRule) (g : ℕ) (tiles : Entries n) where
     | inr e ↦ all q t (sym e ∙ is)
   ]
 
-  pub way_put : (room : ℕ) (old new : Entries n) (c : Corner) (tile : Tile n) → IsPut n old new c tile → IsRight n r g tiles (Some tile) c → IsOnOtherGrid n tiles c → IsAlive n tile → length old < room → IsInside 128 c
+  pub way_put : (room : ℕ) (old new : Entries n) (c : Corner) (tile : Tile n) → IsPut n old new c tile → IsRight n r g tiles (Some tile) c → IsOnOtherGrid n tiles c → IsAlive n tile → IsDistinct is_corner (keys_of new) → length old < room → IsInside 128 c
       → IsUnderWay n r g room tiles old → IsUnderWay n r g room tiles new
-  way_put room old new c tile put right grid alive few inside way = record {
+  way_put room old new c tile put right grid alive once few inside way = record {
     right = all_right_put old new c tile put right way.right;
     grid = λ q t is. elim (put_at old new c tile put q) [
       | inl h ↦ subst (IsOnOtherGrid n tiles) h.1 grid
@@ -243,15 +245,18 @@ module _ (n : ℕ) (r : GenerationsRule) (g : ℕ) (tiles : Entries n) where
       | inl h ↦ subst (IsAlive n) (same_Some tile t (sym h.0 ∙ is)) alive
       | inr e ↦ way.alive q t (sym e ∙ is)
     ];
+    once = once;
     few = let longer : length new ≡ length old + 1 = ap length put.last ∙ length-append old ((c, tile) ∷ []) in omega arith;
     inside = subst (AllInside n) (sym put.last) (All-push (λ (e : Corner × Tile n). IsInside 128 e.0) old (c, tile) way.inside inside);
   }
 
   pub way_none : (room : ℕ) (new : Entries n) → new ≡ [] → IsUnderWay n r g room tiles new
+  unfolding IsDistinct
   way_none room new none = subst (IsUnderWay n r g room tiles) (sym none) (record {
     right = λ c tile is. absurd (none-some tile is);
     grid = λ c tile is. absurd (none-some tile is);
     alive = λ c tile is. absurd (none-some tile is);
+    once = tt;
     few = omega arith;
     inside = All-nil (λ (e : Corner × Tile n). IsInside 128 e.0);
   })

@@ -1,6 +1,6 @@
 -- A cell of a map of tiles that is given a state.
-use Rattle.std.proofs.Common.{◌≡◌, ◌≢◌, ℕ, ◌<◌, ◌∷◌, length, inl, inr, refl, sym, ◌∙◌, ap, subst, arith, ℤ, pos, true, false}
-use Rattle.std.specs.Prelude.{◌+ℤ◌, cond, ◌==◌, ◌&&◌, if◌then◌else◌, Some}
+use Rattle.std.proofs.Common.{◌≡◌, ◌≢◌, ◌⊎◌, ℕ, ◌<◌, ◌∷◌, length, inl, inr, refl, sym, ◌∙◌, ap, subst, arith, ℤ, pos, true, false}
+use Rattle.std.specs.Prelude.{◌+ℤ◌, cond, is_some, ◌==◌, ◌&&◌, if◌then◌else◌, Option, Some}
 use Rattle.std.specs.Cmp.{first_so, second_so}
 use Rattle.std.specs.Ordering.{int_eq}
 use Rattle.std.proofs.lemmas.Bool.{cases_Bool, false≢true}
@@ -11,7 +11,7 @@ use Rattle.std.proofs.lemmas.Option.{none-some}
 use Rattle.generations_rule.specs.Place.{Place, moved, at_place, is_place}
 use Rattle.tile_steps.specs.declared.tile.Tile.{Tile}
 use Rattle.tile_steps.specs.declared.tiles.Corner.{Corner}
-use Rattle.tile_steps.specs.Tiles.{Entries, IsCornerOn, IsOnGrid, IsSplit, Shows, is_corner, place_of, state_of, tile_of, tile_state, with_state}
+use Rattle.tile_steps.specs.Tiles.{Entries, HasTile, IsCornerOn, IsInTile, IsOnGrid, IsSplit, Shows, is_corner, place_of, state_of, tile_of, tile_state, with_state}
 use Rattle.tile_steps.proofs.MapLemmas.{corner_itself, corner_same}
 
 -- a map without tiles shows dead cells
@@ -142,5 +142,33 @@ set_shows n tiles held corner old new x y column row state f is set cx cy =
 pub corner_as : (y y' x x' : ℤ) → y ≡ y' → x ≡ x' → (let c : Corner = record { y = y; x = x } in c) ≡ record { y = y'; x = x' }
 corner_as y y' x x' ey ex = λ i. record { y = ey i; x = ex i }
 
+-- ---- where there are tiles
+
+some_same : {A : Type 0} (o q : Option A) → o ≡ q → is_some o ≡ true → is_some q ≡ true
+some_same o q e h = subst (λ p. is_some p ≡ true) e h
+
+-- the tile that was held was put among the others
+pub has_stored : (n : ℕ) (old new : Entries n) (corner : Corner) (tile : Tile n) → ((q : Corner) → tile_of n new q ≡ cond (is_corner corner q) (Some tile) (tile_of n old q))
+    → (c : Corner) → HasTile n new c → HasTile n ((corner, tile) ∷ old) c
+has_stored n old new corner tile put c = some_same (tile_of n new c) (tile_of n ((corner, tile) ∷ old) c) (put c ∙ ap (λ b. cond b (Some tile) (tile_of n old c)) (flipped corner c))
+
+-- and another is held
+pub has_held : (n : ℕ) (tiles : Entries n) (corner : Corner) (tile : Tile n) (c : Corner) → HasTile n ((corner, tile) ∷ tiles) c → HasTile n tiles c ⊎ (c ≡ corner)
+has_held n tiles corner tile c has = elim (cases_Bool (is_corner c corner)) [
+  | inl same ↦ inr (corner_same c corner same)
+  | inr other ↦ inl (some_same (tile_of n ((corner, tile) ∷ tiles) c) (tile_of n tiles c) (ap (λ b. cond b (Some tile) (tile_of n tiles c)) other) has)
+]
+
+-- where it has other states, it is still there
+pub has_set : (n : ℕ) (tiles : Entries n) (corner : Corner) (old new : Tile n) (c : Corner) → HasTile n ((corner, new) ∷ tiles) c → HasTile n ((corner, old) ∷ tiles) c
+has_set n tiles corner old new c has = elim (cases_Bool (is_corner c corner)) [
+  | inl same ↦ ap (λ b. is_some (cond b (Some old) (tile_of n tiles c))) same
+  | inr other ↦ some_same (tile_of n ((corner, new) ∷ tiles) c) (tile_of n ((corner, old) ∷ tiles) c) (ap (λ b. cond b (Some new) (tile_of n tiles c)) other ∙ sym (ap (λ b. cond b (Some old) (tile_of n tiles c)) other)) has
+]
+
 pub split_as : (n m first : ℤ) (offset : ℕ) → n ≡ m → IsSplit n first offset → IsSplit m first offset
 split_as n m first offset is = subst (λ k. IsSplit k first offset) is
+
+-- the tile in which a cell lies
+pub in_tile : (x y first_x first_y : ℤ) (column row : ℕ) (c : Corner) → c ≡ (record { y = first_y; x = first_x }) → IsSplit x first_x column → IsSplit y first_y row → IsInTile x y c
+in_tile x y first_x first_y column row c is sx sy = subst (IsInTile x y) (sym is) (record { column = column; row = row; in_columns = sx; in_rows = sy })

@@ -1,6 +1,6 @@
 -- How many tiles it takes to show a map.
 use Rattle.std.proofs.Common.{rules, ◌≡◌, ◌≢◌, ℕ, zero, suc, ◌-◌, ◌/◌, ◌%◌, ◌^◌, ◌<◌, ◌≤◌, ◌⊎◌, List, [], ◌∷◌, length, get_or, refl, inl, inr, sym, ◌∙◌, ap, subst, arith, true, false}
-use Rattle.std.specs.Prelude.{cond, replicate, pos, Option, Some, None, Result, Err, IsErrAnd}
+use Rattle.std.specs.Prelude.{cond, replicate, pos, Option, Some, None, Result, Ok, Err, IfErr, IsErrAnd}
 use Rattle.std.specs.Cmp.{IsEquivalence}
 use Rattle.std.specs.Int.{bit_at}
 use Rattle.std.specs.List.{AllByRecursion, IsDistinct, list_any}
@@ -9,6 +9,7 @@ use Rattle.std.specs.Option.{IsSome}
 use Rattle.std.proofs.Math.Nat.{pow-suc}
 use Rattle.std.proofs.lemmas.Bool.{cases_Bool}
 use Rattle.std.proofs.lemmas.Map.{NonePasses, none_passes_from_lookup}
+use Rattle.std.proofs.lemmas.Map.Entries.{place_from_lookup}
 use Rattle.std.proofs.lemmas.Map.Keys.{IsDistinct-cons}
 use Rattle.std.proofs.lemmas.Map.Steps.{length-le_from_keys}
 use Rattle.std.proofs.lemmas.Nat.Bits.{bit_at_lowest, bit_at-suc, bit_at-zero}
@@ -18,11 +19,14 @@ use Rattle.generations_rule.specs.Evolution.{at}
 use Rattle.bitplane_kernel.specs.Planes.{bit}
 use Rattle.bitplane_kernel.specs.Digits.{digit_of_number}
 use Rattle.bitplane_kernel.proofs.ReadLemmas.{bit_is}
+use Rattle.tile_steps.specs.declared.fault.TileFault.{TileFault}
+use Rattle.tile_steps.specs.declared.fault.TileFault.TheVariants.{Far, Full, Long, Memory}
 use Rattle.tile_steps.specs.declared.tile.Tile.{Tile}
 use Rattle.tile_steps.specs.declared.tiles.Corner.{Corner}
-use Rattle.tile_steps.specs.Tiles.{Entries, IsAlive, IsOnOtherGrid, IsRight, IsRoomWanted, IsUnderWay, Shows, is_corner, state_of, tile_of, tile_plane, tile_state}
+use Rattle.tile_steps.specs.Causes.{AreFewest, IsNotPut, IsRefusedStep, IsRoomWanted, IsTooFar}
+use Rattle.tile_steps.specs.Tiles.{Entries, IsAlive, IsInside, IsOnOtherGrid, IsRight, IsUnderWay, Shows, is_corner, state_of, tile_of, tile_plane, tile_state}
 use Rattle.tile_steps.proofs.AdderLemmas.{bit_lt}
-use Rattle.tile_steps.proofs.MapLemmas.{around_shows, corner_itself, corner_same}
+use Rattle.tile_steps.proofs.MapLemmas.{all_at, around_shows, corner_itself, corner_same, there_is}
 use Rattle.tile_steps.proofs.PutLemmas.{flipped}
 
 -- ---- a tile that is not dead
@@ -55,24 +59,38 @@ some_row (zero ∷ rows) = elim (some_row rows) [
 ]
 some_row (suc n ∷ rows) = inr (0, omega arith, λ e. omega (arith, e))
 
+-- a row that is not 0 has a cell that is not dead
+row_alive : (n p row : ℕ) (tile : Tile n) → p < n → get_or (tile_plane tile.planes p) row 0 < 4294967296 → get_or (tile_plane tile.planes p) row 0 ≢ 0
+    → (column : ℕ) × (column < 32) × (tile_state n tile column row ≢ 0)
+row_alive n p row tile within fits some =
+    let column = some_bit 32 (get_or (tile_plane tile.planes p) row 0) fits some in (
+      column.0,
+      column.1,
+      λ dead.
+          let digit : bit_at (tile_state n tile column.0 row) p ≡ bit (tile_plane tile.planes p) column.0 row =
+          digit_of_number n p (λ q. bit (tile_plane tile.planes q) column.0 row) within (λ q h. bit_lt (tile_plane tile.planes q) column.0 row) in
+          let set : bit (tile_plane tile.planes p) column.0 row ≡ 1 = bit_is (tile_plane tile.planes p) column.0 row ∙ column.2 in
+          let none : bit_at (tile_state n tile column.0 row) p ≡ 0 = ap (λ s. bit_at s p) dead ∙ bit_at-zero p in
+          omega (arith, digit, set, none),
+    )
+
+pub row_not_dead : (n p row : ℕ) (tile : Tile n) → p < n → get_or (tile_plane tile.planes p) row 0 < 4294967296 → get_or (tile_plane tile.planes p) row 0 ≢ 0
+    → ((x : ℕ) → x < 32 → tile_state n tile x row ≡ 0) → ⊥
+row_not_dead n p row tile within fits some dead = let cell = row_alive n p row tile within fits some in cell.2 (dead cell.0 cell.1)
+
 -- a plane that is not all 0 makes its tile alive
 pub alive_by_plane : (n p : ℕ) (tile : Tile n) → p < n → length (tile_plane tile.planes p) ≡ 32 → ((y : ℕ) → get_or (tile_plane tile.planes p) y 0 < 4294967296)
     → (tile_plane tile.planes p ≡ replicate 32 0 → ⊥) → IsAlive n tile
 alive_by_plane n p tile within len fits some = elim (some_row (tile_plane tile.planes p)) [
   | inl none ↦ absurd (some (none ∙ ap (λ k. replicate k 0) len))
   | inr row ↦
-      let column = some_bit 32 (get_or (tile_plane tile.planes p) row.0 0) (fits row.0) row.2 in
+      let column = row_alive n p row.0 tile within (fits row.0) row.2 in
       record {
         column = column.0;
         row = row.0;
         in_columns = column.1;
         in_rows = (let h = row.1 in omega (arith, h, len));
-        alive = λ dead.
-            let digit : bit_at (tile_state n tile column.0 row.0) p ≡ bit (tile_plane tile.planes p) column.0 row.0 =
-            digit_of_number n p (λ q. bit (tile_plane tile.planes q) column.0 row.0) within (λ q h. bit_lt (tile_plane tile.planes q) column.0 row.0) in
-            let set : bit (tile_plane tile.planes p) column.0 row.0 ≡ 1 = bit_is (tile_plane tile.planes p) column.0 row.0 ∙ column.2 in
-            let none : bit_at (tile_state n tile column.0 row.0) p ≡ 0 = ap (λ s. bit_at s p) dead ∙ bit_at-zero p in
-            omega (arith, digit, set, none);
+        alive = column.2;
       }
 ]
 
@@ -123,6 +141,22 @@ module _ (n : ℕ) (r : GenerationsRule) (g : ℕ) (tiles : Entries n) where
       go own other (Some t) e = some_is (tile_of n others q) t e
       go own other None e = absurd (alive.alive (own ∙ sym other ∙ ap (λ o. state_of n o alive.column alive.row) e))
 
+  -- so it takes as many tiles to show it as are not dead
+  pub fewest : (room : ℕ) (new : Entries n) → IsUnderWay n r g room tiles new → AreFewest n r g 1 tiles new
+  fewest room new way origin f is below shows others shown =
+      let there : (q : Corner) → list_any (is_corner q) (keys_of new) ≡ true → IsSome (tile_of n others q) = λ q member.
+      (let found = key_found n q new member in
+      shown_there origin f is below shows others shown q found.0 (way.right q found.0 found.1) (way.alive q found.0 found.1) (way.grid q found.0 found.1)) in
+      let more = length-le_from_keys corners_equiv (keys_of new) others way.once there in
+      omega (arith, more, keys_length n new)
+
+  -- a tile that is not dead lies too far out
+  pub too_far : (corner : Corner) (tile : Tile n) → (IsInside 128 corner → ⊥) → IsRight n r g tiles (Some tile) corner → IsAlive n tile → IsOnOtherGrid n tiles corner → IsTooFar n r g tiles
+  too_far corner tile out right alive grid origin f is below shows others shown all =
+      let some = there_is (tile_of n others corner) (shown_there origin f is below shows others shown corner tile right alive grid) in
+      let p = place_from_lookup (is_corner corner) others some.0 some.1 in
+      out (subst (IsInside 128) (sym (corner_same corner p.1 p.3)) (all_at n others p.0 p.1 some.0 all p.2))
+
   -- all room is taken, and one tile more is not dead
   pub room_wanted : (room : ℕ) (new : Entries n) (corner : Corner) (tile : Tile n) → IsUnderWay n r g room tiles new → room ≤ length new → IsDistinct is_corner (keys_of new)
       → tile_of n new corner ≡ None → IsRight n r g tiles (Some tile) corner → IsAlive n tile → IsOnOtherGrid n tiles corner → IsRoomWanted n r g room tiles
@@ -137,6 +171,14 @@ module _ (n : ℕ) (r : GenerationsRule) (g : ℕ) (tiles : Entries n) where
       let more = length-le_from_keys corners_equiv (corner ∷ keys_of new) others distinct there in
       omega (arith, more, full, keys_length n new)
 
+  pub step_refused : (room : ℕ) (new : Entries n) (corner : Corner) (tile : Tile n) (fault : TileFault) → IsNotPut n room new corner fault → IsUnderWay n r g room tiles new
+      → tile_of n new corner ≡ None → IsRight n r g tiles (Some tile) corner → IsAlive n tile → IsOnOtherGrid n tiles corner → IsRefusedStep n r g room tiles fault
+  step_refused room new corner tile Full not way none right alive grid = room_wanted room new corner tile way not.0 not.1 none right alive grid
+  step_refused room new corner tile Far not way none right alive grid = too_far corner tile not right alive grid
+  step_refused room new corner tile Long not way none right alive grid = not
+  step_refused room new corner tile Memory not way none right alive grid = tt
+
 -- the refusal that a call answers is the one that it was told
-pub told : {A F : Type 0} (r : Result A F) (x y : F) → IsErrAnd r (λ e. e ≡ x) → r ≡ Err y → x ≡ y
-told r x y h e = sym (subst (λ r. IsErrAnd r (λ e. e ≡ x)) e h)
+pub told : {A F : Type 0} (r : Result A F) (x : F) (P : F → Type 0) → IsErrAnd r (λ e. e ≡ x) → P x → IfErr r P
+told (Ok a) x P h p = tt
+told (Err e) x P h p = subst P (sym h) p

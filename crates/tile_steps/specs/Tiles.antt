@@ -1,8 +1,8 @@
 -- Tiles of states, where they lie, and the map of states that they make.
-use Rattle.std.specs.Prelude.{◌≡◌, ◌⊎◌, ℕ, ◌+◌, ◌*◌, ◌-◌, ◌^◌, ◌<◌, ◌≤◌, ◌&&◌, Bool, ℤ, pos, negsuc, ◌+ℤ◌, ◌≤ℤ◌, List, [], ◌∷◌, ◌++◌, length, cond, slice_get, slice_index_or, Option, Some, None, if◌then◌else◌}
+use Rattle.std.specs.Prelude.{◌≡◌, ◌⊎◌, ℕ, ◌+◌, ◌*◌, ◌-◌, ◌^◌, ◌<◌, ◌≤◌, ◌&&◌, Bool, ℤ, pos, negsuc, ◌+ℤ◌, ◌≤ℤ◌, List, [], ◌∷◌, ◌++◌, length, cond, is_some, true, slice_get, slice_index_or, Option, Some, None, if◌then◌else◌}
 use Rattle.std.specs.Ordering.{int_eq}
-use Rattle.std.specs.List.{All}
-use Rattle.std.specs.Map.{lookup}
+use Rattle.std.specs.List.{All, IsDistinct}
+use Rattle.std.specs.Map.{keys_of, lookup}
 use Rattle.generations_rule.specs.Place.{Place, moved, at_place, is_place}
 use Rattle.generations_rule.specs.Rule.{GenerationsRule}
 use Rattle.generations_rule.specs.Evolution.{at}
@@ -143,16 +143,12 @@ pub record IsAlive (n : ℕ) (tile : Tile n) : Type 0 where
   pub in_rows : row < 32
   pub alive : tile_state n tile column row ≡ 0 → ⊥
 
--- Whatever map the tiles show, more tiles than there is room for are not dead g generations later: it takes more to show it on the other grid.
-abbrev pub IsRoomWanted : (n : ℕ) → GenerationsRule → ℕ → ℕ → Entries n → Type 0
-IsRoomWanted n r g room tiles =
-    (origin : ℕ) (f : Place → ℕ) → IsOrigin origin → ((c : Place) → f c < r.states) → Shows n origin tiles f → (others : Entries n) → Shows n (16 - origin) others (at r f g) → room < length others
-
--- the new tiles are right, on the other grid, not dead, few enough and inside
+-- the new tiles are right, on the other grid, not dead, each at a corner of its own, few enough and inside
 pub record IsUnderWay (n : ℕ) (r : GenerationsRule) (g room : ℕ) (tiles new : Entries n) : Type 0 where
   pub right : AllRight n r g tiles new
   pub grid : (c : Corner) (tile : Tile n) → tile_of n new c ≡ Some tile → IsOnOtherGrid n tiles c
   pub alive : (c : Corner) (tile : Tile n) → tile_of n new c ≡ Some tile → IsAlive n tile
+  pub once : IsDistinct is_corner (keys_of new)
   pub few : length new ≤ room
   pub inside : AllInside n new
 
@@ -176,8 +172,19 @@ pub record IsPut (n : ℕ) (old new : Entries n) (c : Corner) (tile : Tile n) : 
 abbrev pub with_state : (Place → ℕ) → Place → ℕ → Place → ℕ
 with_state f p state c = if is_place p c then state else f c
 
+-- there is a tile at a corner
+abbrev pub HasTile : (n : ℕ) → Entries n → Corner → Type 0
+HasTile n tiles c = is_some (tile_of n tiles c) ≡ true
+
 -- a number of 32 columns or rows from the first of a grid's square on
 pub record IsSplit (n first : ℤ) (offset : ℕ) : Type 0 where
   pub within : offset < 32
   pub there : n ≡ first +ℤ pos offset
   pub grid : IsOnGrid 0 first
+
+-- a cell lies in the tile at a corner of the grid of the origin
+pub record IsInTile (x y : ℤ) (c : Corner) : Type 0 where
+  pub column : ℕ
+  pub row : ℕ
+  pub in_columns : IsSplit x c.x column
+  pub in_rows : IsSplit y c.y row

@@ -3,11 +3,11 @@
 /// Why no generation was made. The tiles are as before.
 #[derive(Clone, Copy, Debug, PartialEq, Eq)]
 pub enum TileFault {
-    /// There would be more tiles than there is room for.
+    /// Behind a step more tiles would not be dead than there is room for.
     Full,
-    /// A tile would lie too far out.
+    /// A tile that is not dead would lie within 128 of the least or the greatest coordinate.
     Far,
-    /// More windows would be made than may be.
+    /// A run would make more windows than may be, four for each tile that a step begins with.
     Long,
     /// The system refused memory.
     Memory,

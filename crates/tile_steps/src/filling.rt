@@ -1,8 +1,10 @@
 //! Tiles that are filled cell by cell.
 
-ghost use Rattle.std.specs.Prelude.{◌≡◌, ℕ, ◌<◌, ◌≤◌, ◌^◌, ◌∷◌, cond, IfOk, OnOk, Some};
+ghost use Rattle.std.specs.Prelude.{◌≡◌, ◌⊎◌, ℕ, ◌<◌, ◌≤◌, ◌^◌, ◌∷◌, cond, length, pos, IfErr, IfOk, OnErr, OnOk, Some};
+ghost use Rattle.std.specs.List.{IsDistinct};
+ghost use Rattle.std.specs.Map.{keys_of};
 ghost use Rattle.generations_rule.specs.Place.{Place, at_place};
-ghost use Rattle.tile_steps.specs.Tiles.{IsCornerOn, IsSplit, Shows, is_corner, state_of, tile_of, tile_state, with_state};
+ghost use Rattle.tile_steps.specs.Tiles.{HasTile, IsCornerOn, IsInTile, IsSplit, Shows, is_corner, state_of, tile_of, tile_state, with_state};
 
 use crate::fault::TileFault;
 use crate::tile::{Tile, set_state};
@@ -22,7 +24,9 @@ pub struct Filling<const N: usize> {
 impl<const N: usize> Filling<N> {
     /// All cells are dead. Tiles are found by the key's hashes.
     pub fn new(alloc: Global, key: HashKey) -> Filling<N>
-        ensures { Shows N 0 ((result.corner, result.tile) ∷ result.tiles.map.entries) (λ _. 0) }
+        ensures shows { Shows N 0 ((result.corner, result.tile) ∷ result.tiles.map.entries) (λ _. 0) }
+        ensures corner { (result.corner.x ≡ pos 0) × (result.corner.y ≡ pos 0) }
+        ensures none { length result.tiles.map.entries ≡ 0 }
     {
         Filling {
             tiles: Tiles::new(alloc, key),
@@ -31,11 +35,14 @@ impl<const N: usize> Filling<N> {
         }
     }
 
-    /// Gives a cell a state. The only error is `Memory`.
+    /// Gives a cell a state. The only error is `Memory`, and then it holds what it held.
     pub fn put(&mut self, x: i32, y: i32, state: u8) -> Result<(), TileFault>
         requires few { N ≤ 8 }
         requires state { state < 2 ^ N }
-        ensures { OnOk result ((f : Place → ℕ) → Shows N 0 ((self.old.corner, self.old.tile) ∷ self.old.tiles.map.entries) f → Shows N 0 ((self.new.corner, self.new.tile) ∷ self.new.tiles.map.entries) (with_state f (at_place x y) state)) }
+        ensures put { OnOk result ((f : Place → ℕ) → Shows N 0 ((self.old.corner, self.old.tile) ∷ self.old.tiles.map.entries) f → Shows N 0 ((self.new.corner, self.new.tile) ∷ self.new.tiles.map.entries) (with_state f (at_place x y) state)) }
+        ensures corners { OnOk result ((c : Corner) → HasTile N ((self.new.corner, self.new.tile) ∷ self.new.tiles.map.entries) c → HasTile N ((self.old.corner, self.old.tile) ∷ self.old.tiles.map.entries) c ⊎ IsInTile x y c) }
+        ensures same { OnErr result ((self.new.corner ≡ self.old.corner) × (self.new.tile ≡ self.old.tile) × (self.new.tiles.map.entries ≡ self.old.tiles.map.entries)) }
+        ensures cause { IfErr result (λ fault. fault ≡ TileFault.Memory) }
     {
         let column = split_of(x);
         let row = split_of(y);
@@ -49,7 +56,10 @@ impl<const N: usize> Filling<N> {
 
     /// The tiles. The only error is `Memory`.
     pub fn into_tiles(self) -> Result<Tiles<N>, TileFault>
-        ensures { IfOk result (λ tiles. (f : Place → ℕ) → Shows N 0 ((self.entry.corner, self.entry.tile) ∷ self.entry.tiles.map.entries) f → Shows N 0 tiles.map.entries f) }
+        ensures tiles { IfOk result (λ tiles. (f : Place → ℕ) → Shows N 0 ((self.entry.corner, self.entry.tile) ∷ self.entry.tiles.map.entries) f → Shows N 0 tiles.map.entries f) }
+        ensures corners { IfOk result (λ tiles. (c : Corner) → HasTile N tiles.map.entries c → HasTile N ((self.entry.corner, self.entry.tile) ∷ self.entry.tiles.map.entries) c) }
+        ensures once { IfOk result (λ tiles. IsDistinct is_corner (keys_of tiles.map.entries)) }
+        ensures cause { IfErr result (λ fault. fault ≡ TileFault.Memory) }
     {
         let Filling {
             mut tiles,
@@ -64,7 +74,10 @@ impl<const N: usize> Filling<N> {
     fn turn_to(&mut self, corner: Corner) -> Result<(), TileFault>
         requires grid { IsCornerOn 0 corner }
         ensures shows { OnOk result ((f : Place → ℕ) → Shows N 0 ((self.old.corner, self.old.tile) ∷ self.old.tiles.map.entries) f → Shows N 0 ((self.new.corner, self.new.tile) ∷ self.new.tiles.map.entries) f) }
+        ensures corners { OnOk result ((c : Corner) → HasTile N ((self.new.corner, self.new.tile) ∷ self.new.tiles.map.entries) c → HasTile N ((self.old.corner, self.old.tile) ∷ self.old.tiles.map.entries) c ⊎ (c ≡ corner)) }
         ensures corner { OnOk result (self.new.corner ≡ corner) }
+        ensures same { OnErr result ((self.new.corner ≡ self.old.corner) × (self.new.tile ≡ self.old.tile) × (self.new.tiles.map.entries ≡ self.old.tiles.map.entries)) }
+        ensures cause { IfErr result (λ fault. fault ≡ TileFault.Memory) }
     {
         if is_one_corner(corner, self.corner) {
             return Ok(());
@@ -98,7 +111,10 @@ fn store<const N: usize>(
     corner: Corner,
     tile: &Tile<N>,
 ) -> Result<(), TileFault>
-    ensures { OnOk result ((q : Corner) → tile_of N tiles.new.map.entries q ≡ cond (is_corner corner q) (Some tile.now) (tile_of N tiles.old.map.entries q)) }
+    ensures stored { OnOk result ((q : Corner) → tile_of N tiles.new.map.entries q ≡ cond (is_corner corner q) (Some tile.now) (tile_of N tiles.old.map.entries q)) }
+    ensures once { OnOk result (IsDistinct is_corner (keys_of tiles.new.map.entries)) }
+    ensures same { OnErr result (tiles.new.map.entries ≡ tiles.old.map.entries) }
+    ensures cause { IfErr result (λ fault. fault ≡ TileFault.Memory) }
 {
     match tiles.map.insert(corner, *tile) {
         Ok(_) => Ok(()),

@@ -1,11 +1,12 @@
 //! A step of a whole map of tiles.
 
-ghost use Rattle.std.specs.Prelude.{◌≡◌, ℕ, ◌+◌, ◌^◌, ◌<◌, ◌≤◌, IfOk, OnOk, IsTrue, Err, None, is_some, true, length, slice_get, Some, pos, negsuc, ◌≤ℤ◌, ◌+ℤ◌};
+ghost use Rattle.std.specs.Prelude.{◌≡◌, ℕ, ◌+◌, ◌^◌, ◌<◌, ◌≤◌, ◌↔◌, IfErr, IfOk, OnOk, IsTrue, None, is_some, true, length, slice_get, Some, pos, negsuc, ◌≤ℤ◌, ◌+ℤ◌};
 ghost use Rattle.std.specs.List.{IsDistinct};
 ghost use Rattle.std.specs.Map.{keys_of};
 ghost use Rattle.generations_rule.specs.Rule.{IsRule};
 ghost use Rattle.tile_steps.specs.declared.tile.Tile.{Tile};
-ghost use Rattle.tile_steps.specs.Tiles.{AllInside, AllRight, AreLater, AreSettledAround, corner_from, IsInside, IsOnOtherGrid, IsPut, IsRight, IsRoomWanted, IsSettled, IsUnderWay, KeepsSettled, is_corner, state_of, tile_of, tile_state};
+ghost use Rattle.tile_steps.specs.Tiles.{AllInside, AllRight, AreLater, AreSettledAround, corner_from, IsInside, IsOnOtherGrid, IsPut, IsRight, IsSettled, IsUnderWay, KeepsSettled, is_corner, state_of, tile_of, tile_state};
+ghost use Rattle.tile_steps.specs.Causes.{AreFewest, IsNotPut, IsRefusedStep};
 
 use crate::fault::TileFault;
 use crate::tile::Tile;
@@ -24,8 +25,9 @@ pub(crate) struct Step<'a, const N: usize> {
     room: usize,
 }
 
-/// The tiles of the other grid, so many generations later, at most 16. `Full` is answered where more tiles
-/// than there is room for would not be dead, and `Far` where one of them would lie too far out.
+/// The tiles of the other grid, so many generations later, at most 16, each that is not dead. `Full` is
+/// answered where more of them than there is room for would not be dead, and `Far` where one of them would
+/// lie within 128 of the least or the greatest coordinate.
 pub fn later<const N: usize>(
     alloc: Global,
     tiles: &Tiles<N>,
@@ -40,7 +42,8 @@ pub fn later<const N: usize>(
     ensures later { IfOk result (λ new. AreLater N rule.now generations tiles.now.map.entries new.map.entries) }
     ensures inside { IfOk result (λ new. AllInside N new.map.entries) }
     ensures room { IfOk result (λ new. length new.map.entries ≤ room) }
-    ensures full { result ≡ Err TileFault.Full → IsRoomWanted N rule.now generations room tiles.now.map.entries }
+    ensures fewest { IfOk result (λ new. AreFewest N rule.now generations 1 tiles.now.map.entries new.map.entries) }
+    ensures cause { IfErr result (λ fault. IsRefusedStep N rule.now generations room tiles.now.map.entries fault) }
 {
     // For the proof alone: the call tells that what is held is a rule.
     let _states = rule.states();
@@ -79,7 +82,7 @@ fn settle_around<const N: usize>(
     ensures way { OnOk result (IsUnderWay N step.now.rule.now step.now.generations step.now.room step.now.tiles.now.map.entries new.new.map.entries) }
     ensures around { OnOk result (AreSettledAround N step.now.rule.now step.now.generations step.now.tiles.now.map.entries new.new.map.entries corner) }
     ensures kept { OnOk result (KeepsSettled N step.now.rule.now step.now.generations step.now.tiles.now.map.entries new.old.map.entries new.new.map.entries) }
-    ensures full { result ≡ Err TileFault.Full → IsRoomWanted N step.now.rule.now step.now.generations step.now.room step.now.tiles.now.map.entries }
+    ensures cause { IfErr result (λ fault. IsRefusedStep N step.now.rule.now step.now.generations step.now.room step.now.tiles.now.map.entries fault) }
 {
     let north_west = beside(corner, -16, -16);
     settle(step, new, work, other, north_west)?;
@@ -109,7 +112,7 @@ fn settle<const N: usize>(
     ensures way { OnOk result (IsUnderWay N step.now.rule.now step.now.generations step.now.room step.now.tiles.now.map.entries new.new.map.entries) }
     ensures settled { OnOk result (IsSettled N step.now.rule.now step.now.generations step.now.tiles.now.map.entries new.new.map.entries corner) }
     ensures kept { OnOk result (KeepsSettled N step.now.rule.now step.now.generations step.now.tiles.now.map.entries new.old.map.entries new.new.map.entries) }
-    ensures full { result ≡ Err TileFault.Full → IsRoomWanted N step.now.rule.now step.now.generations step.now.room step.now.tiles.now.map.entries }
+    ensures cause { IfErr result (λ fault. IsRefusedStep N step.now.rule.now step.now.generations step.now.room step.now.tiles.now.map.entries fault) }
 {
     if is_there(new, corner) {
         return Ok(());
@@ -201,7 +204,8 @@ fn put_tile<const N: usize>(
     ensures put { OnOk result (IsPut N tiles.old.map.entries tiles.new.map.entries corner tile.now) }
     ensures room { OnOk result (length tiles.old.map.entries < room) }
     ensures inside { OnOk result (IsInside 128 corner) }
-    ensures full { result ≡ Err TileFault.Full → (room ≤ length tiles.old.map.entries) × IsDistinct is_corner (keys_of tiles.old.map.entries) }
+    ensures once { OnOk result (IsDistinct is_corner (keys_of tiles.new.map.entries)) }
+    ensures cause { IfErr result (λ fault. IsNotPut N room tiles.old.map.entries corner fault) }
 {
     if room <= tiles.map.len() {
         return Err(TileFault::Full);
@@ -217,7 +221,7 @@ fn put_tile<const N: usize>(
 
 /// Whether a corner lies so far inside of 32 bits that its neighbours' neighbours do.
 pub(crate) fn is_inside(corner: Corner) -> bool
-    ensures { IsTrue result → IsInside 128 corner }
+    ensures { IsTrue result ↔ IsInside 128 corner }
 {
     FIRST <= corner.x && corner.x <= LAST && FIRST <= corner.y && corner.y <= LAST
 }

@@ -43,10 +43,10 @@ impl<const N: usize> Tile<N> {
     /// Whether all cells of a row are dead.
     pub fn is_row_dead(&self, row: usize) -> bool
         requires { row < 32 }
-        ensures { IsTrue result → (x : ℕ) → x < 32 → tile_state N self.now x row ≡ 0 }
+        ensures { IsTrue result ↔ ((x : ℕ) → x < 32 → tile_state N self.now x row ≡ 0) }
     {
         for p in 0..N {
-            if self.planes[p].rows[row] != 0 {
+            if !is_row_none(&self.planes[p].rows, row) {
                 return false;
             }
         }
@@ -76,6 +76,14 @@ fn is_none(rows: &[u32; 32]) -> bool
     ensures fits { (y : ℕ) → slice_index rows.now y < 4294967296 }
 {
     *rows == [0; 32]
+}
+
+fn is_row_none(rows: &[u32; 32], row: usize) -> bool
+    requires { row < 32 }
+    ensures none { IsTrue result ↔ (slice_index rows.now row ≡ 0) }
+    ensures fits { slice_index rows.now row < 4294967296 }
+{
+    rows[row] == 0
 }
 
 /// Gives the cell in a column and a row a state.

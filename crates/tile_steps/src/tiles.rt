@@ -1,6 +1,6 @@
 //! Tiles by where they lie.
 
-ghost use Rattle.std.specs.Prelude.{◌≡◌, ℕ, ◌<◌, IsTrue, IfSome, IfNone, Some, length, slice_get};
+ghost use Rattle.std.specs.Prelude.{◌≡◌, ℕ, ◌<◌, ◌↔◌, IsTrue, IfSome, IfNone, Some, length, slice_get};
 ghost use Rattle.tile_steps.specs.declared.tile.Tile.{Tile};
 ghost use Rattle.tile_steps.specs.Tiles.{AllInside, state_of, tile_of, tile_state};
 
@@ -13,7 +13,9 @@ use std::alloc::Global;
 /// The place of a tile's first cell.
 #[derive(Clone, Copy, PartialEq, Eq, Hash)]
 pub struct Corner {
+    /// Its row.
     pub y: i32,
+    /// Its column.
     pub x: i32,
 }
 
@@ -39,9 +41,10 @@ impl<const N: usize> Tiles<N> {
         }
     }
 
-    /// Whether all tiles lie so far inside of 32 bits that they can be run.
+    /// Whether all tiles lie so far inside of 32 bits that they can be run: at 128 or more from the least and
+    /// the greatest coordinate.
     pub fn are_inside(&self) -> bool
-        ensures { IsTrue result → AllInside N self.now.map.entries }
+        ensures { IsTrue result ↔ AllInside N self.now.map.entries }
     {
         for index in 0..self.map.len() {
             if !is_inside(corner_at(self, index)) {

@@ -1,7 +1,7 @@
-use Rattle.std.proofs.Common.{ap, Err, ◌<◌, arith, length}
+use Rattle.std.proofs.Common.{◌<◌, arith, length}
 use Rattle.std.proofs.lemmas.Option.{slice_get_within}
 use Rattle.tile_steps.proofs.MapLemmas.{all_at, all_later, settled_more, there_at}
-use Rattle.tile_steps.proofs.RoomLemmas.{told}
+use Rattle.tile_steps.proofs.RoomLemmas.{fewest, told}
 use Rattle.tile_steps.proofs.step.later.Goals as goal
 
 pub settle_around-requires : goal.settle_around-requires
@@ -24,5 +24,8 @@ returns-clause-later N c =
     (let within : i < length tiles = slice_get_within tiles i (q, tile) is in omega (arith, within, c.loop-index-test.false, c.len-index-end.ensures.len)) is)
     c.loop-index.invariant.way.grid c.states-states.ensures.rule c.requires.generations
 
-pub returns-in_err-settle_around-clause-full : goal.returns-in_err-settle_around-clause-full
-returns-in_err-settle_around-clause-full N c = λ h. c.in_err-settle_around.ensures.full (ap (λ e. Err e) (told _ _ _ c.from_residual.ensures.1 h))
+pub returns-clause-fewest : goal.returns-clause-fewest
+returns-clause-fewest N c = fewest N.row.N c.args.rule.now c.args.generations c.args.tiles.now.map.entries c.args.room c.loop-index.new.map.entries c.loop-index.invariant.way
+
+pub returns-in_err-settle_around-clause-cause : goal.returns-in_err-settle_around-clause-cause
+returns-in_err-settle_around-clause-cause N c = told _ _ _ c.from_residual.ensures.1 c.in_err-settle_around.ensures.cause

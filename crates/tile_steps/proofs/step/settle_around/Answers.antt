@@ -1,4 +1,4 @@
-use Rattle.std.proofs.Common.{ap, Err, subst, arith, pos, negsuc}
+use Rattle.std.proofs.Common.{subst, arith, pos, negsuc}
 use Rattle.std.proofs.lemmas.Int.{ints}
 use Rattle.tile_steps.specs.Tiles.{IsSettled}
 use Rattle.tile_steps.proofs.MapLemmas.{inside_beside, north_west_grid, north_east_grid, south_west_grid, south_east_grid}
@@ -42,14 +42,14 @@ returns-clause-around N c =
 pub returns-clause-kept : goal.returns-clause-kept
 returns-clause-kept N c = λ q h. c.in_ok-settle-4.ensures.kept q (c.in_ok-settle-3.ensures.kept q (c.in_ok-settle-2.ensures.kept q (c.in_ok-settle.ensures.kept q h)))
 
-pub returns-in_err-settle-clause-full : goal.returns-in_err-settle-clause-full
-returns-in_err-settle-clause-full N c = λ h. c.in_err-settle.ensures.full (ap (λ e. Err e) (told _ _ _ c.from_residual.ensures.1 h))
+pub returns-in_err-settle-clause-cause : goal.returns-in_err-settle-clause-cause
+returns-in_err-settle-clause-cause N c = told _ _ _ c.from_residual.ensures.1 c.in_err-settle.ensures.cause
 
-pub returns-in_err-settle-2-clause-full : goal.returns-in_err-settle-2-clause-full
-returns-in_err-settle-2-clause-full N c = λ h. c.in_err-settle-2.ensures.full (ap (λ e. Err e) (told _ _ _ c.from_residual-in_err-settle-2.ensures.1 h))
+pub returns-in_err-settle-2-clause-cause : goal.returns-in_err-settle-2-clause-cause
+returns-in_err-settle-2-clause-cause N c = told _ _ _ c.from_residual-in_err-settle-2.ensures.1 c.in_err-settle-2.ensures.cause
 
-pub returns-in_err-settle-3-clause-full : goal.returns-in_err-settle-3-clause-full
-returns-in_err-settle-3-clause-full N c = λ h. c.in_err-settle-3.ensures.full (ap (λ e. Err e) (told _ _ _ c.from_residual-in_err-settle-3.ensures.1 h))
+pub returns-in_err-settle-3-clause-cause : goal.returns-in_err-settle-3-clause-cause
+returns-in_err-settle-3-clause-cause N c = told _ _ _ c.from_residual-in_err-settle-3.ensures.1 c.in_err-settle-3.ensures.cause
 
-pub returns-in_err-settle-4-clause-full : goal.returns-in_err-settle-4-clause-full
-returns-in_err-settle-4-clause-full N c = λ h. c.in_err-settle-4.ensures.full (ap (λ e. Err e) (told _ _ _ c.from_residual-in_err-settle-4.ensures.1 h))
+pub returns-in_err-settle-4-clause-cause : goal.returns-in_err-settle-4-clause-cause
+returns-in_err-settle-4-clause-cause N c = told _ _ _ c.from_residual-in_err-settle-4.ensures.1 c.in_err-settle-4.ensures.cause
