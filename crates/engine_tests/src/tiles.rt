@@ -9,7 +9,7 @@ use pattern_cells::are_below;
 use samples::{next, plane_of};
 use std::alloc::{AllocError, Global};
 use std::test::Fail;
-use tile_cells::{Means, cells_later};
+use tile_cells::{CellsFault, Means, TileFault, cells_later};
 
 /// More windows than any test makes.
 const MANY: u64 = 0x100_0000;
@@ -33,12 +33,15 @@ static RULES: [&[u8]; 12] = [
 /// Steps of fewer than 16 generations, of 16, and both.
 static GENERATIONS: [u32; 6] = [0, 1, 15, 16, 17, 33];
 
+/// What tiles tell; none where a state is not the rule's.
+type Told = Option<Result<Vec<Cell>, CellsFault>>;
+
 /// At how many of the generations tiles have the cells that the rule makes.
 fn agreed(alloc: Global, soup_of: Soup) -> Result<usize, EditFault> {
     let mut agreed = 0_usize;
     for generation in GENERATIONS {
         let later = run(alloc, soup_of, generation)?;
-        if at_tiles(alloc, soup_of, generation, MANY)? == Some(later) {
+        if at_tiles(alloc, soup_of, generation, MANY)? == Some(Ok(later)) {
             agreed = agreed.saturating_add(1);
         }
     }
@@ -51,19 +54,13 @@ fn at_tiles(
     soup_of: Soup,
     generation: u32,
     windows: u64,
-) -> Result<Option<Vec<Cell>>, EditFault> {
+) -> Result<Told, EditFault> {
     let cells = run(alloc, soup_of, 0)?;
     Ok(by_tiles(alloc, &soup_of.rule, &cells, generation, windows))
 }
 
-/// What tiles have of some cells; none where a state is not the rule's.
-fn by_tiles(
-    alloc: Global,
-    rule: &Rule,
-    cells: &[Cell],
-    generation: u32,
-    windows: u64,
-) -> Option<Vec<Cell>> {
+/// What tiles have of some cells.
+fn by_tiles(alloc: Global, rule: &Rule, cells: &[Cell], generation: u32, windows: u64) -> Told {
     if !are_below(rule.states(), cells) {
         return None;
     }
@@ -71,7 +68,7 @@ fn by_tiles(
         key: HashKey::fixed(),
         windows,
     };
-    cells_later(alloc, rule, cells, generation, means)
+    Some(cells_later(alloc, rule, cells, generation, means))
 }
 
 #[test]
@@ -99,13 +96,17 @@ fn tiles_evolve_alike_at_the_corners_of_the_plane(rt: HostRuntime) -> Result<(),
 #[test]
 fn few_windows_do_not_do(rt: HostRuntime) -> Result<(), Fail> {
     let soup_of = in_the_middle(b"23/3/2", 1)?;
-    assert!(rt; at_tiles(rt.alloc(), soup_of, 33, 30)?.is_none());
-    assert!(rt; at_tiles(rt.alloc(), soup_of, 33, 300)?.is_some());
+    let later = run(rt.alloc(), soup_of, 33)?;
+    assert_eq!(rt;
+        at_tiles(rt.alloc(), soup_of, 33, 30)?,
+        Some(Err(CellsFault::Tiles(TileFault::Long)))
+    );
+    assert_eq!(rt; at_tiles(rt.alloc(), soup_of, 33, 300)?, Some(Ok(later)));
     Ok(())
 }
 
 /// The cells of tiles at a generation of Life.
-fn life_at(alloc: Global, cells: &[Cell], generation: u32) -> Result<Option<Vec<Cell>>, Fail> {
+fn life_at(alloc: Global, cells: &[Cell], generation: u32) -> Result<Told, Fail> {
     let rule = Rule::parse(b"23/3/2")?;
     Ok(by_tiles(alloc, &rule, cells, generation, MANY))
 }
@@ -133,7 +134,7 @@ fn a_glider_crosses_tiles(rt: HostRuntime) -> Result<(), Fail> {
         let later = glider(alloc, step as i32)?;
         assert_eq!(rt;
             life_at(alloc, &first, step.saturating_mul(4))?,
-            Some(later)
+            Some(Ok(later))
         );
     }
     Ok(())
@@ -147,9 +148,29 @@ fn a_cell_alone_dies(rt: HostRuntime) -> Result<(), Fail> {
         y: -1,
         state: 1,
     }];
-    assert_eq!(rt; life_at(alloc, &one, 0)?, Some(one.to_vec(alloc)?));
-    assert_eq!(rt; life_at(alloc, &one, 1)?, Some(Vec::new(alloc)));
-    assert_eq!(rt; life_at(alloc, &one, 16)?, Some(Vec::new(alloc)));
+    assert_eq!(rt; life_at(alloc, &one, 0)?, Some(Ok(one.to_vec(alloc)?)));
+    assert_eq!(rt; life_at(alloc, &one, 1)?, Some(Ok(Vec::new(alloc))));
+    assert_eq!(rt; life_at(alloc, &one, 16)?, Some(Ok(Vec::new(alloc))));
+    Ok(())
+}
+
+#[test]
+fn tiles_lie_at_128_or_more_from_the_greatest_coordinate(rt: HostRuntime) -> Result<(), Fail> {
+    let alloc = rt.alloc();
+    let far = Some(Err(CellsFault::Tiles(TileFault::Far)));
+    let mut one = [Cell {
+        x: 0x7fff_ff7f,
+        y: 0,
+        state: 1,
+    }];
+    assert_eq!(rt; life_at(alloc, &one, 0)?, Some(Ok(one.to_vec(alloc)?)));
+    one[0].x = 0x7fff_ff80;
+    assert_eq!(rt; life_at(alloc, &one, 0)?, far);
+    // a glider that gets there
+    let first = glider(alloc, 0x7fff_ff00)?;
+    let later = glider(alloc, 0x7fff_ff40)?;
+    assert_eq!(rt; life_at(alloc, &first, 256)?, Some(Ok(later)));
+    assert_eq!(rt; life_at(alloc, &first, 1024)?, far);
     Ok(())
 }
 
@@ -174,9 +195,12 @@ fn blocks(alloc: Global, columns: i32) -> Result<Vec<Cell>, AllocError> {
 fn tiles_are_at_most_65_536(rt: HostRuntime) -> Result<(), Fail> {
     let alloc = rt.alloc();
     let most = blocks(alloc, 256)?;
-    assert_eq!(rt; life_at(alloc, &most, 1)?, Some(most));
+    assert_eq!(rt; life_at(alloc, &most, 1)?, Some(Ok(most)));
     let more = blocks(alloc, 257)?;
-    assert_eq!(rt; life_at(alloc, &more, 1)?, None);
+    assert_eq!(rt;
+        life_at(alloc, &more, 1)?,
+        Some(Err(CellsFault::Tiles(TileFault::Full)))
+    );
     Ok(())
 }
 
@@ -205,7 +229,7 @@ fn same_cells(alloc: Global, rule: Rule, generations: u32) -> Result<u32, Fail> 
     engine.load(&plane)?;
     let mut same = 0u32;
     for generation in 0..generations {
-        if by_tiles(alloc, &rule, &cells, generation, MANY) == Some(engine.cells()?) {
+        if by_tiles(alloc, &rule, &cells, generation, MANY) == Some(Ok(engine.cells()?)) {
             same = same.saturating_add(1);
         }
         engine.run(1)?;

@@ -1,8 +1,11 @@
 //! Tiles with the cells of a list.
 
-ghost use Rattle.std.specs.Prelude.{◌≡◌, ◌+◌, ◌<◌, ◌≤◌, ◌^◌, IfOk, Some, length, slice_get, true};
+ghost use Rattle.std.specs.Prelude.{◌≡◌, ◌+◌, ◌<◌, ◌≤◌, ◌^◌, IfErr, IfOk, Some, length, slice_get, true};
+ghost use Rattle.std.specs.List.{IsDistinct};
+ghost use Rattle.std.specs.Map.{keys_of};
 ghost use Rattle.pattern_cells.specs.Cells.{are_states_below};
-ghost use Rattle.tile_steps.specs.Tiles.{AllInside, Shows};
+ghost use Rattle.tile_steps.specs.Tiles.{AllInside, Shows, is_corner};
+ghost use Rattle.tile_cells.specs.Causes.{AreTilesOf, IsNotFilled};
 ghost use Rattle.tile_cells.specs.Listing.{states_in};
 
 use keyed_hash::HashKey;
@@ -23,6 +26,9 @@ pub(crate) fn tiles_of<const N: usize>(
     requires below { are_states_below states cells.now ≡ true }
     ensures shows { IfOk result (λ tiles. Shows N 0 tiles.map.entries (states_in cells.now)) }
     ensures inside { IfOk result (λ tiles. AllInside N tiles.map.entries) }
+    ensures of { IfOk result (λ tiles. AreTilesOf N cells.now tiles.map.entries) }
+    ensures once { IfOk result (λ tiles. IsDistinct is_corner (keys_of tiles.map.entries)) }
+    ensures cause { IfErr result (λ fault. IsNotFilled cells.now fault) }
 {
     let mut filling = Filling::new(alloc, key);
     // From the last to the first, since the first of two at one place is the one that is listed.

@@ -1,9 +1,10 @@
 //! Cells so many generations later.
 
-ghost use Rattle.std.specs.Prelude.{◌≡◌, ◌^◌, ◌≤◌, IfOk, IfSome, true};
+ghost use Rattle.std.specs.Prelude.{◌≡◌, ◌^◌, ◌≤◌, IfErr, IfOk, true};
 ghost use Rattle.generations_rule.specs.Place.{Place};
 ghost use Rattle.generations_rule.specs.Evolution.{at};
 ghost use Rattle.pattern_cells.specs.Cells.{are_states_below};
+ghost use Rattle.tile_cells.specs.Causes.{IsNotRun, IsRefused};
 ghost use Rattle.tile_cells.specs.Listing.{IsListOf, states_in};
 
 use crate::filled::tiles_of;
@@ -18,6 +19,17 @@ use tile_steps::{TileFault, TileLimits, run};
 /// For how many tiles there is room.
 const ROOM: usize = 0x1_0000;
 
+/// Why no cells are given.
+#[derive(Clone, Copy, Debug, PartialEq, Eq)]
+pub enum CellsFault {
+    /// `Full` where behind a step more than 2^16 tiles would not be dead; `Far` where a cell, or a tile that
+    /// is not dead behind a step, lies within 128 of the least or the greatest coordinate; `Long` where more
+    /// windows would be made than may be; `Memory` where the system refused it.
+    Tiles(TileFault),
+    /// The cells that were listed came out of order. No test has met it.
+    Unsorted,
+}
+
 /// What tiles are made with.
 #[derive(Clone, Copy)]
 pub struct Means {
@@ -29,18 +41,17 @@ pub struct Means {
 
 /// The cells of a list that are not dead so many generations later, sorted by `y`, then `x`, by tiles of
 /// as many bit planes as the rule's states take. Where two cells of the list are at one place the first
-/// counts. None where more than 2^16 tiles would not be dead, where more windows would be made than may be,
-/// where a tile would lie within 128 of the least or the greatest coordinate, and where the system refuses
-/// memory.
+/// counts.
 pub fn cells_later(
     alloc: Global,
     rule: &Rule,
     cells: &[Cell],
     generation: u32,
     means: Means,
-) -> Option<Vec<Cell>>
+) -> Result<Vec<Cell>, CellsFault>
     requires { are_states_below rule.now.states cells.now ≡ true }
-    ensures { IfSome result (λ later. IsListOf (at rule.now (states_in cells.now) generation) later.items) }
+    ensures list { IfOk result (λ later. IsListOf (at rule.now (states_in cells.now) generation) later.items) }
+    ensures cause { IfErr result (λ fault. IsRefused rule.now cells.now generation means.windows fault) }
 {
     match rule.states() {
         0..=2 => on_planes::<1>(alloc, rule, cells, generation, means),
@@ -59,15 +70,17 @@ fn on_planes<const N: usize>(
     cells: &[Cell],
     generation: u32,
     means: Means,
-) -> Option<Vec<Cell>>
+) -> Result<Vec<Cell>, CellsFault>
     requires few { (1 ≤ N) × (N ≤ 8) }
     requires enough { rule.now.states ≤ 2 ^ N }
     requires below { are_states_below rule.now.states cells.now ≡ true }
-    ensures { IfSome result (λ later. IsListOf (at rule.now (states_in cells.now) generation) later.items) }
+    ensures list { IfOk result (λ later. IsListOf (at rule.now (states_in cells.now) generation) later.items) }
+    ensures cause { IfErr result (λ fault. IsRefused rule.now cells.now generation means.windows fault) }
 {
     match listed_later::<N>(alloc, rule, cells, generation, means) {
-        Ok(found) if are_in_order(&found) => Some(found),
-        _ => None,
+        Ok(found) if are_in_order(&found) => Ok(found),
+        Ok(_) => Err(CellsFault::Unsorted),
+        Err(fault) => Err(CellsFault::Tiles(fault)),
     }
 }
 
@@ -82,7 +95,8 @@ fn listed_later<const N: usize>(
     requires few { (1 ≤ N) × (N ≤ 8) }
     requires enough { rule.now.states ≤ 2 ^ N }
     requires below { are_states_below rule.now.states cells.now ≡ true }
-    ensures { IfOk result (λ later. (c : Place) → states_in later.items c ≡ at rule.now (states_in cells.now) generation c) }
+    ensures states { IfOk result (λ later. (c : Place) → states_in later.items c ≡ at rule.now (states_in cells.now) generation c) }
+    ensures cause { IfErr result (λ fault. IsNotRun rule.now cells.now generation means.windows fault) }
 {
     let limits = TileLimits {
         room: ROOM,

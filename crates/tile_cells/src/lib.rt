@@ -9,4 +9,5 @@ mod later;
 mod listing;
 mod order;
 
-pub use later::{Means, cells_later};
+pub use later::{CellsFault, Means, cells_later};
+pub use tile_steps::TileFault;
