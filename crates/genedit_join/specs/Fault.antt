@@ -1,5 +1,5 @@
 -- Why a client ends before its commands do, as users meet it.
-use Rattle.std.specs.Prelude.{ℕ, List, None, codes}
+use Rattle.std.specs.Prelude.{ℕ, ◌==◌, if◌then◌else◌, List, None, codes}
 use Rattle.board_client.specs.declared.fault.ClientFault.{ClientFault}
 use Rattle.board_client.specs.declared.fault.ClientFault.TheVariants as client
 use Rattle.client_session.specs.declared.fault.CommandFault.{CommandFault}
@@ -11,12 +11,14 @@ use Rattle.genedit_io.specs.RunFault.{exit_status, run_fault_text}
 use Rattle.replica_core.specs.declared.fault.Fault.{Fault}
 use Rattle.replica_core.specs.declared.fault.Fault.TheVariants as text
 use Rattle.genedit_join.specs.declared.fault.JoinFault.{JoinFault}
-use Rattle.genedit_join.specs.declared.fault.JoinFault.TheVariants.{Gone, NoReply, NoServer, Run}
+use Rattle.genedit_join.specs.declared.fault.JoinFault.TheVariants.{Gone, NoReply, NoSeat, NoServer, Run, Script}
 
 -- the status of the process
 abbrev pub join_status : JoinFault → ℕ
 join_status (Run fault) = exit_status fault
 join_status NoServer = 3
+join_status NoSeat = 2
+join_status Script = 2
 join_status Gone = 3
 join_status NoReply = 3
 
@@ -24,6 +26,8 @@ join_status NoReply = 3
 abbrev pub join_fault_text : JoinFault → List ℕ
 join_fault_text (Run fault) = run_fault_text fault
 join_fault_text NoServer = codes "no server answers"
+join_fault_text NoSeat = codes "all seats of the board are taken"
+join_fault_text Script = codes "this is a script: run it by `genedit run`"
 join_fault_text Gone = codes "the server went away"
 join_fault_text NoReply = codes "the server sent what is no reply"
 
@@ -48,9 +52,17 @@ fault_of_client client.NoReply = NoReply
 fault_of_client (client.Text fault) = fault_of_text fault
 fault_of_client client.Memory = memory_wanted
 
--- a refusal, of the greeting or of a poll, is told as such
+-- a refusal, of the greeting or of a poll, is told as such, but one of the greeting by 45, for want of a seat
+abbrev pub fault_of_refusal : ℕ → JoinFault
+fault_of_refusal number = if number == 45 then NoSeat else Run (Refused number None)
+
+-- where nothing comes at the greeting, there is no server
+abbrev pub without_greeting : JoinFault → JoinFault
+without_greeting Gone = NoServer
+without_greeting fault = fault
+
 abbrev pub fault_of_command : CommandFault → JoinFault
 fault_of_command (command.Client fault) = fault_of_client fault
-fault_of_command (command.Refused number) = Run (Refused number None)
+fault_of_command (command.Refused number) = fault_of_refusal number
 fault_of_command command.Memory = memory_wanted
 fault_of_command command.StoreFull = Run StoreFull

@@ -1,12 +1,54 @@
--- What is printed of files.
-use Rattle.std.specs.Prelude.{ℕ, List, [], ◌∷◌, ◌++◌, codes, decimal}
+-- Which files are written, and what is printed of them.
+use Rattle.std.specs.Prelude.{ℕ, Bool, true, false, List, Vec, ◌++◌, codes, decimal, Option, Some, None}
+use Rattle.std.specs.BTreeSet.{contains_by}
+use Rattle.std.specs.declared.alloc.Global.{Global}
+use Rattle.std.specs.Cmp.Lexicographic.{slice_cmp}
+use Rattle.std.specs.Ordering.{nat_cmp}
+use Rattle.std.specs.declared.io.ErrorKind.{ErrorKind}
+use Rattle.std.specs.declared.io.ErrorKind.TheVariants.{OutOfMemory}
+use Rattle.genedit_io.specs.declared.cause.Cause.TheVariants.{Folder}
 use Rattle.genedit_io.specs.declared.fault.RunFault.{RunFault}
-use Rattle.genedit_io.specs.RunFault.{run_fault_text}
+use Rattle.genedit_io.specs.Cause.{cause_of, cause_text, file_fault_text, of_new_file}
+use Rattle.genedit_join.specs.declared.files.FileCause.{FileCause}
+use Rattle.genedit_join.specs.declared.files.FileCause.TheVariants as cause
+use Rattle.genedit_join.specs.declared.files.FileFault.{FileFault}
+use Rattle.genedit_join.specs.declared.files.FileFault.TheVariants as fault
+use Rattle.genedit_join.specs.declared.files.Standing.{Standing}
+use Rattle.genedit_join.specs.declared.files.Standing.TheVariants as standing
+use Rattle.genedit_join.specs.declared.own_files.OwnFiles.{OwnFiles}
+
+-- A file is written where nothing has its name, or a file that may be replaced. Nothing else is ever replaced.
+abbrev pub refusal_of : Standing → Bool → Option FileCause
+refusal_of standing.Nothing may_replace = None
+refusal_of standing.File true = None
+refusal_of standing.File false = Some cause.Exists
+refusal_of standing.Folder may_replace = Some (cause.System Folder)
+refusal_of standing.Other may_replace = Some cause.NoFile
+
+-- the client wrote the file of a name
+abbrev pub is_own : OwnFiles → List ℕ → Bool
+is_own files name = contains_by (λ (own : Vec ℕ Global). slice_cmp nat_cmp name own.items) files.names
+
+-- why a file is not written, by what the system says: what is not found is its folder
+abbrev pub write_cause : ErrorKind → FileCause
+write_cause kind = cause.System (of_new_file (cause_of kind))
+
+-- how a file is not read, by what the system says
+abbrev pub read_fault : ErrorKind → FileFault
+read_fault OutOfMemory = fault.Memory
+read_fault kind = fault.Refused (cause.System (cause_of kind))
+
+-- why a file is not written or read, in words, and what would be right
+abbrev pub file_cause_text : FileCause → List ℕ
+file_cause_text (cause.System system) = cause_text system
+file_cause_text cause.Exists = codes "there is such a file; save! or export! replaces it"
+file_cause_text cause.NoFile = codes "it is no file"
+file_cause_text cause.NoText = codes "its name is not UTF-8"
 
 -- a file was written, and has so many bytes
 abbrev pub wrote_line : ℕ → List ℕ → List ℕ
 wrote_line bytes name = codes "wrote " ++ (decimal bytes ++ (codes " " ++ (name ++ codes "\n")))
 
--- a refusal
-abbrev pub refused_line : RunFault → List ℕ
-refused_line refusal = run_fault_text refusal ++ codes "\n"
+-- the refusal of a file: its name, and why
+abbrev pub refused_line : RunFault → List ℕ → FileCause → List ℕ
+refused_line refusal name cause = file_fault_text refusal name (file_cause_text cause) ++ codes "\n"

@@ -1,3 +1,7 @@
 pub mod Fault
+pub mod Commands
+pub mod Ends
 pub mod Files
+pub mod Rescue
 pub mod Rows
+pub mod Waiting

@@ -1,18 +1,33 @@
 -- Worked values of the definitions.
-use Rattle.std.specs.Prelude.{◌≡◌, None, codes, refl}
+use Rattle.std.specs.Prelude.{◌≡◌, true, false, Some, None, codes, refl}
 use Rattle.std.specs.Fmt.{digits}
 use Rattle.board_client.specs.declared.fault.ClientFault.TheVariants as client
 use Rattle.client_session.specs.declared.fault.CommandFault.TheVariants as command
 use Rattle.frame_line.specs.declared.fault.LineFault.TheVariants as line
-use Rattle.genedit_io.specs.declared.fault.RunFault.TheVariants.{Refused}
+use Rattle.genedit_io.specs.declared.cause.Cause.TheVariants.{Folder, Full, NoFolder}
+use Rattle.genedit_io.specs.declared.fault.RunFault.TheVariants.{Refused, Write}
+use Rattle.genedit_join.specs.declared.ends.Board.{Board}
+use Rattle.genedit_join.specs.declared.ends.End.TheVariants as how
+use Rattle.genedit_join.specs.declared.ends.Tally.{Tally}
+use Rattle.genedit_join.specs.declared.fault.JoinFault.TheVariants as fault
+use Rattle.genedit_join.specs.declared.files.FileCause.TheVariants as cause
+use Rattle.genedit_join.specs.declared.files.Standing.TheVariants as standing
+use Rattle.genedit_join.specs.declared.patience.WaitStep.TheVariants.{GiveUp, Say, Wait}
+use Rattle.genedit_join.specs.declared.rescue.Kept.TheVariants.{In, Nowhere}
+use Rattle.genedit_join.specs.Ends.{end_status, is_rescued, lost_text, tells_refusal}
 use Rattle.genedit_join.specs.Fault.{fault_of_command, join_fault_text, join_status}
-use Rattle.genedit_join.specs.Files.{refused_line, wrote_line}
+use Rattle.genedit_join.specs.Files.{refusal_of, refused_line, wrote_line}
+use Rattle.genedit_join.specs.Rescue.{kept_text, rescue_name}
+use Rattle.genedit_join.specs.Waiting.{step_after}
 
-pub no_seat_left : join_fault_text (fault_of_command (command.Refused 29)) ≡ codes "refused 29 Full"
+pub refused_greeting : join_fault_text (fault_of_command (command.Refused 31)) ≡ codes "refused 31 NoPlace"
 unfolding digits
+refused_greeting = refl
+
+pub no_seat_left : join_fault_text (fault_of_command (command.Refused 45)) ≡ codes "all seats of the board are taken"
 no_seat_left = refl
 
-pub status_without_a_seat : join_status (fault_of_command (command.Refused 29)) ≡ 2
+pub status_without_a_seat : join_status (fault_of_command (command.Refused 45)) ≡ 2
 status_without_a_seat = refl
 
 pub server_that_went_away : join_fault_text (fault_of_command (command.Client (client.Line line.Ended))) ≡ codes "the server went away"
@@ -31,6 +46,88 @@ pub written : wrote_line 120 (codes "a.rle") ≡ codes "wrote 120 a.rle\n"
 unfolding digits
 written = refl
 
-pub not_written : refused_line (Refused 37 None) ≡ codes "refused 37 Write\n"
+pub not_written : refused_line (Refused 37 None) (codes "out/a.rle") (cause.System NoFolder) ≡ codes "refused 37 Write out/a.rle: there is no such folder\n"
 unfolding digits
 not_written = refl
+
+pub not_replaced : refused_line (Refused 37 None) (codes "a.rle") cause.Exists ≡ codes "refused 37 Write a.rle: there is such a file; save! or export! replaces it\n"
+unfolding digits
+not_replaced = refl
+
+-- a file is replaced only where that is said; a folder never
+pub stays : refusal_of standing.File false ≡ Some cause.Exists
+stays = refl
+
+pub is_replaced : refusal_of standing.File true ≡ None
+is_replaced = refl
+
+pub folder_stays : refusal_of standing.Folder true ≡ Some (cause.System Folder)
+folder_stays = refl
+
+-- ---- ends
+
+abbrev faulty_and_refused : Tally
+faulty_and_refused = record { faulty = true; refused = true }
+
+pub status_of_a_fault_among_lines : end_status (how.Left faulty_and_refused) false ≡ 2
+status_of_a_fault_among_lines = refl
+
+pub status_of_a_refusal : end_status (how.Left (record { faulty = false; refused = true })) false ≡ 1
+status_of_a_refusal = refl
+
+pub status_at_a_terminal : end_status (how.Left faulty_and_refused) true ≡ 0
+status_at_a_terminal = refl
+
+pub status_without_the_server : end_status (how.Fault fault.Gone) true ≡ 3
+status_without_the_server = refl
+
+pub status_of_a_script : end_status (how.Fault fault.Script) false ≡ 2
+status_of_a_script = refl
+
+pub refusal_behind_a_line : tells_refusal (codes "drawn 1 1\nrefused 30 Closed\n") ≡ true
+refusal_behind_a_line = refl
+
+pub refusal_amid_a_line : tells_refusal (codes "wrote 3 refused 4\n") ≡ false
+refusal_amid_a_line = refl
+
+pub lost : lost_text fault.Gone ≡ codes "the server went away: the board is kept here; save FILE, export G [FILE], show, pattern, bye"
+lost = refl
+
+-- ---- a board that is kept
+
+pub first_name : rescue_name (record { port = 7020; seat = 2 }) 1 ≡ codes "pazgrot-7020-2-1.state"
+unfolding digits
+first_name = refl
+
+pub kept : kept_text (In (codes "a.state")) ≡ codes "the board is kept in a.state"
+kept = refl
+
+pub not_kept : kept_text (Nowhere (codes "a.state") (cause.System Full)) ≡ codes "the board is not kept: write fault a.state: the disk is full"
+not_kept = refl
+
+abbrev unsaved_board : Board
+unsaved_board = record { is_wanted = true; has_edits = true; is_saved = false }
+
+pub unsaved : is_rescued (how.Fault fault.Gone) true unsaved_board ≡ true
+unsaved = refl
+
+pub saved : is_rescued (how.Fault fault.Gone) true (record unsaved_board { is_saved = true }) ≡ false
+saved = refl
+
+-- the board is another's matter as long as it is served, and no longer
+pub output_failed : is_rescued (how.Fault (fault.Run Write)) true unsaved_board ≡ false
+output_failed = refl
+
+pub output_failed_without_a_server : is_rescued (how.Fault (fault.Run Write)) false unsaved_board ≡ true
+output_failed_without_a_server = refl
+
+-- ---- waiting
+
+pub after_a_second : step_after 1 true ≡ Say
+after_a_second = refl
+
+pub after_ten : step_after 10 true ≡ GiveUp
+after_ten = refl
+
+pub for_as_long_as_it_takes : step_after 600 false ≡ Wait
+for_as_long_as_it_takes = refl

@@ -1,70 +1,87 @@
 //! The connection to a server.
 
+use crate::ahead::{Ahead, Polls, SayingSink};
 use crate::fault::JoinFault;
-use devices::{ReadSource, WriteSink};
+use crate::patience::{Patience, PatientReader, SECONDS, has_waited, say_waiting};
+use devices::ReadSource;
 use frame_line::Line;
-use std::alloc::Global;
+use std::alloc::{AllocError, Global};
+use std::io;
 use std::net::{IpAddr, Ipv4Addr, Net, SocketAddr, TcpListener, TcpStream};
+use std::sync::Arc;
 use std::time::Duration;
 
-/// For how many seconds a server is awaited that says nothing.
-const PATIENCE: u64 = 10;
-
-/// What comes from the server, and where to push what is said to it.
-pub(crate) type StreamSource = ReadSource<TcpStream>;
-
-pub(crate) type StreamSink = WriteSink<TcpStream>;
-
 /// The line of frames of a connection.
-pub(crate) type StreamLine = Line<StreamSource, StreamSink>;
+type StreamLine<R> = Line<ReadSource<PatientReader<R>>, SayingSink>;
 
-/// A hold on a connection, by which its reads are limited.
-#[derive(Drop)]
-pub(crate) struct Hold {
-    stream: TcpStream,
-}
-
-impl Hold {
-    /// From here on a read fails that waits for longer than the patience; it only waits longer where that
-    /// cannot be had.
-    pub(crate) fn limit(&self) {
-        let _ = self
-            .stream
-            .set_read_timeout(Some(Duration::from_secs(PATIENCE)));
-    }
-
-    /// From here on a read waits for as long as nothing comes.
-    pub(crate) fn unlimit(&self) {
-        let _ = self.stream.set_read_timeout(None);
-    }
+/// A connection: its line, what asks ahead on it, and how long its server is awaited, at first for ten
+/// seconds.
+pub(crate) struct Connection<R: Eprint + Drop> {
+    pub(crate) line: StreamLine<R>,
+    pub(crate) ahead: Ahead,
+    pub(crate) patience: Arc<Patience>,
 }
 
 /// Connects to a port of this machine's loopback. `NoServer` where nobody answers there.
-pub(crate) fn connect<R: Net<Listener = TcpListener, Stream = TcpStream>>(
+pub(crate) fn connect<R: Net<Listener = TcpListener, Stream = TcpStream> + Eprint + Copy + Drop>(
     rt: &R,
     alloc: Global,
     port: u16,
-) -> Result<(StreamLine, Hold), JoinFault> {
+) -> Result<Connection<R>, JoinFault> {
     match streams(rt, port) {
-        Some((source, sink, stream)) => {
-            let line = Line::new(alloc, ReadSource::new(source), WriteSink::new(sink));
-            Ok((line, Hold { stream }))
-        }
+        Some(streams) => Ok(connection_of(*rt, alloc, streams)?),
         None => Err(JoinFault::NoServer),
     }
 }
 
-/// A connection, three times: to hear, to speak and to hold.
-fn streams<R: Net<Listener = TcpListener, Stream = TcpStream>>(
+fn connection_of<R: Eprint + Drop>(
+    rt: R,
+    alloc: Global,
+    streams: (TcpStream, TcpStream, TcpStream),
+) -> Result<Connection<R>, AllocError> {
+    let (heard, said, other) = streams;
+    let patience = Arc::new(alloc, Patience::limited())?;
+    let polls = Arc::new(alloc, Polls::none())?;
+    let sink = SayingSink::new(said, Arc::try_clone(&polls)?);
+    let ahead = Ahead::new(other, Arc::try_clone(&polls)?);
+    let reader = PatientReader::new(rt, heard, Arc::try_clone(&patience)?, polls);
+    Ok(Connection {
+        line: Line::new(alloc, ReadSource::new(reader), sink),
+        ahead,
+        patience,
+    })
+}
+
+/// A connection, three times: to hear, to speak and to ask ahead.
+fn streams<R: Net<Listener = TcpListener, Stream = TcpStream> + Eprint>(
     rt: &R,
     port: u16,
 ) -> Option<(TcpStream, TcpStream, TcpStream)> {
+    let stream = stream_to(rt, port)?;
+    prepare(&stream).ok()?;
+    let said = stream.try_clone().ok()?;
+    let other = stream.try_clone().ok()?;
+    Some((stream, said, other))
+}
+
+/// A connection within ten seconds; after one it is said that it is awaited.
+fn stream_to<R: Net<Listener = TcpListener, Stream = TcpStream> + Eprint>(
+    rt: &R,
+    port: u16,
+) -> Option<TcpStream> {
     let address = SocketAddr::new(IpAddr::V4(Ipv4Addr::LOCALHOST), port);
-    let patience = Duration::from_secs(PATIENCE);
-    let stream = TcpStream::connect_timeout(rt, &address, patience).ok()?;
-    // A small frame goes out at once; it is only slower where that fails.
+    match TcpStream::connect_timeout(rt, &address, Duration::from_secs(1)) {
+        Ok(stream) => Some(stream),
+        Err(error) if has_waited(error.kind()) => {
+            say_waiting(rt);
+            TcpStream::connect_timeout(rt, &address, Duration::from_secs(SECONDS - 1)).ok()
+        }
+        Err(_) => None,
+    }
+}
+
+/// A read waits for a second at most. A small frame goes out at once; it is only slower where that fails.
+fn prepare(stream: &TcpStream) -> io::Result<()> {
     let _ = stream.set_nodelay(true);
-    let source = stream.try_clone().ok()?;
-    let sink = stream.try_clone().ok()?;
-    Some((source, sink, stream))
+    stream.set_read_timeout(Some(Duration::from_secs(1)))
 }

@@ -1,7 +1,7 @@
 //! Why a client ends before its commands do.
 
 ghost use Rattle.std.specs.Prelude.{◌≡◌};
-ghost use Rattle.genedit_join.specs.Fault.{fault_of_client, fault_of_line, fault_of_text};
+ghost use Rattle.genedit_join.specs.Fault.{fault_of_client, fault_of_line, fault_of_refusal, fault_of_text};
 
 use board_client::ClientFault;
 use client_session::CommandFault;
@@ -12,6 +12,9 @@ use std::alloc::AllocError;
 use std::error::Error;
 use std::fmt;
 
+/// The refusal of a greeting where the board has no seat left.
+const NO_SEAT: u8 = 45;
+
 /// Why a client ends before its commands do.
 #[derive(Clone, Copy, Debug, PartialEq, Eq)]
 pub enum JoinFault {
@@ -20,6 +23,10 @@ pub enum JoinFault {
     Run(RunFault),
     /// Nobody answers at the port.
     NoServer,
+    /// The board has no seat left.
+    NoSeat,
+    /// The commands are a script's.
+    Script,
     /// The server went away, or its reply was not awaited any longer.
     Gone,
     /// The server sent what is no reply.
@@ -29,13 +36,15 @@ pub enum JoinFault {
 impl JoinFault {
     ghost use Rattle.genedit_join.specs.Fault.{join_status};
 
-    /// The status with which the program ends: 3 where a server is missing.
+    /// The status with which the program ends: 3 where a server is missing, 2 where a seat is, or the commands
+    /// are none.
     pub fn exit_status(self) -> u8
         ensures { result ≡ join_status self }
     {
         match self {
             JoinFault::Run(fault) => fault.exit_status(),
             JoinFault::NoServer | JoinFault::Gone | JoinFault::NoReply => 3,
+            JoinFault::NoSeat | JoinFault::Script => 2,
         }
     }
 }
@@ -51,6 +60,8 @@ impl fmt::Display for JoinFault {
         match self {
             JoinFault::Run(fault) => write!(f, "{fault}"),
             JoinFault::NoServer => f.write_str("no server answers"),
+            JoinFault::NoSeat => f.write_str("all seats of the board are taken"),
+            JoinFault::Script => f.write_str("this is a script: run it by `genedit run`"),
             JoinFault::Gone => f.write_str("the server went away"),
             JoinFault::NoReply => f.write_str("the server sent what is no reply"),
         }
@@ -90,10 +101,21 @@ impl From<CommandFault> for JoinFault {
     fn from(fault: CommandFault) -> JoinFault {
         match fault {
             CommandFault::Client(fault) => of_client(fault),
-            CommandFault::Refused(number) => JoinFault::Run(RunFault::Refused(number, None)),
+            CommandFault::Refused(number) => of_refusal(number),
             CommandFault::Memory => JoinFault::Run(RunFault::Memory),
             CommandFault::StoreFull => JoinFault::Run(RunFault::StoreFull),
         }
+    }
+}
+
+/// How a client ends by a refusal, of the greeting or of a poll.
+fn of_refusal(number: u8) -> JoinFault
+    ensures { result ≡ fault_of_refusal number }
+{
+    if number == NO_SEAT {
+        JoinFault::NoSeat
+    } else {
+        JoinFault::Run(RunFault::Refused(number, None))
     }
 }
 

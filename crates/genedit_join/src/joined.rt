@@ -1,18 +1,29 @@
-//! A client at a terminal, and what it does with each command.
+//! A client that joined a board, and what it does with each command.
 
-use crate::fault::JoinFault;
+ghost use Rattle.std.specs.Prelude.{◌≡◌, ◌&&◌, is_none};
+ghost use Rattle.genedit_join.specs.Commands.{going_of, may_poll, whole_milliseconds};
+ghost use Rattle.genedit_join.specs.Ends.{end_behind};
+
+use crate::ahead::Ahead;
+use crate::ends::{Board, End, Tally, end_behind, goes_on, is_kept, is_rescued, tells_refusal};
+use crate::fault::{JoinFault, of_client};
 use crate::files::{FileFault, read_whole, refused_text, write_whole, wrote_text};
-use crate::telling::warn_of_rule;
-use client_commands::{ClientCommand, FileName};
+use crate::joining::JoinOptions;
+use crate::own_files::OwnFiles;
+use crate::patience::{Patience, WaitStep, is_kept_after, say_waiting, step_after};
+use crate::rescue::{SeatPlace, has_writes, keep};
+use crate::telling::{tell_kept, tell_lost, tell_unkept, warn_of_rule};
+use client_commands::{ClientCommand, FileName, FileTarget, Wait};
 use client_session::{Client, Outcome, end_of, rest_within, time_until};
-use client_tasks::{Done, carry_out, open};
+use client_tasks::{Done, carry_on, carry_out, open};
 use devices::{Sink, Source};
 use genedit_io::{RunFault, push_output};
+use std::alloc::{AllocError, Global};
 use std::rt::Files;
 use std::thread;
 use std::time::{Clock, Duration};
 
-/// How often a sleep is broken by a poll, at most.
+/// How often a sleep or a wait is broken by a poll, at most.
 const TURNS: u64 = 0x1_0000_0000;
 
 /// When a client polls.
@@ -40,36 +51,115 @@ pub(crate) enum Going {
     Leaving,
 }
 
-/// A client that joined a board, what it asks the system by, and when it polls.
+/// A client that joined a board, what it asks the system by, and what came of its lines.
 #[derive(Drop)]
 pub(crate) struct Joined<'a, R: Clock, S: Source + Drop, K: Sink + Drop> {
     pub(crate) rt: &'a R,
     pub(crate) client: Client<'a, R, S, K>,
-    pub(crate) pace: Pace,
+    pub(crate) options: JoinOptions,
+    pub(crate) ahead: Ahead,
+    pub(crate) files: OwnFiles,
+    pub(crate) tally: Tally,
+    /// By which fault it lost its server, if it did and goes on.
+    pub(crate) lost: Option<JoinFault>,
+    /// Whether a line said something.
+    pub(crate) has_heard: bool,
 }
 
 impl<'a, R: Clock, S: Source + Drop, K: Sink + Drop> Joined<'a, R, S, K> {
-    /// Pushes what was printed.
+    /// A client that joined just now.
+    pub(crate) fn new(
+        rt: &'a R,
+        client: Client<'a, R, S, K>,
+        options: JoinOptions,
+        ahead: Ahead,
+    ) -> Joined<'a, R, S, K> {
+        let files = OwnFiles::none(client.alloc());
+        Joined {
+            rt,
+            client,
+            options,
+            ahead,
+            files,
+            tally: Tally {
+                faulty: false,
+                refused: false,
+            },
+            lost: None,
+            has_heard: false,
+        }
+    }
+
+    /// When it polls: without a server never.
+    pub(crate) fn pace(&self) -> Pace
+        ensures { result ≡ record { interval = self.now.options.interval; is_following = self.now.options.is_following && is_none self.now.lost } }
+    {
+        Pace {
+            interval: self.options.interval,
+            is_following: self.options.is_following && self.lost.is_none(),
+        }
+    }
+
+    /// Pushes what was printed, and keeps in mind whether that tells a refusal.
     pub(crate) fn push_printed<O: Sink>(&mut self, sink: &mut O) -> Result<(), JoinFault> {
         if self.client.printed().is_empty() {
             return Ok(());
         }
         push_output(sink, self.client.printed())?;
+        if tells_refusal(self.client.printed()) {
+            self.tally.refused = true;
+        }
         self.client.clear_printed();
         Ok(())
     }
 
+    /// Leaves the board; the answer is not awaited for longer than ten seconds. Without a server there is
+    /// nothing to leave.
+    pub(crate) fn leave(&mut self, patience: &Patience) -> Result<Going, JoinFault> {
+        if self.lost.is_some() {
+            return Ok(Going::Leaving);
+        }
+        patience.limit();
+        match self.client.leave() {
+            Ok(_) => Ok(Going::Leaving),
+            Err(fault) => Err(of_client(fault)),
+        }
+    }
+
+    /// How it ended, by what its last step came to.
+    pub(crate) fn end(&self, last: Result<(), JoinFault>) -> End
+        ensures { result ≡ end_behind last self.now.lost self.now.tally }
+    {
+        end_behind(last, self.lost, self.tally)
+    }
+}
+
+impl<'a, R: Clock + Files + Eprint, S: Source + Drop, K: Sink + Drop> Joined<'a, R, S, K> {
+    /// Goes on behind a fault by which it lost its server, where it is at a terminal, and says so.
+    pub(crate) fn survived(&mut self, went: Result<Going, JoinFault>) -> Result<Going, JoinFault> {
+        match went {
+            Ok(going) => Ok(going),
+            Err(fault) if goes_on(fault, self.options.is_terminal, self.lost.is_none()) => {
+                self.lost = Some(fault);
+                tell_lost(self.rt, self.client.alloc(), fault)?;
+                Ok(Going::On)
+            }
+            Err(fault) => Err(fault),
+        }
+    }
+
     /// Polls where nothing asked for it.
-    pub(crate) fn follow(&mut self) -> Result<(), JoinFault> {
+    pub(crate) fn follow(&mut self) -> Result<Going, JoinFault> {
+        self.await_poll();
         self.client.follow()?;
-        Ok(())
+        Ok(Going::On)
     }
 
     /// Does nothing for so long, or polls meanwhile.
     fn sleep<O: Sink>(&mut self, milliseconds: u32, sink: &mut O) -> Result<(), JoinFault> {
         self.push_printed(sink)?;
         let whole = Duration::from_millis(u64::from(milliseconds));
-        if !self.pace.is_following {
+        if !self.pace().is_following {
             thread::sleep(self.rt, whole);
             return Ok(());
         }
@@ -78,15 +168,46 @@ impl<'a, R: Clock, S: Source + Drop, K: Sink + Drop> Joined<'a, R, S, K> {
             let Some(left) = time_until(self.rt, end) else {
                 return Ok(());
             };
-            thread::sleep(self.rt, rest_within(left, u32::from(self.pace.interval)));
+            thread::sleep(self.rt, rest_within(left, u32::from(self.options.interval)));
             self.follow()?;
             self.push_printed(sink)?;
         }
         Ok(())
     }
-}
 
-impl<'a, R: Clock + Files + Eprint, S: Source + Drop, K: Sink + Drop> Joined<'a, R, S, K> {
+    /// Asks ahead for the poll that comes next, and waits for the answer.
+    fn await_poll(&self) {
+        if self.ahead.ask().is_ok() {
+            self.await_answer(0);
+        }
+    }
+
+    /// Waits for the answer to the poll that was asked ahead, for which it has waited so many seconds: after
+    /// the first it says so, after the tenth it writes the board to a file, and waits on.
+    fn await_answer(&self, passed: u64) {
+        let mut seconds = passed;
+        for _second in 0..u64::MAX {
+            if self.ahead.has_come() {
+                return;
+            }
+            seconds = seconds.saturating_add(1);
+            if step_after(seconds, false) == WaitStep::Say {
+                say_waiting(self.rt);
+            }
+            if is_kept_after(seconds) {
+                self.keep_in_doubt();
+            }
+        }
+    }
+
+    /// Hears the answer to a poll that was asked ahead, where the command for which it was said none.
+    fn hear_ahead(&mut self) -> Result<(), JoinFault> {
+        if self.ahead.is_asked() {
+            self.client.follow()?;
+        }
+        Ok(())
+    }
+
     /// Does what a command asks for. What it prints is pushed only where it sleeps.
     pub(crate) fn obey<O: Sink>(
         &mut self,
@@ -96,11 +217,12 @@ impl<'a, R: Clock + Files + Eprint, S: Source + Drop, K: Sink + Drop> Joined<'a,
         if let ClientCommand::Pattern(name, text) = &command {
             self.warn(name.as_bytes(), text.as_slice())?;
         }
-        match carry_out(&mut self.client, command, u32::from(self.pace.interval))? {
+        let saves = matches!(&command, ClientCommand::Save(_));
+        match self.carried(command)? {
             Done::Told => Ok(Going::On),
             Done::InDoubt => Ok(Going::InDoubt),
-            Done::Write(file, text) => {
-                self.write(&file, &text)?;
+            Done::Write(target, text) => {
+                self.write(target, &text, saves)?;
                 Ok(Going::On)
             }
             Done::Open(file) => self.open(&file),
@@ -112,6 +234,47 @@ impl<'a, R: Clock + Files + Eprint, S: Source + Drop, K: Sink + Drop> Joined<'a,
         }
     }
 
+    /// Carries a command out at the board, or at what is kept of it.
+    fn carried(&mut self, command: ClientCommand) -> Result<Done, JoinFault> {
+        if self.lost.is_some() {
+            return Ok(carry_on(&mut self.client, command)?);
+        }
+        if may_poll(&command) {
+            self.await_poll();
+        }
+        let interval = self.interval();
+        let done = match command {
+            ClientCommand::Wait(wait) => self.wait(wait)?,
+            command => carry_out(&mut self.client, command, interval)?,
+        };
+        self.hear_ahead()?;
+        Ok(done)
+    }
+
+    /// Waits for edits of others. Where the answer to one of its polls does not begin within a second, that
+    /// is awaited as the one to a poll that was asked ahead, and the wait goes on for what is left of its time.
+    fn wait(&mut self, wait: Wait) -> Result<Done, JoinFault> {
+        let (end, interval) = (end_of(self.rt, wait.milliseconds), self.interval());
+        let mut rest = wait;
+        for _turn in 0..TURNS {
+            self.ahead.lend();
+            let done = carry_out(&mut self.client, ClientCommand::Wait(rest), interval);
+            if !self.ahead.was_lent() {
+                return Ok(done?);
+            }
+            self.await_answer(1);
+            rest.milliseconds = whole_milliseconds(time_until(self.rt, end));
+        }
+        Ok(Done::Told)
+    }
+
+    /// How many milliseconds are let pass between two polls.
+    fn interval(&self) -> u32
+        ensures { result ≡ self.now.options.interval }
+    {
+        u32::from(self.options.interval)
+    }
+
     /// Warns where a pattern's text, which is told by this name, has another rule than the board.
     fn warn(&self, name: &[u8], text: &[u8]) -> Result<(), JoinFault> {
         let rule = self.client.replica().rule();
@@ -119,16 +282,29 @@ impl<'a, R: Clock + Files + Eprint, S: Source + Drop, K: Sink + Drop> Joined<'a,
         Ok(())
     }
 
-    /// Writes a file, and says so, or that it was refused.
-    fn write(&mut self, file: &FileName, text: &[u8]) -> Result<(), JoinFault> {
+    /// Writes a file, and says so, or that it was refused. One that this client wrote may be replaced.
+    fn write(&mut self, target: FileTarget, text: &[u8], saves: bool) -> Result<(), JoinFault> {
         let alloc = self.client.alloc();
-        let told = match write_whole(self.rt, alloc, file, text) {
-            Ok(()) => wrote_text(alloc, text.len() as u64, file)?,
-            Err(FileFault::Refused) => refused_text(alloc, RunFault::Refused(WRITE, None))?,
-            Err(FileFault::Memory) => return Err(JoinFault::Run(RunFault::Memory)),
+        let is_own = self.files.has(&target.name);
+        let allowed = FileTarget {
+            name: target.name,
+            replaces: target.replaces || is_own,
         };
-        self.client.print(&told)?;
-        Ok(())
+        match write_whole(self.rt, alloc, &allowed, text) {
+            Ok(()) => {
+                let told = wrote_text(alloc, text.len() as u64, &allowed.name)?;
+                self.client.print(&told)?;
+                self.files.add(alloc, &allowed.name, saves)?;
+                Ok(())
+            }
+            Err(FileFault::Refused(cause)) => {
+                let refusal = RunFault::Refused(WRITE, None);
+                let told = refused_text(alloc, refusal, &allowed.name, cause)?;
+                self.client.print(&told)?;
+                Ok(())
+            }
+            Err(FileFault::Memory) => Err(JoinFault::Run(RunFault::Memory)),
+        }
     }
 
     /// Draws what a file holds.
@@ -136,15 +312,78 @@ impl<'a, R: Clock + Files + Eprint, S: Source + Drop, K: Sink + Drop> Joined<'a,
         let alloc = self.client.alloc();
         let text = match read_whole(self.rt, alloc, file) {
             Ok(text) => text,
-            Err(FileFault::Refused) => {
+            Err(FileFault::Refused(cause)) => {
+                let refusal = RunFault::Refused(READ, None);
                 self.client
-                    .print(&refused_text(alloc, RunFault::Refused(READ, None))?)?;
+                    .print(&refused_text(alloc, refusal, file, cause)?)?;
                 return Ok(Going::On);
             }
             Err(FileFault::Memory) => return Err(JoinFault::Run(RunFault::Memory)),
         };
         self.warn(file.as_bytes(), &text)?;
-        Ok(going_of(open(&mut self.client, &text)?))
+        self.await_poll();
+        let outcome = open(&mut self.client, &text)?;
+        self.hear_ahead()?;
+        Ok(going_of(outcome))
+    }
+
+    /// Writes the board to a file where it would be lost, and says where it is, or why it is nowhere.
+    pub(crate) fn rescue(&self, end: End) -> Result<(), JoinFault> {
+        let board = self.board();
+        if is_rescued(end, self.lost.is_none(), board) {
+            self.keep_board(board)?;
+        }
+        Ok(())
+    }
+
+    /// Writes the board to a file while its server says nothing.
+    fn keep_in_doubt(&self) {
+        if let Err(fault) = self.keep_board(self.board()) {
+            tell_unkept(self.rt, fault);
+        }
+    }
+
+    /// What is known of the board before it is compared with a file.
+    fn board(&self) -> Board {
+        Board {
+            is_wanted: self.options.rescues,
+            has_edits: has_writes(self.client.replica().plane()),
+            is_saved: false,
+        }
+    }
+
+    /// Writes the board to a file, where it is to be kept and the file that was saved last is not it.
+    fn keep_board(&self, board: Board) -> Result<(), JoinFault> {
+        if !is_kept(board) {
+            return Ok(());
+        }
+        let text = self.client.replica().state()?;
+        let is_saved = self.is_saved(&text)?;
+        if is_kept(Board { is_saved, ..board }) {
+            let kept = keep(self.rt, self.client.alloc(), self.place(), &text)?;
+            tell_kept(self.rt, self.client.alloc(), &kept)?;
+        }
+        Ok(())
+    }
+
+    /// Which seat of which server it had.
+    fn place(&self) -> SeatPlace {
+        SeatPlace {
+            port: self.options.port,
+            seat: self.client.replica().number(),
+        }
+    }
+
+    /// Whether the file that was saved last has these bytes.
+    fn is_saved(&self, text: &[u8]) -> Result<bool, AllocError> {
+        let Some(name) = self.files.saved() else {
+            return Ok(false);
+        };
+        match read_whole(self.rt, self.client.alloc(), name) {
+            Ok(bytes) => Ok(bytes.as_slice() == text),
+            Err(FileFault::Refused(_)) => Ok(false),
+            Err(FileFault::Memory) => Err(AllocError),
+        }
     }
 }
 
@@ -153,7 +392,40 @@ const READ: u8 = 36;
 
 const WRITE: u8 = 37;
 
-fn going_of(outcome: Outcome) -> Going {
+/// Whether a command may say something to the server, and so begins with a poll. One that opens a file reads
+/// that first.
+fn may_poll(command: &ClientCommand) -> bool
+    ensures { result ≡ may_poll command.now }
+{
+    match command {
+        ClientCommand::Draw(_)
+        | ClientCommand::Copy(_)
+        | ClientCommand::Or(_)
+        | ClientCommand::Export(_, _)
+        | ClientCommand::Poll
+        | ClientCommand::Wait(_)
+        | ClientCommand::Save(_) => true,
+        ClientCommand::Pattern(_, _)
+        | ClientCommand::Show(_, _)
+        | ClientCommand::Sleep(_)
+        | ClientCommand::Open(_)
+        | ClientCommand::Bye => false,
+    }
+}
+
+/// How many whole milliseconds a time has, 0 where it is over.
+fn whole_milliseconds(left: Option<Duration>) -> u32
+    ensures { result ≡ whole_milliseconds left }
+{
+    match left {
+        Some(left) => u32::try_from(left.as_millis()).unwrap_or(u32::MAX),
+        None => 0,
+    }
+}
+
+fn going_of(outcome: Outcome) -> Going
+    ensures { result ≡ going_of outcome }
+{
     match outcome {
         Outcome::Drawn | Outcome::Refused => Going::On,
         Outcome::InDoubt => Going::InDoubt,

@@ -1,9 +1,14 @@
 //! A client from its first line to its last.
 
-use crate::connection::{Hold, connect};
-use crate::fault::{JoinFault, of_client};
+ghost use Rattle.std.specs.Prelude.{◌≡◌};
+ghost use Rattle.genedit_join.specs.Fault.{fault_of_command, without_greeting};
+
+use crate::connection::{Connection, connect};
+use crate::ends::{end_status, is_script};
+use crate::fault::JoinFault;
 use crate::joined::{Going, Joined, Pace};
-use crate::telling::{tell_doubt, tell_fault, tell_open_block};
+use crate::patience::Patience;
+use crate::telling::{tell_doubt, tell_end, tell_fault, tell_open_block, tell_unkept};
 use crate::typed::{Typed, typed_lines};
 use board_client::Server;
 use client_commands::{Dictation, Heard};
@@ -11,6 +16,7 @@ use client_session::{Client, CommandFault, Telling};
 use crossbeam_channel::{Receiver, RecvTimeoutError};
 use devices::{Sink, Source};
 use genedit_io::{RunFault, push_output};
+use genedit_script::{says_something, without_return};
 use keyed_hash::HashKey;
 use std::alloc::Global;
 use std::net::{Net, TcpListener, TcpStream};
@@ -29,6 +35,10 @@ pub struct JoinOptions {
     /// Whether it polls while no command comes.
     pub is_following: bool,
     pub telling: Telling,
+    /// Whether somebody types the commands.
+    pub is_terminal: bool,
+    /// Whether its board is written to a file where it loses its server.
+    pub rescues: bool,
     /// By whose hashes the client finds what it holds.
     pub key: HashKey,
 }
@@ -40,8 +50,9 @@ pub struct Terminal<S, O> {
 }
 
 /// Joins a board and carries out the commands of a terminal, to `bye` or the end of its source, and then
-/// leaves. Each line is pushed before anything else is waited for. Lines at fault are told on standard error,
-/// and passed over.
+/// leaves; the status of the process. Each line is pushed before anything else is waited for. Lines at fault
+/// are told on standard error, and passed over; so is why the client ends otherwise. One that loses its
+/// server goes on without it where somebody types the commands, and else writes its board to a file.
 pub fn join<
     R: Net<Listener = TcpListener, Stream = TcpStream>
         + Threads
@@ -56,33 +67,75 @@ pub fn join<
         + 'static,
     S: Source + Send + Drop + 'static,
     O: Sink + Drop,
->(rt: &R, alloc: Global, options: JoinOptions, terminal: Terminal<S, O>) -> Result<(), JoinFault> {
+>(rt: &R, alloc: Global, options: JoinOptions, terminal: Terminal<S, O>) -> u8 {
+    match joined_to_its_end(rt, alloc, options, terminal) {
+        Ok(status) => status,
+        Err(fault) => {
+            tell_end(rt, fault);
+            fault.exit_status()
+        }
+    }
+}
+
+/// The status of a client that joined, once it has ended; or why it did not join.
+fn joined_to_its_end<
+    R: Net<Listener = TcpListener, Stream = TcpStream>
+        + Threads
+        + Wait
+        + Clock
+        + Files
+        + Eprint
+        + Copy
+        + Drop
+        + Send
+        + Sync
+        + 'static,
+    S: Source + Send + Drop + 'static,
+    O: Sink + Drop,
+>(rt: &R, alloc: Global, options: JoinOptions, terminal: Terminal<S, O>) -> Result<u8, JoinFault> {
     let Terminal { source, mut sink } = terminal;
-    let (line, hold) = connect(rt, alloc, options.port)?;
-    hold.limit();
-    let mut joined = joined_at(rt, Server::new(rt, alloc, line), options, &mut sink)?;
-    hold.unlimit();
+    let Connection {
+        line,
+        ahead,
+        patience,
+    } = connect(rt, alloc, options.port)?;
+    let client = client_at(Server::new(rt, alloc, line), options, &mut sink)?;
+    let mut joined = Joined::new(rt, client, options, ahead);
+    patience.unlimit();
     joined.push_printed(&mut sink)?;
     let typed = typed_lines(*rt, alloc, source)?;
-    let obeyed = obey_all(&mut joined, &typed, &mut sink);
-    joined.push_printed(&mut sink)?;
-    obeyed?;
-    farewell(&mut joined, &hold)
+    let obeyed = obey_all(&mut joined, &typed, &patience, &mut sink);
+    let pushed = joined.push_printed(&mut sink);
+    let last = match obeyed {
+        Ok(()) => pushed,
+        Err(fault) => Err(fault),
+    };
+    Ok(finish(&joined, last))
+}
+
+/// Tells why a client ended by a fault, and where its board is kept, if that is lost; its status.
+fn finish<R: Clock + Files + Eprint, S: Source + Drop, K: Sink + Drop>(
+    joined: &Joined<'_, R, S, K>,
+    last: Result<(), JoinFault>,
+) -> u8 {
+    if let Err(fault) = &last {
+        tell_end(joined.rt, *fault);
+    }
+    let end = joined.end(last);
+    if let Err(fault) = joined.rescue(end) {
+        tell_unkept(joined.rt, fault);
+    }
+    end_status(end, joined.options.is_terminal)
 }
 
 /// A client that was greeted. Where its first poll ends it, what was printed by then is pushed.
-fn joined_at<'a, R: Clock, S: Source + Drop, K: Sink + Drop, O: Sink>(
-    rt: &'a R,
+fn client_at<'a, R: Clock, S: Source + Drop, K: Sink + Drop, O: Sink>(
     server: Server<'a, R, S, K>,
     options: JoinOptions,
     sink: &mut O,
-) -> Result<Joined<'a, R, S, K>, JoinFault> {
-    let pace = Pace {
-        interval: options.interval,
-        is_following: options.is_following,
-    };
+) -> Result<Client<'a, R, S, K>, JoinFault> {
     match Client::join(server, options.telling, options.key) {
-        Ok(client) => Ok(Joined { rt, client, pace }),
+        Ok(client) => Ok(client),
         Err(unjoined) => Err(not_joined(unjoined.fault(), unjoined.printed(), sink)),
     }
 }
@@ -99,40 +152,68 @@ fn not_joined<O: Sink>(fault: CommandFault, out: &[u8], sink: &mut O) -> JoinFau
 }
 
 /// Why a client did not join: where nothing comes at the greeting, no server answers.
-fn unanswered(fault: CommandFault) -> JoinFault {
+fn unanswered(fault: CommandFault) -> JoinFault
+    ensures { result ≡ without_greeting (fault_of_command fault) }
+{
     match JoinFault::from(fault) {
         JoinFault::Gone => JoinFault::NoServer,
         fault => fault,
     }
 }
 
-/// Carries out commands to the one that leaves, or to the end of the lines.
+/// Carries out commands to the one that leaves, or to the end of the lines, and leaves the board.
 fn obey_all<R: Wait + Clock + Files + Eprint, S: Source + Drop, K: Sink + Drop, O: Sink>(
     joined: &mut Joined<'_, R, S, K>,
     typed: &Receiver<Typed, Global>,
+    patience: &Patience,
     sink: &mut O,
 ) -> Result<(), JoinFault> {
-    let (rt, alloc) = (joined.rt, joined.client.alloc());
-    let mut dictation = Dictation::new(alloc);
+    let rt = joined.rt;
+    let mut dictation = Dictation::new(joined.client.alloc());
     for _ in rt.forever() {
         joined.push_printed(sink)?;
-        match next_typed(rt, joined.pace, typed) {
-            Next::Nothing => joined.follow()?,
-            Next::Line(line) => {
-                if hear(joined, &mut dictation, &line, sink)? == Going::Leaving {
-                    return Ok(());
-                }
-            }
-            Next::Failed(fault) => return Err(JoinFault::Run(fault)),
-            Next::End => {
-                if let Some(number) = dictation.ended() {
-                    tell_open_block(rt, alloc, number)?;
-                }
-                return Ok(());
-            }
+        let went = match next_typed(rt, joined.pace(), typed) {
+            Next::Nothing => joined.follow(),
+            Next::Line(line) => hear(joined, &mut dictation, &line, sink),
+            Next::Failed(fault) => Err(JoinFault::Run(fault)),
+            Next::End => return leave_at_the_end(joined, &dictation, patience),
+        };
+        if joined.survived(went)? == Going::Leaving && has_left(joined, patience, sink)? {
+            return Ok(());
         }
     }
     unreachable!()
+}
+
+/// Leaves the board at the end of the lines.
+fn leave_at_the_end<R: Clock + Files + Eprint, S: Source + Drop, K: Sink + Drop>(
+    joined: &mut Joined<'_, R, S, K>,
+    dictation: &Dictation,
+    patience: &Patience,
+) -> Result<(), JoinFault> {
+    if let Some(number) = dictation.ended() {
+        joined.tally.faulty = true;
+        tell_open_block(joined.rt, joined.client.alloc(), number)?;
+    }
+    joined.leave(patience)?;
+    Ok(())
+}
+
+/// Leaves the board by `bye`. False where the server is lost just then, and the client goes on without it.
+fn has_left<R: Clock + Files + Eprint, S: Source + Drop, K: Sink + Drop, O: Sink>(
+    joined: &mut Joined<'_, R, S, K>,
+    patience: &Patience,
+    sink: &mut O,
+) -> Result<bool, JoinFault> {
+    joined.push_printed(sink)?;
+    let had_server = joined.lost.is_none();
+    let left = joined.leave(patience);
+    let has_left = joined.survived(left)? == Going::Leaving;
+    if has_left && !had_server {
+        // whoever says so was told that the board is kept here alone
+        joined.options.rescues = false;
+    }
+    Ok(has_left)
 }
 
 /// What comes next.
@@ -176,9 +257,15 @@ fn hear<R: Clock + Files + Eprint, S: Source + Drop, K: Sink + Drop, O: Sink>(
     line: &[u8],
     sink: &mut O,
 ) -> Result<Going, JoinFault> {
+    let text = without_return(line);
+    if is_script(joined.has_heard, text) {
+        return Err(JoinFault::Script);
+    }
+    joined.has_heard = joined.has_heard || says_something(text);
     match dictation.hear(line)? {
         Heard::Nothing => Ok(Going::On),
         Heard::Faulty(number) => {
+            joined.tally.faulty = true;
             tell_fault(joined.rt, joined.client.alloc(), number, line)?;
             Ok(Going::On)
         }
@@ -189,17 +276,5 @@ fn hear<R: Clock + Files + Eprint, S: Source + Drop, K: Sink + Drop, O: Sink>(
             }
             Ok(going)
         }
-    }
-}
-
-/// Leaves the board; the answer is not awaited for longer than the patience.
-fn farewell<R: Clock, S: Source + Drop, K: Sink + Drop>(
-    joined: &mut Joined<'_, R, S, K>,
-    hold: &Hold,
-) -> Result<(), JoinFault> {
-    hold.limit();
-    match joined.client.leave() {
-        Ok(_) => Ok(()),
-        Err(fault) => Err(of_client(fault)),
     }
 }

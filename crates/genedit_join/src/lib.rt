@@ -2,11 +2,16 @@
 //! goes to standard output.
 #![tactic(auto)]
 
+mod ahead;
 mod connection;
+mod ends;
 mod fault;
 mod files;
 mod joined;
 mod joining;
+mod own_files;
+mod patience;
+mod rescue;
 mod telling;
 mod typed;
 

@@ -1,5 +1,8 @@
 //! What a client says on standard error.
 
+use crate::ends::lost_text;
+use crate::fault::JoinFault;
+use crate::rescue::{Kept, kept_text};
 use delta_exchange::is_delta;
 use genedit_script::without_return;
 use generations_rule::Rule;
@@ -15,6 +18,38 @@ const IN_DOUBT: &str =
 /// Says that the board may have the edit that was drawn last, or not.
 pub(crate) fn tell_doubt<R: Eprint>(rt: &R) {
     let _ = rt.eprintln(IN_DOUBT);
+}
+
+/// Says why a client ends.
+pub(crate) fn tell_end<R: Eprint>(rt: &R, fault: JoinFault) {
+    let _ = eprintln!(rt; "genedit: {fault}");
+}
+
+/// Says that a client lost its server and goes on.
+pub(crate) fn tell_lost<R: Eprint>(
+    rt: &R,
+    alloc: Global,
+    fault: JoinFault,
+) -> Result<(), AllocError> {
+    let text = lost_text(alloc, fault)?;
+    tell_text(rt, alloc, &text)
+}
+
+/// Says where a board is kept, or why it is nowhere.
+pub(crate) fn tell_kept<R: Eprint>(rt: &R, alloc: Global, kept: &Kept) -> Result<(), AllocError> {
+    let text = kept_text(alloc, kept)?;
+    tell_text(rt, alloc, &text)
+}
+
+/// Says that a board is kept nowhere, since memory for that is wanting.
+pub(crate) fn tell_unkept<R: Eprint>(rt: &R, fault: JoinFault) {
+    let _ = eprintln!(rt; "genedit: the board is not kept: {fault}");
+}
+
+fn tell_text<R: Eprint>(rt: &R, alloc: Global, text: &[u8]) -> Result<(), AllocError> {
+    let text = String::from_utf8_lossy(alloc, text)?;
+    let _ = eprintln!(rt; "genedit: {}", text.as_str());
+    Ok(())
 }
 
 /// Says what is wrong with a line of this number, at which column, and what would be right.

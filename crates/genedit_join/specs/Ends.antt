@@ -1,0 +1,67 @@
+-- How a client ends.
+use Rattle.std.specs.Prelude.{ℕ, Bool, true, false, not, ◌&&◌, ◌||◌, ◌==◌, nat_le, if◌then◌else◌, List, [], ◌∷◌, ◌++◌, length, take, codes, Option, Some, None, Result, Ok, Err}
+use Rattle.std.specs.Str.{bytes_eq}
+use Rattle.genedit_join.specs.declared.ends.Board.{Board}
+use Rattle.genedit_join.specs.declared.ends.End.{End}
+use Rattle.genedit_join.specs.declared.ends.End.TheVariants as how
+use Rattle.genedit_join.specs.declared.ends.Tally.{Tally}
+use Rattle.genedit_join.specs.declared.fault.JoinFault.{JoinFault}
+use Rattle.genedit_join.specs.declared.fault.JoinFault.TheVariants.{Gone, NoReply}
+use Rattle.genedit_join.specs.Fault.{join_fault_text, join_status}
+
+-- by a fault, or by the one by which the server was lost before; else the board was left
+abbrev pub end_behind : {A : Type 0} → Result A JoinFault → Option JoinFault → Tally → End
+end_behind (Err fault) lost tally = how.Fault fault
+end_behind (Ok done) (Some fault) tally = how.Fault fault
+end_behind (Ok done) None tally = how.Left tally
+
+-- ---- statuses
+
+-- a line at fault counts more than a refusal
+abbrev pub well_status : Tally → ℕ
+well_status tally = if tally.faulty then 2 else if tally.refused then 1 else 0
+
+-- a fault has its own status; at a terminal a client that left has 0, whatever came of its lines
+abbrev pub end_status : End → Bool → ℕ
+end_status (how.Fault fault) terminal = join_status fault
+end_status (how.Left tally) true = 0
+end_status (how.Left tally) false = well_status tally
+
+-- ---- what was printed
+
+-- a text begins as a refusal is printed
+abbrev pub is_refusal : List ℕ → Bool
+is_refusal text = nat_le 8 (length text) && bytes_eq (take 8 text) (codes "refused ")
+
+-- one of the lines of a text is a refusal; its first byte begins a line, or does not
+abbrev pub tells_refusal_behind : Bool → List ℕ → Bool
+tells_refusal_behind begins [] = false
+tells_refusal_behind begins (byte ∷ bytes) = (begins && is_refusal (byte ∷ bytes)) || tells_refusal_behind (byte == 10) bytes
+
+abbrev pub tells_refusal : List ℕ → Bool
+tells_refusal text = tells_refusal_behind true text
+
+-- ---- a server that is lost
+
+-- nothing comes from the server any more, or no replies
+abbrev pub loses_server : JoinFault → Bool
+loses_server Gone = true
+loses_server NoReply = true
+loses_server fault = false
+
+-- at a terminal a client goes on that had a server until then
+abbrev pub goes_on : JoinFault → Bool → Bool → Bool
+goes_on fault terminal has_server = terminal && (has_server && loses_server fault)
+
+-- what it says
+abbrev pub lost_text : JoinFault → List ℕ
+lost_text fault = join_fault_text fault ++ codes ": the board is kept here; save FILE, export G [FILE], show, pattern, bye"
+
+-- a board that may be lost is written to a file, where it has an edit and the file that the client saved last is not it
+abbrev pub is_kept : Board → Bool
+is_kept board = board.is_wanted && (board.has_edits && not board.is_saved)
+
+-- so is that of a client which ends without its server, be it lost just now or before
+abbrev pub is_rescued : End → Bool → Board → Bool
+is_rescued (how.Fault fault) has_server board = (not has_server || loses_server fault) && is_kept board
+is_rescued (how.Left tally) has_server board = false

@@ -1,0 +1,157 @@
+//! How a client ends.
+
+ghost use Rattle.std.specs.Prelude.{◌≡◌, ◌&&◌, IfOk, not};
+ghost use Rattle.text_scan.specs.Words.{words};
+ghost use Rattle.client_commands.specs.Commands.{begins_script};
+ghost use Rattle.genedit_join.specs.Ends.{end_behind, end_status, goes_on, is_kept, is_refusal, is_rescued, loses_server, lost_text, tells_refusal, well_status};
+
+use crate::fault::JoinFault;
+use client_commands::begins_script;
+use std::alloc::{AllocError, Global};
+
+/// What came of the lines of a client.
+#[derive(Clone, Copy, Debug, PartialEq, Eq)]
+pub(crate) struct Tally {
+    /// A line was at fault.
+    pub(crate) faulty: bool,
+    /// A command was refused, or a file failed.
+    pub(crate) refused: bool,
+}
+
+/// What is known of the board that a client holds.
+#[derive(Clone, Copy, Debug, PartialEq, Eq)]
+pub(crate) struct Board {
+    /// A file of it is wanted.
+    pub(crate) is_wanted: bool,
+    /// An edit was drawn on it, or heard.
+    pub(crate) has_edits: bool,
+    /// The file that the client saved last has it.
+    pub(crate) is_saved: bool,
+}
+
+/// What a client can do that lost its server.
+const KEPT_HERE: &[u8] =
+    b": the board is kept here; save FILE, export G [FILE], show, pattern, bye";
+
+/// How a client ended that had joined.
+#[derive(Clone, Copy, Debug, PartialEq, Eq)]
+pub(crate) enum End {
+    /// By a fault, or it had lost its server before, by this one.
+    Fault(JoinFault),
+    /// It left the board, and this came of its lines.
+    Left(Tally),
+}
+
+/// How a client ended, by what its last step came to, the fault by which it lost its server before, if it
+/// did, and what came of its lines.
+pub(crate) fn end_behind(last: Result<(), JoinFault>, lost: Option<JoinFault>, tally: Tally) -> End
+    ensures { result ≡ end_behind last lost tally }
+{
+    match (last, lost) {
+        (Err(fault), _) => End::Fault(fault),
+        (Ok(()), Some(fault)) => End::Fault(fault),
+        (Ok(()), None) => End::Left(tally),
+    }
+}
+
+/// The status of the process. At a terminal that of a client that left is 0: what came of its lines stands
+/// there.
+pub(crate) fn end_status(end: End, is_terminal: bool) -> u8
+    ensures { result ≡ end_status end is_terminal }
+{
+    match end {
+        End::Fault(fault) => fault.exit_status(),
+        End::Left(_) if is_terminal => 0,
+        End::Left(tally) => well_status(tally),
+    }
+}
+
+/// That of a client which left, by what came of its lines.
+fn well_status(tally: Tally) -> u8
+    ensures { result ≡ well_status tally }
+{
+    if tally.faulty {
+        2
+    } else if tally.refused {
+        1
+    } else {
+        0
+    }
+}
+
+/// Whether what was printed tells a refusal: one of its lines begins with `refused `.
+pub(crate) fn tells_refusal(printed: &[u8]) -> bool
+    ensures { result ≡ tells_refusal printed.now }
+{
+    let mut begins = true;
+    let mut rest = printed;
+    while let Some((byte, behind)) = rest.split_first() {
+        if begins && is_refusal(rest) {
+            return true;
+        }
+        begins = *byte == b'\n';
+        rest = behind;
+    }
+    false
+}
+
+/// Whether a text begins with `refused `.
+fn is_refusal(text: &[u8]) -> bool
+    ensures { result ≡ is_refusal text.now }
+{
+    8 <= text.len() && &text[..8] == b"refused ".as_slice()
+}
+
+/// Whether a line says that the commands are a script: it is the first that says something, and begins as a
+/// script does.
+pub(crate) fn is_script(has_heard: bool, line: &[u8]) -> bool
+    ensures { result ≡ (not has_heard && begins_script (words line.now)) }
+{
+    !has_heard && begins_script(line)
+}
+
+/// Whether a fault is that the server is lost.
+pub(crate) fn loses_server(fault: JoinFault) -> bool
+    ensures { result ≡ loses_server fault }
+{
+    match fault {
+        JoinFault::Gone | JoinFault::NoReply => true,
+        JoinFault::Run(_) | JoinFault::NoServer | JoinFault::NoSeat | JoinFault::Script => false,
+    }
+}
+
+/// Whether a client goes on behind a fault, without its server: at a terminal, where it had one till now.
+pub(crate) fn goes_on(fault: JoinFault, is_terminal: bool, has_server: bool) -> bool
+    ensures { result ≡ goes_on fault is_terminal has_server }
+{
+    is_terminal && (has_server && loses_server(fault))
+}
+
+/// Whether the board of a client that ends so is written to a file: where nobody serves it any more, since the
+/// server is lost just now, or was before.
+pub(crate) fn is_rescued(end: End, has_server: bool, board: Board) -> bool
+    ensures { result ≡ is_rescued end has_server board }
+{
+    match end {
+        End::Fault(fault) => (!has_server || loses_server(fault)) && is_kept(board),
+        End::Left(_) => false,
+    }
+}
+
+/// Whether a board that may be lost is written to a file: it was drawn on, the last file that the client saved
+/// has other bytes, and nobody said that no file is wanted.
+pub(crate) fn is_kept(board: Board) -> bool
+    ensures { result ≡ is_kept board }
+{
+    board.is_wanted && (board.has_edits && !board.is_saved)
+}
+
+/// That a client lost its server, and what it can do.
+pub(crate) fn lost_text(alloc: Global, fault: JoinFault) -> Result<Vec<u8>, AllocError>
+    ensures { IfOk result (λ text. text.items ≡ lost_text fault) }
+{
+    let mut text = Vec::new(alloc);
+    text.extend_from_slice(fault.to_string(alloc)?.as_bytes())?;
+    text.extend_from_slice(KEPT_HERE)?;
+    Ok(text)
+}
