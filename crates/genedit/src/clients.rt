@@ -8,16 +8,13 @@ use genedit_words::JoinTask;
 use keyed_hash::{HashKey, RandomBytes};
 use std::alloc::Global;
 use std::io;
-use std::io::StdinLock;
+use std::io::{IsTerminal, StdinLock};
 use std::net::{Net, TcpListener, TcpStream};
 use std::random::RandomSource;
 use std::rt::Files;
 use std::sync::Wait;
 use std::thread::Threads;
 use std::time::Clock;
-
-/// The client left as it was to.
-const WELL: u8 = 0;
 
 /// Joins a board, with hashes whose key is drawn from the system, and carries out the commands on standard
 /// input; the status of the process.
@@ -40,29 +37,34 @@ pub fn join<
     let Ok(key) = HashKey::drawn(&mut RandomBytes::of(rt)) else {
         return Err(RunFault::Read);
     };
+    let reader = rt.reader();
+    let options = options_of(client, key, reader.is_terminal());
     let terminal = Terminal {
-        source: ReadSource::new(rt.reader()),
+        source: ReadSource::new(reader),
         sink: WriteSink::new(io::writer(rt)),
     };
-    match genedit_join::join(rt, alloc, options_of(client, key), terminal) {
-        Ok(()) => Ok(WELL),
-        Err(fault) => {
-            let _ = eprintln!(rt; "genedit: {fault}");
-            Ok(fault.exit_status())
-        }
-    }
+    Ok(genedit_join::join(rt, alloc, options, terminal))
 }
 
-fn options_of(client: JoinTask, key: HashKey) -> JoinOptions {
+fn options_of(client: JoinTask, key: HashKey, is_terminal: bool) -> JoinOptions {
     JoinOptions {
         port: client.port,
         interval: client.interval,
         is_following: client.is_following,
-        telling: if client.tells_changes {
-            Telling::Changes
-        } else {
-            Telling::Edits
-        },
+        telling: telling_of(client),
+        is_terminal,
+        rescues: !client.leaves_no_file,
         key,
+    }
+}
+
+/// What is told of drawings: nothing goes before cells that look different.
+fn telling_of(client: JoinTask) -> Telling {
+    if client.is_quiet {
+        Telling::Nothing
+    } else if client.tells_changes {
+        Telling::Changes
+    } else {
+        Telling::Edits
     }
 }

@@ -2,6 +2,7 @@
 #![tactic(auto)]
 
 mod clients;
+mod opening;
 mod pictures;
 mod tasks;
 

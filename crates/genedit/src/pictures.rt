@@ -1,12 +1,13 @@
 //! Pictures of patterns and of states.
 
+use crate::opening::{opened, tell_unread};
 use devices::{ReadSource, Source, WriteSink};
 use genedit_io::RunFault;
 use genedit_view::{BufferedSink, Form, ViewFault, ViewOptions, Window, window_of};
 use genedit_words::Viewing;
 use std::alloc::Global;
+use std::io;
 use std::rt::Files;
-use std::{fs, io};
 
 /// The picture is drawn.
 const WELL: u8 = 0;
@@ -36,9 +37,9 @@ pub fn view<R: Files + Input + Print + Eprint>(
     };
     match viewing.file {
         None => drawn(rt, alloc, &options, &mut ReadSource::new(rt.reader())),
-        Some(path) => match fs::open(rt, path) {
-            Err(_) => Err(RunFault::Read),
-            Ok(opened) => drawn(rt, alloc, &options, &mut ReadSource::new(opened)),
+        Some(path) => match opened(rt, path) {
+            Err(cause) => tell_unread(rt, alloc, path, cause),
+            Ok(file) => drawn(rt, alloc, &options, &mut ReadSource::new(file)),
         },
     }
 }

@@ -2,6 +2,7 @@
 
 ghost use Rattle.std.specs.Prelude.{◌≤◌};
 
+use crate::opening::{opened, tell_unheard, tell_unread};
 use devices::{ReadSource, Source, WriteSink};
 use genedit_io::RunFault;
 use genedit_lib::run_script;
@@ -12,12 +13,12 @@ use generations_rule::Rule;
 use keyed_hash::{HashKey, RandomBytes};
 use script_check::{CheckOutcome, check_script};
 use std::alloc::Global;
+use std::io;
 use std::net::{Net, TcpListener, TcpStream};
 use std::random::RandomSource;
 use std::rt::Files;
 use std::sync::Wait;
 use std::thread::Threads;
-use std::{fs, io};
 
 /// All is well.
 const WELL: u8 = 0;
@@ -45,16 +46,16 @@ pub fn rle(rt: &(impl Input + Print), alloc: Global, rule: &Rule) -> Result<u8, 
 }
 
 /// Tells what is wrong with the script of a file, or of standard input.
-pub fn check<R: Files + Input + Print>(
+pub fn check<R: Files + Input + Print + Eprint>(
     rt: &R,
     alloc: Global,
     file: Option<&str>,
 ) -> Result<u8, RunFault> {
     match file {
         None => checked(rt, alloc, SCRIPT, &mut ReadSource::new(rt.reader())),
-        Some(path) => match fs::open(rt, path) {
-            Err(_) => Err(RunFault::Read),
-            Ok(opened) => checked(rt, alloc, path, &mut ReadSource::new(opened)),
+        Some(path) => match opened(rt, path) {
+            Err(cause) => tell_unread(rt, alloc, path, cause),
+            Ok(file) => checked(rt, alloc, path, &mut ReadSource::new(file)),
         },
     }
 }
@@ -76,6 +77,7 @@ fn checked<S: Source>(
 /// Serves a board, whose hashes have a key that is drawn from the system.
 pub fn serve<
     R: Print
+        + Eprint
         + RandomSource
         + Net<Listener = TcpListener, Stream = TcpStream>
         + Threads
@@ -91,7 +93,10 @@ pub fn serve<
     let Ok(key) = HashKey::drawn(&mut RandomBytes::of(rt)) else {
         return Err(RunFault::Read);
     };
-    let listener = listen(rt, server.port)?;
+    let listener = match listen(rt, server.port) {
+        Ok(listener) => listener,
+        Err(cause) => return tell_unheard(rt, alloc, server.port, cause),
+    };
     let mut sink = WriteSink::new(io::writer(rt));
     let board = ServedBoard {
         rule: server.rule,
