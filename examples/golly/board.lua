@@ -20,7 +20,7 @@ local MOST_LEVEL = 60
 -- whether Golly is still there, and for commands where the system does not tell it of them.
 local START = [[mkdir -p %s && cd %s && : > commands && : > news && {
     tail -n +1 -f commands --pid=$PPID -s 0.02 2> /dev/null | {
-        sh -c 'echo "process $$"; exec "$0" join "$@"' %s --port %d %s
+        sh -c 'echo "process $$"; exec "$0" join --no-rescue "$@"' %s --port %d %s
         status=$?
         rm -f commands
         echo "ended $status"

@@ -96,7 +96,7 @@ local function follow()
     put_arrived()
     if lacks_all and not asks_all then
         lacks_all, asks_all = false, true
-        helper:ask("export 0 board.rle", all_answered)
+        helper:ask("export! 0 board.rle", all_answered)
     end
 end
 

@@ -72,7 +72,7 @@ local function exchange(cells, file)
     for _, command in ipairs(board.drawing(cells)) do
         helper:ask(command, function(line, word) refusal = word == "refused" and line or refusal end)
     end
-    helper:ask("export 0 " .. file, function(line, word)
+    helper:ask("export! 0 " .. file, function(line, word)
         refusal = word == "refused" and line or refusal
         is_written = line:match("^wrote %d+ (.*)$") == file
     end)
