@@ -153,7 +153,7 @@ pub static STEPS: [Step; 21] = [
         most: 1,
         act: Act::Command(&[b"poll"]),
         edits: b"whole\n",
-        cells: b"whole\n",
+        cells: b"whole\nnow 7 7 2 9 9 1\n",
         ..SILENT
     },
     Step {
