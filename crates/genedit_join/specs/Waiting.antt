@@ -1,5 +1,5 @@
 -- How long a server is awaited that says nothing.
-use Rattle.std.specs.Prelude.{ℕ, Bool, true, false, ◌&&◌, ◌==◌, nat_le, if◌then◌else◌}
+use Rattle.std.specs.Prelude.{ℕ, Bool, true, false, ◌&&◌, ◌==◌, nat_le, if◌then◌else◌, List, Option, Some, None, slice_get}
 use Rattle.std.specs.declared.io.ErrorKind.{ErrorKind}
 use Rattle.std.specs.declared.io.ErrorKind.TheVariants.{TimedOut, WouldBlock}
 use Rattle.genedit_join.specs.declared.patience.WaitStep.{WaitStep}
@@ -18,3 +18,11 @@ abbrev pub has_waited : ErrorKind → Bool
 has_waited WouldBlock = true
 has_waited TimedOut = true
 has_waited kind = false
+
+-- a frame is a push by its fifth byte, which stands behind its length
+abbrev pub is_kind_of_push : Option ℕ → Bool
+is_kind_of_push (Some kind) = kind == 2
+is_kind_of_push None = false
+
+abbrev pub is_push : List ℕ → Bool
+is_push frame = is_kind_of_push (slice_get frame 4)

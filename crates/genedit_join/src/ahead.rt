@@ -1,18 +1,23 @@
-//! Polls whose answers are awaited while the board is at hand.
+//! Polls and edits whose answers are awaited while the board is at hand.
 
+ghost use Rattle.std.specs.Prelude.{◌≡◌};
+ghost use Rattle.genedit_join.specs.Waiting.{is_push};
 ghost use Rattle.std.specs.Prelude.{◌≡◌};
 ghost use Rattle.devices.specs.Count.{one_more};
 
 use crate::patience::has_waited;
 use devices::{Failed, Sink};
 use std::io;
-use std::io::Write;
+use std::io::{Read, Write};
 use std::net::TcpStream;
 use std::sync::Arc;
 use std::sync::atomic::{AtomicBool, Ordering};
 
 /// A poll in its frame.
 const POLL: &[u8] = b"\x00\x00\x00\x01\x03";
+
+/// The kind of a push.
+const PUSH: u8 = 2;
 
 /// What the ends of a connection know of its polls. No clause speaks of it.
 #[derive(Drop)]
@@ -23,6 +28,10 @@ pub(crate) struct Polls {
     is_open: AtomicBool,
     /// The client lends a poll that is open: it may be taken for one that was asked ahead.
     is_lent: AtomicBool,
+    /// What the client said last is an edit, and nothing came since.
+    is_pushed: AtomicBool,
+    /// The client lends an edit that is open: its answer may be awaited by another.
+    is_push_lent: AtomicBool,
 }
 
 impl Polls {
@@ -31,6 +40,8 @@ impl Polls {
             is_ahead: AtomicBool::new(false),
             is_open: AtomicBool::new(false),
             is_lent: AtomicBool::new(false),
+            is_pushed: AtomicBool::new(false),
+            is_push_lent: AtomicBool::new(false),
         }
     }
 
@@ -43,6 +54,17 @@ impl Polls {
     /// Something came.
     pub(crate) fn hear(&self) {
         self.is_open.store(false, Ordering::SeqCst);
+        self.is_pushed.store(false, Ordering::SeqCst);
+    }
+
+    /// Takes an edit that is open and lent; whether there is such an edit.
+    pub(crate) fn take_push(&self) -> bool {
+        let is_taken = self.is_pushed.load(Ordering::SeqCst)
+            && self.is_push_lent.swap(false, Ordering::SeqCst);
+        if is_taken {
+            self.is_pushed.store(false, Ordering::SeqCst);
+        }
+        is_taken
     }
 
     /// Takes a poll that is open and lent for one that was asked ahead; whether there is such a poll.
@@ -87,6 +109,7 @@ impl Sink for SayingSink {
         if bytes == POLL && self.polls.say() {
             return Ok(());
         }
+        self.polls.is_pushed.store(is_push(bytes), Ordering::SeqCst);
         match self.stream.write_all(bytes) {
             Ok(()) => Ok(()),
             Err(_) => {
@@ -102,6 +125,16 @@ fn count(n: &mut u64)
     ensures { n.new ≡ one_more n.old }
 {
     *n = n.saturating_add(1);
+}
+
+/// Whether a frame is a push of an edit.
+fn is_push(frame: &[u8]) -> bool
+    ensures { result ≡ is_push frame.now }
+{
+    match frame.get(4) {
+        Some(kind) => *kind == PUSH,
+        None => false,
+    }
 }
 
 /// What asks ahead.
@@ -149,5 +182,28 @@ impl Ahead {
     /// No longer so: whether that happened.
     pub(crate) fn was_lent(&self) -> bool {
         !self.polls.is_lent.swap(false, Ordering::SeqCst)
+    }
+
+    /// From here on an edit of the client whose answer does not begin within ten seconds breaks off what the
+    /// client does.
+    pub(crate) fn lend_push(&self) {
+        self.polls.is_push_lent.store(true, Ordering::SeqCst);
+    }
+
+    /// No longer so: whether that happened.
+    pub(crate) fn was_push_lent(&self) -> bool {
+        !self.polls.is_push_lent.swap(false, Ordering::SeqCst)
+    }
+
+    /// The answer to such an edit, once something has come: 0, or the number of its refusal. Nothing where what
+    /// comes is no such answer.
+    pub(crate) fn answer(&self) -> Option<u8> {
+        let mut frame = [0u8; 5];
+        let mut stream = &self.stream;
+        stream.read_exact(&mut frame).ok()?;
+        match frame {
+            [0, 0, 0, 1, number] => Some(number),
+            _ => None,
+        }
     }
 }

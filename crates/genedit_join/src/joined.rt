@@ -9,12 +9,13 @@ use crate::ends::{Board, End, Tally, end_behind, goes_on, is_kept, is_rescued, t
 use crate::fault::{JoinFault, of_client};
 use crate::files::{FileFault, read_whole, refused_text, write_whole, wrote_text};
 use crate::joining::JoinOptions;
+use crate::late::{drawn_text, last_of, refusal_text};
 use crate::own_files::OwnFiles;
-use crate::patience::{Patience, WaitStep, is_kept_after, say_waiting, step_after};
+use crate::patience::{Patience, SECONDS, WaitStep, is_kept_after, say_waiting, step_after};
 use crate::rescue::{SeatPlace, has_writes, keep};
 use crate::telling::{tell_kept, tell_lost, tell_unkept, warn_of_rule};
 use client_commands::{ClientCommand, FileName, FileTarget, Wait};
-use client_session::{Client, Outcome, end_of, rest_within, time_until};
+use client_session::{Client, CommandFault, Outcome, end_of, rest_within, time_until};
 use client_tasks::{Done, carry_on, carry_out, open};
 use devices::{Sink, Source};
 use genedit_io::{RunFault, push_output};
@@ -245,10 +246,44 @@ impl<'a, R: Clock + Files + Eprint, S: Source + Drop, K: Sink + Drop> Joined<'a,
         let interval = self.interval();
         let done = match command {
             ClientCommand::Wait(wait) => self.wait(wait)?,
-            command => carry_out(&mut self.client, command, interval)?,
+            command => {
+                self.ahead.lend_push();
+                let done = carry_out(&mut self.client, command, interval);
+                self.heard(done, Done::Told)?
+            }
         };
         self.hear_ahead()?;
         Ok(done)
+    }
+
+    /// What a command comes to whose edits were lent. Where one was taken, its answer is awaited here, with the
+    /// board at hand, and the command comes to nothing more.
+    fn heard<D: Drop>(&mut self, came: Result<D, CommandFault>, behind: D) -> Result<D, JoinFault> {
+        if !self.ahead.was_push_lent() {
+            return Ok(came?);
+        }
+        self.keep_in_doubt();
+        self.await_answer(SECONDS);
+        match self.ahead.answer() {
+            Some(0) => self.tell_drawn()?,
+            Some(number) => {
+                let told = refusal_text(self.client.alloc(), number)?;
+                self.client.print(&told)?;
+            }
+            None => return Err(JoinFault::Gone),
+        }
+        Ok(behind)
+    }
+
+    /// Tells that an edit was drawn, once the board has handed it out.
+    fn tell_drawn(&mut self) -> Result<(), JoinFault> {
+        self.client.follow()?;
+        let replica = self.client.replica();
+        if let Some(stamp) = last_of(replica.journal(), replica.number()) {
+            let told = drawn_text(self.client.alloc(), stamp.counter(), stamp.replica())?;
+            self.client.print(&told)?;
+        }
+        Ok(())
     }
 
     /// Waits for edits of others. Where the answer to one of its polls does not begin within a second, that
@@ -322,7 +357,9 @@ impl<'a, R: Clock + Files + Eprint, S: Source + Drop, K: Sink + Drop> Joined<'a,
         };
         self.warn(file.as_bytes(), &text)?;
         self.await_poll();
-        let outcome = open(&mut self.client, &text)?;
+        self.ahead.lend_push();
+        let opened = open(&mut self.client, &text);
+        let outcome = self.heard(opened, Outcome::Drawn)?;
         self.hear_ahead()?;
         Ok(going_of(outcome))
     }

@@ -9,6 +9,7 @@ mod fault;
 mod files;
 mod joined;
 mod joining;
+mod late;
 mod own_files;
 mod patience;
 mod rescue;

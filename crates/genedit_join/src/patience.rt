@@ -70,7 +70,8 @@ pub(crate) fn step_after(seconds: u64, is_limited: bool) -> WaitStep
 }
 
 /// What comes from a server whose reads wait for a second at most: each is made again, and that it waits is
-/// said once, until something comes, the patience is over, or a poll that was lent is open.
+/// said once, until something comes, the patience is over, or what the client said and lent breaks off: a poll, or after
+/// ten seconds an edit.
 #[derive(Drop)]
 pub(crate) struct PatientReader<R> {
     rt: R,
@@ -106,7 +107,9 @@ impl<R: Eprint> Read for PatientReader<R> {
                     if step == WaitStep::Say {
                         say_waiting(&self.rt);
                     }
-                    if step == WaitStep::GiveUp || self.polls.take_lent() {
+                    let is_broken_off = self.polls.take_lent()
+                        || is_kept_after(seconds) && self.polls.take_push();
+                    if step == WaitStep::GiveUp || is_broken_off {
                         return Err(error);
                     }
                 }
