@@ -33,8 +33,14 @@ pub struct World {
     rule: Rule,
     replicas: Vec<Replica>,
     messages: Vec<ByteList>,
+    remembered: Remembered,
+}
+
+/// What need not be made again as long as maps stay.
+#[derive(Drop)]
+struct Remembered {
     /// For each replica the place of a message with the state text of its map as it is now, where one
-    /// was sent: it need not be written again.
+    /// was sent.
     current: Vec<Option<usize>>,
     /// The universe of the last export, for the next one of the same map.
     universe: Option<KeptUniverse>,
@@ -55,8 +61,7 @@ impl Drop for World {
             rule: _,
             replicas: _,
             messages: _,
-            current: _,
-            universe: _,
+            remembered: _,
         } = self;
     }
 }
@@ -69,7 +74,7 @@ impl Model for World {
 
     ghost view = { λ w. record { rule = w.rule; replicas = w.replicas.items; messages = w.messages.items } };
 
-    ghost invariant = { λ w. AreCurrent w.replicas.items w.messages.items w.current.items × IfSome w.universe (λ kept. IsUniverseOf w.replicas.items kept.place kept.engine) };
+    ghost invariant = { λ w. AreCurrent w.replicas.items w.messages.items w.remembered.current.items × IfSome w.remembered.universe (λ kept. IsUniverseOf w.replicas.items kept.place kept.engine) };
 }
 
 impl World {
@@ -98,8 +103,10 @@ impl World {
             rule,
             replicas,
             messages: Vec::new(alloc),
-            current,
-            universe: None,
+            remembered: Remembered {
+                current,
+                universe: None,
+            },
         })
     }
 
@@ -210,13 +217,7 @@ fn happen(world: &mut World, event: &Event) -> Result<Reply, Stop>
 {
     match event {
         Event::Draw(number, spec) => {
-            draw(
-                &mut world.replicas,
-                &mut world.current,
-                &mut world.universe,
-                *number,
-                spec,
-            )
+            draw(&mut world.replicas, &mut world.remembered, *number, spec)
         }
         Event::SendDelta(number, from, count) => send_delta(
             &world.replicas,
@@ -229,14 +230,13 @@ fn happen(world: &mut World, event: &Event) -> Result<Reply, Stop>
             world.alloc,
             &world.replicas,
             &mut world.messages,
-            &mut world.current,
+            &mut world.remembered.current,
             *number,
         ),
         Event::Deliver(message, number) => deliver(
             &world.messages,
             &mut world.replicas,
-            &mut world.current,
-            &mut world.universe,
+            &mut world.remembered,
             *message,
             *number,
         ),
@@ -245,7 +245,7 @@ fn happen(world: &mut World, event: &Event) -> Result<Reply, Stop>
         Event::Dump(number) => dump(world.alloc, &world.messages, *number),
         Event::Export(number, generation) => export(
             &world.replicas,
-            &mut world.universe,
+            &mut world.remembered.universe,
             *number,
             *generation,
         ),
@@ -254,21 +254,20 @@ fn happen(world: &mut World, event: &Event) -> Result<Reply, Stop>
 
 fn draw(
     replicas: &mut [Replica],
-    current: &mut [Option<usize>],
-    universe: &mut Option<KeptUniverse>,
+    remembered: &mut Remembered,
     number: u32,
     spec: &EditSpec,
 ) -> Result<Reply, Stop>
-    requires { length current.old ≡ length replicas.old }
+    requires { length remembered.old.current.items ≡ length replicas.old }
     ensures step { IfOk result (λ reply. (w : History) → AreEdits w → StandSideBySide (StandsFor w.rule) w.replicas replicas.old →
         IsReply w (events.Draw number spec.now) reply
         × StandSideBySide (StandsFor w.rule) (after w (events.Draw number spec.now)).replicas replicas.new) }
     ensures edits { IfOk result (λ _. (w : History) → AreEdits w → StandSideBySide (StandsFor w.rule) w.replicas replicas.old → AreEdits (after w (events.Draw number spec.now))) }
     ensures as_many { length replicas.new ≡ length replicas.old }
     ensures room { (nodes : ℕ) → HaveRoom nodes replicas.old → HaveRoom nodes replicas.new }
-    ensures remembered { (messages : List (List ℕ)) → AreCurrent replicas.old messages current.old → AreCurrent replicas.new messages current.new }
-    ensures length { length current.new ≡ length current.old }
-    ensures universe { IfSome universe.old (λ kept. IsUniverseOf replicas.old kept.place kept.engine) → IfSome universe.new (λ kept. IsUniverseOf replicas.new kept.place kept.engine) }
+    ensures remembered { (messages : List (List ℕ)) → AreCurrent replicas.old messages remembered.old.current.items → AreCurrent replicas.new messages remembered.new.current.items }
+    ensures length { length remembered.new.current.items ≡ length remembered.old.current.items }
+    ensures universe { IfSome remembered.old.universe (λ kept. IsUniverseOf replicas.old kept.place kept.engine) → IfSome remembered.new.universe (λ kept. IsUniverseOf replicas.new kept.place kept.engine) }
     ensures full { result ≡ Err Stop.StoreFull → (w : History) (nodes : ℕ) → AreEdits w → StandSideBySide (StandsFor w.rule) w.replicas replicas.old → HaveRoom nodes replicas.old
         → IsDrawFull nodes w number spec.now }
     ensures err { IfErr result (λ _. IsThere number (length replicas.old)) }
@@ -276,8 +275,8 @@ fn draw(
     match index_of(u64::from(number), replicas.len()) {
         None => Ok(Reply::Refused(Fault::NoReplica)),
         Some(index) => {
-            forget(universe, index);
-            draw_at(&mut replicas[index], &mut current[index], spec)
+            forget(&mut remembered.universe, index);
+            draw_at(&mut replicas[index], &mut remembered.current[index], spec)
         }
     }
 }
@@ -425,21 +424,20 @@ fn send(messages: &mut Vec<ByteList>, text: Vec<u8>) -> Result<Reply, Stop>
 fn deliver(
     messages: &[ByteList],
     replicas: &mut [Replica],
-    current: &mut [Option<usize>],
-    universe: &mut Option<KeptUniverse>,
+    remembered: &mut Remembered,
     message: u64,
     number: u32,
 ) -> Result<Reply, Stop>
-    requires { length current.old ≡ length replicas.old }
+    requires { length remembered.old.current.items ≡ length replicas.old }
     ensures step { IfOk result (λ reply. (w : History) → StandSideBySide (StandsFor w.rule) w.replicas replicas.old
         → StandSideBySide (λ m. StandsForSent w.rule) w.messages messages.now →
         IsReply w (events.Deliver message number) reply
         × StandSideBySide (StandsFor w.rule) (after w (events.Deliver message number)).replicas replicas.new) }
     ensures as_many { length replicas.new ≡ length replicas.old }
     ensures room { (nodes : ℕ) → HaveRoom nodes replicas.old → HaveRoom nodes replicas.new }
-    ensures remembered { AreCurrent replicas.old messages.now current.old → AreCurrent replicas.new messages.now current.new }
-    ensures length { length current.new ≡ length current.old }
-    ensures universe { IfSome universe.old (λ kept. IsUniverseOf replicas.old kept.place kept.engine) → IfSome universe.new (λ kept. IsUniverseOf replicas.new kept.place kept.engine) }
+    ensures remembered { AreCurrent replicas.old messages.now remembered.old.current.items → AreCurrent replicas.new messages.now remembered.new.current.items }
+    ensures length { length remembered.new.current.items ≡ length remembered.old.current.items }
+    ensures universe { IfSome remembered.old.universe (λ kept. IsUniverseOf replicas.old kept.place kept.engine) → IfSome remembered.new.universe (λ kept. IsUniverseOf replicas.new kept.place kept.engine) }
     ensures full { result ≡ Err Stop.StoreFull → (w : History) (nodes : ℕ) → StandSideBySide (StandsFor w.rule) w.replicas replicas.old
         → StandSideBySide (λ m. StandsForSent w.rule) w.messages messages.now → HaveRoom nodes replicas.old → IsDeliveryFull nodes w message number }
     ensures err { IfErr result (λ _. IsThere message (length messages.now) × IsThere number (length replicas.old)) }
@@ -451,8 +449,8 @@ fn deliver(
         return Ok(Reply::Refused(Fault::NoReplica));
     };
     let text = messages[from].as_slice();
-    forget(universe, to);
-    take_at(&mut replicas[to], &mut current[to], text)
+    forget(&mut remembered.universe, to);
+    take_at(&mut replicas[to], &mut remembered.current[to], text)
 }
 
 /// What a replica takes; no message is remembered of it where its map becomes another one.

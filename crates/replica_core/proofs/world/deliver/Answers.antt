@@ -1,4 +1,4 @@
-use Rattle.std.proofs.Common.{None, ◌≡◌, ◌≤◌, ◌-◌, ◌∙◌, Some, ap, get_or, length, refl, sym, arith}
+use Rattle.std.proofs.Common.{◌≡◌, ◌≤◌, ◌-◌, ◌∙◌, Some, ap, get_or, length, refl, sym, arith}
 use Rattle.std.proofs.lemmas.Option.{slice_get_read, slice_get-get_or}
 use Rattle.std.proofs.lemmas.Result.{IfOk-weaker}
 use Rattle.replica_core.proofs.CurrentLaws.{current_set}
@@ -24,11 +24,11 @@ returns-clause-step c = IfOk-weaker c.take_at.result _ _ (λ reply step w side s
 pub returns-clause-remembered : goal.returns-clause-remembered
 returns-clause-remembered c = λ are.
     let old = get_or c.args.replicas.now c.in-Some-index_of.to c.index-replicas-to.result in
-    let entry = get_or c.args.current.now c.in-Some-index_of.to None in
+    let entry = c.index_mut.result.now in
     let r = c.in-Some-index_of.ensures in
-    current_set c.args.replicas.now c.args.messages.now c.args.current.now c.in-Some-index_of.to old c.take_at.new.replica entry c.take_at.new.current
+    current_set c.args.replicas.now c.args.messages.now c.args.remembered.now.current.items c.in-Some-index_of.to old c.take_at.new.replica entry c.take_at.new.current
     (slice_get-get_or c.args.replicas.now c.in-Some-index_of.to c.index-replicas-to.result (omega (arith, r.0.0, r.0.1, r.1)))
-    (slice_get-get_or c.args.current.now c.in-Some-index_of.to None (omega (arith, r.0.0, r.0.1, r.1, c.requires)))
+    (slice_get-get_or c.args.remembered.now.current.items c.in-Some-index_of.to c.index_mut.result.now (omega (arith, r.0.0, r.0.1, r.1, c.requires)) ∙ ap Some (sym c.index_mut.ensures.value))
     c.take_at.ensures.remembered are
 
 pub returns-clause-full : goal.returns-clause-full

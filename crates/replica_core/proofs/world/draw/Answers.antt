@@ -1,4 +1,4 @@
-use Rattle.std.proofs.Common.{None, ◌≡◌, ◌≤◌, ◌-◌, ◌∙◌, ap, get_or, arith}
+use Rattle.std.proofs.Common.{◌≡◌, ◌≤◌, ◌-◌, ◌∙◌, Some, ap, get_or, sym, arith}
 use Rattle.std.proofs.lemmas.Option.{slice_get-get_or}
 use Rattle.std.proofs.lemmas.Result.{IfOk-weaker}
 use Rattle.replica_core.proofs.CurrentLaws.{current_set}
@@ -38,11 +38,11 @@ returns-in-None-clause-edits c = λ w valid side.
 pub returns-in-Some-clause-remembered : goal.returns-in-Some-clause-remembered
 returns-in-Some-clause-remembered c = λ messages are.
     let old = get_or c.args.replicas.now c.in-Some.index c.index-replicas-index.result in
-    let entry = get_or c.args.current.now c.in-Some.index None in
+    let entry = c.index_mut.result.now in
     let r = c.in-Some.ensures in
-    current_set c.args.replicas.now messages c.args.current.now c.in-Some.index old c.draw_at.new.replica entry c.draw_at.new.current
+    current_set c.args.replicas.now messages c.args.remembered.now.current.items c.in-Some.index old c.draw_at.new.replica entry c.draw_at.new.current
     (slice_get-get_or c.args.replicas.now c.in-Some.index c.index-replicas-index.result (omega (arith, r.0.0, r.0.1, r.1)))
-    (slice_get-get_or c.args.current.now c.in-Some.index None (omega (arith, r.0.0, r.0.1, r.1, c.requires)))
+    (slice_get-get_or c.args.remembered.now.current.items c.in-Some.index c.index_mut.result.now (omega (arith, r.0.0, r.0.1, r.1, c.requires)) ∙ ap Some (sym c.index_mut.ensures.value))
     c.draw_at.ensures.remembered are
 
 pub returns-in-Some-clause-full : goal.returns-in-Some-clause-full

@@ -96,15 +96,14 @@ returns-in-Export-clause-edits c = IfOk-weaker c.export.result _ _ (λ reply ste
 pub invariant_of-world : goal.invariant_of-world
 invariant_of-world c =
     let replicas = c.world.inside.replicas in
-    let current = c.world.inside.current in
     let messages = c.world.inside.messages.items in
     let changed = with_items_is replicas c.draw.new.replicas (c.draw.ensures.as_many ∙ ap length c.deref_mut.ensures.value ∙ sym replicas.ok.0) in (
-      current_same c.draw.new.replicas _ messages messages c.draw.new.current _
+      current_same c.draw.new.replicas _ messages messages c.draw.new.remembered.current.items _
           changed refl
-          (with_items_is current c.draw.new.current (c.draw.ensures.length ∙ ap length c.deref_mut-in-Draw.ensures.value ∙ sym current.ok.0))
-          (c.draw.ensures.remembered messages (current_same replicas.items _ messages messages current.items _ c.deref_mut.ensures.value refl c.deref_mut-in-Draw.ensures.value c.world.invariant.0)),
-      subst (λ (l : List ReplicaState). IfSome c.draw.new.universe (λ kept. IsUniverseOf l kept.place kept.engine)) (sym changed)
-          (c.draw.ensures.universe (subst (λ (l : List ReplicaState). IfSome c.world.inside.universe (λ kept. IsUniverseOf l kept.place kept.engine)) (sym c.deref_mut.ensures.value) c.world.invariant.1)),
+          refl
+          (c.draw.ensures.remembered messages (current_same replicas.items _ messages messages c.world.inside.remembered.current.items _ c.deref_mut.ensures.value refl refl c.world.invariant.0)),
+      subst (λ (l : List ReplicaState). IfSome c.draw.new.remembered.universe (λ kept. IsUniverseOf l kept.place kept.engine)) (sym changed)
+          (c.draw.ensures.universe (subst (λ (l : List ReplicaState). IfSome c.world.inside.remembered.universe (λ kept. IsUniverseOf l kept.place kept.engine)) (sym c.deref_mut.ensures.value) c.world.invariant.1)),
     )
 
 pub returns-in-Export-clause-room : goal.returns-in-Export-clause-room
