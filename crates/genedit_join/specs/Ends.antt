@@ -6,7 +6,7 @@ use Rattle.genedit_join.specs.declared.ends.End.{End}
 use Rattle.genedit_join.specs.declared.ends.End.TheVariants as how
 use Rattle.genedit_join.specs.declared.ends.Tally.{Tally}
 use Rattle.genedit_join.specs.declared.fault.JoinFault.{JoinFault}
-use Rattle.genedit_join.specs.declared.fault.JoinFault.TheVariants.{Gone, NoReply}
+use Rattle.genedit_join.specs.declared.fault.JoinFault.TheVariants.{NoServer, NoSeat, Gone, NoReply, Script, Run}
 use Rattle.genedit_join.specs.Fault.{join_fault_text, join_status}
 
 -- by a fault, or by the one by which the server was lost before; else the board was left
@@ -33,13 +33,14 @@ end_status (how.Left tally) false = well_status tally
 abbrev pub is_refusal : List ℕ → Bool
 is_refusal text = nat_le 8 (length text) && bytes_eq (take 8 text) (codes "refused ")
 
--- one of the lines of a text is a refusal; its first byte begins a line, or does not
-abbrev pub tells_refusal_behind : Bool → List ℕ → Bool
-tells_refusal_behind begins [] = false
-tells_refusal_behind begins (byte ∷ bytes) = (begins && is_refusal (byte ∷ bytes)) || tells_refusal_behind (byte == 10) bytes
+-- so does what stands behind one of its line feeds
+abbrev pub has_refusal_behind : List ℕ → Bool
+has_refusal_behind [] = false
+has_refusal_behind (byte ∷ bytes) = (byte == 10 && is_refusal bytes) || has_refusal_behind bytes
 
+-- one of the lines of a text is a refusal: the first, or one behind a line feed
 abbrev pub tells_refusal : List ℕ → Bool
-tells_refusal text = tells_refusal_behind true text
+tells_refusal text = is_refusal text || has_refusal_behind text
 
 -- ---- a server that is lost
 
@@ -47,7 +48,10 @@ tells_refusal text = tells_refusal_behind true text
 abbrev pub loses_server : JoinFault → Bool
 loses_server Gone = true
 loses_server NoReply = true
-loses_server fault = false
+loses_server NoServer = false
+loses_server NoSeat = false
+loses_server Script = false
+loses_server (Run fault) = false
 
 -- at a terminal a client goes on that had a server until then
 abbrev pub goes_on : JoinFault → Bool → Bool → Bool

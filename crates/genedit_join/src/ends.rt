@@ -83,13 +83,14 @@ fn well_status(tally: Tally) -> u8
 pub(crate) fn tells_refusal(printed: &[u8]) -> bool
     ensures { result ≡ tells_refusal printed.now }
 {
-    let mut begins = true;
+    if is_refusal(printed) {
+        return true;
+    }
     let mut rest = printed;
     while let Some((byte, behind)) = rest.split_first() {
-        if begins && is_refusal(rest) {
+        if *byte == b'\n' && is_refusal(behind) {
             return true;
         }
-        begins = *byte == b'\n';
         rest = behind;
     }
     false

@@ -1,6 +1,7 @@
 //! A client that joined a board, and what it does with each command.
 
 ghost use Rattle.std.specs.Prelude.{◌≡◌, ◌&&◌, is_none};
+ghost use Rattle.client_tasks.specs.Carrying.{behind_drawing};
 ghost use Rattle.genedit_join.specs.Commands.{going_of, may_poll, whole_milliseconds};
 ghost use Rattle.genedit_join.specs.Ends.{end_behind};
 
@@ -9,13 +10,13 @@ use crate::ends::{Board, End, Tally, end_behind, goes_on, is_kept, is_rescued, t
 use crate::fault::{JoinFault, of_client};
 use crate::files::{FileFault, read_whole, refused_text, write_whole, wrote_text};
 use crate::joining::JoinOptions;
-use crate::late::{drawn_text, last_of, refusal_text};
+use crate::late::{drawn_behind, drawn_text, late_outcome, refusal_text};
 use crate::own_files::OwnFiles;
 use crate::patience::{Patience, SECONDS, WaitStep, is_kept_after, say_waiting, step_after};
 use crate::rescue::{SeatPlace, has_writes, keep};
-use crate::telling::{tell_kept, tell_lost, tell_unkept, warn_of_rule};
+use crate::telling::{tell_kept, tell_left_out, tell_lost, tell_unkept, warn_of_rule};
 use client_commands::{ClientCommand, FileName, FileTarget, Wait};
-use client_session::{Client, CommandFault, Outcome, end_of, rest_within, time_until};
+use client_session::{Client, Outcome, end_of, rest_within, time_until};
 use client_tasks::{Done, carry_on, carry_out, open};
 use devices::{Sink, Source};
 use genedit_io::{RunFault, push_output};
@@ -249,37 +250,43 @@ impl<'a, R: Clock + Files + Eprint, S: Source + Drop, K: Sink + Drop> Joined<'a,
             command => {
                 self.ahead.lend_push();
                 let done = carry_out(&mut self.client, command, interval);
-                self.heard(done, Done::Told)?
+                match self.late_answer()? {
+                    Some(outcome) => done_behind(outcome),
+                    None => done?,
+                }
             }
         };
         self.hear_ahead()?;
         Ok(done)
     }
 
-    /// What a command comes to whose edits were lent. Where one was taken, its answer is awaited here, with the
-    /// board at hand, and the command comes to nothing more.
-    fn heard<D: Drop>(&mut self, came: Result<D, CommandFault>, behind: D) -> Result<D, JoinFault> {
+    /// What came of an edit whose answer did not begin within ten seconds, where the client lent one that is
+    /// such: the answer is awaited here, with the board at hand, and told.
+    fn late_answer(&mut self) -> Result<Option<Outcome>, JoinFault> {
         if !self.ahead.was_push_lent() {
-            return Ok(came?);
+            return Ok(None);
         }
         self.keep_in_doubt();
         self.await_answer(SECONDS);
-        match self.ahead.answer() {
-            Some(0) => self.tell_drawn()?,
-            Some(number) => {
-                let told = refusal_text(self.client.alloc(), number)?;
-                self.client.print(&told)?;
-            }
-            None => return Err(JoinFault::Gone),
+        let Some(number) = self.ahead.answer() else {
+            return Err(JoinFault::Gone);
+        };
+        let outcome = late_outcome(number);
+        if outcome == Outcome::Drawn {
+            self.tell_drawn()?;
+        } else {
+            let told = refusal_text(self.client.alloc(), number)?;
+            self.client.print(&told)?;
         }
-        Ok(behind)
+        Ok(Some(outcome))
     }
 
-    /// Tells that an edit was drawn, once the board has handed it out.
+    /// Polls, and tells the edit of its own that came with it.
     fn tell_drawn(&mut self) -> Result<(), JoinFault> {
-        self.client.follow()?;
+        let known = self.client.replica().journal().len();
+        self.follow()?;
         let replica = self.client.replica();
-        if let Some(stamp) = last_of(replica.journal(), replica.number()) {
+        if let Some(stamp) = drawn_behind(replica.journal(), known, replica.number()) {
             let told = drawn_text(self.client.alloc(), stamp.counter(), stamp.replica())?;
             self.client.print(&told)?;
         }
@@ -359,7 +366,13 @@ impl<'a, R: Clock + Files + Eprint, S: Source + Drop, K: Sink + Drop> Joined<'a,
         self.await_poll();
         self.ahead.lend_push();
         let opened = open(&mut self.client, &text);
-        let outcome = self.heard(opened, Outcome::Drawn)?;
+        let outcome = match self.late_answer()? {
+            Some(outcome) => {
+                tell_left_out(self.rt);
+                outcome
+            }
+            None => opened?,
+        };
         self.hear_ahead()?;
         Ok(going_of(outcome))
     }
@@ -457,6 +470,16 @@ fn whole_milliseconds(left: Option<Duration>) -> u32
     match left {
         Some(left) => u32::try_from(left.as_millis()).unwrap_or(u32::MAX),
         None => 0,
+    }
+}
+
+/// What is left to do behind a command that drew.
+fn done_behind(outcome: Outcome) -> Done
+    ensures { result ≡ behind_drawing outcome }
+{
+    match outcome {
+        Outcome::Drawn | Outcome::Refused => Done::Told,
+        Outcome::InDoubt => Done::InDoubt,
     }
 }
 

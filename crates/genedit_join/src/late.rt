@@ -2,15 +2,31 @@
 
 ghost use Rattle.std.specs.Prelude.{◌≡◌, IfOk};
 ghost use Rattle.client_session.specs.Lines.{drawn_line, refusal_line};
+ghost use Rattle.genedit_join.specs.Commands.{late_outcome};
 
+use client_session::Outcome;
 use edit_stamps::{Edit, Stamp};
 use genedit_io::RunFault;
 use itoa::Buffer;
 use std::alloc::{AllocError, Global};
 
-/// The stamp of the last edit of a seat, if it has one.
-pub(crate) fn last_of(edits: &[Edit], seat: u16) -> Option<Stamp> {
-    for edit in edits.iter().rev() {
+/// The refusal behind which a board may have an edit or not.
+const CLOSED: u8 = 30;
+
+/// What came of an edit, by the number with which it was answered.
+pub(crate) fn late_outcome(number: u8) -> Outcome
+    ensures { result ≡ late_outcome number }
+{
+    match number {
+        0 => Outcome::Drawn,
+        CLOSED => Outcome::InDoubt,
+        _ => Outcome::Refused,
+    }
+}
+
+/// The stamp of a seat's last edit behind the first ones, which were known before, if there is one.
+pub(crate) fn drawn_behind(edits: &[Edit], known: usize, seat: u16) -> Option<Stamp> {
+    for edit in edits.get(known..)?.iter().rev() {
         if edit.stamp().replica() == seat {
             return Some(edit.stamp());
         }

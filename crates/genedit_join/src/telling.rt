@@ -20,6 +20,15 @@ pub(crate) fn tell_doubt<R: Eprint>(rt: &R) {
     let _ = rt.eprintln(IN_DOUBT);
 }
 
+/// What is said where a file draws more than one edit, one of which was answered late.
+const LEFT_OUT: &str =
+    "genedit: where the file takes more than one edit, those behind the late one were not drawn";
+
+/// Says that edits of a file may have been left out.
+pub(crate) fn tell_left_out<R: Eprint>(rt: &R) {
+    let _ = rt.eprintln(LEFT_OUT);
+}
+
 /// Says why a client ends.
 pub(crate) fn tell_end<R: Eprint>(rt: &R, fault: JoinFault) {
     let _ = eprintln!(rt; "genedit: {fault}");
