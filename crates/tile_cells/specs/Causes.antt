@@ -42,7 +42,7 @@ IsNotFilled cells Memory = ⊤
 -- ---- their generations
 
 -- at some step of a run of g generations something holds of all tiles that show the map then, of as many planes as states take
-pub record HoldsAtStep (r : GenerationsRule) (f : Place → ℕ) (g : ℕ) (P : (n : ℕ) → Entries n → Type 0) : Type 0 where
+pub record HoldsOfMapAtStep (r : GenerationsRule) (f : Place → ℕ) (g : ℕ) (P : (n : ℕ) → Entries n → Type 0) : Type 0 where
   pub planes : ℕ
   pub fit : r.states ≤ 2 ^ planes
   pub step : ℕ
@@ -61,8 +61,8 @@ pub record AreTooLong (r : GenerationsRule) (cells : List Cell) (g windows : ℕ
 
 -- why tiles do not tell the cells of a list g generations later; want of memory has no cause
 abbrev pub IsNotRun : GenerationsRule → List Cell → ℕ → ℕ → TileFault → Type 0
-IsNotRun r cells g windows Full = HoldsAtStep r (states_in cells) g (λ n tiles. 65536 < length tiles)
-IsNotRun r cells g windows Far = (AreInside cells → ⊥) ⊎ HoldsAtStep r (states_in cells) g (λ n tiles. AllInside n tiles → ⊥)
+IsNotRun r cells g windows Full = HoldsOfMapAtStep r (states_in cells) g (λ n tiles. 65536 < length tiles)
+IsNotRun r cells g windows Far = (AreInside cells → ⊥) ⊎ HoldsOfMapAtStep r (states_in cells) g (λ n tiles. AllInside n tiles → ⊥)
 IsNotRun r cells g windows Long = AreTooLong r cells g windows
 IsNotRun r cells g windows Memory = ⊤
 
