@@ -33,8 +33,9 @@ IsBlank _ _ = ⊥
 
 -- edits that come are not told
 abbrev pub is_quiet : Telling → Bool
+is_quiet Edits = false
+is_quiet Changes = false
 is_quiet Nothing = true
-is_quiet telling = false
 
 -- of a client that was handed nothing, and drew nothing
 pub record IsFresh (telling : Telling) (number : ℕ) (rule : GenerationsRule) (s : Workspace) : Type 0 where
