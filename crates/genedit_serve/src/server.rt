@@ -43,6 +43,13 @@ pub struct ServedBoard {
     pub key: HashKey,
 }
 
+/// A listener, and the port at which it listens.
+#[derive(Drop)]
+struct Bound {
+    listener: TcpListener,
+    port: u16,
+}
+
 /// Listens at a port of this machine's loopback, where nobody comes in from outside; at any free one for 0; or
 /// why that cannot be had.
 pub fn listen<R: Net<Listener = TcpListener, Stream = TcpStream>>(
@@ -93,7 +100,10 @@ pub fn serve_on<
         limits: Limits::of_key(board.key),
     };
     match start_within(rt, alloc, board.rule, size) {
-        Ok(opened) => serve::<Brand, R, K>(rt, alloc, opened, listener, address.port(), sink),
+        Ok(opened) => {
+            let port = address.port();
+            serve::<Brand, R, K>(rt, alloc, opened, Bound { listener, port }, sink)
+        }
         Err(fault) => Err(start_fault(fault)),
     }
 }
@@ -110,27 +120,20 @@ fn serve<
         + Sync
         + 'static,
     K: Sink,
->(
-    rt: R,
-    alloc: Global,
-    opened: Opened<R>,
-    listener: TcpListener,
-    port: u16,
-    sink: &mut K,
-) -> Result<(), RunFault>
+>(rt: R, alloc: Global, opened: Opened<R>, bound: Bound, sink: &mut K) -> Result<(), RunFault>
     requires origin { opened.publisher.origin ≡ J.origin }
     requires inbox { (arc_value opened.drain.queue).table.shared.table_id ≡ J.inbox }
     requires room { ruled_capacity (arc_value opened.drain.queue) ≡ 64 }
     requires squares { opened.tried.store.room ≡ usual_room }
-    ensures { ServesAt opened.rule opened.count port (K.known sink.old) (K.known sink.new) result }
+    ensures { ServesAt opened.rule opened.count bound.port (K.known sink.old) (K.known sink.new) result }
 {
     let (relay, seats) = match opened.named::<J>() {
         Ok(named) => named,
         Err(fault) => return Err(start_fault(fault)),
     };
-    let line = listening(alloc, port)?;
+    let line = listening(alloc, bound.port)?;
     push_output(sink, &line)?;
-    match seats_served(rt, alloc, relay, seats, listener) {
+    match seats_served(rt, alloc, relay, seats, bound) {
         Err(fault) => Err(server_fault(fault)),
         Ok(finished) => {
             let text = closing(alloc, &finished)?;
@@ -157,7 +160,7 @@ fn seats_served<
     alloc: Global,
     relay: Relay<J, R>,
     seats: Vec<Seat<J>>,
-    listener: TcpListener,
+    bound: Bound,
 ) -> Result<Finished<ReadSource<TcpStream>, WriteSink<TcpStream>>, ServerFault>
     requires all { relay.made ≡ length seats.items }
     requires order { Numbered 0 seats.items }
@@ -166,7 +169,8 @@ fn seats_served<
     ensures goes_on { IfOk result (λ f. GoesOnFrom 1000 relay (list_of f.account.front)) }
     ensures reason { IfErr result (IsReason 1000 relay seats.items) }
 {
-    let (Ok(address), Ok(theirs)) = (listener.local_addr(), listener.try_clone()) else {
+    let Bound { listener, port } = bound;
+    let Ok(theirs) = listener.try_clone() else {
         return Err(ServerFault::Read);
     };
     let started = match Turning::start(rt, alloc, theirs) {
@@ -177,10 +181,7 @@ fn seats_served<
         return Err(ServerFault::Read);
     };
     let count = u16::try_from(seats.len()).unwrap_or(u16::MAX);
-    let knock = Knock {
-        rt: &rt,
-        port: address.port(),
-    };
+    let knock = Knock { rt: &rt, port };
     let streams = Streams {
         acceptor: Connections::of(rt, listener, count, seated),
         wake: &knock,

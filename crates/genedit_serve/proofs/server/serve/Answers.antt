@@ -11,7 +11,7 @@ seats_served-requires-clause-order g c κs within =
 
 pub returns-in-Err-seats_served : goal.returns-in-Err-seats_served
 returns-in-Err-seats_served g c =
-    unserved c.args.opened.rule c.args.opened.count _ _ c.args.port c.deref.result.now c.in_ok-push_output.field-0 (c.deref.ensures.value ∙ c.in_ok-line.ensures) c.in_ok-push_output.ensures.pushed
+    unserved c.args.opened.rule c.args.opened.count _ _ c.args.bound.port c.deref.result.now c.in_ok-push_output.field-0 (c.deref.ensures.value ∙ c.in_ok-line.ensures) c.in_ok-push_output.ensures.pushed
     _ c.in-Ok.named.1.items c.in-Err-seats_served.fault c.server_fault.result
     (record {
       published = c.in-Ok.ensures.relay.0;
@@ -26,7 +26,7 @@ returns-in-Err-seats_served g c =
 
 pub returns : goal.returns
 returns g c =
-    ends c.args.opened.rule c.args.opened.count _ _ c.args.port c.deref.result.now c.in_ok-push_output.field-0 (c.deref.ensures.value ∙ c.in_ok-line.ensures) c.in_ok-push_output.ensures.pushed
+    ends c.args.opened.rule c.args.opened.count _ _ c.args.bound.port c.deref.result.now c.in_ok-push_output.field-0 (c.deref.ensures.value ∙ c.in_ok-line.ensures) c.in_ok-push_output.ensures.pushed
     c.in-Ok.named.0.origin c.in-Ok.named.1.items c.in-Ok-seats_served.finished _
     c.push_output-in-Ok-seats_served.result c.deref-in-Ok-seats_served.result.now c.in-Ok.ensures.states
     (subst (λ (room : ℕ). AllFresh c.args.opened.rule room 0 c.in-Ok.named.1.items) c.requires.room c.in-Ok.ensures.seats.0, c.in-Ok.ensures.seats.1)
