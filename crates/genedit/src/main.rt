@@ -76,9 +76,9 @@ fn perform<
     requires { IsInRange task.now }
 {
     match task {
-        Task::Run => run(rt, alloc),
+        Task::Run(file) => run(rt, alloc, *file),
         Task::Check(file) => check(rt, alloc, *file),
-        Task::Rle(rule) => rle(rt, alloc, rule),
+        Task::Rle(form) => rle(rt, alloc, form),
         Task::View(viewing) => view(rt, alloc, viewing, to_terminal),
         Task::Serve(server) => serve(rt, alloc, *server),
         Task::Join(client) => join(rt, alloc, *client),

@@ -3,7 +3,7 @@
 use crate::opening::{opened, tell_unread};
 use devices::{ReadSource, Source, WriteSink};
 use genedit_io::RunFault;
-use genedit_view::{BufferedSink, Form, ViewFault, ViewOptions, Window, window_of};
+use genedit_view::{BufferedSink, Form, ViewFault, ViewOptions, Window, WindowFault, window_of};
 use genedit_words::Viewing;
 use std::alloc::Global;
 use std::io;
@@ -15,8 +15,21 @@ const WELL: u8 = 0;
 /// The words are at fault.
 const WORDS: u8 = 2;
 
-/// What is said of a window that is none.
-const NO_WINDOW: &str = "a window is asked for by --at X,Y and --size W,H together";
+/// What is said of a corner without sides, and of sides without a corner.
+const NO_SIZE: &str =
+    "--at is without --size: a window is asked for by both, as --at -3,4 --size 40x20";
+
+const NO_CORNER: &str =
+    "--size is without --at: a window is asked for by both, as --at -3,4 --size 40x20";
+
+/// Why the words ask for no window.
+#[derive(Clone, Copy)]
+enum NoWindow<'a> {
+    /// One of its two options is missing.
+    Half(&'static str),
+    /// What one of them spells, whose name this is, is no part of a window.
+    Value(&'a str, &'static str, WindowFault),
+}
 
 /// Draws what a file has, or standard input. To a terminal it is in colours, unless another form is asked for.
 pub fn view<R: Files + Input + Print + Eprint>(
@@ -25,9 +38,9 @@ pub fn view<R: Files + Input + Print + Eprint>(
     viewing: &Viewing<'_>,
     to_terminal: bool,
 ) -> Result<u8, RunFault> {
-    let Some(window) = window(viewing) else {
-        let _ = eprintln!(rt; "genedit: {NO_WINDOW}");
-        return Ok(WORDS);
+    let window = match window(viewing) {
+        Ok(window) => window,
+        Err(fault) => return Ok(tell_no_window(rt, fault)),
     };
     let options = ViewOptions {
         form: form(viewing, to_terminal),
@@ -55,13 +68,32 @@ fn form(viewing: &Viewing<'_>, to_terminal: bool) -> Form {
     }
 }
 
-/// The window that is asked for, if one is; none where the words spell no window.
-fn window(viewing: &Viewing<'_>) -> Option<Option<Window>> {
+/// The window that is asked for, if one is.
+fn window<'a>(viewing: &Viewing<'a>) -> Result<Option<Window>, NoWindow<'a>> {
     match (viewing.at, viewing.size) {
-        (None, None) => Some(None),
-        (Some(at), Some(size)) => window_of(at.as_bytes(), size.as_bytes()).map(Some),
-        (None, Some(_)) | (Some(_), None) => None,
+        (None, None) => Ok(None),
+        (Some(_), None) => Err(NoWindow::Half(NO_SIZE)),
+        (None, Some(_)) => Err(NoWindow::Half(NO_CORNER)),
+        (Some(at), Some(size)) => match window_of(at.as_bytes(), size.as_bytes()) {
+            Ok(window) => Ok(Some(window)),
+            Err(WindowFault::Corner) => {
+                Err(NoWindow::Value(at, "--at <X,Y>", WindowFault::Corner))
+            }
+            Err(fault) => Err(NoWindow::Value(size, "--size <W,H>", fault)),
+        },
     }
+}
+
+/// Says why the words ask for no window; the status of the process.
+fn tell_no_window(rt: &impl Eprint, fault: NoWindow<'_>) -> u8 {
+    let _ = match fault {
+        NoWindow::Half(text) => eprintln!(rt; "genedit: {text}"),
+        NoWindow::Value(word, option, fault) => {
+            let text = fault.text();
+            eprintln!(rt; "genedit: invalid value '{word}' for '{option}': {text}")
+        }
+    };
+    WORDS
 }
 
 /// Draws what a source has.

@@ -8,7 +8,7 @@ use genedit_io::RunFault;
 use genedit_lib::run_script;
 use genedit_rle::rle_text;
 use genedit_serve::{ServedBoard, listen, serve_on};
-use genedit_words::ServeTask;
+use genedit_words::{RleTask, ServeTask};
 use generations_rule::Rule;
 use keyed_hash::{HashKey, RandomBytes};
 use script_check::{CheckOutcome, check_script};
@@ -29,19 +29,52 @@ const TOLD: u8 = 1;
 /// What a script on standard input is called.
 const SCRIPT: &str = "script";
 
-/// Runs the script on standard input and prints what happened.
-pub fn run(rt: &(impl Input + Print), alloc: Global) -> Result<u8, RunFault> {
-    let mut source = ReadSource::new(rt.reader());
+/// Runs the script of a file, or of standard input, and prints what happened.
+pub fn run<R: Files + Input + Print + Eprint>(
+    rt: &R,
+    alloc: Global,
+    file: Option<&str>,
+) -> Result<u8, RunFault> {
+    match file {
+        None => run_of(rt, alloc, &mut ReadSource::new(rt.reader())),
+        Some(path) => match opened(rt, path) {
+            Err(cause) => tell_unread(rt, alloc, path, cause),
+            Ok(file) => run_of(rt, alloc, &mut ReadSource::new(file)),
+        },
+    }
+}
+
+/// Runs the script that a source has.
+fn run_of<S: Source>(rt: &impl Print, alloc: Global, source: &mut S) -> Result<u8, RunFault> {
     let mut sink = WriteSink::new(io::writer(rt));
-    run_script(alloc, &mut source, &mut sink)?;
+    run_script(alloc, source, &mut sink)?;
     Ok(WELL)
 }
 
-/// Prints the canonical form of the text on standard input.
-pub fn rle(rt: &(impl Input + Print), alloc: Global, rule: &Rule) -> Result<u8, RunFault> {
-    let mut source = ReadSource::new(rt.reader());
+/// Prints the canonical form of the text of a file, or of standard input.
+pub fn rle<R: Files + Input + Print + Eprint>(
+    rt: &R,
+    alloc: Global,
+    form: &RleTask<'_>,
+) -> Result<u8, RunFault> {
+    match form.file {
+        None => form_of(rt, alloc, &form.rule, &mut ReadSource::new(rt.reader())),
+        Some(path) => match opened(rt, path) {
+            Err(cause) => tell_unread(rt, alloc, path, cause),
+            Ok(file) => form_of(rt, alloc, &form.rule, &mut ReadSource::new(file)),
+        },
+    }
+}
+
+/// Prints the canonical form of the text that a source has.
+fn form_of<S: Source>(
+    rt: &impl Print,
+    alloc: Global,
+    rule: &Rule,
+    source: &mut S,
+) -> Result<u8, RunFault> {
     let mut sink = WriteSink::new(io::writer(rt));
-    rle_text(alloc, rule, &mut source, &mut sink)?;
+    rle_text(alloc, rule, source, &mut sink)?;
     Ok(WELL)
 }
 

@@ -13,6 +13,9 @@ use Rattle.export.specs.declared.fault.ExportFault.TheVariants as exports
 use Rattle.export.specs.ExportFault.{export_fault_number}
 use Rattle.genedit_io.specs.declared.fault.RunFault.TheVariants.{Memory, Refused, StoreFull}
 use Rattle.genedit_io.specs.RunFault.{exit_status, run_fault_text}
+use Rattle.header_rules.specs.declared.spelling.Misspelling.{Misspelling}
+use Rattle.header_rules.specs.declared.spelling.Misspelling.TheVariants.{Fault, Other}
+use Rattle.header_rules.specs.FamilyWords.{family_words}
 use Rattle.genedit_view.specs.declared.fault.ViewFault.{ViewFault}
 use Rattle.genedit_view.specs.declared.fault.ViewFault.TheVariants.{HeaderRule, NoRule, Run}
 
@@ -20,13 +23,19 @@ use Rattle.genedit_view.specs.declared.fault.ViewFault.TheVariants.{HeaderRule, 
 abbrev pub view_status : ViewFault → ℕ
 view_status (Run fault) = exit_status fault
 view_status NoRule = 2
-view_status (HeaderRule place) = 2
+view_status (HeaderRule place why) = 2
+
+-- what the program says of a rule that a header tells at this place and that is none: of one of another family which
+-- one it is, and of any other text that a rule can be given
+abbrev pub header_fault_text : ℕ → Misspelling → List ℕ
+header_fault_text place (Fault fault) = codes "no rule at byte " ++ (decimal place ++ codes ": give one by --rule")
+header_fault_text place (Other family) = codes "the rule at byte " ++ (decimal place ++ (codes " is " ++ family_words family))
 
 -- what the program says
 abbrev pub view_fault_text : ViewFault → List ℕ
 view_fault_text (Run fault) = run_fault_text fault
 view_fault_text NoRule = codes "no rule is told: give one by --rule"
-view_fault_text (HeaderRule place) = codes "no rule at byte " ++ (decimal place ++ codes ": give one by --rule")
+view_fault_text (HeaderRule place why) = header_fault_text place why
 
 abbrev pub memory_wanted : ViewFault
 memory_wanted = Run Memory

@@ -4,3 +4,4 @@ pub mod Reading
 pub mod Seeing
 pub mod Words
 pub mod Runs
+pub mod Rows

@@ -19,6 +19,7 @@ use Rattle.delta_exchange.specs.Versions.{IsReadableStateText}
 use Rattle.generation_engine.specs.Universe.{states_in_writes}
 use Rattle.genedit_rle.specs.Canonical.{cells_in_plane}
 use Rattle.header_rules.specs.declared.header.HeaderRule.{HeaderRule}
+use Rattle.header_rules.specs.declared.spelling.Misspelling.{Misspelling}
 use Rattle.header_rules.specs.HeaderRule.{header_rule_told}
 use Rattle.cell_pictures.specs.Shown.{state_at}
 use Rattle.genedit_view.specs.declared.fault.ViewFault.{ViewFault}
@@ -31,10 +32,10 @@ begins_as_state text = bytes_eq (take 4 text) state_magic
 
 -- ---- patterns
 
--- a rule that a header tells at a place, if it can be read
-abbrev pub read_rule : ℕ → Option GenerationsRule → Result GenerationsRule ViewFault
-read_rule place None = Err (faults.HeaderRule place)
-read_rule place (Some r) = Ok r
+-- a rule that a header tells at a place, unless its text spells none
+abbrev pub read_rule : ℕ → Result GenerationsRule Misspelling → Result GenerationsRule ViewFault
+read_rule place (Err why) = Err (faults.HeaderRule place why)
+read_rule place (Ok r) = Ok r
 
 abbrev pub rule_told : Option HeaderRule → Result GenerationsRule ViewFault
 rule_told None = Err faults.NoRule

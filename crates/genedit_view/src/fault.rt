@@ -6,6 +6,7 @@ use delta_exchange::ReadFault;
 use edit_stamps::EditFault;
 use export::ExportFault;
 use genedit_io::RunFault;
+use header_rules::Misspelling;
 use multistate_rle::RleFault;
 use std::alloc::AllocError;
 use std::error::Error;
@@ -18,8 +19,8 @@ pub enum ViewFault {
     Run(RunFault),
     /// No rule was given, and the text tells none.
     NoRule,
-    /// No rule was given, and what the header tells as one, at this place of the text, cannot be read.
-    HeaderRule(u64),
+    /// No rule was given, and what the header tells as one, at this place of the text, spells none; why.
+    HeaderRule(u64, Misspelling),
 }
 
 impl ViewFault {
@@ -31,7 +32,7 @@ impl ViewFault {
     {
         match self {
             ViewFault::Run(fault) => fault.exit_status(),
-            ViewFault::NoRule | ViewFault::HeaderRule(_) => 2,
+            ViewFault::NoRule | ViewFault::HeaderRule(_, _) => 2,
         }
     }
 
@@ -61,10 +62,14 @@ impl fmt::Display for ViewFault {
         match self {
             ViewFault::Run(fault) => write!(f, "{fault}"),
             ViewFault::NoRule => f.write_str("no rule is told: give one by --rule"),
-            ViewFault::HeaderRule(place) => write!(
+            ViewFault::HeaderRule(place, Misspelling::Fault(_)) => write!(
                 f,
                 "no rule at byte {place}: give one by --rule"
             ),
+            ViewFault::HeaderRule(place, Misspelling::Other(family)) => {
+                let family = family.words();
+                write!(f, "the rule at byte {place} is {family}")
+            }
         }
     }
 }

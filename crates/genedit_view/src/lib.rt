@@ -16,4 +16,4 @@ pub use cell_pictures::{BufferedSink, Form, Window};
 pub use fault::ViewFault;
 pub use options::ViewOptions;
 pub use viewing::{view, view_within};
-pub use words::window_of;
+pub use words::{WindowFault, window_of};

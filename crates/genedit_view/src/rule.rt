@@ -35,8 +35,8 @@ fn told_rule(text: &[u8]) -> Result<Rule, ViewFault>
         return Err(ViewFault::NoRule);
     };
     match told.rule {
-        Some(rule) => Ok(rule),
-        None => Err(ViewFault::HeaderRule(told.place as u64)),
+        Ok(rule) => Ok(rule),
+        Err(why) => Err(ViewFault::HeaderRule(told.place as u64, why)),
     }
 }
 

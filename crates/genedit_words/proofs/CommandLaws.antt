@@ -132,7 +132,7 @@ own_rule_well : UsesWell ok false given_own_rule
 own_rule_well = set_well given_own_rule refl (λ rows h. cc) (λ v vs passes. refl)
 
 gen_well : UsesWell ok false given_gen
-gen_well = set_well given_gen refl (λ rows h. cc) (λ v vs passes. first_passes false (vp.Signed (pos 0) (pos 4294967295)) v vs passes)
+gen_well = set_well given_gen refl (λ rows h. cc) (λ v vs passes. first_passes false (vp.Signed (pos 0) (pos 536870912)) v vs passes)
 
 plain_well : UsesWell ok false given_plain
 plain_well = flag_well given_plain refl refl refl refl
@@ -143,13 +143,21 @@ svg_well = flag_well given_svg refl refl refl refl
 help_well : UsesWell ok false (filled help_rule)
 help_well values rows passes holds = holds
 
+-- the rule of `rle`, beside which a file has a place
+abbrev given_form_rule : Rule
+given_form_rule = with_index 2 (filled rule_option)
+
+form_rule_well : UsesWell ok false given_form_rule
+form_rule_well = set_well given_form_rule refl (λ rows h. cc) (λ v vs passes. refl)
+
 rle_well : (p : Rule → Bool) → IsWellUsed ok false (find p rle_built.rules)
-rle_well p = go (p given_rule) (p (filled help_rule))
+rle_well p = go (p given_file) (p given_form_rule) (p (filled help_rule))
   where
-    go : (a b : Bool) → IsWellUsed ok false (if a then Some given_rule else (if b then Some (filled help_rule) else None))
-    go true b = rule_well
-    go false true = help_well
-    go false false = tt
+    go : (a b c : Bool) → IsWellUsed ok false (if a then Some given_file else (if b then Some given_form_rule else (if c then Some (filled help_rule) else None)))
+    go true b c = file_well
+    go false true c = form_rule_well
+    go false false true = help_well
+    go false false false = tt
 
 serve_well : (p : Rule → Bool) → IsWellUsed ok false (find p serve_built.rules)
 serve_well p = go (p given_rule) (p given_port) (p given_sessions) (p (filled help_rule))
@@ -257,7 +265,7 @@ rle_has_rule : (words : List Text) → level_fault rle_built [] nothing_held wor
 rle_has_rule words passes =
     let rows = rows_after rle_built.rules [] words in
     let parts = level_passes rle_built [] nothing_held words false [] passes in
-    let fine = rows_well ok rle_built rle_well (plain_default given_rule refl, (plain_default (filled help_rule) refl, tt)) words parts.0 parts.2 in
+    let fine = rows_well ok rle_built rle_well (plain_default given_file refl, (plain_default given_form_rule refl, (plain_default (filled help_rule) refl, tt))) words parts.0 parts.2 in
     let given = none_missing (is_given (codes "rule") rows) false (asks_argument false false (not (is_given (codes "rule") rows) || false) parts.3) in
     has_first (codes "rule") rows (given_value (codes "rule") rows fine given.0)
 
@@ -345,7 +353,7 @@ view_has_all words passes =
       ),
     ) words parts.0 parts.2 in
     record {
-      generation = may_have_number 0 4294967295 (codes "gen") rows fine (λ how v fit. fit);
+      generation = may_have_number 0 536870912 (codes "gen") rows fine (λ how v fit. fit);
       plain = has_flag (codes "plain") rows fine (λ how v fit. fit);
       svg = has_flag (codes "svg") rows fine (λ how v fit. fit);
     }

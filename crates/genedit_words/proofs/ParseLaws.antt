@@ -13,12 +13,12 @@ use Rattle.clap.specs.Matches.{subcommand_name_of}
 use Rattle.clap.specs.declared.parser.matches.ArgMatches.{ArgMatches}
 use Rattle.clap.specs.declared.parser.matches.ArgMatches.TheViews.{out-ArgMatches, out-SubCommand}
 use Rattle.clap.specs.declared.parser.matches.SubCommand.{SubCommand}
-use Rattle.genedit_io.specs.declared.fault.RunFault.{RunFault}
 use Rattle.genedit_words.specs.Given.{Has, HasBy, IsNamed}
 use Rattle.genedit_words.specs.declared.ending.Ending.{Ending}
 use Rattle.genedit_words.specs.declared.ending.Ending.TheVariants as ending
-use Rattle.genedit_words.specs.Words.{Asks, EndsWords, check_asked, genedit_app, join_asked, view_asked, rle_asked, serve_asked, task_of}
-use Rattle.genedit_words.specs.Told.{Told, Run}
+use Rattle.genedit_words.specs.Misspelt.{Misspelt}
+use Rattle.genedit_words.specs.Words.{Asks, EndsWords, genedit_app, task_of}
+use Rattle.genedit_words.specs.Told.{Told}
 use Rattle.genedit_words.proofs.CommandLaws.{words_named}
 
 -- the name of the subcommand that was entered, by its rows
@@ -45,7 +45,7 @@ is_parse app words m same has passes = record {
 pub is_named : (words : List Text) (m : ArgMatches) → IsParse words m → IsNamed (subcommand_rows_of m)
 is_named words m parse = subst IsNamed (sym parse.entered) (words_named words parse.passes)
 
-pub asks : (words : List Text) (m : ArgMatches) (task : Result Told RunFault) → IsParse words m → option_and_then task_of (subcommand_rows_of m) ≡ Some task → Asks words task
+pub asks : (words : List Text) (m : ArgMatches) (task : Result Told Misspelt) → IsParse words m → option_and_then task_of (subcommand_rows_of m) ≡ Some task → Asks words task
 asks words m task parse asked = (parse.passes, ap (option_and_then task_of) (sym parse.entered) ∙ asked)
 
 -- words that are a fault end with an error of its kind
@@ -75,26 +75,24 @@ module _ (m : ArgMatches) (rows : List Row) (named : IsNamed (subcommand_rows_of
         subst (λ (rs : List Row). Has name rs) r has,
       )
 
--- where no other subcommand was entered, `run` is asked for
-pub run_is_asked : (m : ArgMatches) → IsNamed (subcommand_rows_of m) → (subcommand_name_of m ≡ Some (codes "rle") → ⊥) → (subcommand_name_of m ≡ Some (codes "serve") → ⊥)
+-- where no other subcommand was entered, `run` was
+pub run_is_entered : (m : ArgMatches) → IsNamed (subcommand_rows_of m) → (subcommand_name_of m ≡ Some (codes "rle") → ⊥) → (subcommand_name_of m ≡ Some (codes "serve") → ⊥)
     → (subcommand_name_of m ≡ Some (codes "check") → ⊥) → (subcommand_name_of m ≡ Some (codes "view") → ⊥) → (subcommand_name_of m ≡ Some (codes "join") → ⊥)
-    → option_and_then task_of (subcommand_rows_of m) ≡ Some (Ok Run)
-run_is_asked m named not_rle not_serve not_check not_view not_join =
-    ap (option_and_then task_of) named.met
-    ∙ go (bytes_eq named.name (codes "run")) (bytes_eq named.name (codes "rle")) (bytes_eq named.name (codes "serve")) (bytes_eq named.name (codes "check"))
-    (bytes_eq named.name (codes "view")) (bytes_eq named.name (codes "join")) refl refl refl refl refl named.has
+    → subcommand_name_of m ≡ Some (codes "run")
+run_is_entered m named not_rle not_serve not_check not_view not_join =
+    go (bytes_eq named.name (codes "run")) (bytes_eq named.name (codes "rle")) (bytes_eq named.name (codes "serve")) (bytes_eq named.name (codes "check"))
+    (bytes_eq named.name (codes "view")) (bytes_eq named.name (codes "join")) refl refl refl refl refl refl named.has
   where
     is : (name : Text) → bytes_eq named.name name ≡ true → subcommand_name_of m ≡ Some name
     is name same = entered_name m ∙ (ap (option_map (λ (p : Text × List Row). p.0)) named.met ∙ ap (λ (t : Text). Some t) ((bytes_eq-Decides named.name name).0 same))
 
-    go : (a b c d e f : Bool) → bytes_eq named.name (codes "rle") ≡ b → bytes_eq named.name (codes "serve") ≡ c → bytes_eq named.name (codes "check") ≡ d
+    go : (a b c d e f : Bool) → bytes_eq named.name (codes "run") ≡ a → bytes_eq named.name (codes "rle") ≡ b → bytes_eq named.name (codes "serve") ≡ c → bytes_eq named.name (codes "check") ≡ d
         → bytes_eq named.name (codes "view") ≡ e → bytes_eq named.name (codes "join") ≡ f → HasBy a b c d e f named.rows
-        → (if a then Some (Ok Run) else if b then rle_asked named.rows else if c then serve_asked named.rows else if d then check_asked named.rows
-        else if e then view_asked named.rows else if f then join_asked named.rows else None) ≡ Some (Ok Run)
-    go true b c d e f same_b same_c same_d same_e same_f has = refl
-    go false true c d e f same_b same_c same_d same_e same_f has = absurd (not_rle (is (codes "rle") same_b))
-    go false false true d e f same_b same_c same_d same_e same_f has = absurd (not_serve (is (codes "serve") same_c))
-    go false false false true e f same_b same_c same_d same_e same_f has = absurd (not_check (is (codes "check") same_d))
-    go false false false false true f same_b same_c same_d same_e same_f has = absurd (not_view (is (codes "view") same_e))
-    go false false false false false true same_b same_c same_d same_e same_f has = absurd (not_join (is (codes "join") same_f))
-    go false false false false false false same_b same_c same_d same_e same_f has = absurd has
+        → subcommand_name_of m ≡ Some (codes "run")
+    go true b c d e f same_a same_b same_c same_d same_e same_f has = is (codes "run") same_a
+    go false true c d e f same_a same_b same_c same_d same_e same_f has = absurd (not_rle (is (codes "rle") same_b))
+    go false false true d e f same_a same_b same_c same_d same_e same_f has = absurd (not_serve (is (codes "serve") same_c))
+    go false false false true e f same_a same_b same_c same_d same_e same_f has = absurd (not_check (is (codes "check") same_d))
+    go false false false false true f same_a same_b same_c same_d same_e same_f has = absurd (not_view (is (codes "view") same_e))
+    go false false false false false true same_a same_b same_c same_d same_e same_f has = absurd (not_join (is (codes "join") same_f))
+    go false false false false false false same_a same_b same_c same_d same_e same_f has = absurd has

@@ -32,7 +32,7 @@ HasFlag id rows = (one_of id rows ≡ Some (codes "true")) ⊎ ((one_of id rows 
 
 -- what a picture may be asked with
 pub record HasView (rows : List Row) : Type 0 where
-  pub generation : MayHaveNumber 0 4294967295 (codes "gen") rows
+  pub generation : MayHaveNumber 0 536870912 (codes "gen") rows
   pub plain : HasFlag (codes "plain") rows
   pub svg : HasFlag (codes "svg") rows
 

@@ -1,3 +1,6 @@
+pub mod RuleWords
+pub mod Misspelt
+pub mod Bound
 pub mod Ending
 pub mod Told
 pub mod Words

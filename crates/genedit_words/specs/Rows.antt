@@ -1,26 +1,19 @@
 -- Worked values of the definitions.
 use Rattle.std.specs.Prelude.{◌≡◌, ◌∷◌, [], codes, refl, Ok, Err, Some, None, List, true, false}
+use Rattle.std.specs.Fmt.{digits}
 use Rattle.clap.proofs.OnLiterals.{clap_on_literals}
 use Rattle.clap.specs.Words.{Text, fault_of, is_simple_and_free}
 use Rattle.clap.specs.declared.error.kind.ErrorKind.TheVariants as kind
-use Rattle.genedit_io.specs.declared.fault.RunFault.TheVariants.{Refused}
+use Rattle.generations_rule.specs.RuleText.{rule_of_text}
+use Rattle.generations_rule.specs.declared.fault.RuleFault.TheVariants.{Digit, Slashes, States}
+use Rattle.header_rules.specs.declared.family.OtherFamily.TheVariants.{Bounded, NonTotalistic}
+use Rattle.header_rules.specs.declared.spelling.Misspelling.TheVariants.{Fault, Other}
+use Rattle.header_rules.specs.Families.{other_names, table_ends, table_fronts}
+use Rattle.header_rules.specs.Names.{rule_names}
+use Rattle.genedit_words.specs.Bound.{bound_words}
+use Rattle.genedit_words.specs.Misspelt.{misspelt_text}
 use Rattle.genedit_words.specs.Told.{Check, Join, Run, View}
 use Rattle.genedit_words.specs.Words.{Asks, genedit_app, rle_task, rule_asked, serve_task}
-
-pub no_slashes : rule_asked (codes "23/3") ≡ Err (Refused 1 None)
-no_slashes = refl
-
-pub no_digit : rule_asked (codes "23/03/2") ≡ Err (Refused 2 (Some 3))
-no_digit = refl
-
-pub too_many_states : rule_asked (codes "23/3/257") ≡ Err (Refused 3 None)
-too_many_states = refl
-
--- ---- command lines
-
--- clap's contracts say all that they can of such a command
-is_simple : is_simple_and_free genedit_app ≡ true
-is_simple = refl
 
 abbrev genedit : List Text → List Text
 genedit words = codes "genedit" ∷ words
@@ -28,17 +21,111 @@ genedit words = codes "genedit" ∷ words
 abbrev rle : List Text → List Text
 rle words = genedit (codes "rle" ∷ words)
 
-script : Asks (genedit (codes "run" ∷ [])) (Ok Run)
+abbrev view : List Text → List Text
+view words = genedit (codes "view" ∷ words)
+
+-- ---- rules
+
+pub life : rule_asked (codes "B3/S23") ≡ Ok (rule_of_text (codes "23/3/2"))
+life = refl
+
+pub star_wars : rule_asked (codes "Star Wars") ≡ Ok (rule_of_text (codes "345/2/4"))
+unfolding rule_names
+star_wars = refl
+
+pub no_slashes : rule_asked (codes "life?") ≡ Err (record { text = codes "life?"; why = Fault Slashes })
+unfolding rule_names other_names table_fronts table_ends
+no_slashes = refl
+
+pub no_slashes_told : misspelt_text (codes "life?") (Fault Slashes)
+    ≡ codes "refused 1 Slashes: a rule is survival/birth/states, as 23/3/2, or Golly's B3/S23"
+unfolding digits
+no_slashes_told = refl
+
+pub no_digit : rule_asked (codes "23/x3/2") ≡ Err (record { text = codes "23/x3/2"; why = Fault (Digit 3) })
+unfolding rule_names other_names table_fronts table_ends
+no_digit = refl
+
+pub no_digit_told : misspelt_text (codes "23/x3/2") (Fault (Digit 3))
+    ≡ codes "refused 2 Digit 3: survival counts are 0 to 8 and birth counts 1 to 8, and that byte is none; a rule is survival/birth/states, as 23/3/2, or Golly's B3/S23"
+unfolding digits
+no_digit_told = refl
+
+pub too_many_states : rule_asked (codes "23/3/257") ≡ Err (record { text = codes "23/3/257"; why = Fault States })
+unfolding rule_names other_names table_fronts table_ends
+too_many_states = refl
+
+pub too_many_states_told : misspelt_text (codes "23/3/257") (Fault States)
+    ≡ codes "refused 3 States: the number of states is not 2 to 256; a rule is survival/birth/states, as 23/3/2, or Golly's B3/S23"
+unfolding digits
+too_many_states_told = refl
+
+pub letters : rule_asked (codes "B2e3/S23") ≡ Err (record { text = codes "B2e3/S23"; why = Other NonTotalistic })
+unfolding rule_names
+letters = refl
+
+pub letters_told : misspelt_text (codes "B2e3/S23") (Other NonTotalistic)
+    ≡ codes "the rule B2e3/S23 is of another family (letters behind counts): this program has Golly's Generations without letters alone"
+letters_told = refl
+
+pub bounds : rule_asked (codes "B3/S23:T100") ≡ Err (record { text = codes "B3/S23:T100"; why = Other Bounded })
+unfolding rule_names
+bounds = refl
+
+pub bounds_told : misspelt_text (codes "B3/S23:T100") (Other Bounded)
+    ≡ codes "the rule B3/S23:T100 is of another family (a bounded grid): this program has Golly's Generations on a plane without bounds alone"
+bounds_told = refl
+
+-- ---- numbers below 0 behind their options
+
+pub corner : bound_words (view (codes "gun.rle" ∷ codes "--at" ∷ codes "-3,4" ∷ codes "--size" ∷ codes "9,9" ∷ []))
+    ≡ view (codes "gun.rle" ∷ codes "--at=-3,4" ∷ codes "--size" ∷ codes "9,9" ∷ [])
+corner = refl
+
+pub generation_below_0 : bound_words (view (codes "--gen" ∷ codes "-1" ∷ codes "--at" ∷ codes "-0,0" ∷ []))
+    ≡ view (codes "--gen=-1" ∷ codes "--at=-0,0" ∷ [])
+generation_below_0 = refl
+
+-- a number is put together with one option, and an option with no option
+pub options_in_a_row : bound_words (view (codes "--at" ∷ codes "--gen" ∷ codes "-1" ∷ codes "-2" ∷ codes "--at" ∷ codes "-x" ∷ []))
+    ≡ view (codes "--at" ∷ codes "--gen=-1" ∷ codes "-2" ∷ codes "--at" ∷ codes "-x" ∷ [])
+options_in_a_row = refl
+
+pub behind_dashes : bound_words (view (codes "--" ∷ codes "--at" ∷ codes "-3,4" ∷ [])) ≡ view (codes "--" ∷ codes "--at" ∷ codes "-3,4" ∷ [])
+behind_dashes = refl
+
+pub other_subcommand : bound_words (rle (codes "--at" ∷ codes "-3,4" ∷ [])) ≡ rle (codes "--at" ∷ codes "-3,4" ∷ [])
+other_subcommand = refl
+
+-- ---- command lines
+
+-- clap's contracts say all that they can of such a command
+is_simple : is_simple_and_free genedit_app ≡ true
+is_simple = refl
+
+script : Asks (genedit (codes "run" ∷ [])) (Ok (Run None))
 unfolding clap_on_literals
 script = (refl, refl)
 
-form : Asks (rle (codes "--rule" ∷ codes "23/3/2" ∷ [])) (rle_task (rule_asked (codes "23/3/2")))
+script_of_a_file : Asks (genedit (codes "run" ∷ codes "my.script" ∷ [])) (Ok (Run (Some (codes "my.script"))))
+unfolding clap_on_literals
+script_of_a_file = (refl, refl)
+
+script_of_standard_input : Asks (genedit (codes "run" ∷ codes "-" ∷ [])) (Ok (Run None))
+unfolding clap_on_literals
+script_of_standard_input = (refl, refl)
+
+form : Asks (rle (codes "--rule" ∷ codes "23/3/2" ∷ [])) (rle_task None (rule_asked (codes "23/3/2")))
 unfolding clap_on_literals
 form = (refl, refl)
 
-form_by_equals : Asks (rle (codes "--rule=/2/3" ∷ [])) (rle_task (rule_asked (codes "/2/3")))
+form_by_equals : Asks (rle (codes "--rule=/2/3" ∷ [])) (rle_task None (rule_asked (codes "/2/3")))
 unfolding clap_on_literals
 form_by_equals = (refl, refl)
+
+form_of_a_file : Asks (rle (codes "gun.rle" ∷ codes "--rule" ∷ codes "B3/S23" ∷ [])) (rle_task (Some (codes "gun.rle")) (rule_asked (codes "B3/S23")))
+unfolding clap_on_literals
+form_of_a_file = (refl, refl)
 
 abbrev serve : List Text → List Text
 serve words = genedit (codes "serve" ∷ words)
@@ -68,6 +155,19 @@ window_of_a_file : Asks (genedit (codes "view" ∷ codes "gun.rle" ∷ codes "--
     (Ok (View (record { file = Some (codes "gun.rle"); rule = None; at = Some (codes "-3,4"); size = Some (codes "9,9"); generation = Some 30; is_plain = false; is_svg = true })))
 unfolding clap_on_literals
 window_of_a_file = (refl, refl)
+
+last_generation : Asks (genedit (codes "view" ∷ codes "--gen=536870912" ∷ []))
+    (Ok (View (record { file = None; rule = None; at = None; size = None; generation = Some 536870912; is_plain = false; is_svg = false })))
+unfolding clap_on_literals
+last_generation = (refl, refl)
+
+generation_too_late : fault_of genedit_app (genedit (codes "view" ∷ codes "--gen=536870913" ∷ [])) ≡ kind.ValueValidation ∷ []
+unfolding clap_on_literals
+generation_too_late = refl
+
+generation_that_is_none : fault_of genedit_app (genedit (codes "view" ∷ codes "--gen=-1" ∷ [])) ≡ kind.ValueValidation ∷ []
+unfolding clap_on_literals
+generation_that_is_none = refl
 
 flag_with_a_value : fault_of genedit_app (genedit (codes "view" ∷ codes "--svg=yes" ∷ [])) ≡ kind.TooManyValues ∷ []
 unfolding clap_on_literals
@@ -116,8 +216,8 @@ no_port : fault_of genedit_app (serve (codes "--rule=/2/3" ∷ codes "--sessions
 unfolding clap_on_literals
 no_port = refl
 
-refused_rule : Asks (rle (codes "--rule" ∷ codes "23/3" ∷ [])) (Err (Refused 1 None))
-unfolding clap_on_literals
+refused_rule : Asks (rle (codes "--rule" ∷ codes "life?" ∷ [])) (Err (record { text = codes "life?"; why = Fault Slashes }))
+unfolding clap_on_literals rule_names other_names table_fronts table_ends
 refused_rule = (refl, refl)
 
 no_word : fault_of genedit_app (genedit []) ≡ kind.MissingSubcommand ∷ []
@@ -129,7 +229,7 @@ unknown_word : fault_of genedit_app (genedit (codes "jump" ∷ [])) ≡ kind.Unk
 unfolding clap_on_literals
 unknown_word = refl
 
-word_too_many : fault_of genedit_app (genedit (codes "run" ∷ codes "now" ∷ [])) ≡ kind.UnknownArgument ∷ []
+word_too_many : fault_of genedit_app (genedit (codes "run" ∷ codes "my.script" ∷ codes "now" ∷ [])) ≡ kind.UnknownArgument ∷ []
 unfolding clap_on_literals
 word_too_many = refl
 

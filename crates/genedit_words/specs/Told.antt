@@ -1,7 +1,8 @@
 -- What words can ask for, as plain data.
 use Rattle.std.specs.Prelude.{ℕ, Bool, List, Option, option_map, Result, Ok, Err}
 use Rattle.generations_rule.specs.Rule.{GenerationsRule}
-use Rattle.genedit_io.specs.declared.fault.RunFault.{RunFault}
+use Rattle.genedit_words.specs.Misspelt.{Misspelt}
+use Rattle.genedit_words.specs.declared.misspelt.MisspeltRule.{MisspeltRule}
 use Rattle.genedit_words.specs.declared.task.JoinTask.{JoinTask}
 use Rattle.genedit_words.specs.declared.task.ServeTask.{ServeTask}
 use Rattle.genedit_words.specs.declared.task.Task.{Task}
@@ -18,8 +19,8 @@ pub record Viewed : Type 0 where
   pub is_svg : Bool
 
 pub data Told : Type 0 where
-  Run : Told
-  Rle : (rule : GenerationsRule) → Told
+  Run : (file : Option (List ℕ)) → Told
+  Rle : (file : Option (List ℕ)) → (rule : GenerationsRule) → Told
   Serve : (server : ServeTask) → Told
   Check : (file : Option (List ℕ)) → Told
   View : (viewed : Viewed) → Told
@@ -27,8 +28,8 @@ pub data Told : Type 0 where
 
 -- what a task is, by its texts
 abbrev pub told_of : Task → Told
-told_of task.Run = Run
-told_of (task.Rle rule) = Rle rule
+told_of (task.Run file) = Run (option_map (λ s. s.now) file)
+told_of (task.Rle form) = Rle (option_map (λ s. s.now) form.file) form.rule
 told_of (task.Serve server) = Serve server
 told_of (task.Join client) = Join client
 told_of (task.Check file) = Check (option_map (λ s. s.now) file)
@@ -42,7 +43,12 @@ told_of (task.View viewing) = View (record {
   is_svg = viewing.is_svg;
 })
 
+-- what was looked for, or the word that spells no rule
+abbrev pub or_misspelt : {T : Type 0} → Result T MisspeltRule → Result T Misspelt
+or_misspelt (Ok x) = Ok x
+or_misspelt (Err wrong) = Err (record { text = wrong.text.now; why = wrong.why })
+
 -- a task, or why there is none
-abbrev pub told : Result Task RunFault → Result Told RunFault
+abbrev pub told : Result Task MisspeltRule → Result Told Misspelt
 told (Ok task) = Ok (told_of task)
-told (Err fault) = Err fault
+told (Err wrong) = Err (record { text = wrong.text.now; why = wrong.why })

@@ -1,6 +1,6 @@
 -- What the words of the command line ask for.
 use Rattle.std.specs.Option.{option_map_or}
-use Rattle.std.specs.Prelude.{◌≡◌, ◌⊎◌, ◌∷◌, [], ℕ, Bool, List, Option, Some, None, Result, Ok, Err, codes, pos}
+use Rattle.std.specs.Prelude.{◌≡◌, ◌∷◌, [], ℕ, Bool, List, Option, Some, None, Result, Ok, Err, codes, pos, string_bytes}
 use Rattle.std.specs.Prelude.{true, false, if◌then◌else◌, option_map, option_and_then, unwrap_or}
 use Rattle.std.specs.Str.{bytes_eq}
 use Rattle.std.specs.Str.Parse.{digits_value, without_leading_plus}
@@ -9,24 +9,24 @@ use Rattle.clap.specs.Words.{subcommand_of}
 use Rattle.clap.specs.Simple.{new_shape}
 use Rattle.clap.specs.declared.builder.action.ArgAction.TheVariants.{Set, SetTrue}
 use Rattle.clap.specs.declared.builder.value_parser.ValueParser.TheVariants as vp
-use Rattle.generations_rule.specs.declared.fault.RuleFault.{RuleFault}
 use Rattle.generations_rule.specs.Rule.{GenerationsRule}
-use Rattle.generations_rule.specs.RuleFault.{rule_fault_number, rule_fault_place}
-use Rattle.generations_rule.specs.RuleText.{parsed}
-use Rattle.genedit_io.specs.declared.fault.RunFault.{RunFault}
-use Rattle.genedit_io.specs.declared.fault.RunFault.TheVariants.{Memory, Refused}
+use Rattle.header_rules.specs.declared.spelling.Misspelling.{Misspelling}
+use Rattle.header_rules.specs.SpelledRule.{rule_spelled}
+use Rattle.genedit_io.specs.declared.fault.RunFault.TheVariants.{Memory}
 use Rattle.genedit_words.specs.declared.ending.Ending.{Ending}
 use Rattle.genedit_words.specs.declared.ending.Ending.TheVariants as ending
 use Rattle.genedit_words.specs.declared.task.JoinTask.{JoinTask}
+use Rattle.genedit_words.specs.Misspelt.{Misspelt, misspelt_text}
 use Rattle.genedit_words.specs.Told.{Told, Viewed, Check, Join, Rle, Run, Serve, View}
 
--- the rule, or the refusal with which the program ends
-abbrev pub rule_or_refusal : Result GenerationsRule RuleFault → Result GenerationsRule RunFault
-rule_or_refusal (Ok rule) = Ok rule
-rule_or_refusal (Err fault) = Err (Refused (rule_fault_number fault) (rule_fault_place fault))
+-- the rule, or the word that spells none
+abbrev pub rule_or_misspelt : Text → Result GenerationsRule Misspelling → Result GenerationsRule Misspelt
+rule_or_misspelt text (Ok rule) = Ok rule
+rule_or_misspelt text (Err why) = Err (record { text = text; why = why })
 
-abbrev pub rule_asked : List ℕ → Result GenerationsRule RunFault
-rule_asked text = rule_or_refusal (parsed text)
+-- the rule that a word spells
+abbrev pub rule_asked : Text → Result GenerationsRule Misspelt
+rule_asked text = rule_or_misspelt text (rule_spelled text)
 
 -- ---- the command line
 
@@ -49,9 +49,9 @@ flag name = record (new_rule name) {
   action = Some SetTrue;
 }
 
--- a generation: any number of 32 bits
+-- a generation: 0 to 2^29
 abbrev pub gen_option : Rule
-gen_option = record (optional (codes "gen")) { parser = Some (vp.Signed (pos 0) (pos 4294967295)) }
+gen_option = record (optional (codes "gen")) { parser = Some (vp.Signed (pos 0) (pos 536870912)) }
 
 abbrev pub rule_option : Rule
 rule_option = option (codes "rule")
@@ -73,10 +73,10 @@ abbrev pub file_argument : Rule
 file_argument = record (new_rule (codes "file")) { value_names = 1 }
 
 abbrev pub run_shape : Shape
-run_shape = new_shape (codes "run")
+run_shape = record (new_shape (codes "run")) { rules = file_argument ∷ [] }
 
 abbrev pub rle_shape : Shape
-rle_shape = record (new_shape (codes "rle")) { rules = rule_option ∷ [] }
+rle_shape = record (new_shape (codes "rle")) { rules = file_argument ∷ rule_option ∷ [] }
 
 abbrev pub serve_shape : Shape
 serve_shape = record (new_shape (codes "serve")) { rules = rule_option ∷ port_option ∷ sessions_option ∷ [] }
@@ -127,27 +127,39 @@ genedit_app = record {
 abbrev pub number_of : Text → List Row → Option ℕ
 number_of id rows = option_map (λ text. digits_value 10 (without_leading_plus text)) (one_of id rows)
 
-abbrev pub rle_task : Result GenerationsRule RunFault → Result Told RunFault
-rle_task (Ok rule) = Ok (Rle rule)
-rle_task (Err fault) = Err fault
+-- the file that is named, unless that is `-`, which is standard input
+abbrev pub named_file : Text → Option Text
+named_file path = if bytes_eq path (codes "-") then None else Some path
+
+-- the file to read, if one is named
+abbrev pub file_asked : List Row → Option Text
+file_asked rows = option_and_then named_file (first_of (codes "file") rows)
+
+-- a script is run, of a file or of standard input
+abbrev pub run_asked : List Row → Option (Result Told Misspelt)
+run_asked rows = Some (Ok (Run (file_asked rows)))
+
+abbrev pub rle_task : Option Text → Result GenerationsRule Misspelt → Result Told Misspelt
+rle_task file (Ok rule) = Ok (Rle file rule)
+rle_task file (Err fault) = Err fault
 
 -- the canonical form under the rule that the option spells
-abbrev pub rle_asked : List Row → Option (Result Told RunFault)
-rle_asked rows = option_map (λ text. rle_task (rule_asked text)) (first_of (codes "rule") rows)
+abbrev pub rle_asked : List Row → Option (Result Told Misspelt)
+rle_asked rows = option_map (λ text. rle_task (file_asked rows) (rule_asked text)) (first_of (codes "rule") rows)
 
-abbrev pub serve_task : Result GenerationsRule RunFault → ℕ → ℕ → Result Told RunFault
+abbrev pub serve_task : Result GenerationsRule Misspelt → ℕ → ℕ → Result Told Misspelt
 serve_task (Ok rule) port sessions = Ok (Serve (record { rule = rule; port = port; sessions = sessions }))
 serve_task (Err fault) port sessions = Err fault
 
 -- a server under the rule, at the port and of as many sessions as the options spell
-abbrev pub serve_asked : List Row → Option (Result Told RunFault)
+abbrev pub serve_asked : List Row → Option (Result Told Misspelt)
 serve_asked rows = option_and_then (λ text. option_and_then (λ port.
     option_map (λ sessions. serve_task (rule_asked text) port sessions) (number_of (codes "sessions") rows))
     (number_of (codes "port") rows)) (first_of (codes "rule") rows)
 
 -- what is wrong with a script, of a file or of standard input
-abbrev pub check_asked : List Row → Option (Result Told RunFault)
-check_asked rows = Some (Ok (Check (first_of (codes "file") rows)))
+abbrev pub check_asked : List Row → Option (Result Told Misspelt)
+check_asked rows = Some (Ok (Check (file_asked rows)))
 
 -- whether a flag was given
 abbrev pub is_set : Text → List Row → Bool
@@ -156,7 +168,7 @@ is_set id rows = option_map_or (λ text. bytes_eq text (codes "true")) (one_of i
 -- a picture under this rule, if there is one
 abbrev pub viewing : List Row → Option GenerationsRule → Viewed
 viewing rows rule = record {
-  file = first_of (codes "file") rows;
+  file = file_asked rows;
   rule = rule;
   at = first_of (codes "at") rows;
   size = first_of (codes "size") rows;
@@ -165,21 +177,21 @@ viewing rows rule = record {
   is_svg = is_set (codes "svg") rows;
 }
 
-abbrev pub some_rule : Result GenerationsRule RunFault → Result (Option GenerationsRule) RunFault
+abbrev pub some_rule : Result GenerationsRule Misspelt → Result (Option GenerationsRule) Misspelt
 some_rule (Ok rule) = Ok (Some rule)
 some_rule (Err fault) = Err fault
 
 -- the rule that an option spells, if it is given
-abbrev pub rule_if_given : Option Text → Result (Option GenerationsRule) RunFault
+abbrev pub rule_if_given : Option Text → Result (Option GenerationsRule) Misspelt
 rule_if_given None = Ok None
 rule_if_given (Some text) = some_rule (rule_asked text)
 
-abbrev pub view_task : List Row → Result (Option GenerationsRule) RunFault → Result Told RunFault
+abbrev pub view_task : List Row → Result (Option GenerationsRule) Misspelt → Result Told Misspelt
 view_task rows (Ok rule) = Ok (View (viewing rows rule))
 view_task rows (Err fault) = Err fault
 
 -- a picture of a pattern or of a state, under the rule that the option spells if it is given
-abbrev pub view_asked : List Row → Option (Result Told RunFault)
+abbrev pub view_asked : List Row → Option (Result Told Misspelt)
 view_asked rows = Some (view_task rows (rule_if_given (first_of (codes "rule") rows)))
 
 -- how many milliseconds are let pass between two polls: what the option spells, else 50
@@ -198,12 +210,12 @@ client_at rows port = record {
 }
 
 -- a client at the port that the option spells
-abbrev pub join_asked : List Row → Option (Result Told RunFault)
+abbrev pub join_asked : List Row → Option (Result Told Misspelt)
 join_asked rows = option_map (λ port. Ok (Join (client_at rows port))) (number_of (codes "port") rows)
 
 -- what a subcommand asks for, by its name and its rows
-abbrev pub task_of : Text × List Row → Option (Result Told RunFault)
-task_of subcommand = if bytes_eq subcommand.0 (codes "run") then Some (Ok Run)
+abbrev pub task_of : Text × List Row → Option (Result Told Misspelt)
+task_of subcommand = if bytes_eq subcommand.0 (codes "run") then run_asked subcommand.1
     else if bytes_eq subcommand.0 (codes "rle") then rle_asked subcommand.1
     else if bytes_eq subcommand.0 (codes "serve") then serve_asked subcommand.1
     else if bytes_eq subcommand.0 (codes "check") then check_asked subcommand.1
@@ -211,15 +223,22 @@ task_of subcommand = if bytes_eq subcommand.0 (codes "run") then Some (Ok Run)
     else if bytes_eq subcommand.0 (codes "join") then join_asked subcommand.1
     else None
 
-abbrev pub task_asked : List Text → Option (Result Told RunFault)
+abbrev pub task_asked : List Text → Option (Result Told Misspelt)
 task_asked words = option_and_then task_of (subcommand_of genedit_app words)
 
 -- the words are a command line of `genedit`, and ask for this
-abbrev pub Asks : List Text → Result Told RunFault → Type 0
+abbrev pub Asks : List Text → Result Told Misspelt → Type 0
 Asks words task = (fault_of genedit_app words ≡ []) × (task_asked words ≡ Some task)
+
+-- the words ask for a rule that is none, and this is said of it
+pub record AsksMisspelt (words : List Text) (line : List ℕ) : Type 0 where
+  pub misspelt : Misspelt
+  pub asks : Asks words (Err misspelt)
+  pub told : line ≡ misspelt_text misspelt.text misspelt.why
 
 -- why no task comes of words: they are no command line, they spell no rule, or memory is refused
 abbrev pub EndsWords : List Text → Ending → Type 0
 EndsWords words (ending.Words error) = HasKind (fault_of genedit_app words) error
 EndsWords words ending.NoText = ⊥
-EndsWords words (ending.Run fault) = (fault ≡ Memory) ⊎ Asks words (Err fault)
+EndsWords words (ending.Rule line) = AsksMisspelt words (string_bytes line)
+EndsWords words (ending.Run fault) = fault ≡ Memory

@@ -37,7 +37,11 @@ What is refused prints `refused NUMBER NAME`, and the script goes on. `genedit c
 what is wrong with a script, each mistake with its place and its cure.
 
 The status is 0, refused commands included; 2 where a line is at fault, and then nothing is run.
-Statuses of any command: 3 where a read failed, 4 where a write failed, 5 without memory.";
+Statuses of any command: 3 where a read failed, 4 where a write failed, 5 without memory.
+
+Examples:
+  genedit run my.script
+  genedit run < my.script";
 
 const CHECK_HELP: &str = "\
 For each line at fault it prints `FILE:LINE:COLUMN: ` and the reason, the line, and a mark under the
@@ -49,20 +53,24 @@ The status is 0 where there is nothing to mend, and 1 where there is.
 
 Examples:
   genedit check my.script
-  genedit check < my.script && genedit run < my.script";
+  genedit check my.script && genedit run my.script";
 
 const FORM_HELP: &str = "\
 The text has an optional line `#CXRLE Pos=x,y Gen=n`, a header `x = w, y = h`, and runs of cells up to
 an end mark `!`; other lines that begin with # are comments. Each cell is moved by the position. What
-is printed has maximal runs, no count of 1, and lines of at most 70 bytes. Life is the rule 23/3/2, which
-Golly spells B3/S23 too.
+is printed has maximal runs, no count of 1, and lines of at most 70 bytes. The rule is survival/birth/states,
+as 23/3/2 for Life; it is taken as Golly spells it too, as B3/S23, B2/S345/C4 or Star Wars.
 
-The status is 0, or 2 where the rule or the text is refused; then `refused NUMBER NAME` is told.";
+The status is 0, or 2 where the rule or the text is refused; then `refused NUMBER NAME` is told.
+
+Examples:
+  genedit rle --rule B3/S23 glider.rle
+  genedit rle --rule 345/2/4 < ship.rle > canonical.rle";
 
 const VIEW_HELP: &str = "\
 The text is an RLE text, or a state as it is saved, which begins with GLWS. Without --rule its own rule
-is taken; an RLE text may tell it as Golly does, as B3/S23. Coordinates are those of the text's position
-and its columns and rows; y grows downwards.
+is taken; an RLE text may tell it as Golly does, as B3/S23, and so may --rule. Coordinates are those of the
+text's position and its columns and rows; y grows downwards.
 
 On a terminal it draws two cells a character, in Golly's colours; else, and with --plain, a character
 for each cell: `.` is dead, and of two states `O` is live; of more, `A` to `Z`, `a` to `z` and `0` to
@@ -73,14 +81,14 @@ it goes before --plain.
 Examples:
   genedit view gun.rle
   genedit view --gen 30 --svg < gun.rle > gun.svg
-  genedit view gun.rle --at=-3,4 --size=40,20";
+  genedit view gun.rle --at -3,4 --size 40x20";
 
 const SERVE_HELP: &str = "\
 Serves one board to programs on this machine, each of which speaks the protocol of docs/FORMATS.md over
 a connection to 127.0.0.1. Every user of this machine may connect. A seat is a connection: the first one
 that comes is seat 1, and each that comes counts for ever, also one that was lost. So begin with more
 sessions than people: for a class take --sessions 64. Whoever comes after the last is answered that all
-seats are taken.
+seats are taken. The rule is survival/birth/states, or as Golly spells it, as B3/S23 or Star Wars.
 
 It prints `listening PORT`. Once each seat was used and all have ended it prints a line for each of them,
 `session SEAT EDITS ..`, and `closed EDITS`, and ends. Seats that nobody needs any more are used up by
@@ -88,7 +96,7 @@ connections that end at once, as by `nc -z 127.0.0.1 PORT`. Ctrl-C, SIGTERM, a l
 is closed end it at once: without these lines, and with its board, so let somebody save it first.
 
 Examples:
-  genedit serve --rule 23/3/2 --port 7020 --sessions 64      a class draws Life
+  genedit serve --rule B3/S23 --port 7020 --sessions 64      a class draws Life
   genedit serve --rule /2/3 --port 0 --sessions 2            two programs; the port that is free is printed
 
 From another machine: ssh -L 7020:127.0.0.1:7020 HOST, and connect to port 7020 there.";
@@ -114,17 +122,19 @@ polls, so that the drawing goes over all that others drew by then.
   wait N [MS]            polls until others drew N edits, or until MS milliseconds, 10000 if none are
                          given, are over: `edits K` or `late K`
   sleep MS               does nothing for so long
-  bye                    leaves the board, as does the end of the input
+  help, ?                prints the commands in ten lines
+  bye, quit, exit        leaves the board, as does the end of the input
 
 A drawing prints `drawn COUNTER SEAT`. Edits of others are told as `edit COUNTER SEAT cells x y s ..`, a
 cleared area as `area x y w h` before `cells`; with --changes as `now x y s ..`, the cells that look
 different now, also those by drawings of your own. `whole` says that more came than can be told; with
 --changes the cells that look different follow it. With --quiet no edit is told. A file is written whole
-or not at all: `wrote BYTES FILE`; its name is no number alone. One that is there is replaced only by
-export! and save!, or where this client wrote it. What is refused prints `refused NUMBER NAME`, of a file
-with its name and the cause; a line at fault is told on standard error, with its place and its cure, as
-`genedit check` does; and both go on. Of a board that `open` draws in several edits none is drawn behind
-one that is refused.
+or not at all: `wrote BYTES FILE`; its name is no number alone, but in double quotes it may be any, with
+blanks too; `-` is standard output. One that is there is replaced only by export! and save!, or where this
+client wrote it. What is refused prints `refused NUMBER NAME`, of a file with its name and the cause, and
+what would be right is told on standard error, as it is of a line at fault, with its place, as `genedit
+check` does; and both go on. Of a board that `open` draws in several edits none is drawn behind one
+that is refused.
 
 Where the server goes away a client at a terminal keeps its board: save, export, show, pattern and bye go on.
 Any other writes its board, unless it was saved, to pazgrot-PORT-SEAT-K.state in its folder, K the first
@@ -158,7 +168,7 @@ fn text_commands<'a>(alloc: Global) -> Result<Command<'a>, AllocError>
     ensures { IfOk result (λ command. (app_of command ≡ text_app) × ((fields_of command).has_globals ≡ false)) }
 {
     let command = top_command(alloc)
-        .subcommand(run_command(alloc))?
+        .subcommand(run_command(alloc)?)?
         .subcommand(check_command(alloc)?)?
         .subcommand(rle_command(alloc)?)?;
     Ok(command)
@@ -183,17 +193,18 @@ fn titled<'a>(alloc: Global, name: &'a str, about: &'a str, help: &'a str) -> Co
     Command::new(alloc, name).about(about).after_help(help)
 }
 
-fn run_command<'a>(alloc: Global) -> Command<'a>
-    ensures shape { shape_of result ≡ run_shape }
-    ensures local { (fields_of result).has_globals ≡ false }
+fn run_command<'a>(alloc: Global) -> Result<Command<'a>, AllocError>
+    ensures shape { IfOk result (λ command. shape_of command ≡ run_shape) }
+    ensures local { IfOk result (λ command. (fields_of command).has_globals ≡ false) }
 {
-    titled(
+    let command = titled(
         alloc,
         "run",
-        "Runs a script from standard input and prints what happened",
+        "Runs a script and prints what happened",
         SCRIPT_HELP,
     )
-    .override_usage("genedit run < SCRIPT")
+    .arg(file_argument(alloc))?;
+    Ok(command)
 }
 
 fn check_command<'a>(alloc: Global) -> Result<Command<'a>, AllocError>
@@ -217,27 +228,27 @@ fn file_argument<'a>(alloc: Global) -> Arg<'a>
 {
     Arg::new(alloc, "file")
         .value_name("FILE")
-        .help("The file to read; standard input if none is given")
+        .help("The file to read; standard input if none is given, or -")
 }
 
 fn rle_command<'a>(alloc: Global) -> Result<Command<'a>, AllocError>
     ensures shape { IfOk result (λ command. shape_of command ≡ rle_shape) }
     ensures local { IfOk result (λ command. (fields_of command).has_globals ≡ false) }
 {
-    let rule = required(
+    let command = titled(
+        alloc,
+        "rle",
+        "Prints an RLE text in canonical form",
+        FORM_HELP,
+    )
+    .arg(file_argument(alloc))?
+    .arg(required(
         alloc,
         "rule",
         "TEXT",
-        "The rule S/B/C of the cells, as /2/3 or 345/2/4",
-    );
-    titled(
-        alloc,
-        "rle",
-        "Prints an RLE text from standard input in canonical form",
-        FORM_HELP,
-    )
-    .override_usage("genedit rle --rule <TEXT> < RLE")
-    .arg(rule)
+        "The rule of the cells, as 345/2/4; or as Golly has it, as B3/S23",
+    ))?;
+    Ok(command)
 }
 
 fn view_command<'a>(alloc: Global) -> Result<Command<'a>, AllocError>
@@ -255,15 +266,20 @@ fn view_command<'a>(alloc: Global) -> Result<Command<'a>, AllocError>
         alloc,
         "rule",
         "TEXT",
-        "The rule S/B/C of the cells; else the one that the text tells",
+        "The rule of the cells, as 345/2/4 or B3/S23; else the one that the text tells",
     ))?
     .arg(optional(
         alloc,
         "at",
         "X,Y",
-        "The corner of the window, as --at=-3,4; with --size",
+        "The corner of the window, as -3,4; with --size",
     ))?
-    .arg(optional(alloc, "size", "W,H", "The width and height of the window"))?
+    .arg(optional(
+        alloc,
+        "size",
+        "W,H",
+        "The width and height of the window, as 40,20 or 40x20",
+    ))?
     .arg(generation_argument(alloc))?
     .arg(flag(alloc, "plain", "Draws a character for each cell"))?
     .arg(flag(alloc, "svg", "Draws an SVG"))?;
@@ -280,7 +296,7 @@ fn generation_argument<'a>(alloc: Global) -> Arg<'a>
         "G",
         "So many generations after the text's own, 0 to 2^29",
     );
-    generation.value_parser(value_parser!(u32))
+    generation.value_parser(value_parser!(u32).range(0..=536_870_912))
 }
 
 fn serve_command<'a>(alloc: Global) -> Result<Command<'a>, AllocError>
@@ -297,7 +313,7 @@ fn serve_command<'a>(alloc: Global) -> Result<Command<'a>, AllocError>
         alloc,
         "rule",
         "TEXT",
-        "The rule S/B/C of the board, as /2/3 or 345/2/4",
+        "The rule of the board, as /2/3; or as Golly has it, as B3/S23",
     ))?
     .arg(port_argument(alloc, "The port to listen at, 0 for any that is free"))?
     .arg(sessions_argument(alloc))?;

@@ -5,10 +5,11 @@ ghost use Rattle.clap.specs.Words.{kind_of};
 ghost use Rattle.genedit_words.specs.Ending.{IsStatusOf, IsWordsStatus};
 ghost use Rattle.genedit_io.specs.RunFault.{exit_status};
 
+use crate::advice::line_of;
 use clap::Error;
 use clap::error::ErrorKind;
 use genedit_io::RunFault;
-use std::alloc::{AllocError, AllocGlobal, Global};
+use std::alloc::{AllocError, AllocGlobal};
 
 /// The status of a fault of the words.
 const WORDS_STATUS: u8 = 2;
@@ -20,6 +21,8 @@ pub enum Ending {
     Words(Error),
     /// A word is no text.
     NoText,
+    /// A word spells no rule: what is said of it.
+    Rule(String),
     /// The work was left.
     Run(RunFault),
 }
@@ -33,6 +36,10 @@ impl Ending {
             Ending::Words(error) => tell_words(rt, &error),
             Ending::NoText => {
                 let _ = rt.eprintln("genedit: a word is not UTF-8");
+                WORDS_STATUS
+            }
+            Ending::Rule(line) => {
+                let _ = eprintln!(rt; "genedit: {}", line.as_str());
                 WORDS_STATUS
             }
             Ending::Run(fault) => tell_fault(rt, fault),
@@ -90,34 +97,11 @@ fn tell_words<R: Print + Eprint + AllocGlobal>(rt: &R, error: &Error) -> u8
             Err(_) => tell_fault(rt, RunFault::Write),
         };
     }
-    match told(rt.alloc(), error) {
+    match line_of(rt.alloc(), error) {
         Ok(line) => {
             let _ = eprintln!(rt; "genedit: {line}");
             WORDS_STATUS
         }
         Err(_) => tell_fault(rt, RunFault::Memory),
     }
-}
-
-/// The first paragraph of an error's text as one line, which tells the fault; what follows it is
-/// advice.
-fn told(alloc: Global, error: &Error) -> Result<String, AllocError> {
-    first_paragraph(alloc, error.to_string(alloc)?.as_str())
-}
-
-fn first_paragraph(alloc: Global, text: &str) -> Result<String, AllocError> {
-    let mut fault = String::new(alloc);
-    for line in text.lines().take_while(|line| !line.is_empty()) {
-        push_line(&mut fault, line)?;
-    }
-    Ok(fault)
-}
-
-/// Puts a line last, behind a blank where something stands before.
-fn push_line(fault: &mut String, line: &str) -> Result<(), AllocError> {
-    if fault.is_empty() {
-        return fault.push_str(line.strip_prefix("error: ").unwrap_or(line));
-    }
-    fault.push(' ')?;
-    fault.push_str(line.trim())
 }

@@ -2,12 +2,19 @@
 //! for nothing, or what they asked for is left.
 #![tactic(auto)]
 
+mod advice;
 mod commands;
 mod ending;
+mod misspelt;
+mod options;
+mod rule_words;
 mod task;
 mod words;
 
 pub use commands::{JOIN_HELP, SCRIPT_HELP};
 pub use ending::Ending;
-pub use task::{JoinTask, ServeTask, Task, Viewing};
+pub use misspelt::MisspeltRule;
+pub use options::bound;
+pub use rule_words::rule_cure;
+pub use task::{JoinTask, RleTask, ServeTask, Task, Viewing};
 pub use words::{asked, given};

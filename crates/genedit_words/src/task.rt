@@ -2,6 +2,14 @@
 
 use generations_rule::Rule;
 
+/// An RLE text that is brought into canonical form.
+#[derive(Clone, Copy)]
+pub struct RleTask<'a> {
+    /// The file to read; standard input if none is given.
+    pub file: Option<&'a str>,
+    pub rule: Rule,
+}
+
 /// A server of a board.
 #[derive(Clone, Copy)]
 pub struct ServeTask {
@@ -45,12 +53,12 @@ pub struct Viewing<'a> {
 /// What the words ask for.
 #[derive(Clone, Copy)]
 pub enum Task<'a> {
-    /// A script on standard input is run.
-    Run,
+    /// The script of this file, or on standard input, is run.
+    Run(Option<&'a str>),
     /// What is wrong with the script of this file, or on standard input, is told.
     Check(Option<&'a str>),
-    /// An RLE text on standard input is brought into canonical form under this rule.
-    Rle(Rule),
+    /// An RLE text is brought into canonical form.
+    Rle(RleTask<'a>),
     /// A picture is drawn.
     View(Viewing<'a>),
     /// A board is served.

@@ -1,17 +1,20 @@
 //! What the words ask for.
 
-ghost use Rattle.std.specs.Prelude.{◌≡◌, ◌≤◌, ℕ, List, IfErr, IfOk, Ok, Some, codes, map, option_and_then, string_bytes};
+ghost use Rattle.std.specs.Prelude.{◌≡◌, ◌≤◌, ℕ, List, IfErr, IfOk, Ok, Some, codes, map, option_and_then, option_map, string_bytes};
 ghost use Rattle.clap.specs.Words.{first_of, found_of, rows_of, subcommand_rows_of};
 ghost use Rattle.genedit_words.specs.Given.{HasClient, HasFlag, HasNumber, HasRule, HasServer, HasView, IsInRange, IsNamed, MayHaveNumber};
-ghost use Rattle.genedit_words.specs.Told.{told, told_of};
-ghost use Rattle.genedit_words.specs.Words.{Asks, EndsWords, check_asked, interval_asked, is_set, join_asked, number_of, rle_asked, rule_asked, rule_if_given, serve_asked, task_of, view_asked};
+ghost use Rattle.genedit_words.specs.Told.{or_misspelt, told, told_of};
+ghost use Rattle.genedit_words.specs.Words.{Asks, EndsWords, check_asked, file_asked, interval_asked, is_set, join_asked, named_file, number_of, rle_asked, rule_asked, rule_if_given, run_asked, serve_asked, task_of, view_asked};
 
 use crate::commands::command;
 use crate::ending::Ending;
-use crate::task::{JoinTask, ServeTask, Task, Viewing};
+use crate::misspelt::MisspeltRule;
+use crate::options::bound;
+use crate::task::{JoinTask, RleTask, ServeTask, Task, Viewing};
 use clap::ArgMatches;
 use genedit_io::RunFault;
 use generations_rule::Rule;
+use header_rules::spelled_rule;
 use std::alloc::{AllocGlobal, Global};
 use std::io::ErrorKind;
 use std::rt::Env;
@@ -19,10 +22,13 @@ use std::rt::Env;
 /// How many milliseconds are let pass between two polls where the words do not say it.
 const INTERVAL: u16 = 50;
 
-/// The words with which the program was started, its own name first.
+/// The words with which the program was started, its own name first, as `bound` makes them.
 pub fn given<R: Env + AllocGlobal>(rt: &R) -> Result<Vec<String>, Ending> {
     match std::env::args(rt) {
-        Ok(words) => Ok(words.collect(rt.alloc())?),
+        Ok(words) => {
+            let words: Vec<String> = words.collect(rt.alloc())?;
+            Ok(bound(rt.alloc(), words)?)
+        }
         Err(error) if error.kind() == ErrorKind::OutOfMemory => Err(Ending::Run(RunFault::Memory)),
         Err(_) => Err(Ending::NoText),
     }
@@ -37,12 +43,12 @@ pub fn asked(alloc: Global, words: &[String]) -> Result<Task<'_>, Ending>
     let matches = command(alloc)?.try_get_matches_from(words)?;
     match task(&matches) {
         Ok(task) => Ok(task),
-        Err(fault) => Err(Ending::Run(fault)),
+        Err(rule) => Err(Ending::Rule(rule.to_string(alloc)?)),
     }
 }
 
 /// What the subcommand asks for.
-fn task<'a>(matches: &ArgMatches<'a>) -> Result<Task<'a>, RunFault>
+fn task<'a>(matches: &ArgMatches<'a>) -> Result<Task<'a>, MisspeltRule<'a>>
     requires { IsNamed (subcommand_rows_of matches.now) }
     ensures asked { option_and_then task_of (subcommand_rows_of matches.now) ≡ Some (told result) }
     ensures range { IfOk result IsInRange }
@@ -62,21 +68,51 @@ fn task<'a>(matches: &ArgMatches<'a>) -> Result<Task<'a>, RunFault>
     if let Some(words) = matches.subcommand_matches("join") {
         return Ok(join(words));
     }
-    Ok(Task::Run)
+    let Some(words) = matches.subcommand_matches("run") else {
+        unreachable!()
+    };
+    Ok(run(words))
+}
+
+/// What `run` asks for.
+fn run<'a>(words: &ArgMatches<'a>) -> Task<'a>
+    ensures asked { run_asked (rows_of (found_of words.now)) ≡ Some (Ok (told_of result)) }
+    ensures range { IsInRange result }
+{
+    Task::Run(file(words))
+}
+
+/// The file to read, if one is named: `-` is standard input.
+fn file<'a>(words: &ArgMatches<'a>) -> Option<&'a str>
+    ensures { option_map (λ path. path.now) result ≡ file_asked (rows_of (found_of words.now)) }
+{
+    match words.get_str("file") {
+        None => None,
+        Some(path) => named_file(path),
+    }
+}
+
+fn named_file(path: &str) -> Option<&str>
+    ensures { option_map (λ path. path.now) result ≡ named_file path.now }
+{
+    if path == "-" { None } else { Some(path) }
 }
 
 /// What `rle` asks for.
-fn rle<'a>(words: &ArgMatches<'a>) -> Result<Task<'a>, RunFault>
+fn rle<'a>(words: &ArgMatches<'a>) -> Result<Task<'a>, MisspeltRule<'a>>
     requires { HasRule (rows_of (found_of words.now)) }
     ensures asked { rle_asked (rows_of (found_of words.now)) ≡ Some (told result) }
     ensures range { IfOk result IsInRange }
 {
     let rule = rule(words)?;
-    Ok(Task::Rle(rule))
+    Ok(Task::Rle(RleTask {
+        file: file(words),
+        rule,
+    }))
 }
 
 /// What `serve` asks for.
-fn serve<'a>(words: &ArgMatches<'a>) -> Result<Task<'a>, RunFault>
+fn serve<'a>(words: &ArgMatches<'a>) -> Result<Task<'a>, MisspeltRule<'a>>
     requires { HasServer (rows_of (found_of words.now)) }
     ensures asked { serve_asked (rows_of (found_of words.now)) ≡ Some (told result) }
     ensures range { IfOk result IsInRange }
@@ -124,18 +160,18 @@ fn check<'a>(words: &ArgMatches<'a>) -> Task<'a>
     ensures asked { check_asked (rows_of (found_of words.now)) ≡ Some (Ok (told_of result)) }
     ensures range { IsInRange result }
 {
-    Task::Check(words.get_str("file"))
+    Task::Check(file(words))
 }
 
 /// What `view` asks for.
-fn view<'a>(words: &ArgMatches<'a>) -> Result<Task<'a>, RunFault>
+fn view<'a>(words: &ArgMatches<'a>) -> Result<Task<'a>, MisspeltRule<'a>>
     requires { HasView (rows_of (found_of words.now)) }
     ensures asked { view_asked (rows_of (found_of words.now)) ≡ Some (told result) }
     ensures range { IfOk result IsInRange }
 {
     let rule = rule_if_given(words)?;
     Ok(Task::View(Viewing {
-        file: words.get_str("file"),
+        file: file(words),
         rule,
         at: words.get_str("at"),
         size: words.get_str("size"),
@@ -146,21 +182,21 @@ fn view<'a>(words: &ArgMatches<'a>) -> Result<Task<'a>, RunFault>
 }
 
 /// The rule of the option `--rule`, if it is given.
-fn rule_if_given(words: &ArgMatches<'_>) -> Result<Option<Rule>, RunFault>
-    ensures { result ≡ rule_if_given (first_of (codes "rule") (rows_of (found_of words.now))) }
+fn rule_if_given<'a>(words: &ArgMatches<'a>) -> Result<Option<Rule>, MisspeltRule<'a>>
+    ensures { or_misspelt result ≡ rule_if_given (first_of (codes "rule") (rows_of (found_of words.now))) }
 {
     match words.get_str("rule") {
         None => Ok(None),
         Some(text) => match rule_of(text) {
             Ok(rule) => Ok(Some(rule)),
-            Err(fault) => Err(fault),
+            Err(wrong) => Err(wrong),
         },
     }
 }
 
 /// The generation, if one is given.
 fn generation(words: &ArgMatches<'_>) -> Option<u32>
-    requires { MayHaveNumber 0 4294967295 (codes "gen") (rows_of (found_of words.now)) }
+    requires { MayHaveNumber 0 536870912 (codes "gen") (rows_of (found_of words.now)) }
     ensures { number_of (codes "gen") (rows_of (found_of words.now)) ≡ result }
 {
     words.get_one::<u32>("gen")
@@ -175,22 +211,22 @@ fn is_set(words: &ArgMatches<'_>, id: &str) -> bool
 }
 
 /// The rule of the option `--rule`.
-fn rule(words: &ArgMatches<'_>) -> Result<Rule, RunFault>
+fn rule<'a>(words: &ArgMatches<'a>) -> Result<Rule, MisspeltRule<'a>>
     requires { HasRule (rows_of (found_of words.now)) }
-    ensures { (text : List ℕ) → first_of (codes "rule") (rows_of (found_of words.now)) ≡ Some text → result ≡ rule_asked text }
+    ensures { (text : List ℕ) → first_of (codes "rule") (rows_of (found_of words.now)) ≡ Some text → or_misspelt result ≡ rule_asked text }
 {
     // the option is required, so the words have it
     let text = words.get_str("rule").unwrap();
     rule_of(text)
 }
 
-/// The rule of a text.
-fn rule_of(text: &str) -> Result<Rule, RunFault>
-    ensures { result ≡ rule_asked text.now }
+/// The rule that a text spells.
+fn rule_of(text: &str) -> Result<Rule, MisspeltRule<'_>>
+    ensures { or_misspelt result ≡ rule_asked text.now }
 {
-    match Rule::parse(text.as_bytes()) {
+    match spelled_rule(text.as_bytes()) {
         Ok(rule) => Ok(rule),
-        Err(fault) => Err(RunFault::Refused(fault.number(), fault.place())),
+        Err(why) => Err(MisspeltRule { text, why }),
     }
 }
 

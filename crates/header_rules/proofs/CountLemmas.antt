@@ -1,7 +1,8 @@
--- The rule of two states, by the text that it is printed as.
-use Rattle.std.proofs.Common.{◌≡◌, ℕ, zero, suc, ◌<◌, Bool, true, false, List, [], ◌∷◌, ◌++◌, refl, sym, ◌∙◌, ap, arith, append_assoc, append-nil, map, cond, ◌+◌}
-use Rattle.std.specs.Prelude.{Ok, decimal, ◌==◌}
-use Rattle.std.specs.Fmt.{digits}
+-- A rule, by the text that it is printed as.
+use Rattle.std.proofs.Common.{◌≡◌, ℕ, zero, suc, ◌<◌, Bool, true, false, List, [], ◌∷◌, ◌++◌, refl, sym, ◌∙◌, ap, arith, append_assoc, append-nil, map, cond, ◌+◌, ◌≤◌, length}
+use Rattle.std.specs.Prelude.{Result, Ok, Err, OnOk, decimal, ◌==◌, not}
+use Rattle.std.specs.Result.{is_ok}
+use Rattle.std.proofs.lemmas.Fmt.{length-decimal-le}
 use Rattle.std.specs.List.{list_any}
 use Rattle.generations_rule.specs.Rule.{GenerationsRule, IsRule, has}
 use Rattle.generations_rule.specs.RuleText.{glyph, set_of, text_of_set, is_misfit, parsed}
@@ -38,19 +39,27 @@ count_passed old text digits n small none so_far =
     so_far ∙ ap (λ t. old ++ t) (sym (text_more (set_of digits) n small
     ∙ ap (λ b. text_below (set_of digits) n ++ map glyph (cond b (n ∷ []) [])) (has_count digits n small ∙ none) ∙ append-nil (text_below (set_of digits) n)))
 
-abbrev pub rule_of_digits : List ℕ → List ℕ → GenerationsRule
-rule_of_digits survival birth = record { survival = set_of survival; birth = set_of birth; states = 2 }
+abbrev pub rule_of_digits : List ℕ → List ℕ → ℕ → GenerationsRule
+rule_of_digits survival birth states = record { survival = set_of survival; birth = set_of birth; states = states }
 
-two : decimal 2 ≡ 50 ∷ []
-unfolding digits
-two = refl
-
-is_rule : (survival birth : List ℕ) → list_any (is_misfit 1 8) birth ≡ false → IsRule (rule_of_digits survival birth)
-is_rule survival birth fits = record { survival = refl; birth = refl; no_birth_on_none = no_birth birth fits; least = omega arith; most = omega arith }
+is_rule : (survival birth : List ℕ) (states : ℕ) → list_any (is_misfit 1 8) birth ≡ false → 2 ≤ states → states ≤ 256 → IsRule (rule_of_digits survival birth states)
+is_rule survival birth states fits least most = record { survival = refl; birth = refl; no_birth_on_none = no_birth birth fits; least = least; most = most }
 
 -- what it is printed as is read as it
-pub reads_two_states : (survival birth : List ℕ) → list_any (is_misfit 1 8) birth ≡ false →
-    parsed (text_of_set (set_of survival) ++ 47 ∷ [] ++ text_of_set (set_of birth) ++ 47 ∷ [] ++ 50 ∷ []) ≡ Ok (rule_of_digits survival birth)
-reads_two_states survival birth fits =
-    ap (λ states. parsed (text_of_set (set_of survival) ++ 47 ∷ [] ++ text_of_set (set_of birth) ++ 47 ∷ [] ++ states)) (sym two)
-    ∙ reads_back (rule_of_digits survival birth) (is_rule survival birth fits)
+pub reads_digits : (survival birth : List ℕ) (states : ℕ) → list_any (is_misfit 1 8) birth ≡ false → 2 ≤ states → states ≤ 256 →
+    parsed (text_of_set (set_of survival) ++ 47 ∷ [] ++ text_of_set (set_of birth) ++ 47 ∷ [] ++ decimal states) ≡ Ok (rule_of_digits survival birth states)
+reads_digits survival birth states fits least most = reads_back (rule_of_digits survival birth states) (is_rule survival birth states fits least most)
+
+-- and there are few digits of states
+pub few_digits : (states : ℕ) → states ≤ 256 → length (decimal states) ≤ 3
+few_digits states most = length-decimal-le 3 states (omega arith) (omega arith) (omega arith)
+
+-- counts have no misfit
+pub counted : (any : Bool) → not any ≡ true → any ≡ false
+counted true h = absurd (cc)
+counted false h = refl
+
+-- what holds once it went well
+pub went_well : {A E : Type 0} (r : Result A E) (P : Type 0) → is_ok r ≡ true → OnOk r P → P
+went_well (Ok x) P ok h = h
+went_well (Err e) P ok h = absurd (cc)

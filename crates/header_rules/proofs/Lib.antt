@@ -1,2 +1,4 @@
 pub mod CountLemmas
+pub mod FamilyLemmas
 pub mod LineLemmas
+pub mod TableLemmas

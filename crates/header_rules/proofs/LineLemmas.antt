@@ -8,7 +8,8 @@ use Rattle.text_scan.specs.Bytes.{ends_line, is_space_or_tab, past_prefix, ◌>=
 use Rattle.multistate_rle.specs.Header.{side_spelled, may_end_with, header_of}
 use Rattle.multistate_rle.specs.HeaderLine.{text_lines, may_precede, first_header, HasNoHeader}
 use Rattle.text_scan.proofs.SplitLemmas.{later_parts, split_at}
-use Rattle.header_rules.specs.HeaderRule.{PlacedLine, header_line, behind_sides}
+use Rattle.header_rules.specs.HeaderRule.{PlacedLine, header_line, behind_sides, told_at}
+use Rattle.header_rules.specs.SpelledRule.{rule_spelled}
 
 -- the first line, where it has an end
 pub line_ended : (text : List ℕ) (n : ℕ) → n ≡ position_or_len ends_line text → n < length text → text_lines text ≡ take n text ∷ text_lines (drop (n + 1) text)
@@ -91,3 +92,9 @@ first_counts (line ∷ lines) start found none finds =
 -- a text without a header tells no rule
 pub no_sides : (text : List ℕ) (found : PlacedLine) (rest : List ℕ) → HasNoHeader text → header_line 0 (text_lines text) ≡ Some found → behind_sides found.text ≡ Some rest → ⊥
 no_sides text found rest none finds told = has_sides found.text rest told (first_counts (text_lines text) 0 found none finds)
+
+-- a text that is not empty is told
+pub told_if_some : (place : ℕ) (text : List ℕ) → 0 < length text →
+    Some (record { place = place; length = length text; rule = rule_spelled text }) ≡ told_at place text
+told_if_some place [] some = absurd (omega arith)
+told_if_some place (byte ∷ text) some = refl

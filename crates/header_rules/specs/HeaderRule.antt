@@ -5,7 +5,7 @@ use Rattle.text_scan.specs.Bytes.{is_space_or_tab, past_prefix, ◌>=>◌, behin
 use Rattle.multistate_rle.specs.Header.{side_spelled}
 use Rattle.multistate_rle.specs.HeaderLine.{text_lines, may_precede}
 use Rattle.header_rules.specs.declared.header.HeaderRule.{HeaderRule}
-use Rattle.header_rules.specs.GollyRule.{rule_spelled}
+use Rattle.header_rules.specs.SpelledRule.{rule_spelled}
 
 -- a line, and the place in its text where it begins
 pub record PlacedLine : Type 0 where

@@ -7,7 +7,7 @@ ghost use Rattle.multistate_rle.specs.Header.{side_spelled, number_in_front};
 ghost use Rattle.multistate_rle.specs.HeaderLine.{HasNoHeader, text_lines, may_precede};
 ghost use Rattle.header_rules.specs.HeaderRule.{header_line, behind_sides, behind_rule, rule_text, header_rule_told};
 
-use crate::golly::spelled_rule;
+use crate::spelling::{Misspelling, spelled_rule};
 use generations_rule::Rule;
 use text_scan::{
     behind_symbol, is_all_blank, line_len, number, split_digits, without_blanks,
@@ -21,15 +21,15 @@ pub struct HeaderRule {
     pub place: usize,
     /// How many bytes the rule's text has: 1 at least.
     pub length: usize,
-    /// The rule, unless neither `S/B/C` nor a spelling of Golly's Life-like rules reads its text.
-    pub rule: Option<Rule>,
+    /// The rule that its text spells, or why it spells none.
+    pub rule: Result<Rule, Misspelling>,
 }
 
 /// The rule that the header `x = w, y = h, rule = TEXT` of a pattern text tells: TEXT stands in front
 /// of a comma or of the line's end, without the blanks round it. `None` where the text has no header,
 /// or that tells no rule. The header's line is the one that `multistate_rle::parse` takes.
 ///
-/// A bounded grid, as in Golly's `B3/S23:T100`, is told as a rule that cannot be read.
+/// A text with commas, as `R5,C0,M1`, is told up to the first, and a bounded grid too, as `:T100,200`.
 pub fn header_rule(text: &[u8]) -> Option<HeaderRule>
     ensures told { result ≡ header_rule_told text.now }
     ensures within { IfSome result (λ told. (0 < told.length) × (told.place + told.length ≤ length text.now)) }

@@ -1,9 +1,19 @@
-//! The rule that the header of a pattern text tells, in the editor's spelling of rules or in Golly's
-//! of Life-like ones; reading it takes no memory.
+//! The rule that the header of a pattern text tells, and every spelling that a person types for a rule
+//! of Golly's Generations family; reading takes no memory.
 #![tactic(auto)]
 
-mod golly;
+mod family;
+mod family_forms;
+mod family_names;
+mod forms;
 mod header;
+mod in_family;
+mod letters;
+mod names;
+mod notation;
+mod rule_text;
+mod spelling;
 
-pub use golly::{golly_rule, spelled_rule};
+pub use family::OtherFamily;
 pub use header::{HeaderRule, header_rule};
+pub use spelling::{Misspelling, spelled_rule};

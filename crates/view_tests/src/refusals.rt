@@ -5,7 +5,7 @@ use crate::told::{ALL, later, shown, under};
 use std::alloc::AllocError;
 
 /// Texts, and why nothing is drawn of them.
-static REFUSED: [(&str, &str); 10] = [
+static REFUSED: [(&str, &str); 11] = [
     ("", "refused 4 Header, 0 bytes"),
     ("y = 1\no!", "refused 4 Header, 0 bytes"),
     (
@@ -31,6 +31,10 @@ static REFUSED: [(&str, &str); 10] = [
     (
         "x = 1, y = 1, rule = Q\no!",
         "no rule at byte 21: give one by --rule, 0 bytes",
+    ),
+    (
+        "x = 1, y = 1, rule = B3/S23:T9\no!",
+        "the rule at byte 21 is of another family (a bounded grid): this program has Golly's Generations on a plane without bounds alone, 0 bytes",
     ),
     (
         "#CXRLE Pos=2147483647,0\nx = 2, y = 1, rule = 23/3/2\nBo!",

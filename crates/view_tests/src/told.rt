@@ -21,7 +21,7 @@ pub fn in_form(form: Form) -> ViewOptions {
 /// The same of this window; all where it is none.
 pub fn at(form: Form, at: &str, size: &str) -> ViewOptions {
     ViewOptions {
-        window: window_of(at.as_bytes(), size.as_bytes()),
+        window: window_of(at.as_bytes(), size.as_bytes()).ok(),
         ..in_form(form)
     }
 }

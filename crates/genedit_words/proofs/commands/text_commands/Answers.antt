@@ -5,7 +5,7 @@ use Rattle.genedit_words.proofs.commands.text_commands.Goals as goal
 pub returns : goal.returns
 returns c =
     let begun : IsShape c.top_command.result top_app = record { is = c.top_command.ensures.app; local = c.top_command.ensures.local } in
-    let run = with_command c.top_command.result c.in_ok-subcommand.field-0 c.run_command.result _ run_shape begun c.run_command.ensures.shape c.run_command.ensures.local c.in_ok-subcommand.ensures in
+    let run = with_command c.top_command.result c.in_ok-subcommand.field-0 c.in_ok-run_command.field-0 _ run_shape begun c.in_ok-run_command.ensures.shape c.in_ok-run_command.ensures.local c.in_ok-subcommand.ensures in
     let check = with_command c.in_ok-subcommand.field-0 c.in_ok-subcommand-2.field-0 c.in_ok-check_command.field-0 _ check_shape run c.in_ok-check_command.ensures.shape c.in_ok-check_command.ensures.local c.in_ok-subcommand-2.ensures in
     let rle = with_command c.in_ok-subcommand-2.field-0 c.in_ok-command.command c.in_ok-rle_command.field-0 _ rle_shape check c.in_ok-rle_command.ensures.shape c.in_ok-rle_command.ensures.local c.in_ok-command.ensures in
     (rle.is, rle.local)

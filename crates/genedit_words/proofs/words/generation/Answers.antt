@@ -10,4 +10,4 @@ pub returns : goal.returns
 returns c =
     let same = one_text-rows (found_of c.args.words.now) (codes "gen") in
     is_number_if 32 (λ bs r. ParsesUnsigned 32 10 bs r × ExplainsUnsignedError 10 bs r × HasUnsignedDigitsIfOk bs r) (λ u x g. g.0)
-    0 4294967295 (codes "gen") (rows_of (found_of c.args.words.now)) c.get_one.result (λ none. c.get_one.ensures.none (same ∙ none)) (λ t e. c.get_one.ensures.value t (same ∙ e)) (omega arith) c.requires
+    0 536870912 (codes "gen") (rows_of (found_of c.args.words.now)) c.get_one.result (λ none. c.get_one.ensures.none (same ∙ none)) (λ t e. c.get_one.ensures.value t (same ∙ e)) (omega arith) c.requires

@@ -3,7 +3,7 @@ use Rattle.std.specs.Prelude.{option_and_then}
 use Rattle.clap.specs.Matches.{found_of}
 use Rattle.clap.specs.Walk.{rows_of}
 use Rattle.genedit_words.specs.Words.{task_of}
-use Rattle.genedit_words.proofs.ParseLaws.{is_met, run_is_asked}
+use Rattle.genedit_words.proofs.ParseLaws.{is_met}
 use Rattle.genedit_words.proofs.words.task.Goals as goal
 
 pub serve-requires : goal.serve-requires
@@ -30,10 +30,14 @@ pub join-requires : goal.join-requires
 join-requires c = (is_met c.args.matches.now (rows_of (found_of c.in-Some-subcommand_matches-4.words.now)) c.requires (codes "join")
     (c.in-Some-subcommand_matches-4.ensures.found.0 refl) c.in-Some-subcommand_matches-4.ensures.rows).1
 
-pub returns-clause-asked : goal.returns-clause-asked
-returns-clause-asked c = run_is_asked c.args.matches.now c.requires
-    (λ same. let not = c.in_default.ensures.found.1 same in cc)
-    (λ same. let not = c.in_default-subcommand_matches.ensures.found.1 same in cc)
-    (λ same. let not = c.in_default-subcommand_matches-2.ensures.found.1 same in cc)
-    (λ same. let not = c.in_default-subcommand_matches-3.ensures.found.1 same in cc)
-    (λ same. let not = c.in_default-subcommand_matches-4.ensures.found.1 same in cc)
+pub returns-in-Some-subcommand_matches-2-clause-asked : goal.returns-in-Some-subcommand_matches-2-clause-asked
+returns-in-Some-subcommand_matches-2-clause-asked c =
+    let met = is_met c.args.matches.now (rows_of (found_of c.in-Some-subcommand_matches-2.words.now)) c.requires (codes "check")
+    (c.in-Some-subcommand_matches-2.ensures.found.0 refl) c.in-Some-subcommand_matches-2.ensures.rows in
+    ap (option_and_then task_of) met.0 ∙ c.check.ensures.asked
+
+pub returns-in-Some-subcommand_matches-4-clause-asked : goal.returns-in-Some-subcommand_matches-4-clause-asked
+returns-in-Some-subcommand_matches-4-clause-asked c =
+    let met = is_met c.args.matches.now (rows_of (found_of c.in-Some-subcommand_matches-4.words.now)) c.requires (codes "join")
+    (c.in-Some-subcommand_matches-4.ensures.found.0 refl) c.in-Some-subcommand_matches-4.ensures.rows in
+    ap (option_and_then task_of) met.0 ∙ c.join.ensures.asked
