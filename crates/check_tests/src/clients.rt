@@ -70,7 +70,7 @@ static ASKED: [Faulty; 20] = [
     },
     Faulty {
         line: b"export 1 a b",
-        told: "12: a word too many: `export G [FILE]`",
+        told: "12: a word too many: `export G [FILE]`; a name with blanks stands in double quotes",
     },
     Faulty {
         line: b"export 1 4",
@@ -86,7 +86,7 @@ static ASKED: [Faulty; 20] = [
     },
     Faulty {
         line: b"save! a b",
-        told: "9: a word too many: `save! FILE`",
+        told: "9: a word too many: `save! FILE`; a name with blanks stands in double quotes",
     },
     Faulty {
         line: b"poll 1",
@@ -122,7 +122,7 @@ static ASKED: [Faulty; 20] = [
     },
     Faulty {
         line: b"save a b",
-        told: "8: a word too many: `save FILE`",
+        told: "8: a word too many: `save FILE`; a name with blanks stands in double quotes",
     },
     Faulty {
         line: b"save a # mine",
@@ -205,7 +205,7 @@ static BYTES: [Faulty; 8] = [
     },
     Faulty {
         line: b"save caf\xe9 b",
-        told: "11: a word too many: `save FILE`",
+        told: "11: a word too many: `save FILE`; a name with blanks stands in double quotes",
     },
     Faulty {
         line: b"sav caf\xe9",
@@ -285,7 +285,7 @@ static HEADERS: [Header; 8] = [
     },
     Header {
         text: b"#C\nx=1,y=1,rule=WireWorld\nA!\n",
-        told: "16+9: this pattern's rule is not read; the board's rule is 23/3/2",
+        told: "16+9: this pattern's rule is of another family (Golly runs it by a table): this program has Golly's Generations, told by counts, alone; the board's rule is 23/3/2",
     },
 ];
 

@@ -158,11 +158,13 @@ fn told_command(alloc: Global, command: &ClientCommand) -> Result<String, AllocE
         ClientCommand::Poll => format!(in alloc; "poll"),
         ClientCommand::Wait(wait) => format!(in alloc; "wait {} {}", wait.edits, wait.milliseconds),
         ClientCommand::Sleep(milliseconds) => format!(in alloc; "sleep {milliseconds}"),
-        ClientCommand::Save(target) => {
+        ClientCommand::Save(None) => format!(in alloc; "save -"),
+        ClientCommand::Save(Some(target)) => {
             let name = format!(in alloc; "save{}", sign_of(target))?;
             told_file(alloc, name.as_str(), &target.name)
         }
         ClientCommand::Open(file) => told_file(alloc, "open", file),
+        ClientCommand::Help => format!(in alloc; "help"),
         ClientCommand::Bye => format!(in alloc; "bye"),
     }
 }

@@ -86,8 +86,9 @@ static WORDS: [Mistake; 7] = [
         cells 1 1.5 0 1\n        ^^^\n1 faults\n",
     },
     Mistake {
-        script: b"rule 23/3/2\nreplicas 1\npaste 1 g 0 0\n",
-        told: "script:3:1: `paste` is no command; did you mean `pattern`?\npaste 1 g 0 0\n^^^^^\n1 faults\n",
+        script: b"rule 23/3/2\nreplicas 1\npaste 1 g 0 0\nCELL 1 0 0 1\n",
+        told: "script:3:1: `paste` is no command: `genedit run --help` lists them\npaste 1 g 0 0\n^^^^^\n\
+        script:4:1: `CELL` is no command; did you mean `cells`?\nCELL 1 0 0 1\n^^^^\n2 faults\n",
     },
     Mistake {
         script: b"rule 23/3/2\nreplicas 1\nstate 1 # all of it\n",
@@ -115,14 +116,18 @@ static WORDS: [Mistake; 7] = [
     },
 ];
 
-static RUNS: [Mistake; 4] = [
+static RUNS: [Mistake; 5] = [
+    Mistake {
+        script: b"rule 23/3/2\nreplicas 0\nstate 1\n",
+        told: "script:3:1: will be refused 26 NoReplica: there are no replicas\nstate 1\n^^^^^\n1 refusals\n",
+    },
     Mistake {
         script: b"rule 23/3/2\nreplicas 2\ncells 3 0 0 1\nstate 0\ncells 1 0 0 2\n",
-        told: "script:3:1: will be refused 26 NoReplica: there is no replica of this number; they are numbered from 1\n\
+        told: "script:3:1: will be refused 26 NoReplica: the replicas are 1 to 2\n\
         cells 3 0 0 1\n^^^^^\n\
-        script:4:1: will be refused 26 NoReplica: there is no replica of this number; they are numbered from 1\n\
+        script:4:1: will be refused 26 NoReplica: the replicas are 1 to 2\n\
         state 0\n^^^^^\n\
-        script:5:1: will be refused 11 StateRange: the rule has no such state\n\
+        script:5:1: will be refused 11 StateRange: the rule's states are 0 to 1\n\
         cells 1 0 0 2\n^^^^^\n3 refusals\n",
     },
     Mistake {

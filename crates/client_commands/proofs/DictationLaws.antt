@@ -7,6 +7,7 @@ use Rattle.std.specs.Option.{ok_or}
 use Rattle.std.proofs.lemmas.Bool.{not-true}
 use Rattle.generations_rule.specs.Refusal.{◌>>=◌}
 use Rattle.text_scan.specs.Words.{words}
+use Rattle.command_words.specs.Quotes.{client_words}
 use Rattle.genedit_script.specs.declared.command.Command.{Command}
 use Rattle.genedit_script.specs.declared.command.Command.TheVariants.{Names}
 use Rattle.genedit_script.specs.Script.{PatternBlock, numbered_lines, is_spoken, opening_spelled, command_spelled, commands_spelled, onto}
@@ -19,7 +20,7 @@ use Rattle.client_commands.specs.declared.dictation.Heard.TheVariants as heard
 use Rattle.client_commands.specs.Commands.{client_command_spelled}
 use Rattle.client_commands.specs.Dictation.{command_or_fault, line_heard, lines_heard, next_number, all_heard_by}
 use Rattle.client_commands.specs.Laws.{at_replica_1, with_replica_1, SpellTheSame, ExportTheSame, AskTheSame, nothing, skipped, shared, export, own, opening, inside, closing, onto_found, asked_of_replica_1, HearTheSame, HearInOrder}
-use Rattle.client_commands.proofs.SpellingLaws.{Agree, neither, both, equal, IsCommandLine, shared_line, export_line, command_says, command_opens_none}
+use Rattle.client_commands.proofs.SpellingLaws.{Agree, neither, both, equal, IsCommandLine, line_says, line_opens_none, shared_line, export_line, command_begins}
 
 -- ---- one command
 
@@ -36,7 +37,7 @@ pub skips : (n : ℕ) (line : List ℕ) (lines : List (List ℕ)) → is_skipped
 skips n line lines is = rw (not-true (is_spoken (words line)) is) refl
 
 pub asks : (n : ℕ) (line : List ℕ) (lines : List (List ℕ)) → is_spoken (words line) ≡ true → opening_spelled (words line) ≡ None →
-    lines_heard None (numbered_lines n (line ∷ lines)) ≡ command_or_fault (client_command_spelled (words line)) n ∷ lines_heard None (numbered_lines (n + 1) lines)
+    lines_heard None (numbered_lines n (line ∷ lines)) ≡ command_or_fault (client_command_spelled (client_words line)) n ∷ lines_heard None (numbered_lines (n + 1) lines)
 asks n line lines says none = rw (says, none) refl
 
 pub opens : (n : ℕ) (line : List ℕ) (lines : List (List ℕ)) (name : List ℕ) → opening_spelled (words line) ≡ Some name →
@@ -72,19 +73,20 @@ agreed (both is) n more rest same = λ i. onto_found (is i) (same i)
 abbrev Same : Option PatternBlock → ℕ → List (List ℕ) → List (List ℕ) → Type 0
 Same block n lines others = asked_of_replica_1 (lines_heard block (numbered_lines n lines)) ≡ commands_spelled block (numbered_lines n others)
 
-both_ask : (n : ℕ) (line other : List ℕ) (lines others : List (List ℕ)) → IsCommandLine (words line) → words other ≡ with_replica_1 (words line) →
+both_ask : (n : ℕ) (line other : List ℕ) (lines others : List (List ℕ)) → IsCommandLine (client_words line) → words other ≡ with_replica_1 (client_words line) →
     Same None (n + 1) lines others → Same None n (line ∷ lines) (other ∷ others)
 both_ask n line other lines others known beside more =
-    ap asked_of_replica_1 (asks n line lines known.says known.opens_none)
+    ap asked_of_replica_1 (asks n line lines (line_says line known.begins) (line_opens_none line known.begins))
     ∙ agreed known.agrees n (lines_heard None (numbered_lines (n + 1) lines)) (commands_spelled None (numbered_lines (n + 1) others)) more
     ∙ ap (λ ws. ok_or (command_spelled ws) n >>= λ command. onto command (commands_spelled None (numbered_lines (n + 1) others))) (sym beside)
     ∙ sym (script_asks n other others (ap is_spoken beside ∙ known.other_says) (ap opening_spelled beside ∙ known.other_opens_none))
 
-one_asks : (n : ℕ) (line other : List ℕ) (lines others : List (List ℕ)) (command : ClientCommand) → client_command_spelled (words line) ≡ Some command →
+one_asks : (n : ℕ) (line other : List ℕ) (lines others : List (List ℕ)) (command : ClientCommand) → client_command_spelled (client_words line) ≡ Some command →
     at_replica_1 command ≡ None → is_skipped other ≡ true → Same None (n + 1) lines others → Same None n (line ∷ lines) (other ∷ others)
 one_asks n line other lines others command spelt none skip more =
     let rest = lines_heard None (numbered_lines (n + 1) lines) in
-    ap asked_of_replica_1 (asks n line lines (command_says (words line) command spelt) (command_opens_none (words line) command spelt))
+    let begins = command_begins (client_words line) command spelt in
+    ap asked_of_replica_1 (asks n line lines (line_says line begins) (line_opens_none line begins))
     ∙ ap (λ (asked : Option ClientCommand). asked_of_replica_1 (command_or_fault asked n ∷ rest)) spelt
     ∙ ap (λ (found : Option Command). onto_found found (asked_of_replica_1 rest)) none
     ∙ more ∙ sym (skips_one n other others skip)
@@ -104,7 +106,7 @@ hears (skipped {line = line} {lines = lines} {others = others} skip more) None i
     ap asked_of_replica_1 (skips n line lines skip) ∙ hears more None refl (n + 1) ∙ sym (skips_one n line others skip)
 hears (shared known beside more) (Some block) is n = absurd (cc)
 hears (shared {line = line} {other = other} {lines = lines} {others = others} known beside more) None is n =
-    both_ask n line other lines others (shared_line (words line) known) beside (hears more None refl (n + 1))
+    both_ask n line other lines others (shared_line (client_words line) known) beside (hears more None refl (n + 1))
 hears (export ws beside more) (Some block) is n = absurd (cc)
 hears (export {line = line} {other = other} {generation = generation} {lines = lines} {others = others} ws beside more) None is n =
     both_ask n line other lines others (subst IsCommandLine (sym ws) (export_line generation)) beside (hears more None refl (n + 1))

@@ -7,6 +7,7 @@ use Rattle.std.proofs.lemmas.Bool.{not-true, not-false, and_parts}
 use Rattle.std.proofs.lemmas.List.{append-nil}
 use Rattle.std.proofs.lemmas.Slice.Eq.{bytes_eq-Decides}
 use Rattle.text_scan.specs.Words.{words}
+use Rattle.command_words.specs.Quotes.{client_words}
 use Rattle.genedit_script.specs.Script.{PatternBlock, numbered_lines, is_spoken, opening_spelled}
 use Rattle.genedit_script.specs.Laws.{is_skipped, HaveNoEnd, block_text}
 use Rattle.client_commands.specs.declared.command.ClientCommand.{ClientCommand}
@@ -16,7 +17,7 @@ use Rattle.client_commands.specs.declared.dictation.Heard.TheVariants as heard
 use Rattle.client_commands.specs.Commands.{client_command_spelled}
 use Rattle.client_commands.specs.Dictation.{command_or_fault, lines_heard}
 use Rattle.client_commands.specs.Laws.{nothings, ComeTo, no_line, skipped_line, command_line, faulty_line, whole_block, open_block, HearPieces}
-use Rattle.client_commands.proofs.SpellingLaws.{command_says, command_opens_none}
+use Rattle.client_commands.proofs.SpellingLaws.{line_says, line_opens_none, command_begins}
 use Rattle.client_commands.proofs.DictationLaws.{skips, asks, opens, longer, goes_on}
 
 -- ---- from the pieces to what is heard
@@ -51,7 +52,8 @@ heard_pieces no_line = refl
 heard_pieces (skipped_line {number = number} {line = line} {lines = lines} skip more) =
     skips number line lines skip ∙ ap (λ (told : List Heard). heard.Nothing ∷ told) (heard_pieces more)
 heard_pieces (command_line {number = number} {line = line} {command = command} {lines = lines} spelt more) =
-    asks number line lines (command_says (words line) command spelt) (command_opens_none (words line) command spelt)
+    let begins = command_begins (client_words line) command spelt in
+    asks number line lines (line_says line begins) (line_opens_none line begins)
     ∙ (λ i. command_or_fault (spelt i) number ∷ heard_pieces more i)
 heard_pieces (faulty_line {number = number} {line = line} {lines = lines} says opens_none none more) =
     asks number line lines (not-false (is_spoken (words line)) says) opens_none
@@ -82,14 +84,14 @@ opened first name lines names (inr (between, rest, (none, (same, come)))) number
     (told, subst (λ (ls : List (List ℕ)). ComeTo number (first ∷ ls) told) (sym same) (whole_block between names none more.1))
 
 spoken : (line : List ℕ) (lines : List (List ℕ)) → is_skipped line ≡ false → opening_spelled (words line) ≡ None →
-    (command : Option ClientCommand) → client_command_spelled (words line) ≡ command → Come lines → Come (line ∷ lines)
+    (command : Option ClientCommand) → client_command_spelled (client_words line) ≡ command → Come lines → Come (line ∷ lines)
 spoken line lines says none (Some command) is come number = let more = come (number + 1) in (heard.Command command ∷ more.0, command_line is more.1)
 spoken line lines says none None is come number = let more = come (number + 1) in (heard.Faulty number ∷ more.0, faulty_line says none is more.1)
 
 first_opens : (line : List ℕ) (lines : List (List ℕ)) → is_skipped line ≡ false → (name : Option (List ℕ)) → opening_spelled (words line) ≡ name →
     Come lines → Inside lines → Come (line ∷ lines)
 first_opens line lines says (Some name) is come inside = opened line name lines is inside
-first_opens line lines says None is come inside = spoken line lines says is (client_command_spelled (words line)) refl come
+first_opens line lines says None is come inside = spoken line lines says is (client_command_spelled (client_words line)) refl come
 
 first_says : (line : List ℕ) (lines : List (List ℕ)) (b : Bool) → is_skipped line ≡ b → Come lines → Inside lines → Come (line ∷ lines)
 first_says line lines true is come inside = λ number. let more = come (number + 1) in (heard.Nothing ∷ more.0, skipped_line is more.1)

@@ -4,6 +4,7 @@ use Rattle.std.specs.Prelude.{true, false, codes, Option, Some, None, option_map
 use Rattle.std.specs.Option.{option_map_or}
 use Rattle.std.specs.Str.{bytes_eq}
 use Rattle.text_scan.specs.Bytes.{◌>=>◌}
+use Rattle.text_scan.specs.Words.{words}
 use Rattle.pattern_cells.specs.declared.cell.Cell.{Cell}
 use Rattle.replica_events.specs.declared.event.Event.TheVariants as event
 use Rattle.replica_events.specs.declared.edit_spec.EditSpec.TheVariants.{Cells}
@@ -12,13 +13,15 @@ use Rattle.command_words.specs.declared.keyword.Keyword.{Keyword}
 use Rattle.command_words.specs.declared.keyword.Keyword.TheVariants as keyword
 use Rattle.command_words.specs.Arguments.{arguments_of, optional_of}
 use Rattle.command_words.specs.Keywords.{keyword_name, keyword_spelled}
+use Rattle.command_words.specs.Quotes.{client_words, opens_quote}
 use Rattle.command_words.specs.Spelled.{SpelledValue, line_spelled}
 use Rattle.command_words.specs.Values.{cells_spelled, number_spelled}
-use Rattle.command_words.proofs.SpelledLaws.{both_read, keyword_of, name_no_replica, named, of_replica_1}
+use Rattle.command_words.proofs.QuoteLaws.{first_alike}
+use Rattle.command_words.proofs.SpelledLaws.{begins, both_read, keyword_of, name_no_replica, named, of_replica_1}
 use Rattle.genedit_script.specs.declared.command.Command.{Command}
 use Rattle.genedit_script.specs.declared.command.Command.TheVariants.{Does}
 use Rattle.genedit_script.specs.Script.{is_spoken, opening_spelled, command_asked, command_spelled}
-use Rattle.genedit_script.proofs.WordLaws.{keyword_says, opened_words, opens_no_block, spelled_says}
+use Rattle.genedit_script.proofs.WordLaws.{keyword_says, opens_no_block}
 use Rattle.client_commands.specs.declared.command.ClientCommand.{ClientCommand}
 use Rattle.client_commands.specs.declared.command.ClientCommand.TheVariants as client
 use Rattle.client_commands.specs.Commands.{client_command_asked, client_command_spelled}
@@ -96,18 +99,39 @@ exported generation (Some n) is = rw is (both refl)
 
 -- ---- a line
 
+keyword_is_plain : (k : Keyword) → opens_quote (keyword_name k) ≡ false
+keyword_is_plain keyword.Rule = refl
+keyword_is_plain other = refl
+
+-- a client's line begins with a keyword, which opens no block
+pub record Begins (ws : List (List ℕ)) : Type 0 where
+  pub first : Keyword
+  pub behind : List (List ℕ)
+  pub words_are : ws ≡ keyword_name first ∷ behind
+  pub opens_none : bytes_eq (keyword_name first) (codes "pattern") ≡ false
+
+-- so do its words where blanks part them, by which lines are skipped and blocks opened
+blank_words : (line : List ℕ) (begins : Begins (client_words line)) → (behind : List (List ℕ)) × (words line ≡ keyword_name begins.first ∷ behind)
+blank_words line begins = first_alike line (keyword_name begins.first) begins.behind begins.words_are (keyword_is_plain begins.first)
+
+pub line_says : (line : List ℕ) → Begins (client_words line) → is_spoken (words line) ≡ true
+line_says line begins = let first = blank_words line begins in ap is_spoken first.1 ∙ keyword_says begins.first first.0
+
+pub line_opens_none : (line : List ℕ) → Begins (client_words line) → opening_spelled (words line) ≡ None
+line_opens_none line begins =
+    let first = blank_words line begins in
+    ap opening_spelled first.1 ∙ opens_no_block (keyword_name begins.first) first.0 begins.opens_none
+
 -- what is known of a line that a client has from scripts, and of the line of a script beside it
 pub record IsCommandLine (ws : List (List ℕ)) : Type 0 where
-  pub says : is_spoken ws ≡ true
-  pub opens_none : opening_spelled ws ≡ None
+  pub begins : Begins ws
   pub other_says : is_spoken (with_replica_1 ws) ≡ true
   pub other_opens_none : opening_spelled (with_replica_1 ws) ≡ None
   pub agrees : Agree (client_command_spelled ws) (command_spelled (with_replica_1 ws))
 
 command_line : (k : Keyword) (ws : List (List ℕ)) → IsShared k → IsCommandLine (keyword_name k ∷ ws)
 command_line k ws known = record {
-  says = keyword_says k ws;
-  opens_none = opens_no_block (keyword_name k) ws known.opens_none;
+  begins = record { first = k; behind = ws; words_are = refl; opens_none = known.opens_none };
   other_says = keyword_says k (codes "1" ∷ ws);
   other_opens_none = opens_no_block (keyword_name k) (codes "1" ∷ ws) known.opens_none;
   agrees = agrees k ws known;
@@ -130,8 +154,7 @@ shared_line (name ∷ ws) is = known_line name ws (keyword_spelled Client name) 
 
 pub export_line : (generation : List ℕ) → IsCommandLine (codes "export" ∷ generation ∷ [])
 export_line generation = record {
-  says = refl;
-  opens_none = opens_no_block (codes "export") (generation ∷ []) refl;
+  begins = record { first = keyword.Export; behind = generation ∷ []; words_are = refl; opens_none = refl };
   other_says = refl;
   other_opens_none = opens_no_block (codes "export") (codes "1" ∷ generation ∷ []) refl;
   agrees = exported generation (number_spelled generation) refl;
@@ -139,26 +162,16 @@ export_line generation = record {
 
 -- ---- a command that only a client has
 
--- the first word of a command begins no comment
-pub command_says : (ws : List (List ℕ)) (command : ClientCommand) → client_command_spelled ws ≡ Some command → is_spoken ws ≡ true
-command_says ws command spelt =
+no_pattern : (line : SpelledValue) (command : ClientCommand) → client_command_asked line ≡ Some command → bytes_eq (keyword_name line.keyword) (codes "pattern") ≡ false
+no_pattern line command is =
+    elim line.keyword as (λ k. client_command_asked (record line { keyword = k }) ≡ Some command → bytes_eq (keyword_name k) (codes "pattern") ≡ false) [
+      | keyword.Pattern ↦ λ is. absurd (cc)
+      | _ ↦ λ is. refl
+    ] is
+
+-- the words of a command begin with its keyword
+pub command_begins : (ws : List (List ℕ)) (command : ClientCommand) → client_command_spelled ws ≡ Some command → Begins ws
+command_begins ws command spelt =
     let read = both_read (line_spelled Client ws) client_command_asked command spelt in
-    spelled_says Client ws read.0 read.1.0
-
-none_opens : (line : SpelledValue) → line.keyword ≡ keyword.Pattern → client_command_asked line ≡ None
-none_opens line is = rw is refl
-
-opening_is_none : (ws : List (List ℕ)) (command : ClientCommand) (opened : Option (List ℕ)) → opening_spelled ws ≡ opened →
-    client_command_spelled ws ≡ Some command → opening_spelled ws ≡ None
-opening_is_none ws command None is spelt = is
-opening_is_none ws command (Some name) is spelt =
-    let first = opened_words ws name is in
-    let read = both_read (line_spelled Client ws) client_command_asked command spelt in
-    let line : line_spelled Client (codes "pattern" ∷ first.0) ≡ Some read.0 = ap (line_spelled Client) (sym first.1) ∙ read.1.0 in
-    let none = none_opens read.0 (keyword_of Client (codes "pattern") first.0 keyword.Pattern read.0 refl line) in
-    let asked = read.1.1 in
-    absurd (cc)
-
--- a command opens no block
-pub command_opens_none : (ws : List (List ℕ)) (command : ClientCommand) → client_command_spelled ws ≡ Some command → opening_spelled ws ≡ None
-command_opens_none ws command spelt = opening_is_none ws command (opening_spelled ws) refl spelt
+    let first = begins Client ws read.0 read.1.0 in
+    record { first = read.0.keyword; behind = first.0; words_are = first.1; opens_none = no_pattern read.0 command read.1.1 }

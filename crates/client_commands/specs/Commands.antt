@@ -9,7 +9,7 @@ use Rattle.command_words.specs.Spelled.{SpelledValue, line_spelled}
 use Rattle.command_words.specs.Values.{cells_spelled}
 use Rattle.genedit_script.specs.Script.{area_of}
 use Rattle.client_commands.specs.declared.command.ClientCommand.{ClientCommand}
-use Rattle.client_commands.specs.declared.command.ClientCommand.TheVariants.{Draw, Copy, Or, Show, Export, Poll, Wait, Sleep, Save, Open, Bye}
+use Rattle.client_commands.specs.declared.command.ClientCommand.TheVariants.{Draw, Copy, Or, Show, Export, Poll, Wait, Sleep, Save, Open, Help, Bye}
 use Rattle.client_commands.specs.declared.command.FileTarget.{FileTarget}
 use Rattle.client_commands.specs.declared.command.Placement.{Placement}
 use Rattle.client_commands.specs.declared.command.Wait as waits
@@ -25,18 +25,22 @@ wait_of line = record { edits = line.edits; milliseconds = unwrap_or line.millis
 abbrev pub target_of : Bool → List ℕ → FileTarget
 target_of replaces name = record { name = name; replaces = replaces }
 
--- the commands that draw nothing
+-- the commands that draw nothing; what is exported and saved is told where no file is named
 abbrev pub session_asked : SpelledValue → Option ClientCommand
 session_asked line = elim line.keyword [
   | keyword.Export ↦ Some (Export line.generation (option_map (target_of false) line.file))
-  | keyword.ExportOver ↦ option_map (λ file. Export line.generation (Some (target_of true file))) line.file
+  | keyword.ExportOver ↦ Some (Export line.generation (option_map (target_of true) line.file))
   | keyword.Poll ↦ Some Poll
   | keyword.Wait ↦ Some (Wait (wait_of line))
   | keyword.Sleep ↦ option_map Sleep line.milliseconds
-  | keyword.Save ↦ option_map Save (option_map (target_of false) line.file)
-  | keyword.SaveOver ↦ option_map Save (option_map (target_of true) line.file)
+  | keyword.Save ↦ Some (Save (option_map (target_of false) line.file))
+  | keyword.SaveOver ↦ Some (Save (option_map (target_of true) line.file))
   | keyword.Open ↦ option_map Open line.file
+  | keyword.Help ↦ Some Help
+  | keyword.Question ↦ Some Help
   | keyword.Bye ↦ Some Bye
+  | keyword.Quit ↦ Some Bye
+  | keyword.Exit ↦ Some Bye
   | _ ↦ None
 ]
 

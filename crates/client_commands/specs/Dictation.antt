@@ -3,6 +3,7 @@ use Rattle.std.specs.Prelude.{ℕ, ◌+◌, if◌then◌else◌, List, [], ◌�
 use Rattle.std.specs.Str.{bytes_eq}
 use Rattle.std.specs.Str.Lines.{strip_carriage_return}
 use Rattle.text_scan.specs.Words.{words}
+use Rattle.command_words.specs.Quotes.{client_words}
 use Rattle.genedit_script.specs.Script.{NumberedLine, PatternBlock, is_spoken, opening_spelled}
 use Rattle.client_commands.specs.declared.command.ClientCommand.{ClientCommand}
 use Rattle.client_commands.specs.declared.command.ClientCommand.TheVariants.{Pattern}
@@ -28,7 +29,7 @@ abbrev pub outside_heard : NumberedLine → Heard × Option PatternBlock
 outside_heard line =
     if is_spoken (words line.text) then elim (opening_spelled (words line.text)) [
       | Some name ↦ (Nothing, Some (record { line = line.number; name = name; text = [] }))
-      | None ↦ (command_or_fault (client_command_spelled (words line.text)) line.number, None)
+      | None ↦ (command_or_fault (client_command_spelled (client_words line.text)) line.number, None)
     ] else (Nothing, None)
 
 -- what a line comes to, which stands in a block or in none, and the block that is open behind it

@@ -12,6 +12,7 @@ use Rattle.command_words.specs.declared.dialect.Dialect.TheVariants.{Client}
 use Rattle.command_words.specs.declared.keyword.Keyword.{Keyword}
 use Rattle.command_words.specs.Arguments.{optional_of, script_arguments}
 use Rattle.command_words.specs.Keywords.{keyword_spelled}
+use Rattle.command_words.specs.Quotes.{client_words}
 use Rattle.command_words.specs.Spelled.{is_empty}
 use Rattle.genedit_script.specs.declared.command.Command.{Command}
 use Rattle.genedit_script.specs.declared.command.Command.TheVariants.{Does, Names, Copies, Ors}
@@ -40,6 +41,7 @@ at_replica_1 (client.Wait wait) = None
 at_replica_1 (client.Sleep milliseconds) = None
 at_replica_1 (client.Save file) = None
 at_replica_1 (client.Open file) = None
+at_replica_1 client.Help = None
 at_replica_1 client.Bye = None
 
 -- the words of a client's command as those of a script: the replica's number stands behind the name
@@ -79,13 +81,13 @@ pub data AskTheSame : Bool → List (List ℕ) → List (List ℕ) → Type 0 wh
   nothing : {in_block : Bool} → AskTheSame in_block [] []
   skipped : {line : List ℕ} {lines others : List (List ℕ)} → is_skipped line ≡ true →
       AskTheSame false lines others → AskTheSame false (line ∷ lines) (line ∷ others)
-  shared : {line other : List ℕ} {lines others : List (List ℕ)} → is_shared_line (words line) ≡ true → words other ≡ with_replica_1 (words line) →
+  shared : {line other : List ℕ} {lines others : List (List ℕ)} → is_shared_line (client_words line) ≡ true → words other ≡ with_replica_1 (client_words line) →
       AskTheSame false lines others → AskTheSame false (line ∷ lines) (other ∷ others)
   export : {line other generation : List ℕ} {lines others : List (List ℕ)} →
-      words line ≡ codes "export" ∷ generation ∷ [] → words other ≡ with_replica_1 (words line) →
+      client_words line ≡ codes "export" ∷ generation ∷ [] → words other ≡ with_replica_1 (client_words line) →
       AskTheSame false lines others → AskTheSame false (line ∷ lines) (other ∷ others)
   own : {line other : List ℕ} {command : ClientCommand} {lines others : List (List ℕ)} →
-      client_command_spelled (words line) ≡ Some command → at_replica_1 command ≡ None → is_skipped other ≡ true →
+      client_command_spelled (client_words line) ≡ Some command → at_replica_1 command ≡ None → is_skipped other ≡ true →
       AskTheSame false lines others → AskTheSame false (line ∷ lines) (other ∷ others)
   opening : {line name : List ℕ} {lines others : List (List ℕ)} → opening_spelled (words line) ≡ Some name →
       AskTheSame true lines others → AskTheSame false (line ∷ lines) (line ∷ others)
@@ -124,10 +126,10 @@ pub data ComeTo : ℕ → List (List ℕ) → List Heard → Type 0 where
   skipped_line : {number : ℕ} {line : List ℕ} {lines : List (List ℕ)} {told : List Heard} → is_skipped line ≡ true →
       ComeTo (number + 1) lines told → ComeTo number (line ∷ lines) (heard.Nothing ∷ told)
   command_line : {number : ℕ} {line : List ℕ} {command : ClientCommand} {lines : List (List ℕ)} {told : List Heard} →
-      client_command_spelled (words line) ≡ Some command →
+      client_command_spelled (client_words line) ≡ Some command →
       ComeTo (number + 1) lines told → ComeTo number (line ∷ lines) (heard.Command command ∷ told)
   faulty_line : {number : ℕ} {line : List ℕ} {lines : List (List ℕ)} {told : List Heard} →
-      is_skipped line ≡ false → opening_spelled (words line) ≡ None → client_command_spelled (words line) ≡ None →
+      is_skipped line ≡ false → opening_spelled (words line) ≡ None → client_command_spelled (client_words line) ≡ None →
       ComeTo (number + 1) lines told → ComeTo number (line ∷ lines) (heard.Faulty number ∷ told)
   whole_block : {number : ℕ} {first name : List ℕ} (between : List (List ℕ)) {lines : List (List ℕ)} {told : List Heard} →
       opening_spelled (words first) ≡ Some name → HaveNoEnd between → ComeTo (((number + 1) + length between) + 1) lines told →

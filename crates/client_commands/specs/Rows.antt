@@ -3,9 +3,10 @@ use Rattle.std.specs.Prelude.{◌≡◌, ℕ, true, false, List, [], ◌∷◌, 
 use Rattle.std.specs.Str.Lines.{lines}
 use Rattle.text_scan.specs.Words.{words}
 use Rattle.replica_events.specs.declared.edit_spec.EditSpec.TheVariants.{Cells, Clear}
-use Rattle.genedit_script.specs.Script.{numbered_lines}
+use Rattle.command_words.specs.Quotes.{client_words}
+use Rattle.genedit_script.specs.Script.{command_spelled, numbered_lines, opening_spelled}
 use Rattle.client_commands.specs.declared.command.ClientCommand.{ClientCommand}
-use Rattle.client_commands.specs.declared.command.ClientCommand.TheVariants.{Draw, Pattern, Copy, Or, Show, Export, Poll, Wait, Sleep, Save, Open, Bye}
+use Rattle.client_commands.specs.declared.command.ClientCommand.TheVariants.{Draw, Pattern, Copy, Or, Show, Export, Poll, Wait, Sleep, Save, Open, Help, Bye}
 use Rattle.client_commands.specs.declared.dictation.Heard.{Heard}
 use Rattle.client_commands.specs.declared.dictation.Heard.TheVariants.{Nothing, Command, Faulty}
 use Rattle.client_commands.specs.Commands.{begins_script, client_command_spelled, target_of}
@@ -13,7 +14,7 @@ use Rattle.client_commands.specs.Dictation.{lines_heard, heard_by}
 
 -- the command of a line
 abbrev command : List ℕ → Option ClientCommand
-command line = client_command_spelled (words line)
+command line = client_command_spelled (client_words line)
 
 -- ---- drawing and looking
 
@@ -85,10 +86,10 @@ exported_with_a_word_too_many = refl
 pub exported_at_no_generation : command (codes "export") ≡ None
 exported_at_no_generation = refl
 
-pub saved : command (codes "save a.rle") ≡ Some (Save (target_of false (codes "a.rle")))
+pub saved : command (codes "save a.rle") ≡ Some (Save (Some (target_of false (codes "a.rle"))))
 saved = refl
 
-pub saved_over_a_file : command (codes "save! a.rle") ≡ Some (Save (target_of true (codes "a.rle")))
+pub saved_over_a_file : command (codes "save! a.rle") ≡ Some (Save (Some (target_of true (codes "a.rle"))))
 saved_over_a_file = refl
 
 pub saved_to_a_number : command (codes "save 7") ≡ None
@@ -102,6 +103,71 @@ opened = refl
 
 pub opened_nothing : command (codes "open") ≡ None
 opened_nothing = refl
+
+-- ---- names in quotes
+
+pub saved_in_quotes : command (codes "save \"my board.state\"") ≡ Some (Save (Some (target_of false (codes "my board.state"))))
+saved_in_quotes = refl
+
+pub saved_over_in_quotes : command (codes "save! \"a b\" ") ≡ Some (Save (Some (target_of true (codes "a b"))))
+saved_over_in_quotes = refl
+
+pub opened_in_quotes : command (codes "open \"a b.rle\"") ≡ Some (Open (codes "a b.rle"))
+opened_in_quotes = refl
+
+pub opened_one_word_in_quotes : command (codes "open \"a.rle\"") ≡ Some (Open (codes "a.rle"))
+opened_one_word_in_quotes = refl
+
+pub exported_in_quotes : command (codes "export 5 \"x y.rle\"") ≡ Some (Export 5 (Some (target_of false (codes "x y.rle"))))
+exported_in_quotes = refl
+
+-- in quotes a number and a dash are names
+pub saved_to_a_number_in_quotes : command (codes "save \"7\"") ≡ Some (Save (Some (target_of false (codes "7"))))
+saved_to_a_number_in_quotes = refl
+
+pub saved_to_a_dash_in_quotes : command (codes "save \"-\"") ≡ Some (Save (Some (target_of false (codes "-"))))
+saved_to_a_dash_in_quotes = refl
+
+-- quotes round nothing, or amid a word, are bytes of a name
+pub opened_empty_quotes : command (codes "open \"\"") ≡ Some (Open (codes "\"\""))
+opened_empty_quotes = refl
+
+pub opened_with_a_quote_amid : command (codes "open a\"b") ≡ Some (Open (codes "a\"b"))
+opened_with_a_quote_amid = refl
+
+pub saved_without_a_closing_quote : command (codes "save \"a b") ≡ None
+saved_without_a_closing_quote = refl
+
+pub saved_with_text_behind_the_quotes : command (codes "save \"a b\" c") ≡ None
+saved_with_text_behind_the_quotes = refl
+
+-- nothing else stands in quotes
+pub shown_in_quotes : command (codes "show 0 \"0\"") ≡ None
+shown_in_quotes = refl
+
+pub cells_in_quotes : command (codes "cells 0 0 1 0 0 \"1\"") ≡ None
+cells_in_quotes = refl
+
+pub block_in_quotes : opening_spelled (words (codes "pattern \"a\"")) ≡ None
+block_in_quotes = refl
+
+-- ---- standard output
+
+pub exported_to_output : command (codes "export 4 -") ≡ command (codes "export 4")
+exported_to_output = refl
+
+pub exported_over_output : command (codes "export! 4 -") ≡ Some (Export 4 None)
+exported_over_output = refl
+
+pub saved_to_output : command (codes "save -") ≡ Some (Save None)
+saved_to_output = refl
+
+pub saved_over_output : command (codes "save! -") ≡ Some (Save None)
+saved_over_output = refl
+
+-- what is read is a file
+pub opened_dash : command (codes "open -") ≡ Some (Open (codes "-"))
+opened_dash = refl
 
 -- ---- waiting
 
@@ -137,6 +203,34 @@ left = refl
 
 pub left_with_a_word : command (codes "bye bye") ≡ None
 left_with_a_word = refl
+
+pub helped : command (codes "help") ≡ Some Help
+helped = refl
+
+pub asked : command (codes " ? ") ≡ Some Help
+asked = refl
+
+pub helped_with_a_word : command (codes "help save") ≡ None
+helped_with_a_word = refl
+
+pub quit : command (codes "quit") ≡ Some Bye
+quit = refl
+
+pub exited : command (codes "exit") ≡ Some Bye
+exited = refl
+
+-- a script has none of these words
+pub help_in_a_script : command_spelled (words (codes "help")) ≡ None
+help_in_a_script = refl
+
+pub question_in_a_script : command_spelled (words (codes "?")) ≡ None
+question_in_a_script = refl
+
+pub quit_in_a_script : command_spelled (words (codes "quit")) ≡ None
+quit_in_a_script = refl
+
+pub exit_in_a_script : command_spelled (words (codes "exit")) ≡ None
+exit_in_a_script = refl
 
 -- ---- what is no command
 

@@ -22,7 +22,7 @@ pub enum ClientCommand {
     /// `show x y`: the cell at x and y is told.
     Show(i32, i32),
     /// `export G [FILE]`, `export! G FILE`: the text of the cells G generations later is written to the
-    /// file, or told where none is named.
+    /// file, or told where none is named, as by `-`.
     Export(u32, Option<FileTarget>),
     /// `poll`: what others drew is asked for.
     Poll,
@@ -30,11 +30,13 @@ pub enum ClientCommand {
     Wait(Wait),
     /// `sleep MS`: nothing is done for so many milliseconds.
     Sleep(u32),
-    /// `save FILE`, `save! FILE`: the board is written to the file.
-    Save(FileTarget),
+    /// `save FILE`, `save! FILE`: the board is written to the file, or told where it is `-`.
+    Save(Option<FileTarget>),
     /// `open FILE`: what the file holds is drawn.
     Open(FileName),
-    /// `bye`: the client ends.
+    /// `help`, `?`: the commands are told.
+    Help,
+    /// `bye`, `quit`, `exit`: the client ends.
     Bye,
 }
 
@@ -62,7 +64,7 @@ pub struct FileTarget {
     pub replaces: bool,
 }
 
-/// The name of a file: in a command that was read, a word, so that it has no space and no tab.
+/// The name of a file: in a command that was read, a word, or what stood between quotes.
 #[derive(Debug, Drop)]
 pub struct FileName {
     path: Vec<u8>,

@@ -64,6 +64,13 @@ impl Dictation {
         Ok(heard)
     }
 
+    /// How many lines were heard.
+    pub fn lines(&self) -> u64
+        ensures { result ≡ self.now.lines }
+    {
+        self.lines
+    }
+
     /// Whether a pattern's block is open.
     pub fn is_in_block(&self) -> bool
         ensures { IsTrue result ↔ IsSome self.now.block }

@@ -3,6 +3,7 @@
 ghost use Rattle.std.specs.Prelude.{◌≡◌, IfOk, Some, true, option_map};
 ghost use Rattle.text_scan.specs.Words.{words};
 ghost use Rattle.replica_events.specs.declared.edit_spec.EditSpec.TheVariants.{Cells};
+ghost use Rattle.command_words.specs.Quotes.{client_words};
 ghost use Rattle.command_words.specs.Spelled.{spelled_of};
 ghost use Rattle.command_words.specs.Values.{cells_spelled};
 ghost use Rattle.client_commands.specs.declared.command.ClientCommand.TheVariants.{Draw, Export};
@@ -20,7 +21,7 @@ const MILLISECONDS: u32 = 10_000;
 
 /// The command of a line that stands in no block and opens none, unless it is none.
 pub fn command_in(alloc: Global, line: &[u8]) -> Result<Option<ClientCommand>, AllocError>
-    ensures { IfOk result (λ command. command ≡ client_command_spelled (words line.now)) }
+    ensures { IfOk result (λ command. command ≡ client_command_spelled (client_words line.now)) }
 {
     match read_line(Dialect::Client, line) {
         Some(spelled) => command_asked(alloc, &spelled),
@@ -48,33 +49,30 @@ fn session_asked(alloc: Global, spelled: &Spelled<'_>) -> Result<Option<ClientCo
     ensures { IfOk result (λ command. command ≡ session_asked (spelled_of spelled.now)) }
 {
     match spelled.keyword {
-        Keyword::Export => {
-            let file = target_of(alloc, spelled, false)?;
-            Ok(Some(ClientCommand::Export(spelled.generation, file)))
-        }
-        Keyword::ExportOver => export_over_asked(alloc, spelled),
+        Keyword::Export => Ok(Some(export_asked(alloc, spelled, false)?)),
+        Keyword::ExportOver => Ok(Some(export_asked(alloc, spelled, true)?)),
         Keyword::Poll => Ok(Some(ClientCommand::Poll)),
         Keyword::Wait => Ok(Some(ClientCommand::Wait(wait_of(spelled)))),
         Keyword::Sleep => Ok(spelled.milliseconds.map(ClientCommand::Sleep)),
-        Keyword::Save => Ok(target_of(alloc, spelled, false)?.map(ClientCommand::Save)),
-        Keyword::SaveOver => Ok(target_of(alloc, spelled, true)?.map(ClientCommand::Save)),
+        Keyword::Save => Ok(Some(ClientCommand::Save(target_of(alloc, spelled, false)?))),
+        Keyword::SaveOver => Ok(Some(ClientCommand::Save(target_of(alloc, spelled, true)?))),
         Keyword::Open => Ok(file_of(alloc, spelled)?.map(ClientCommand::Open)),
-        Keyword::Bye => Ok(Some(ClientCommand::Bye)),
+        Keyword::Help | Keyword::Question => Ok(Some(ClientCommand::Help)),
+        Keyword::Bye | Keyword::Quit | Keyword::Exit => Ok(Some(ClientCommand::Bye)),
         _ => Ok(None),
     }
 }
 
-/// `export! G FILE`
-fn export_over_asked(
+/// `export G [FILE]`, `export! G FILE`
+fn export_asked(
     alloc: Global,
     spelled: &Spelled<'_>,
-) -> Result<Option<ClientCommand>, AllocError>
-    ensures { IfOk result (λ command. command ≡ option_map (λ file. Export spelled.now.generation (Some (target_of true file))) (option_map (λ word. word.now) spelled.now.file)) }
+    replaces: bool,
+) -> Result<ClientCommand, AllocError>
+    ensures { IfOk result (λ command. command ≡ Export spelled.now.generation (option_map (target_of replaces) (option_map (λ word. word.now) spelled.now.file))) }
 {
-    match target_of(alloc, spelled, true)? {
-        Some(file) => Ok(Some(ClientCommand::Export(spelled.generation, Some(file)))),
-        None => Ok(None),
-    }
+    let file = target_of(alloc, spelled, replaces)?;
+    Ok(ClientCommand::Export(spelled.generation, file))
 }
 
 /// `cells x y state ..`

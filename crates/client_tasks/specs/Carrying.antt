@@ -68,6 +68,35 @@ IsNaming name text m n (Err fault) = (fault ≡ Memory) × LacksNaming m n
 abbrev pub IsShowing : ℤ → ℤ → Moment → Moment → Result Done CommandFault → Type 0
 IsShowing x y m n result = IsPrinted Told (reply_line (reply.Shown (map_of m.workspace.replica.plane (at_place x y)))) m n result
 
+-- ---- texts that are printed
+
+-- the commands of a client
+abbrev pub help_text : List ℕ
+help_text =
+    codes "cells x y s .., clear x y w h  draw cells, or an area of dead ones\n"
+    ++ codes "pattern NAME, lines, end       keeps the pattern of these lines of RLE\n"
+    ++ codes "copy NAME x y, or NAME x y     draw its whole box there, or its live cells\n"
+    ++ codes "show x y, poll                 print a cell, or what others drew\n"
+    ++ codes "export G [FILE], save FILE     write the cells G generations later; the board\n"
+    ++ codes "export! G FILE, save! FILE     also over a file that is there; a FILE - prints\n"
+    ++ codes "open FILE                      draws what a file holds; a FILE may be \"a b\"\n"
+    ++ codes "wait N [MS], sleep MS          wait for N edits of others; wait MS milliseconds\n"
+    ++ codes "bye, quit, exit                leave the board\n"
+    ++ codes "help, ?                        print this; `genedit join --help` says more\n"
+
+-- the text that a call gave is printed as it is, or memory is wanting for it; where it gave none nothing is done
+abbrev pub IsGivenPrinted : Result (Option (Vec ℕ)) CommandFault → Moment → Moment → Result Done CommandFault → Type 0
+IsGivenPrinted (Ok (Some text)) m n result = IsPrinted Told text.items m n result
+IsGivenPrinted (Ok None) m n result = Leaves Told m n result
+IsGivenPrinted (Err fault) m n result = (result ≡ Err fault) × (n ≡ m)
+
+-- a call of the client was made, which did as P says, and the text that it gave is printed
+pub record ComesPrinted (P : Moment → Result (Option (Vec ℕ)) CommandFault → Type 0) (n : Moment) (result : Result Done CommandFault) : Type 0 where
+  pub middle : Moment
+  pub called : Result (Option (Vec ℕ)) CommandFault
+  pub does : P middle called
+  pub printed : IsGivenPrinted called middle n result
+
 -- ---- commands
 
 abbrev pub IsCarriedOut : ClientCommand → Moment → Moment → Result Done CommandFault → Type 0
@@ -81,8 +110,10 @@ IsCarriedOut (command.Export generation (Some file)) m n result = Comes (IsExpor
 IsCarriedOut (command.Poll) m n result = Comes (IsCount m n) (λ _. Told) result
 IsCarriedOut (command.Wait wait) m n result = Comes (IsWait wait.edits m n) (λ _. Told) result
 IsCarriedOut (command.Sleep milliseconds) m n result = Leaves (Sleep milliseconds) m n result
-IsCarriedOut (command.Save file) m n result = Comes (IsSaveCommand (λ (text : Vec ℕ). text.items) m n) (to_file file) result
+IsCarriedOut (command.Save None) m n result = ComesPrinted (IsSaveCommand (λ (text : Vec ℕ). text.items) m) n result
+IsCarriedOut (command.Save (Some file)) m n result = Comes (IsSaveCommand (λ (text : Vec ℕ). text.items) m n) (to_file file) result
 IsCarriedOut (command.Open file) m n result = Leaves (Open file) m n result
+IsCarriedOut (command.Help) m n result = IsPrinted Told help_text m n result
 IsCarriedOut (command.Bye) m n result = Leaves Leave m n result
 
 -- ---- commands behind the end of the server, of what the replica holds, without a poll
@@ -96,8 +127,10 @@ IsCarriedOn (command.Pattern name text) m n result = IsNaming name text m n resu
 IsCarriedOn (command.Show x y) m n result = IsShowing x y m n result
 IsCarriedOn (command.Export generation None) m n result = Comes (ExportsNow generation m n) (λ _. Told) result
 IsCarriedOn (command.Export generation (Some file)) m n result = Comes (ExportsTextNow (λ (text : Vec ℕ). text.items) generation m n) (to_file file) result
-IsCarriedOn (command.Save file) m n result = Comes (SavesNow (λ (text : Vec ℕ). text.items) m n) (to_file file) result
+IsCarriedOn (command.Save None) m n result = ComesPrinted (SavesNow (λ (text : Vec ℕ). text.items) m) n result
+IsCarriedOn (command.Save (Some file)) m n result = Comes (SavesNow (λ (text : Vec ℕ). text.items) m n) (to_file file) result
 IsCarriedOn (command.Sleep milliseconds) m n result = Leaves (Sleep milliseconds) m n result
+IsCarriedOn (command.Help) m n result = IsPrinted Told help_text m n result
 IsCarriedOn (command.Bye) m n result = Leaves Leave m n result
 IsCarriedOn (command.Draw drawing) m n result = IsPrinted Told no_server_line m n result
 IsCarriedOn (command.Copy at) m n result = IsPrinted Told no_server_line m n result

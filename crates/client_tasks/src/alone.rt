@@ -6,6 +6,7 @@ ghost use Rattle.client_tasks.specs.declared.done.Done.TheVariants.{Told};
 
 use crate::carrying::{named, shown};
 use crate::done::{Done, told, written};
+use crate::printing::{helped, printed};
 use client_commands::ClientCommand;
 use client_session::{Client, CommandFault};
 use devices::{Sink, Source};
@@ -26,8 +27,13 @@ pub fn carry_on<C: Clock, S: Source + Drop, K: Sink + Drop>(
         ClientCommand::Export(generation, Some(file)) => {
             written(file, client.export_text_now(generation))
         }
-        ClientCommand::Save(file) => written(file, client.save_now()),
+        ClientCommand::Save(None) => {
+            let text = client.save_now();
+            printed(client, text)
+        }
+        ClientCommand::Save(Some(file)) => written(file, client.save_now()),
         ClientCommand::Sleep(milliseconds) => Ok(Done::Sleep(milliseconds)),
+        ClientCommand::Help => helped(client),
         ClientCommand::Bye => Ok(Done::Leave),
         ClientCommand::Draw(_)
         | ClientCommand::Copy(_)

@@ -4,6 +4,7 @@ ghost use Rattle.std.specs.Prelude.{◌≡◌};
 ghost use Rattle.client_tasks.specs.Carrying.{IsCarriedOut, IsNaming, IsShowing};
 
 use crate::done::{Done, drawn, told, written};
+use crate::printing::{helped, printed};
 use client_commands::{ClientCommand, Placement, Wait};
 use client_session::{Client, CommandFault, Corner, PasteMode, Patience};
 use devices::{Sink, Source};
@@ -33,11 +34,16 @@ pub fn carry_out<C: Clock, S: Source + Drop, K: Sink + Drop>(
         ClientCommand::Export(generation, Some(file)) => {
             written(file, client.export_text(generation))
         }
-        ClientCommand::Save(file) => written(file, client.save()),
+        ClientCommand::Save(None) => {
+            let text = client.save();
+            printed(client, text)
+        }
+        ClientCommand::Save(Some(file)) => written(file, client.save()),
         ClientCommand::Poll => told(client.poll()),
         ClientCommand::Wait(wait) => told(client.wait(wait.edits, patience_of(wait, interval))),
         ClientCommand::Sleep(milliseconds) => Ok(Done::Sleep(milliseconds)),
         ClientCommand::Open(file) => Ok(Done::Open(file)),
+        ClientCommand::Help => helped(client),
         ClientCommand::Bye => Ok(Done::Leave),
     }
 }

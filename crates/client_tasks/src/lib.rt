@@ -7,6 +7,7 @@ mod carrying;
 mod done;
 mod opening;
 mod pieces;
+mod printing;
 mod refusing;
 mod saved;
 

@@ -12,6 +12,20 @@ use std::process::Abort;
 use std::test::Fail;
 use std::time::Clock;
 
+/// What `help` prints.
+const HELP: &str = "\
+cells x y s .., clear x y w h  draw cells, or an area of dead ones
+pattern NAME, lines, end       keeps the pattern of these lines of RLE
+copy NAME x y, or NAME x y     draw its whole box there, or its live cells
+show x y, poll                 print a cell, or what others drew
+export G [FILE], save FILE     write the cells G generations later; the board
+export! G FILE, save! FILE     also over a file that is there; a FILE - prints
+open FILE                      draws what a file holds; a FILE may be \"a b\"
+wait N [MS], sleep MS          wait for N edits of others; wait MS milliseconds
+bye, quit, exit                leave the board
+help, ?                        print this; `genedit join --help` says more
+";
+
 /// A command, what is left behind it, and what it prints. Before it seat 2 draws the cell `0 9`, if it does.
 struct Row {
     line: &'static str,
@@ -20,7 +34,7 @@ struct Row {
     draws: bool,
 }
 
-static ROWS: [Row; 16] = [
+static ROWS: [Row; 19] = [
     Row {
         line: "cells 0 0 1 1 0 2",
         left: "told",
@@ -110,6 +124,24 @@ static ROWS: [Row; 16] = [
         left: "open b.rle",
         told: "",
         draws: true,
+    },
+    Row {
+        line: "open \"a b.rle\"",
+        left: "open a b.rle",
+        told: "",
+        draws: false,
+    },
+    Row {
+        line: "?",
+        left: "told",
+        told: HELP,
+        draws: false,
+    },
+    Row {
+        line: "quit",
+        left: "leave",
+        told: "",
+        draws: false,
     },
     Row {
         line: "bye",
@@ -224,6 +256,35 @@ fn a_board_is_saved(rt: HostRuntime) -> Result<(), Fail> {
     )
 }
 
+/// The bytes that a save to standard output prints.
+fn printed_save<C: Clock>(client: &mut Guest<'_, C>, done: Done) -> Result<Vec<u8>, Fail> {
+    match done {
+        Done::Told => {
+            let out = Vec::from_slice(client.alloc(), client.printed())?;
+            client.clear_printed();
+            Ok(out)
+        }
+        _ => Err(Fail::from("not told")),
+    }
+}
+
+#[test]
+fn a_board_is_printed(rt: HostRuntime) -> Result<(), Fail> {
+    let alloc = rt.alloc();
+    let board = MemoryBoard::shared(alloc, 2)?;
+    let mut a = join(&rt, alloc, line_to(alloc, &board, 1)?, Telling::Edits)?;
+    dot(&mut a, 0, 0, 2)?;
+    told(&mut a)?;
+    let done = obey(&mut a, "save -")?;
+    assert_eq!(rt; printed_save(&mut a, done)?, state_of(&board)?);
+    let done = obey(&mut a, "save! -")?;
+    assert_eq!(rt; printed_save(&mut a, done)?, state_of(&board)?);
+    let done = obey_alone(&mut a, "save -")?;
+    assert_eq!(rt; printed_save(&mut a, done)?, state_of(&board)?);
+    refuse(&board, NO_PLACE)?;
+    obey_row(&rt, &mut a, "save -", ("told", "refused 31 NoPlace\n"))
+}
+
 #[test]
 fn a_drawing_in_doubt(rt: HostRuntime) -> Result<(), Fail> {
     let alloc = rt.alloc();
@@ -239,7 +300,7 @@ fn a_drawing_in_doubt(rt: HostRuntime) -> Result<(), Fail> {
 }
 
 /// Commands of a client that lost its server, what is left behind each, and what it prints.
-static ALONE: [(&str, &str, &str); 13] = [
+static ALONE: [(&str, &str, &str); 15] = [
     ("show 0 0", "told", "cell 2 1 1\n"),
     (
         "export 0",
@@ -259,7 +320,9 @@ static ALONE: [(&str, &str, &str); 13] = [
     ("poll", "told", "no server\n"),
     ("wait 1 0", "told", "no server\n"),
     ("open b.rle", "told", "no server\n"),
+    ("help", "told", HELP),
     ("sleep 70", "sleep 70", ""),
+    ("exit", "leave", ""),
     ("bye", "leave", ""),
 ];
 

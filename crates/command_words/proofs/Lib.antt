@@ -1,1 +1,2 @@
+pub mod QuoteLaws
 pub mod SpelledLaws

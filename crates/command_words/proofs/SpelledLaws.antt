@@ -14,7 +14,7 @@ use Rattle.command_words.specs.declared.keyword.Keyword.{Keyword}
 use Rattle.command_words.specs.Arguments.{arguments_of, optional_of}
 use Rattle.command_words.specs.Keywords.{keyword_name, keyword_spelled, keywords_of}
 use Rattle.command_words.specs.Spelled.{SpelledValue, begun, with_word, with_first, with_next, with_all, is_empty, with_optional, is_whole, if_whole, line_spelled}
-use Rattle.command_words.specs.Values.{name_spelled, new_file_spelled, number_spelled, replicas_spelled, rule_text_spelled, state_spelled}
+use Rattle.command_words.specs.Values.{file_spelled, name_spelled, new_file_spelled, number_spelled, replicas_spelled, rule_text_spelled, state_spelled}
 
 -- what is seen of a line stays as it is where a word is read as an argument
 abbrev pub Keeps : {A : Type 0} → (SpelledValue → A) → Argument → Type 0
@@ -36,7 +36,7 @@ keyword_stays Name word line next is = made (λ l. l.keyword) line.keyword (name
 keyword_stays X word line next is = made (λ l. l.keyword) line.keyword (signed_number word) _ next (λ a. refl) is
 keyword_stays Y word line next is = made (λ l. l.keyword) line.keyword (signed_number word) _ next (λ a. refl) is
 keyword_stays State word line next is = made (λ l. l.keyword) line.keyword (state_spelled word) _ next (λ a. refl) is
-keyword_stays File word line next is = made (λ l. l.keyword) line.keyword (Some word) (λ w. record line { file = Some w }) next (λ a. refl) is
+keyword_stays File word line next is = made (λ l. l.keyword) line.keyword (Some (file_spelled word)) (λ w. record line { file = Some w }) next (λ a. refl) is
 keyword_stays NewFile word line next is = made (λ l. l.keyword) line.keyword (new_file_spelled word) _ next (λ a. refl) is
 keyword_stays number word line next is = made (λ l. l.keyword) line.keyword (number_spelled word) _ next (λ a. refl) is
 
@@ -55,7 +55,7 @@ replica_stays Name other word line next is = made (λ l. l.replica) line.replica
 replica_stays X other word line next is = made (λ l. l.replica) line.replica (signed_number word) _ next (λ a. refl) is
 replica_stays Y other word line next is = made (λ l. l.replica) line.replica (signed_number word) _ next (λ a. refl) is
 replica_stays State other word line next is = made (λ l. l.replica) line.replica (state_spelled word) _ next (λ a. refl) is
-replica_stays File other word line next is = made (λ l. l.replica) line.replica (Some word) (λ w. record line { file = Some w }) next (λ a. refl) is
+replica_stays File other word line next is = made (λ l. l.replica) line.replica (Some (file_spelled word)) (λ w. record line { file = Some w }) next (λ a. refl) is
 replica_stays NewFile other word line next is = made (λ l. l.replica) line.replica (new_file_spelled word) _ next (λ a. refl) is
 replica_stays number other word line next is = made (λ l. l.replica) line.replica (number_spelled word) _ next (λ a. refl) is
 

@@ -31,7 +31,11 @@ script_arguments keyword.Sleep = argument.Milliseconds ∷ []
 script_arguments keyword.Save = argument.NewFile ∷ []
 script_arguments keyword.SaveOver = argument.NewFile ∷ []
 script_arguments keyword.Open = argument.File ∷ []
+script_arguments keyword.Help = []
+script_arguments keyword.Question = []
 script_arguments keyword.Bye = []
+script_arguments keyword.Quit = []
+script_arguments keyword.Exit = []
 
 -- the arguments behind a replica's number
 abbrev pub without_replica : List Argument → List Argument

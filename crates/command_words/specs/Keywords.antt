@@ -5,7 +5,7 @@ use Rattle.std.specs.Str.{bytes_eq}
 use Rattle.command_words.specs.declared.dialect.Dialect.{Dialect}
 use Rattle.command_words.specs.declared.dialect.Dialect.TheVariants.{Script, Client}
 use Rattle.command_words.specs.declared.keyword.Keyword.{Keyword}
-use Rattle.command_words.specs.declared.keyword.Keyword.TheVariants.{Rule, Replicas, Cells, Clear, Pattern, End, Copy, Or, State, Delta, Deliver, Show, Same, Dump, Export, ExportOver, Poll, Wait, Sleep, Save, SaveOver, Open, Bye}
+use Rattle.command_words.specs.declared.keyword.Keyword.TheVariants.{Rule, Replicas, Cells, Clear, Pattern, End, Copy, Or, State, Delta, Deliver, Show, Same, Dump, Export, ExportOver, Poll, Wait, Sleep, Save, SaveOver, Open, Help, Question, Bye, Quit, Exit}
 
 abbrev pub keyword_name : Keyword → List ℕ
 keyword_name Rule = codes "rule"
@@ -30,12 +30,16 @@ keyword_name Sleep = codes "sleep"
 keyword_name Save = codes "save"
 keyword_name SaveOver = codes "save!"
 keyword_name Open = codes "open"
+keyword_name Help = codes "help"
+keyword_name Question = codes "?"
 keyword_name Bye = codes "bye"
+keyword_name Quit = codes "quit"
+keyword_name Exit = codes "exit"
 
 -- the words of a dialect
 abbrev pub keywords_of : Dialect → List Keyword
 keywords_of Script = Rule ∷ Replicas ∷ Cells ∷ Clear ∷ Pattern ∷ End ∷ Copy ∷ Or ∷ State ∷ Delta ∷ Deliver ∷ Show ∷ Same ∷ Dump ∷ Export ∷ []
-keywords_of Client = Cells ∷ Clear ∷ Pattern ∷ End ∷ Copy ∷ Or ∷ Show ∷ Export ∷ ExportOver ∷ Poll ∷ Wait ∷ Sleep ∷ Save ∷ SaveOver ∷ Open ∷ Bye ∷ []
+keywords_of Client = Cells ∷ Clear ∷ Pattern ∷ End ∷ Copy ∷ Or ∷ Show ∷ Export ∷ ExportOver ∷ Poll ∷ Wait ∷ Sleep ∷ Save ∷ SaveOver ∷ Open ∷ Help ∷ Question ∷ Bye ∷ Quit ∷ Exit ∷ []
 
 -- the one of them that a word is
 abbrev pub keyword_spelled : Dialect → List ℕ → Option Keyword

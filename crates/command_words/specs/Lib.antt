@@ -1,5 +1,6 @@
 pub mod Arguments
 pub mod Keywords
+pub mod Quotes
 pub mod Rows
 pub mod Spelled
 pub mod Values

@@ -1,12 +1,12 @@
 -- Worked values of the definitions.
-use Rattle.std.specs.Prelude.{◌≡◌, [], ◌∷◌, true, false, Some, None, codes, refl, negsuc, pos}
-use Rattle.text_scan.specs.Words.{words}
+use Rattle.std.specs.Prelude.{◌≡◌, ℕ, List, [], ◌∷◌, true, false, Option, Some, None, codes, refl, negsuc, pos}
 use Rattle.command_words.specs.declared.argument.Argument.TheVariants as argument
 use Rattle.command_words.specs.declared.dialect.Dialect.TheVariants.{Script, Client}
-use Rattle.command_words.specs.declared.keyword.Keyword.TheVariants.{Cells, Clear, Copy, Export, ExportOver, Open, Poll, Replicas, Rule, Save, SaveOver, Show, Wait}
+use Rattle.command_words.specs.declared.keyword.Keyword.TheVariants.{Cells, Clear, Copy, Exit, Export, ExportOver, Help, Open, Poll, Question, Quit, Replicas, Rule, Save, SaveOver, Show, Wait}
 use Rattle.command_words.specs.Arguments.{arguments_of}
 use Rattle.command_words.specs.Keywords.{keyword_spelled}
-use Rattle.command_words.specs.Spelled.{begun, fits, line_spelled}
+use Rattle.command_words.specs.Quotes.{line_words, name_in_quotes}
+use Rattle.command_words.specs.Spelled.{SpelledValue, begun, fits, line_spelled}
 
 -- ---- keywords
 
@@ -22,6 +22,34 @@ showing = refl
 
 pub misspelt : keyword_spelled Client (codes "shwo") ≡ None
 misspelt = refl
+
+-- a client is helped and leaves by two words each, of which a script has none
+pub helped : keyword_spelled Client (codes "help") ≡ Some Help
+helped = refl
+
+pub asked : keyword_spelled Client (codes "?") ≡ Some Question
+asked = refl
+
+pub asked_twice : keyword_spelled Client (codes "??") ≡ None
+asked_twice = refl
+
+pub leaving : keyword_spelled Client (codes "quit") ≡ Some Quit
+leaving = refl
+
+pub going : keyword_spelled Client (codes "exit") ≡ Some Exit
+going = refl
+
+pub help_in_a_script : keyword_spelled Script (codes "help") ≡ None
+help_in_a_script = refl
+
+pub question_in_a_script : keyword_spelled Script (codes "?") ≡ None
+question_in_a_script = refl
+
+pub quit_in_a_script : keyword_spelled Script (codes "quit") ≡ None
+quit_in_a_script = refl
+
+pub exit_in_a_script : keyword_spelled Script (codes "exit") ≡ None
+exit_in_a_script = refl
 
 -- ---- arguments
 
@@ -42,73 +70,208 @@ minus_nothing = refl
 pub no_width : fits argument.Width (codes "-0") ≡ false
 no_width = refl
 
+-- a file may have a number's name where that is read, or stands in quotes
+pub number_read : fits argument.File (codes "44") ≡ true
+number_read = refl
+
+pub number_written : fits argument.NewFile (codes "44") ≡ false
+number_written = refl
+
+pub quoted_number_written : fits argument.NewFile (codes "\"44\"") ≡ true
+quoted_number_written = refl
+
+pub quoted_coordinate : fits argument.X (codes "\"4\"") ≡ false
+quoted_coordinate = refl
+
+pub quoted_pattern : fits argument.Name (codes "\"a\"") ≡ false
+quoted_pattern = refl
+
 -- ---- lines
 
-pub cleared : line_spelled Script (words (codes "clear 2 -3 4 5 6"))
+-- what the words of a line spell
+abbrev script : List ℕ → Option SpelledValue
+script line = line_spelled Script (line_words Script line)
+
+abbrev client : List ℕ → Option SpelledValue
+client line = line_spelled Client (line_words Client line)
+
+pub cleared : script (codes "clear 2 -3 4 5 6")
     ≡ Some (record (begun Clear []) { replica = 2; x = negsuc 2; y = pos 4; width = 5; height = 6 })
 cleared = refl
 
 -- a client is one replica, whose number is 1
-pub cleared_by_a_client : line_spelled Client (words (codes "clear -3 4 5 6")) ≡ line_spelled Script (words (codes "clear 1 -3 4 5 6"))
+pub cleared_by_a_client : client (codes "clear -3 4 5 6") ≡ script (codes "clear 1 -3 4 5 6")
 cleared_by_a_client = refl
 
-pub a_word_too_few : line_spelled Script (words (codes "clear 2 -3 4 5")) ≡ None
+pub a_word_too_few : script (codes "clear 2 -3 4 5") ≡ None
 a_word_too_few = refl
 
-pub a_word_too_many : line_spelled Script (words (codes "clear 2 -3 4 5 6 7")) ≡ None
+pub a_word_too_many : script (codes "clear 2 -3 4 5 6 7") ≡ None
 a_word_too_many = refl
 
-pub named_pattern : line_spelled Client (words (codes "copy Glider7 0 1")) ≡ Some (record (begun Copy []) { name = codes "Glider7"; y = pos 1 })
+pub named_pattern : client (codes "copy Glider7 0 1") ≡ Some (record (begun Copy []) { name = codes "Glider7"; y = pos 1 })
 named_pattern = refl
 
-pub rule_text : line_spelled Script (words (codes "rule 23/3/2")) ≡ Some (record (begun Rule []) { rule = codes "23/3/2" })
+pub rule_text : script (codes "rule 23/3/2") ≡ Some (record (begun Rule []) { rule = codes "23/3/2" })
 rule_text = refl
 
-pub no_rule : line_spelled Script (words (codes "rule B3/S23")) ≡ None
+pub no_rule : script (codes "rule B3/S23") ≡ None
 no_rule = refl
 
-pub most_replicas : line_spelled Script (words (codes "replicas 64")) ≡ Some (record (begun Replicas []) { replicas = 64 })
+pub most_replicas : script (codes "replicas 64") ≡ Some (record (begun Replicas []) { replicas = 64 })
 most_replicas = refl
 
-pub too_many_replicas : line_spelled Script (words (codes "replicas 65")) ≡ None
+pub too_many_replicas : script (codes "replicas 65") ≡ None
 too_many_replicas = refl
 
 -- what may be left out
-pub to_no_file : line_spelled Client (words (codes "export 4")) ≡ Some (record (begun Export []) { generation = 4 })
+pub to_no_file : client (codes "export 4") ≡ Some (record (begun Export []) { generation = 4 })
 to_no_file = refl
 
-pub to_a_file : line_spelled Client (words (codes "export 4 a.rle")) ≡ Some (record (begun Export []) { generation = 4; file = Some (codes "a.rle") })
+pub to_a_file : client (codes "export 4 a.rle") ≡ Some (record (begun Export []) { generation = 4; file = Some (codes "a.rle") })
 to_a_file = refl
 
 -- a script's export: its second number is no file
-pub to_a_number : line_spelled Client (words (codes "export 1 4")) ≡ None
+pub to_a_number : client (codes "export 1 4") ≡ None
 to_a_number = refl
 
-pub over_a_file : line_spelled Client (words (codes "export! 4 a.rle")) ≡ Some (record (begun ExportOver []) { generation = 4; file = Some (codes "a.rle") })
+pub over_a_file : client (codes "export! 4 a.rle") ≡ Some (record (begun ExportOver []) { generation = 4; file = Some (codes "a.rle") })
 over_a_file = refl
 
-pub over_no_file : line_spelled Client (words (codes "export! 4")) ≡ None
+pub over_no_file : client (codes "export! 4") ≡ None
 over_no_file = refl
 
-pub saved : line_spelled Client (words (codes "save 4.state")) ≡ Some (record (begun Save []) { file = Some (codes "4.state") })
+pub saved : client (codes "save 4.state") ≡ Some (record (begun Save []) { file = Some (codes "4.state") })
 saved = refl
 
-pub saved_over : line_spelled Client (words (codes "save! 4x")) ≡ Some (record (begun SaveOver []) { file = Some (codes "4x") })
+pub saved_over : client (codes "save! 4x") ≡ Some (record (begun SaveOver []) { file = Some (codes "4x") })
 saved_over = refl
 
-pub saved_to_a_number : line_spelled Client (words (codes "save 44")) ≡ None
+pub saved_to_a_number : client (codes "save 44") ≡ None
 saved_to_a_number = refl
 
 -- what is read may have any name
-pub opened_number : line_spelled Client (words (codes "open 44")) ≡ Some (record (begun Open []) { file = Some (codes "44") })
+pub opened_number : client (codes "open 44") ≡ Some (record (begun Open []) { file = Some (codes "44") })
 opened_number = refl
 
-pub waited : line_spelled Client (words (codes "wait 2 30")) ≡ Some (record (begun Wait []) { edits = 2; milliseconds = Some 30 })
+pub waited : client (codes "wait 2 30") ≡ Some (record (begun Wait []) { edits = 2; milliseconds = Some 30 })
 waited = refl
 
 -- what is repeated is left
-pub cells : line_spelled Client (words (codes "cells 0 0 1")) ≡ Some (begun Cells (codes "0" ∷ codes "0" ∷ codes "1" ∷ []))
+pub cells : client (codes "cells 0 0 1") ≡ Some (begun Cells (codes "0" ∷ codes "0" ∷ codes "1" ∷ []))
 cells = refl
 
-pub no_cell : line_spelled Client (words (codes "cells")) ≡ None
+pub no_cell : client (codes "cells") ≡ None
 no_cell = refl
+
+-- ---- words in quotes
+
+-- one word, which ends the line but for blanks
+pub two_words_quoted : line_words Client (codes "save \"my board.state\"") ≡ codes "save" ∷ codes "\"my board.state\"" ∷ []
+two_words_quoted = refl
+
+pub one_word_quoted : line_words Client (codes "open \"a\"") ≡ codes "open" ∷ codes "\"a\"" ∷ []
+one_word_quoted = refl
+
+pub blanks_quoted : line_words Client (codes "  export\t5 \" x  y\t\" \t ") ≡ codes "export" ∷ codes "5" ∷ codes "\" x  y\t\"" ∷ []
+blanks_quoted = refl
+
+-- any other line is parted by blanks: where nothing stands between the quotes
+pub no_name_quoted : line_words Client (codes "save \"\"") ≡ codes "save" ∷ codes "\"\"" ∷ []
+no_name_quoted = refl
+
+-- where the first is amid a word
+pub amid_a_word : line_words Client (codes "save a\"b c\"") ≡ codes "save" ∷ codes "a\"b" ∷ codes "c\"" ∷ []
+amid_a_word = refl
+
+-- where none closes
+pub not_closed : line_words Client (codes "save \"a b") ≡ codes "save" ∷ codes "\"a" ∷ codes "b" ∷ []
+not_closed = refl
+
+-- where something stands behind the closing one
+pub text_behind_a_quote : line_words Client (codes "save \"a b\"c") ≡ codes "save" ∷ codes "\"a" ∷ codes "b\"c" ∷ []
+text_behind_a_quote = refl
+
+pub word_behind_a_quote : line_words Client (codes "save \"a b\" c") ≡ codes "save" ∷ codes "\"a" ∷ codes "b\"" ∷ codes "c" ∷ []
+word_behind_a_quote = refl
+
+-- where one stands between them
+pub quote_between : line_words Client (codes "save \"a\"b\"") ≡ codes "save" ∷ codes "\"a\"b\"" ∷ []
+quote_between = refl
+
+-- the last two may make a word behind others
+pub last_two_quotes : line_words Client (codes "x \"a \"b c\"") ≡ codes "x" ∷ codes "\"a" ∷ codes "\"b c\"" ∷ []
+last_two_quotes = refl
+
+pub first_word_quoted : line_words Client (codes "\"save a\"") ≡ codes "\"save a\"" ∷ []
+first_word_quoted = refl
+
+-- a script has none
+pub quotes_in_a_script : line_words Script (codes "save \"a b\"") ≡ codes "save" ∷ codes "\"a" ∷ codes "b\"" ∷ []
+quotes_in_a_script = refl
+
+pub name_quoted : name_in_quotes (codes "\"my board\"  ") ≡ Some (codes "my board")
+name_quoted = refl
+
+pub saved_in_quotes : client (codes "save \"my board.state\"") ≡ Some (record (begun Save []) { file = Some (codes "my board.state") })
+saved_in_quotes = refl
+
+pub opened_in_quotes : client (codes "open \"a b.rle\" ") ≡ Some (record (begun Open []) { file = Some (codes "a b.rle") })
+opened_in_quotes = refl
+
+pub exported_in_quotes : client (codes "export 5 \"x y.rle\"") ≡ Some (record (begun Export []) { generation = 5; file = Some (codes "x y.rle") })
+exported_in_quotes = refl
+
+pub exported_over_in_quotes : client (codes "export! 5 \"x\"") ≡ Some (record (begun ExportOver []) { generation = 5; file = Some (codes "x") })
+exported_over_in_quotes = refl
+
+pub saved_to_a_quoted_number : client (codes "save \"44\"") ≡ Some (record (begun Save []) { file = Some (codes "44") })
+saved_to_a_quoted_number = refl
+
+pub quote_amid_a_name : client (codes "save a\"b") ≡ Some (record (begun Save []) { file = Some (codes "a\"b") })
+quote_amid_a_name = refl
+
+pub saved_to_quotes : client (codes "save \"\"") ≡ Some (record (begun Save []) { file = Some (codes "\"\"") })
+saved_to_quotes = refl
+
+pub saved_not_closed : client (codes "save \"a b") ≡ None
+saved_not_closed = refl
+
+pub saved_with_text_behind : client (codes "save \"a b\" c") ≡ None
+saved_with_text_behind = refl
+
+pub quoted_generation : client (codes "export \"5\"") ≡ None
+quoted_generation = refl
+
+pub quoted_copy : client (codes "copy \"a b\"") ≡ None
+quoted_copy = refl
+
+pub quoted_cells : client (codes "cells 0 0 \"1\"") ≡ None
+quoted_cells = refl
+
+pub quoted_save : client (codes "\"save\" a") ≡ None
+quoted_save = refl
+
+-- ---- standard output
+
+pub exported_to_output : client (codes "export 4 -") ≡ client (codes "export 4")
+exported_to_output = refl
+
+pub exported_over_output : client (codes "export! 4 -") ≡ Some (record (begun ExportOver []) { generation = 4 })
+exported_over_output = refl
+
+pub saved_to_output : client (codes "save -") ≡ Some (begun Save [])
+saved_to_output = refl
+
+pub saved_over_output : client (codes "save! -") ≡ Some (begun SaveOver [])
+saved_over_output = refl
+
+-- a file that is read is called so, and one in quotes
+pub opened_dash : client (codes "open -") ≡ Some (record (begun Open []) { file = Some (codes "-") })
+opened_dash = refl
+
+pub saved_to_a_quoted_dash : client (codes "save \"-\"") ≡ Some (record (begun Save []) { file = Some (codes "-") })
+saved_to_a_quoted_dash = refl
+
+pub waited_for_dash : client (codes "wait -") ≡ None
+waited_for_dash = refl

@@ -1,5 +1,5 @@
 -- What the words of a line spell.
-use Rattle.std.specs.Prelude.{ℕ, ℤ, pos, Bool, true, false, if◌then◌else◌, List, [], ◌∷◌, Option, Some, None, option_map}
+use Rattle.std.specs.Prelude.{ℕ, ℤ, pos, Bool, true, false, ◌&&◌, if◌then◌else◌, List, [], ◌∷◌, Option, Some, None, option_map}
 use Rattle.std.specs.Bool.{beq}
 use Rattle.std.specs.Option.{is_some}
 use Rattle.text_scan.specs.Bytes.{◌>=>◌}
@@ -12,7 +12,8 @@ use Rattle.command_words.specs.declared.keyword.Keyword.TheVariants as keyword
 use Rattle.command_words.specs.declared.spelled.Spelled.{Spelled}
 use Rattle.command_words.specs.Arguments.{arguments_of, optional_of, repeated_of}
 use Rattle.command_words.specs.Keywords.{keyword_spelled}
-use Rattle.command_words.specs.Values.{name_spelled, new_file_spelled, number_spelled, replicas_spelled, rule_text_spelled, state_spelled}
+use Rattle.command_words.specs.Quotes.{are_unquoted, line_words}
+use Rattle.command_words.specs.Values.{file_spelled, name_spelled, new_file_spelled, number_spelled, replicas_spelled, rule_text_spelled, state_spelled}
 
 -- the keyword of a line, what its arguments say, and the words that are left
 pub record SpelledValue : Type 0 where
@@ -59,6 +60,10 @@ spelled_of spelled = record {
   milliseconds = spelled.milliseconds;
   behind = words spelled.behind.now;
 }
+
+-- the same while it is read, with the words that its dialect has of the rest
+abbrev pub spoken_of : Spelled → SpelledValue
+spoken_of spelled = record (spelled_of spelled) { behind = line_words spelled.dialect spelled.behind.now }
 
 -- a line that begins with a keyword, where nothing behind it is read yet; the one replica of a client has the number 1
 abbrev pub begun : Keyword → List (List ℕ) → SpelledValue
@@ -109,8 +114,8 @@ with_word argument.Name word line = option_map (λ name. record line { name = na
 with_word argument.X word line = option_map (λ x. record line { x = x }) (signed_number word)
 with_word argument.Y word line = option_map (λ y. record line { y = y }) (signed_number word)
 with_word argument.State word line = option_map (λ state. record line { state = state }) (state_spelled word)
-with_word argument.File word line = Some (record line { file = Some word })
-with_word argument.NewFile word line = option_map (λ name. record line { file = Some name }) (new_file_spelled word)
+with_word argument.File word line = Some (record line { file = Some (file_spelled word) })
+with_word argument.NewFile word line = option_map (λ file. record line { file = file }) (new_file_spelled word)
 with_word argument word line = option_map (λ n. with_number argument n line) (number_spelled word)
 
 -- whether a word can stand for an argument
@@ -141,9 +146,9 @@ is_empty (x ∷ xs) = false
 abbrev pub with_optional : List Argument → SpelledValue → Option SpelledValue
 with_optional arguments line = if is_empty line.behind then Some line else with_all arguments line
 
--- words are left exactly where the keyword has arguments that are repeated
+-- words are left exactly where the keyword has arguments that are repeated, and none of them in quotes
 abbrev pub is_whole : SpelledValue → Bool
-is_whole line = beq (is_empty line.behind) (is_empty (repeated_of line.keyword))
+is_whole line = beq (is_empty line.behind) (is_empty (repeated_of line.keyword)) && are_unquoted line.behind
 
 abbrev pub if_whole : SpelledValue → Option SpelledValue
 if_whole line = if is_whole line then Some line else None

@@ -1,12 +1,15 @@
 -- What single words say.
-use Rattle.std.specs.Prelude.{ℕ, Bool, ◌&&◌, nat_le, if◌then◌else◌, List, [], ◌∷◌, length, Option, Some, None, option_map}
+use Rattle.std.specs.Prelude.{ℕ, Bool, ◌&&◌, nat_le, if◌then◌else◌, List, [], ◌∷◌, length, codes, Option, Some, None, option_map, unwrap_or}
 use Rattle.std.specs.Char.{is_ascii_alphanumeric, is_ascii_digit}
 use Rattle.std.specs.List.{list_all}
+use Rattle.std.specs.Option.{option_map_or}
 use Rattle.std.specs.Result.{is_ok}
+use Rattle.std.specs.Str.{bytes_eq}
 use Rattle.generations_rule.specs.RuleText.{parsed}
 use Rattle.text_scan.specs.Bytes.{◌>=>◌, decimal_number}
 use Rattle.text_scan.specs.Words.{signed_number}
 use Rattle.pattern_cells.specs.declared.cell.Cell.{Cell}
+use Rattle.command_words.specs.Quotes.{name_in_quotes}
 
 -- a number of 32 bits
 abbrev pub number_spelled : List ℕ → Option ℕ
@@ -32,9 +35,21 @@ is_pattern_name word = nat_le 1 (length word) && nat_le (length word) 16 && list
 abbrev pub name_spelled : List ℕ → Option (List ℕ)
 name_spelled word = if is_pattern_name word then Some word else None
 
+-- the name of a file: the word, or what stands between its quotes
+abbrev pub file_spelled : List ℕ → List ℕ
+file_spelled word = unwrap_or (name_in_quotes word) word
+
 -- the word, unless it is digits alone
-abbrev pub new_file_spelled : List ℕ → Option (List ℕ)
-new_file_spelled word = if list_all is_ascii_digit word then None else Some word
+abbrev pub no_number_spelled : List ℕ → Option (List ℕ)
+no_number_spelled word = if list_all is_ascii_digit word then None else Some word
+
+-- the name of a file that is written: digits alone are one only in quotes
+abbrev pub new_name_spelled : List ℕ → Option (List ℕ)
+new_name_spelled word = option_map_or Some (name_in_quotes word) (no_number_spelled word)
+
+-- the file that is written, and none for `-`, which is standard output
+abbrev pub new_file_spelled : List ℕ → Option (Option (List ℕ))
+new_file_spelled word = if bytes_eq word (codes "-") then Some None else option_map Some (new_name_spelled word)
 
 -- a coordinate and a state
 abbrev pub cell_spelled : List ℕ → List ℕ → List ℕ → Option Cell

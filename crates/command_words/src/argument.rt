@@ -1,5 +1,6 @@
 //! What stands behind the first word of a line.
 
+use crate::dialect::Dialect;
 use crate::keyword::Keyword;
 use crate::spelled::Spelled;
 
@@ -33,9 +34,10 @@ pub enum Argument {
     /// How many edits of a journal.
     Count,
     Generation,
-    /// The name of a file: any word.
+    /// The name of a file: any word, or what stands between its quotes.
     File,
-    /// The name of a file that is written: any word but a number.
+    /// The name of a file that is written: any word but a number, or what stands between its quotes; `-`
+    /// names none.
     NewFile,
     /// How many edits are waited for.
     Edits,
@@ -50,7 +52,7 @@ impl Argument {
     pub fn fits(self, word: &[u8]) -> bool
         ensures { result ≡ fits self word.now }
     {
-        Spelled::begun(Keyword::End, b"")
+        Spelled::begun(Dialect::Script, Keyword::End, b"")
             .with_word(self, word)
             .is_some()
     }

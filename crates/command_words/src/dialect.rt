@@ -1,6 +1,12 @@
 //! Whose lines are read.
 
+ghost use Rattle.std.specs.Prelude.{◌≡◌, ◌<◌, [], ◌∷◌, ◌++◌, length, MatchOption, IfSome};
+ghost use Rattle.text_scan.specs.Bytes.{is_space_or_tab, past_prefix};
+ghost use Rattle.command_words.specs.Quotes.{client_words};
+
 use crate::keyword::Keyword;
+use crate::quotes::client_word_len;
+use text_scan::{split_word, without_blanks};
 
 /// Whose lines they are: a script has lines that no client has, and the other way round.
 #[derive(Clone, Copy, Debug, PartialEq, Eq)]
@@ -29,7 +35,7 @@ static SCRIPT: [Keyword; 15] = [
     Keyword::Export,
 ];
 
-static CLIENT: [Keyword; 16] = [
+static CLIENT: [Keyword; 20] = [
     Keyword::Cells,
     Keyword::Clear,
     Keyword::Pattern,
@@ -45,12 +51,18 @@ static CLIENT: [Keyword; 16] = [
     Keyword::Save,
     Keyword::SaveOver,
     Keyword::Open,
+    Keyword::Help,
+    Keyword::Question,
     Keyword::Bye,
+    Keyword::Quit,
+    Keyword::Exit,
 ];
 
 impl Dialect {
-    ghost use Rattle.std.specs.Prelude.{◌≡◌};
+    ghost use Rattle.std.specs.Prelude.{◌≡◌, ◌<◌, [], ◌∷◌, ◌++◌, length, MatchOption, IfSome};
+    ghost use Rattle.text_scan.specs.Bytes.{is_space_or_tab, past_prefix};
     ghost use Rattle.command_words.specs.Keywords.{keyword_spelled, keywords_of};
+    ghost use Rattle.command_words.specs.Quotes.{line_words};
 
     /// The words with which its lines begin.
     pub fn keywords(self) -> &'static [Keyword]
@@ -70,6 +82,19 @@ impl Dialect {
             .iter()
             .copied()
             .find(|keyword| keyword.is_named(word))
+    }
+
+    /// The first word of a line, and what stands behind it, the blanks between them too. A client's line
+    /// may end in a word in quotes, which has its quotes and the blanks between them.
+    pub fn split_word(self, line: &[u8]) -> Option<(&[u8], &[u8])>
+        ensures word { MatchOption result (line_words self line.now ≡ []) (λ p. line_words self line.now ≡ p.0.now ∷ line_words self p.1.now) }
+        ensures whole { IfSome result (λ p. p.0.now ++ p.1.now ≡ past_prefix is_space_or_tab line.now) }
+        ensures shorter { IfSome result (λ p. length p.1.now < length line.now) }
+    {
+        match self {
+            Dialect::Script => split_word(line),
+            Dialect::Client => split_client_word(line),
+        }
     }
 
     pub fn other(self) -> Dialect {
@@ -102,4 +127,17 @@ impl Dialect {
             Dialect::Client => "the board's rule",
         }
     }
+}
+
+/// The first word of a client's line, and what stands behind it.
+fn split_client_word(line: &[u8]) -> Option<(&[u8], &[u8])>
+    ensures word { MatchOption result (client_words line.now ≡ []) (λ p. client_words line.now ≡ p.0.now ∷ client_words p.1.now) }
+    ensures whole { IfSome result (λ p. p.0.now ++ p.1.now ≡ past_prefix is_space_or_tab line.now) }
+    ensures shorter { IfSome result (λ p. length p.1.now < length line.now) }
+{
+    let rest = without_blanks(line);
+    if rest.is_empty() {
+        return None;
+    }
+    Some(rest.split_at(client_word_len(rest)))
 }

@@ -34,7 +34,14 @@ pub enum Keyword {
     /// `save!`, which may replace a file.
     SaveOver,
     Open,
+    Help,
+    /// `?`, which is `help`.
+    Question,
     Bye,
+    /// `quit`, which is `bye`.
+    Quit,
+    /// `exit`, which is `bye`.
+    Exit,
 }
 
 impl Keyword {
@@ -70,7 +77,11 @@ impl Keyword {
             Keyword::Save => "save",
             Keyword::SaveOver => "save!",
             Keyword::Open => "open",
+            Keyword::Help => "help",
+            Keyword::Question => "?",
             Keyword::Bye => "bye",
+            Keyword::Quit => "quit",
+            Keyword::Exit => "exit",
         }
     }
 
@@ -138,7 +149,9 @@ impl Keyword {
             Keyword::Sleep => &[Argument::Milliseconds],
             Keyword::Save | Keyword::SaveOver => &[Argument::NewFile],
             Keyword::Open => &[Argument::File],
-            Keyword::End | Keyword::Poll | Keyword::Bye => &[],
+            Keyword::End | Keyword::Poll => &[],
+            Keyword::Help | Keyword::Question => &[],
+            Keyword::Bye | Keyword::Quit | Keyword::Exit => &[],
         }
     }
 

@@ -5,6 +5,7 @@
 mod argument;
 mod dialect;
 mod keyword;
+mod quotes;
 mod spelled;
 mod values;
 

@@ -1,20 +1,23 @@
 //! What the words of a line spell.
 
 ghost use Rattle.std.specs.Prelude.{◌≡◌, option_map};
-ghost use Rattle.text_scan.specs.Words.{words};
+ghost use Rattle.command_words.specs.Quotes.{are_unquoted, line_words};
 ghost use Rattle.command_words.specs.Spelled.{is_empty, line_spelled, spelled_of};
 
 use crate::argument::Argument;
 use crate::dialect::Dialect;
 use crate::keyword::Keyword;
-use crate::values::{name_in, new_file_in, replicas_in, rule_in, state_in, unsigned};
-use text_scan::{signed, split_word};
+use crate::quotes::opens_quote;
+use crate::values::{file_in, name_in, new_name_in, replicas_in, rule_in, state_in, unsigned};
+use text_scan::signed;
 
 /// What the words of a line spell: the keyword that it begins with, and what is said by each argument
 /// behind it. What a line does not say is nothing, an empty text or 0; but the replica is number 1, as is
 /// the one replica of a client.
 #[derive(Clone, Copy)]
 pub struct Spelled<'a> {
+    /// Whose line it is.
+    dialect: Dialect,
     pub keyword: Keyword,
     /// The text of a rule.
     pub rule: &'a [u8],
@@ -35,7 +38,7 @@ pub struct Spelled<'a> {
     /// How many edits of the journal.
     pub count: u32,
     pub generation: u32,
-    /// The name of a file.
+    /// The name of a file, without the quotes round it; `-` for one that is written names none.
     pub file: Option<&'a [u8]>,
     /// How many edits are waited for.
     pub edits: u32,
@@ -47,29 +50,28 @@ pub struct Spelled<'a> {
 /// What the words of a line spell, unless its first word is no keyword of the dialect, or the others do
 /// not stand for just the arguments of that keyword.
 pub fn read_line(dialect: Dialect, line: &[u8]) -> Option<Spelled<'_>>
-    ensures { option_map spelled_of result ≡ line_spelled dialect (words line.now) }
+    ensures { option_map spelled_of result ≡ line_spelled dialect (line_words dialect line.now) }
 {
-    let (name, behind) = split_word(line)?;
+    let (name, behind) = dialect.split_word(line)?;
     let keyword = dialect.keyword(name)?;
-    let spelled = Spelled::begun(keyword, behind).with_all(keyword.arguments(dialect))?;
+    let begun = Spelled::begun(dialect, keyword, behind);
+    let spelled = begun.with_all(keyword.arguments(dialect))?;
     let spelled = spelled.with_optional(keyword.optional(dialect))?;
-    if spelled.is_whole() {
-        Some(spelled)
-    } else {
-        None
-    }
+    spelled.if_whole()
 }
 
 impl<'a> Spelled<'a> {
     ghost use Rattle.std.specs.Prelude.{◌≡◌, option_map};
-    ghost use Rattle.text_scan.specs.Words.{words};
-    ghost use Rattle.command_words.specs.Spelled.{begun, is_whole, spelled_of, with_all, with_next, with_number, with_optional, with_word};
+    ghost use Rattle.command_words.specs.Quotes.{line_words};
+    ghost use Rattle.command_words.specs.Spelled.{begun, if_whole, is_empty, is_whole, spelled_of, spoken_of, with_all, with_next, with_number, with_optional, with_word};
+    ghost use Rattle.command_words.specs.Values.{new_file_spelled};
 
     /// A line that begins with a keyword, where nothing behind it is read yet.
-    pub(crate) fn begun(keyword: Keyword, behind: &'a [u8]) -> Spelled<'a>
-        ensures { spelled_of result ≡ begun keyword (words behind.now) }
+    pub(crate) fn begun(dialect: Dialect, keyword: Keyword, behind: &'a [u8]) -> Spelled<'a>
+        ensures { spoken_of result ≡ begun keyword (line_words dialect behind.now) }
     {
         Spelled {
+            dialect,
             keyword,
             rule: b"",
             replicas: 0,
@@ -94,7 +96,7 @@ impl<'a> Spelled<'a> {
 
     /// The same with what the next words say, each as one of these arguments.
     fn with_all(&self, arguments: &[Argument]) -> Option<Spelled<'a>>
-        ensures { option_map spelled_of result ≡ with_all arguments.now (spelled_of self.now) }
+        ensures { option_map spoken_of result ≡ with_all arguments.now (spoken_of self.now) }
     {
         let mut spelled = *self;
         let mut rest = arguments;
@@ -107,9 +109,9 @@ impl<'a> Spelled<'a> {
 
     /// The same with what the next words say as these arguments, where there is a next word.
     fn with_optional(&self, arguments: &[Argument]) -> Option<Spelled<'a>>
-        ensures { option_map spelled_of result ≡ with_optional arguments.now (spelled_of self.now) }
+        ensures { option_map spoken_of result ≡ with_optional arguments.now (spoken_of self.now) }
     {
-        if ends(self.behind) {
+        if self.ends() {
             Some(*self)
         } else {
             self.with_all(arguments)
@@ -118,15 +120,15 @@ impl<'a> Spelled<'a> {
 
     /// The same with what the next word says as an argument.
     fn with_next(&self, argument: Argument) -> Option<Spelled<'a>>
-        ensures { option_map spelled_of result ≡ with_next argument (spelled_of self.now) }
+        ensures { option_map spoken_of result ≡ with_next argument (spoken_of self.now) }
     {
-        let (word, behind) = split_word(self.behind)?;
+        let (word, behind) = self.dialect.split_word(self.behind)?;
         Spelled { behind, ..*self }.with_word(argument, word)
     }
 
     /// The same with what a word says as an argument, unless it cannot stand for that.
     pub(crate) fn with_word(&self, argument: Argument, word: &'a [u8]) -> Option<Spelled<'a>>
-        ensures { option_map spelled_of result ≡ with_word argument word.now (spelled_of self.now) }
+        ensures { option_map spoken_of result ≡ with_word argument word.now (spoken_of self.now) }
     {
         match argument {
             Argument::Rule => Some(Spelled {
@@ -154,20 +156,29 @@ impl<'a> Spelled<'a> {
                 ..*self
             }),
             Argument::File => Some(Spelled {
-                file: Some(word),
+                file: Some(file_in(word)),
                 ..*self
             }),
-            Argument::NewFile => Some(Spelled {
-                file: Some(new_file_in(word)?),
-                ..*self
-            }),
+            Argument::NewFile => self.with_new_file(word),
             _ => Some(self.with_number(argument, unsigned(word)?)),
         }
     }
 
+    /// The same with the file that a word names to be written: `-` names none.
+    fn with_new_file(&self, word: &'a [u8]) -> Option<Spelled<'a>>
+        ensures { option_map spoken_of result ≡ option_map (λ file. record (spoken_of self.now) { file = file }) (new_file_spelled word.now) }
+    {
+        let file = if word == b"-".as_slice() {
+            None
+        } else {
+            Some(new_name_in(word)?)
+        };
+        Some(Spelled { file, ..*self })
+    }
+
     /// The same with a number of 32 bits as an argument; an argument that is none leaves all as it is.
     fn with_number(&self, argument: Argument, number: u32) -> Spelled<'a>
-        ensures { spelled_of result ≡ with_number argument number (spelled_of self.now) }
+        ensures { spoken_of result ≡ with_number argument number (spoken_of self.now) }
     {
         let mut spelled = *self;
         match argument {
@@ -186,17 +197,39 @@ impl<'a> Spelled<'a> {
         spelled
     }
 
-    /// Whether words are left exactly where the keyword has arguments that are repeated.
-    fn is_whole(&self) -> bool
-        ensures { result ≡ is_whole (spelled_of self.now) }
+    /// The same, if it is whole.
+    fn if_whole(&self) -> Option<Spelled<'a>>
+        ensures { option_map spelled_of result ≡ if_whole (spoken_of self.now) }
     {
-        ends(self.behind) == self.keyword.repeated().is_empty()
+        if self.is_whole() { Some(*self) } else { None }
+    }
+
+    /// Whether words are left exactly where the keyword has arguments that are repeated, and none of them
+    /// in quotes.
+    fn is_whole(&self) -> bool
+        ensures { result ≡ is_whole (spoken_of self.now) }
+    {
+        self.ends() == self.keyword.repeated().is_empty() && are_unquoted(self.dialect, self.behind)
+    }
+
+    /// Whether there is no further word.
+    fn ends(&self) -> bool
+        ensures { result ≡ is_empty (line_words self.now.dialect self.now.behind.now) }
+    {
+        self.dialect.split_word(self.behind).is_none()
     }
 }
 
-/// Whether there is no further word.
-fn ends(rest: &[u8]) -> bool
-    ensures { result ≡ is_empty (words rest.now) }
+/// Whether no word of a line, or of what is left of it, begins with a quote.
+fn are_unquoted(dialect: Dialect, line: &[u8]) -> bool
+    ensures { result ≡ are_unquoted (line_words dialect line.now) }
 {
-    split_word(rest).is_none()
+    let mut rest = line;
+    while let Some((word, behind)) = dialect.split_word(rest) {
+        if opens_quote(word) {
+            return false;
+        }
+        rest = behind;
+    }
+    true
 }

@@ -4,8 +4,9 @@ ghost use Rattle.std.specs.Prelude.{◌≡◌, ◌∷◌, [], ◌≤◌, IfOk, I
 ghost use Rattle.std.specs.Char.{is_ascii_alphanumeric, is_ascii_digit};
 ghost use Rattle.std.specs.List.{list_all};
 ghost use Rattle.text_scan.specs.Words.{words};
-ghost use Rattle.command_words.specs.Values.{cell_spelled, cells_spelled, is_pattern_name, name_spelled, new_file_spelled, number_spelled, replicas_spelled, rule_text_spelled, state_spelled};
+ghost use Rattle.command_words.specs.Values.{cell_spelled, cells_spelled, file_spelled, is_pattern_name, name_spelled, new_name_spelled, number_spelled, replicas_spelled, rule_text_spelled, state_spelled};
 
+use crate::quotes::name_in_quotes;
 use generations_rule::Rule;
 use pattern_cells::Cell;
 use std::alloc::{AllocError, Global};
@@ -66,12 +67,26 @@ fn are_letters_or_digits(word: &[u8]) -> bool
     word.iter().all(|byte| byte.is_ascii_alphanumeric())
 }
 
-/// The word, if it can name a file that is written: digits alone cannot, since a script's line that
-/// exports has such a word there.
-pub fn new_file_in(word: &[u8]) -> Option<&[u8]>
-    ensures { option_map (λ name. name.now) result ≡ new_file_spelled word.now }
+/// The name of a file: the word, or what stands between its quotes.
+pub fn file_in(word: &[u8]) -> &[u8]
+    ensures { result.now ≡ file_spelled word.now }
 {
-    if are_digits(word) { None } else { Some(word) }
+    match name_in_quotes(word) {
+        Some(name) => name,
+        None => word,
+    }
+}
+
+/// The name of a file that is written. Digits alone are one only in quotes, since a script's line that
+/// exports has such a word there.
+pub fn new_name_in(word: &[u8]) -> Option<&[u8]>
+    ensures { option_map (λ name. name.now) result ≡ new_name_spelled word.now }
+{
+    match name_in_quotes(word) {
+        Some(name) => Some(name),
+        None if are_digits(word) => None,
+        None => Some(word),
+    }
 }
 
 fn are_digits(word: &[u8]) -> bool

@@ -22,6 +22,7 @@ may_poll (command.Pattern name text) = false
 may_poll (command.Show x y) = false
 may_poll (command.Sleep milliseconds) = false
 may_poll (command.Open file) = false
+may_poll command.Help = false
 may_poll command.Bye = false
 
 -- how many whole milliseconds are left of a time, at most 2^32 - 1

@@ -1,6 +1,7 @@
 -- How a client ends.
 use Rattle.std.specs.Prelude.{ℕ, Bool, true, false, not, ◌&&◌, ◌||◌, ◌==◌, nat_le, if◌then◌else◌, List, [], ◌∷◌, ◌++◌, length, take, codes, Option, Some, None, Result, Ok, Err}
 use Rattle.std.specs.Str.{bytes_eq}
+use Rattle.text_scan.specs.Bytes.{◌>=>◌, behind_all, decimal_number, front, is_decimal_digit}
 use Rattle.genedit_join.specs.declared.ends.Board.{Board}
 use Rattle.genedit_join.specs.declared.ends.End.{End}
 use Rattle.genedit_join.specs.declared.ends.End.TheVariants as how
@@ -33,14 +34,18 @@ end_status (how.Left tally) false = well_status tally
 abbrev pub is_refusal : List ℕ → Bool
 is_refusal text = nat_le 8 (length text) && bytes_eq (take 8 text) (codes "refused ")
 
--- so does what stands behind one of its line feeds
-abbrev pub has_refusal_behind : List ℕ → Bool
-has_refusal_behind [] = false
-has_refusal_behind (byte ∷ bytes) = (byte == 10 && is_refusal bytes) || has_refusal_behind bytes
+-- the text behind the first of its line feeds behind which it begins so
+abbrev pub refusal_behind : List ℕ → Option (List ℕ)
+refusal_behind [] = None
+refusal_behind (byte ∷ bytes) = if (byte == 10) && is_refusal bytes then Some bytes else refusal_behind bytes
 
--- one of the lines of a text is a refusal: the first, or one behind a line feed
-abbrev pub tells_refusal : List ℕ → Bool
-tells_refusal text = is_refusal text || has_refusal_behind text
+-- a text from the first of its lines on that is a refusal: the first line, or one behind a line feed
+abbrev pub refusal_in : List ℕ → Option (List ℕ)
+refusal_in text = if is_refusal text then Some text else refusal_behind text
+
+-- the number of that refusal
+abbrev pub refused_number : List ℕ → Option ℕ
+refused_number text = refusal_in text >=> λ refusal. behind_all (codes "refused ") refusal >=> λ told. decimal_number 255 (front is_decimal_digit told)
 
 -- ---- a server that is lost
 

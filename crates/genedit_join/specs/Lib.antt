@@ -1,5 +1,6 @@
 pub mod Fault
 pub mod Commands
+pub mod Cures
 pub mod Ends
 pub mod Files
 pub mod Rescue

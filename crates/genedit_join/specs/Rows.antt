@@ -14,7 +14,7 @@ use Rattle.genedit_join.specs.declared.files.FileCause.TheVariants as cause
 use Rattle.genedit_join.specs.declared.files.Standing.TheVariants as standing
 use Rattle.genedit_join.specs.declared.patience.WaitStep.TheVariants.{GiveUp, Say, Wait}
 use Rattle.genedit_join.specs.declared.rescue.Kept.TheVariants.{In, Nowhere}
-use Rattle.genedit_join.specs.Ends.{end_status, is_rescued, lost_text, tells_refusal}
+use Rattle.genedit_join.specs.Ends.{end_status, is_rescued, lost_text, refusal_in, refused_number}
 use Rattle.genedit_join.specs.Fault.{fault_of_command, join_fault_text, join_status}
 use Rattle.genedit_join.specs.Files.{refusal_of, refused_line, wrote_line}
 use Rattle.genedit_join.specs.Rescue.{kept_text, rescue_name}
@@ -84,11 +84,14 @@ status_without_the_server = refl
 pub status_of_a_script : end_status (how.Fault fault.Script) false ≡ 2
 status_of_a_script = refl
 
-pub refusal_behind_a_line : tells_refusal (codes "drawn 1 1\nrefused 30 Closed\n") ≡ true
+pub refusal_behind_a_line : refusal_in (codes "drawn 1 1\nrefused 30 Closed\n") ≡ Some (codes "refused 30 Closed\n")
 refusal_behind_a_line = refl
 
-pub refusal_amid_a_line : tells_refusal (codes "wrote 3 refused 4\n") ≡ false
+pub refusal_amid_a_line : refusal_in (codes "wrote 3 refused 4\n") ≡ None
 refusal_amid_a_line = refl
+
+pub number_of_a_refusal : refused_number (codes "wrote 3 a\nrefused 11 StateRange\n") ≡ Some 11
+number_of_a_refusal = refl
 
 pub lost : lost_text fault.Gone ≡ codes "the server went away: the board is kept here; save FILE, export G [FILE], show, pattern, bye"
 lost = refl

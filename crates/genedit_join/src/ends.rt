@@ -1,13 +1,14 @@
 //! How a client ends.
 
-ghost use Rattle.std.specs.Prelude.{◌≡◌, ◌&&◌, IfOk, not};
+ghost use Rattle.std.specs.Prelude.{◌≡◌, ◌&&◌, IfOk, not, option_map};
 ghost use Rattle.text_scan.specs.Words.{words};
 ghost use Rattle.client_commands.specs.Commands.{begins_script};
-ghost use Rattle.genedit_join.specs.Ends.{end_behind, end_status, goes_on, is_kept, is_refusal, is_rescued, loses_server, lost_text, tells_refusal, well_status};
+ghost use Rattle.genedit_join.specs.Ends.{end_behind, end_status, goes_on, is_kept, is_refusal, is_rescued, loses_server, lost_text, refusal_in, refused_number, well_status};
 
 use crate::fault::JoinFault;
 use client_commands::begins_script;
 use std::alloc::{AllocError, Global};
+use text_scan::{number, split_digits};
 
 /// What came of the lines of a client.
 #[derive(Clone, Copy, Debug, PartialEq, Eq)]
@@ -79,21 +80,34 @@ fn well_status(tally: Tally) -> u8
     }
 }
 
-/// Whether what was printed tells a refusal: one of its lines begins with `refused `.
-pub(crate) fn tells_refusal(printed: &[u8]) -> bool
-    ensures { result ≡ tells_refusal printed.now }
+/// What was printed from the first of its lines on that tells a refusal, if one does: it begins with
+/// `refused `.
+pub(crate) fn refusal_in(printed: &[u8]) -> Option<&[u8]>
+    ensures { option_map (λ rest. rest.now) result ≡ refusal_in printed.now }
 {
     if is_refusal(printed) {
-        return true;
+        return Some(printed);
     }
     let mut rest = printed;
     while let Some((byte, behind)) = rest.split_first() {
         if *byte == b'\n' && is_refusal(behind) {
-            return true;
+            return Some(behind);
         }
         rest = behind;
     }
-    false
+    None
+}
+
+/// The number of the first refusal that was printed, if one was.
+pub(crate) fn refused_number(printed: &[u8]) -> Option<u8>
+    ensures { result ≡ refused_number printed.now }
+{
+    let told = refusal_in(printed)?.strip_prefix(b"refused ")?;
+    let (digits, _) = split_digits(told);
+    match number(255, digits) {
+        Some(number) => Some(number as u8),
+        None => None,
+    }
 }
 
 /// Whether a text begins with `refused `.

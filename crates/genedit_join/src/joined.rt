@@ -6,7 +6,7 @@ ghost use Rattle.genedit_join.specs.Commands.{going_of, may_poll, whole_millisec
 ghost use Rattle.genedit_join.specs.Ends.{end_behind};
 
 use crate::ahead::Ahead;
-use crate::ends::{Board, End, Tally, end_behind, goes_on, is_kept, is_rescued, tells_refusal};
+use crate::ends::{Board, End, Tally, end_behind, goes_on, is_kept, is_rescued, refusal_in};
 use crate::fault::{JoinFault, of_client};
 use crate::files::{FileFault, read_whole, refused_text, write_whole, wrote_text};
 use crate::joining::JoinOptions;
@@ -108,7 +108,7 @@ impl<'a, R: Clock, S: Source + Drop, K: Sink + Drop> Joined<'a, R, S, K> {
             return Ok(());
         }
         push_output(sink, self.client.printed())?;
-        if tells_refusal(self.client.printed()) {
+        if refusal_in(self.client.printed()).is_some() {
             self.tally.refused = true;
         }
         self.client.clear_printed();
@@ -459,6 +459,7 @@ fn may_poll(command: &ClientCommand) -> bool
         | ClientCommand::Show(_, _)
         | ClientCommand::Sleep(_)
         | ClientCommand::Open(_)
+        | ClientCommand::Help
         | ClientCommand::Bye => false,
     }
 }

@@ -4,6 +4,7 @@ ghost use Rattle.std.specs.Prelude.{◌≡◌};
 ghost use Rattle.genedit_join.specs.Fault.{fault_of_command, without_greeting};
 
 use crate::connection::{Connection, connect};
+use crate::cures::About;
 use crate::ends::{end_status, is_script};
 use crate::fault::JoinFault;
 use crate::joined::{Going, Joined, Pace};
@@ -270,7 +271,9 @@ fn hear<R: Clock + Files + Eprint, S: Source + Drop, K: Sink + Drop, O: Sink>(
             Ok(Going::On)
         }
         Heard::Command(command) => {
+            let about = About::of(joined.client.alloc(), &command)?;
             let going = joined.obey(command, sink)?;
+            joined.tell_cure(dictation.lines(), &about)?;
             if going == Going::InDoubt {
                 tell_doubt(joined.rt);
             }

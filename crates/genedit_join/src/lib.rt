@@ -4,6 +4,7 @@
 
 mod ahead;
 mod connection;
+mod cures;
 mod ends;
 mod fault;
 mod files;
@@ -12,6 +13,7 @@ mod joining;
 mod late;
 mod own_files;
 mod patience;
+mod population;
 mod rescue;
 mod telling;
 mod typed;

@@ -77,6 +77,11 @@ pub(crate) fn tell_fault<R: Eprint>(
     Ok(())
 }
 
+/// Says what would be right in the place of a command that was refused, whose last line has this number.
+pub(crate) fn tell_cure<R: Eprint>(rt: &R, number: u64, cure: &str) {
+    let _ = eprintln!(rt; "genedit: refused at line {number}: {cure}");
+}
+
 /// Says that the lines ended in the block that the line of this number opens.
 pub(crate) fn tell_open_block<R: Eprint>(
     rt: &R,

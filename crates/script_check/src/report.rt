@@ -10,11 +10,18 @@ use crate::refusals::Refusal;
 use crate::words::refusal_text;
 use genedit_script::Lines;
 use itoa::Buffer;
-use script_faults::{Dialect, Note, Notes, Place, reason_text, warning_text};
+use script_faults::{Dialect, Note, Notes, Place, Refused, reason_text, warning_text};
 use std::alloc::{AllocError, Global};
 
 /// How many bytes of a line are shown.
 const MOST_SHOWN: usize = 100;
+
+/// A script, and what it is called.
+#[derive(Clone, Copy)]
+struct Named<'a> {
+    name: &'a [u8],
+    script: &'a [u8],
+}
 
 /// The text of notes and refusals, and the line of how many there are.
 pub fn report_text(
@@ -28,7 +35,7 @@ pub fn report_text(
 {
     let mut out = Vec::new(alloc);
     push_notes(alloc, &mut out, name, script, notes)?;
-    push_refusals(alloc, &mut out, name, script, refusals)?;
+    push_refusals(alloc, &mut out, Named { name, script }, notes, refusals)?;
     let faults = faults_among(&notes.notes);
     push_count(&mut out, faults, refusals.len())?;
     Ok(out)
@@ -56,19 +63,31 @@ fn push_notes(
 fn push_refusals(
     alloc: Global,
     out: &mut Vec<u8>,
-    name: &[u8],
-    script: &[u8],
+    text: Named<'_>,
+    notes: &Notes,
     refusals: &[Refusal],
 ) -> Result<(), AllocError>
-    ensures { OnOk result (AppendEntries name.now script.now (map entry_of_refusal refusals.now) out.old.items out.new.items) }
+    ensures { OnOk result (AppendEntries text.entry.name.now text.entry.script.now (map entry_of_refusal refusals.now) out.old.items out.new.items) }
 {
-    let mut lines = Lines::of(script);
+    let mut lines = Lines::of(text.script);
     for refusal in refusals {
-        let line = line_at(script, &mut lines, refusal.place.line);
-        let told = refusal_text(alloc, refusal.number)?;
-        push_entry(out, name, refusal.place, told.as_bytes(), line)?;
+        let line = line_at(text.script, &mut lines, refusal.place.line);
+        let told = refusal_text(alloc, &refused_of(notes, refusal.number))?;
+        push_entry(out, text.name, refusal.place, told.as_bytes(), line)?;
     }
     Ok(())
+}
+
+/// A refusal in a script whose head was noted.
+fn refused_of(notes: &Notes, number: u8) -> Refused
+    ensures { result.number ≡ number }
+{
+    Refused {
+        number,
+        states: notes.rule.map(|rule| rule.states()),
+        replicas: notes.replicas,
+        cells: None,
+    }
 }
 
 /// Whether some note is a fault.

@@ -1,7 +1,8 @@
 -- What is warned of the rule that a pattern's header tells.
-use Rattle.std.specs.Prelude.{◌≡◌, ◌≢◌, ℕ, Option, Some, None}
+use Rattle.std.specs.Prelude.{◌≡◌, ◌≢◌, ℕ, Option, Some, None, Result, Ok, Err}
 use Rattle.generations_rule.specs.Rule.{GenerationsRule}
 use Rattle.header_rules.specs.declared.header.HeaderRule.{HeaderRule}
+use Rattle.header_rules.specs.declared.spelling.Misspelling.{Misspelling}
 use Rattle.script_faults.specs.declared.reason.Warning.{Warning}
 use Rattle.script_faults.specs.declared.reason.Warning.TheVariants.{OtherRule, UnreadRule}
 use Rattle.script_faults.specs.declared.warning.RuleWarning.{RuleWarning}
@@ -11,9 +12,9 @@ abbrev pub warning_at : Warning → ℕ → ℕ → RuleWarning
 warning_at warning place length = record { warning = warning; place = place; length = length }
 
 -- a text there that is no rule is warned of, and one that is another rule
-abbrev pub IsWarnedAt : GenerationsRule → ℕ → ℕ → Option GenerationsRule → Option RuleWarning → Type 0
-IsWarnedAt rule place length None warned = warned ≡ Some (warning_at UnreadRule place length)
-IsWarnedAt rule place length (Some other) warned = (other ≡ rule → warned ≡ None) × (other ≢ rule → warned ≡ Some (warning_at OtherRule place length))
+abbrev pub IsWarnedAt : GenerationsRule → ℕ → ℕ → Result GenerationsRule Misspelling → Option RuleWarning → Type 0
+IsWarnedAt rule place length (Err misspelling) warned = warned ≡ Some (warning_at (UnreadRule misspelling) place length)
+IsWarnedAt rule place length (Ok other) warned = (other ≡ rule → warned ≡ None) × (other ≢ rule → warned ≡ Some (warning_at OtherRule place length))
 
 -- the same of what a header tells, which may be nothing
 abbrev pub IsWarnedOf : GenerationsRule → Option HeaderRule → Option RuleWarning → Type 0

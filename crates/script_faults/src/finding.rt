@@ -51,7 +51,7 @@ pub fn command_finding(alloc: Global, head: Head, line: &[u8]) -> Result<Finding
     if let Some(finding) = strange_finding(line, false) {
         return Ok(finding);
     }
-    let mut words = Words::of(line);
+    let mut words = Words::of(Dialect::Script, line);
     let Some(word) = words.next_word() else {
         return Ok(whole(line, Reason::NoCommand(None)));
     };
@@ -70,7 +70,7 @@ pub fn client_finding(alloc: Global, line: &[u8]) -> Result<Finding, AllocError>
     if let Some(finding) = strange_finding(front_of_file(line), true) {
         return Ok(finding);
     }
-    let mut words = Words::of(line);
+    let mut words = Words::of(Dialect::Client, line);
     match words.next_word() {
         Some(word) => spoken_finding(alloc, Dialect::Client, word, words),
         None => Ok(whole(line, Reason::NoCommand(None))),
@@ -81,7 +81,7 @@ pub fn client_finding(alloc: Global, line: &[u8]) -> Result<Finding, AllocError>
 fn front_of_file(line: &[u8]) -> &[u8]
     ensures { length result.now ≤ length line.now }
 {
-    let mut words = Words::of(line);
+    let mut words = Words::of(Dialect::Client, line);
     let Some(word) = words.next_word() else {
         return line;
     };
@@ -121,7 +121,7 @@ pub fn opening_finding(line: &[u8], almost_end: Option<u64>, closed: bool) -> Fi
     if let Some(finding) = strange_finding(line, false) {
         return finding;
     }
-    let mut words = Words::of(line);
+    let mut words = Words::of(Dialect::Script, line);
     match words.next_word() {
         Some(word) if !closed && is_opening(words) => word.finding(Reason::OpenBlock(almost_end)),
         _ => arguments_finding(Dialect::Script, Keyword::Pattern, words),
@@ -143,7 +143,7 @@ fn due_finding(
     due: Reason,
     line: &[u8],
 ) -> Result<Finding, AllocError> {
-    let mut words = Words::of(line);
+    let mut words = Words::of(Dialect::Script, line);
     let Some(word) = words.next_word() else {
         return Ok(whole(line, due));
     };

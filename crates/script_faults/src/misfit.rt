@@ -2,8 +2,7 @@
 
 use crate::reason::Reason;
 use command_words::Argument;
-use generations_rule::Rule;
-use header_rules::golly_rule;
+use header_rules::{Misspelling, spelled_rule};
 
 /// Why a word, which does not fit, cannot stand for the argument.
 pub fn misfit(argument: Argument, word: &[u8]) -> Reason {
@@ -26,8 +25,9 @@ fn is_whole_number(word: &[u8]) -> bool {
 }
 
 fn rule_misfit(word: &[u8]) -> Reason {
-    match Rule::parse(word) {
-        Err(fault) if golly_rule(word).is_none() => Reason::NoRule(fault),
-        _ => Reason::GollyRule,
+    match spelled_rule(word) {
+        Ok(_) => Reason::OtherSpelling,
+        Err(Misspelling::Other(family)) => Reason::OtherFamily(family),
+        Err(Misspelling::Fault(fault)) => Reason::NoRule(fault),
     }
 }

@@ -26,6 +26,8 @@ use std::alloc::{AllocError, Global};
 pub struct Notes {
     /// The script's rule, where its first line tells one.
     pub rule: Option<Rule>,
+    /// How many replicas there are, where its second line tells it.
+    pub replicas: Option<u16>,
     pub notes: Vec<Note>,
 }
 
@@ -55,6 +57,7 @@ pub fn notes_in(alloc: Global, script: &[u8]) -> Result<Notes, AllocError>
     push_told(&mut notes, note_behind(due, lines.number))?;
     Ok(Notes {
         rule: told.rule,
+        replicas: told.replicas,
         notes,
     })
 }
@@ -72,6 +75,7 @@ fn push_told(notes: &mut Vec<Note>, note: Option<Note>) -> Result<(), AllocError
 #[derive(Clone, Copy)]
 struct Told {
     rule: Option<Rule>,
+    replicas: Option<u16>,
     head: Head,
 }
 
@@ -79,6 +83,7 @@ impl Told {
     fn new() -> Told {
         Told {
             rule: None,
+            replicas: None,
             head: Head {
                 rule: None,
                 replicas: None,
@@ -91,6 +96,7 @@ impl Told {
         match due {
             Due::Rule => Told {
                 rule: rule_in(line.text),
+                replicas: None,
                 head: Head {
                     rule: Some(line.number),
                     replicas: None,
@@ -98,6 +104,7 @@ impl Told {
             },
             Due::Replicas => Told {
                 rule: self.rule,
+                replicas: replicas_in(line.text),
                 head: Head {
                     rule: self.head.rule,
                     replicas: Some(line.number),

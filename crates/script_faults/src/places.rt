@@ -6,6 +6,7 @@ ghost use Rattle.script_faults.specs.Faults.{command_lines};
 use crate::due::{Due, Ends, opens_closed};
 use crate::note::Place;
 use crate::word::Words;
+use command_words::Dialect;
 use genedit_script::{Lines, ScriptLine};
 use std::alloc::{AllocError, Global};
 
@@ -33,7 +34,7 @@ pub fn command_places(alloc: Global, script: &[u8]) -> Result<Vec<Place>, AllocE
 fn first_word(line: ScriptLine<'_>) -> Place
     ensures { result.line ≡ line.entry.number }
 {
-    match Words::of(line.text).next_word() {
+    match Words::of(Dialect::Script, line.text).next_word() {
         Some(word) => Place {
             line: line.number,
             column: word.column,

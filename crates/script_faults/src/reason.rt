@@ -2,6 +2,7 @@
 
 use command_words::{Argument, Keyword};
 use generations_rule::RuleFault;
+use header_rules::{Misspelling, OtherFamily};
 
 /// What is wrong with a line of a script or of a client.
 #[derive(Clone, Copy, Debug, PartialEq, Eq)]
@@ -26,8 +27,10 @@ pub enum Reason {
     OutOfRange(Argument),
     /// The word is no name of a pattern.
     NoName,
-    /// The rule is spelt as Golly spells Life-like ones.
-    GollyRule,
+    /// The rule is spelt as Golly spells it too, and a script does not.
+    OtherSpelling,
+    /// The rule is of another family.
+    OtherFamily(OtherFamily),
     /// The word is no rule.
     NoRule(RuleFault),
     /// The block has no line `end`; the line whose one word is `end` with blanks beside it.
@@ -51,6 +54,6 @@ pub enum Reason {
 pub enum Warning {
     /// A pattern's header tells another rule than the script's or the board's.
     OtherRule,
-    /// A pattern's header tells a rule that cannot be read.
-    UnreadRule,
+    /// A pattern's header tells a rule that cannot be read, for this.
+    UnreadRule(Misspelling),
 }

@@ -3,7 +3,7 @@
 use crate::reason::{Reason, Warning};
 use command_words::{Argument, Dialect, Keyword};
 use generations_rule::{Rule, RuleFault};
-use header_rules::spelled_rule;
+use header_rules::{Misspelling, OtherFamily, spelled_rule};
 use std::alloc::{AllocError, Global};
 
 /// How many bytes of a word are shown.
@@ -22,9 +22,7 @@ pub fn reason_text(
         Reason::NoCommand(near) => no_command_text(alloc, dialect, near, word),
         Reason::OtherDialect => other_dialect_text(alloc, dialect, word),
         Reason::Missing(argument, keyword) => missing_text(alloc, dialect, argument, keyword),
-        Reason::Surplus(keyword) => {
-            format!(in alloc; "a word too many: `{}`", keyword.form(alloc, dialect)?)
-        }
+        Reason::Surplus(keyword) => surplus_text(alloc, dialect, keyword),
         Reason::Remark => String::from_str(
             alloc,
             "a remark stands on a line of its own, whose first word begins with #",
@@ -39,7 +37,8 @@ pub fn reason_text(
                 shown(alloc, word)?
             )
         }
-        Reason::GollyRule => golly_text(alloc, word),
+        Reason::OtherSpelling => other_spelling_text(alloc, word),
+        Reason::OtherFamily(family) => other_family_text(alloc, family, word),
         Reason::NoRule(fault) => no_rule_text(alloc, fault, word),
         _ => order_text(alloc, dialect, reason),
     }
@@ -57,9 +56,13 @@ pub fn warning_text(
     let rule = rule_text(alloc, rule)?;
     let owner = dialect.rule_owner();
     match (warning, spelled_rule(word)) {
-        (Warning::OtherRule, Some(told)) => {
+        (Warning::OtherRule, Ok(told)) => {
             let told = rule_text(alloc, &told)?;
             format!(in alloc; "this pattern is of the rule {told}, and {owner} is {rule}")
+        }
+        (Warning::UnreadRule(Misspelling::Other(family)), _) => {
+            let family = family.words();
+            format!(in alloc; "this pattern's rule is {family}; {owner} is {rule}")
         }
         _ => format!(in alloc; "this pattern's rule is not read; {owner} is {rule}"),
     }
@@ -164,6 +167,24 @@ fn other_dialect_text(alloc: Global, dialect: Dialect, word: &[u8]) -> Result<St
     )
 }
 
+fn surplus_text(alloc: Global, dialect: Dialect, keyword: Keyword) -> Result<String, AllocError> {
+    let form = keyword.form(alloc, dialect)?;
+    if dialect == Dialect::Client && names_file(keyword) {
+        return format!(in alloc;
+            "a word too many: `{form}`; a name with blanks stands in double quotes"
+        );
+    }
+    format!(in alloc; "a word too many: `{form}`")
+}
+
+/// Whether a client's line with it may name a file.
+fn names_file(keyword: Keyword) -> bool {
+    matches!(
+        keyword,
+        Keyword::Export | Keyword::ExportOver | Keyword::Save | Keyword::SaveOver | Keyword::Open
+    )
+}
+
 fn missing_text(
     alloc: Global,
     dialect: Dialect,
@@ -186,14 +207,24 @@ fn no_number_text(alloc: Global, argument: Argument, word: &[u8]) -> Result<Stri
     )
 }
 
-fn golly_text(alloc: Global, word: &[u8]) -> Result<String, AllocError> {
+fn other_spelling_text(alloc: Global, word: &[u8]) -> Result<String, AllocError> {
     match spelled_rule(word) {
-        Some(rule) => {
+        Ok(rule) => {
             let rule = rule_text(alloc, &rule)?;
             format!(in alloc; "a rule is survival/birth/states: write `rule {rule}`")
         }
-        None => String::from_str(alloc, "a rule is survival/birth/states"),
+        Err(_) => String::from_str(alloc, "a rule is survival/birth/states"),
     }
+}
+
+fn other_family_text(
+    alloc: Global,
+    family: OtherFamily,
+    word: &[u8],
+) -> Result<String, AllocError> {
+    let word = shown(alloc, word)?;
+    let family = family.words();
+    format!(in alloc; "`{word}` is {family}")
 }
 
 fn no_rule_text(alloc: Global, fault: RuleFault, word: &[u8]) -> Result<String, AllocError> {

@@ -23,16 +23,16 @@ pub struct RuleWarning {
 }
 
 /// The warning that the header of an RLE text tells another rule than this one, compared as rules and
-/// with Golly's spelling read too, or one that cannot be read. `None` where it tells no rule.
+/// with Golly's spellings read too, or one that cannot be read. `None` where it tells no rule.
 pub fn rule_warning(rule: &Rule, text: &[u8]) -> Option<RuleWarning>
     ensures warned { IsWarnedOf rule.now (header_rule_told text.now) result }
     ensures within { IfSome result (λ told. (0 < told.length) × (told.place + told.length ≤ length text.now)) }
 {
     let told = header_rule(text)?;
     let warning = match told.rule {
-        None => Warning::UnreadRule,
-        Some(other) if !other.same(rule) => Warning::OtherRule,
-        Some(_) => return None,
+        Err(misspelling) => Warning::UnreadRule(misspelling),
+        Ok(other) if !other.same(rule) => Warning::OtherRule,
+        Ok(_) => return None,
     };
     Some(RuleWarning {
         warning,

@@ -4,7 +4,7 @@ ghost use Rattle.std.specs.Prelude.{◌≤◌, length};
 
 use crate::finding::Finding;
 use crate::reason::Reason;
-use text_scan::split_word;
+use command_words::Dialect;
 
 /// A word, and the column where it begins, counted from 1.
 #[derive(Clone, Copy)]
@@ -32,6 +32,7 @@ impl Word<'_> {
 /// The words of a line that are left.
 #[derive(Clone, Copy)]
 pub struct Words<'a> {
+    dialect: Dialect,
     line: &'a [u8],
     rest: &'a [u8],
     ghost within: { length rest.now ≤ length line.now },
@@ -40,10 +41,14 @@ pub struct Words<'a> {
 impl<'a> Words<'a> {
     ghost use Rattle.std.specs.Prelude.{◌≡◌, ◌+◌, ◌<◌, ◌≤◌, length, IfSome};
 
-    pub fn of(line: &'a [u8]) -> Words<'a>
+    pub fn of(dialect: Dialect, line: &'a [u8]) -> Words<'a>
         ensures { result.line.now ≡ line.now }
     {
-        Words { line, rest: line }
+        Words {
+            dialect,
+            line,
+            rest: line,
+        }
     }
 
     pub fn next_word(&mut self) -> Option<Word<'a>>
@@ -52,9 +57,10 @@ impl<'a> Words<'a> {
         ensures counted { IfSome result (λ word. 1 ≤ word.column) }
         ensures within { IfSome result (λ word. word.column + length word.text.now ≤ length self.old.line.now + 1) }
     {
-        let (text, rest) = split_word(self.rest)?;
+        let (text, rest) = self.dialect.split_word(self.rest)?;
         let column = self.line.len() - rest.len() - text.len() + 1;
         *self = Words {
+            dialect: self.dialect,
             line: self.line,
             rest,
         };

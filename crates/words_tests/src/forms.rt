@@ -21,7 +21,7 @@ static SCRIPT: [&str; 15] = [
     "export R G",
 ];
 
-static CLIENT: [&str; 16] = [
+static CLIENT: [&str; 20] = [
     "cells x y state ..",
     "clear x y w h",
     "pattern NAME",
@@ -37,7 +37,11 @@ static CLIENT: [&str; 16] = [
     "save FILE",
     "save! FILE",
     "open FILE",
+    "help",
+    "?",
     "bye",
+    "quit",
+    "exit",
 ];
 
 /// How many of a dialect's forms are just these.
@@ -60,7 +64,7 @@ fn forms_of_scripts(rt: HostRuntime) -> Result<(), AllocError> {
 
 #[test]
 fn forms_of_clients(rt: HostRuntime) -> Result<(), AllocError> {
-    assert_eq!(rt; Dialect::Client.keywords().len(), 16);
-    assert_eq!(rt; alike(rt.alloc(), Dialect::Client, &CLIENT)?, 16);
+    assert_eq!(rt; Dialect::Client.keywords().len(), 20);
+    assert_eq!(rt; alike(rt.alloc(), Dialect::Client, &CLIENT)?, 20);
     Ok(())
 }

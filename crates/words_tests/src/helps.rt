@@ -4,7 +4,7 @@ use command_words::{Dialect, Keyword};
 use genedit_words::{JOIN_HELP, SCRIPT_HELP};
 use std::alloc::{AllocError, Global};
 
-/// The form with which a line of a help begins, if it tells of one.
+/// The forms with which a line of a help begins, if it tells of some: `, ` stands between them.
 fn told_form(line: &str) -> Option<&str> {
     let told = line.strip_prefix("  ")?;
     if told.starts_with(' ') {
@@ -21,8 +21,10 @@ fn told_forms(alloc: Global, help: &str) -> Result<Vec<&str>, AllocError> {
         if line == "Examples:" {
             return Ok(forms);
         }
-        if let Some(form) = told_form(line) {
-            forms.push(form)?;
+        if let Some(told) = told_form(line) {
+            for form in told.split(", ") {
+                forms.push(form)?;
+            }
         }
     }
     Ok(forms)
@@ -63,8 +65,8 @@ fn help_of_scripts(rt: HostRuntime) -> Result<(), AllocError> {
 fn help_of_clients(rt: HostRuntime) -> Result<(), AllocError> {
     let forms = told_forms(rt.alloc(), JOIN_HELP)?;
     let told = told_keywords(rt.alloc(), Dialect::Client, &forms)?;
-    assert_eq!(rt; forms.len(), 15);
-    assert_eq!(rt; told, 15);
-    assert_eq!(rt; Dialect::Client.keywords().len(), 16);
+    assert_eq!(rt; forms.len(), 19);
+    assert_eq!(rt; told, 19);
+    assert_eq!(rt; Dialect::Client.keywords().len(), 20);
     Ok(())
 }

@@ -10,7 +10,7 @@ struct Row {
     in_client: bool,
 }
 
-static ROWS: [Row; 9] = [
+static ROWS: [Row; 12] = [
     Row {
         line: b"show 1 0 -1",
         in_script: true,
@@ -45,6 +45,21 @@ static ROWS: [Row; 9] = [
         line: b"rule 23/3/2",
         in_script: true,
         in_client: false,
+    },
+    Row {
+        line: b"save \"my board\" ",
+        in_script: false,
+        in_client: true,
+    },
+    Row {
+        line: b"save \"my board",
+        in_script: false,
+        in_client: false,
+    },
+    Row {
+        line: b"?",
+        in_script: false,
+        in_client: true,
     },
     Row {
         line: b"bye now",
@@ -85,6 +100,31 @@ fn what_a_line_spells(rt: HostRuntime) {
     }
 }
 
+/// The third word of a line.
+fn third_word(dialect: Dialect, line: &[u8]) -> Option<&[u8]> {
+    let (_, rest) = dialect.split_word(line)?;
+    let (_, rest) = dialect.split_word(rest)?;
+    let (word, _) = dialect.split_word(rest)?;
+    Some(word)
+}
+
+#[test]
+fn words_in_quotes(rt: HostRuntime) {
+    let line = b" export 5 \"x  y.rle\" ".as_slice();
+    let quoted = third_word(Dialect::Client, line);
+    assert!(rt; quoted == Some(b"\"x  y.rle\"".as_slice()));
+    let parted = third_word(Dialect::Script, line);
+    assert!(rt; parted == Some(b"\"x".as_slice()));
+}
+
+#[test]
+fn files_of_lines(rt: HostRuntime) {
+    let file_of = |line| read_line(Dialect::Client, line).and_then(|spelled| spelled.file);
+    assert!(rt; file_of(b"save \"my board\"".as_slice()) == Some(b"my board".as_slice()));
+    assert!(rt; file_of(b"open -".as_slice()) == Some(b"-".as_slice()));
+    assert!(rt; file_of(b"save -".as_slice()).is_none());
+}
+
 #[test]
 fn cells_of_a_line(rt: HostRuntime) -> Result<(), AllocError> {
     match read_line(Dialect::Client, b"cells 0 -1 2 3 4 5") {
@@ -103,6 +143,7 @@ fn what_arguments_take(rt: HostRuntime) {
     assert!(rt; Argument::File.fits(b"a/b.rle") && !Argument::Name.fits(b"a/b"));
     assert!(rt; Argument::File.fits(b"44") && !Argument::NewFile.fits(b"44"));
     assert!(rt; Argument::NewFile.fits(b"4.rle") && Argument::NewFile.fits(b"-4"));
+    assert!(rt; Argument::NewFile.fits(b"\"44\"") && !Argument::Width.fits(b"\"44\""));
     assert_eq!(rt; Argument::Width.range(), "0 to 4294967295");
     assert_eq!(rt; Argument::Edits.name(), "the number of awaited edits");
 }

@@ -7,6 +7,6 @@ use Rattle.script_check.proofs.words.refusal_text.Goals as goal
 
 pub returns : goal.returns
 returns c = (
-  c.words_of-words.result.now,
-  c.in_ok-text.ensures.ok ∙ words_behind (codes "will be ") (run_fault_text (Refused c.args.number None)) (codes ": ") c.words_of-words.result.now,
+  c.in_ok-cure.cure.bytes.items,
+  c.in_ok-text.ensures.ok ∙ words_behind (codes "will be ") (run_fault_text (Refused c.args.refused.now.number None)) (codes ": ") c.in_ok-cure.cure.bytes.items,
 )
