@@ -27,7 +27,8 @@ local START = [[mkdir -p %s && cd %s && : > commands && : > news && {
     } > news 2>&1 &
 }]]
 
--- the first words of the lines that answer a command; every command that is asked here has just one such line
+-- the first words of the lines that answer a command; every command that is asked here has just one such line. Where
+-- nothing was asked they are news, as all other lines.
 local ANSWERS = {drawn = true, refused = true, pattern = true, wrote = true}
 
 function board.is_in_plane(x, y)
@@ -120,9 +121,7 @@ end
 
 -- The map of an RLE file that `genedit` wrote, whose first line tells the position.
 function board.read_rle(path)
-    local file = assert(io.open(path))
-    local left, y, rows = file:read("a"):match("^#CXRLE Pos=(%-?%d+),(%-?%d+)[^\n]*\n[^\n]*\n(.*)")
-    file:close()
+    local left, y, rows = board.text_of(path):match("^#CXRLE Pos=(%-?%d+),(%-?%d+)[^\n]*\n[^\n]*\n(.*)")
     left, y = tonumber(left), tonumber(y)
     local map, x = {}, left
     for count, prefix, tag in rows:gmatch("(%d*)([p-y]?)([%.%$boA-X])") do
@@ -153,42 +152,107 @@ function board.rle(width, height, cells)
     return table.concat(tokens) .. "!"
 end
 
--- Adds the cells of a node of a macrocell file to a map: a square of 2^level columns and rows. What lies outside of
--- the plane is not the board's.
-local function add_node(map, nodes, number, x, y)
-    local node = nodes[number]
-    local half = 1 << (node[1] - 1)
-    if x >= PAST or y >= PAST or x + 2 * half <= LEAST or y + 2 * half <= LEAST then return end
-    for quarter = 0, 3 do
-        local child = node[quarter + 2]
-        local left, top = x + half * (quarter & 1), y + half * (quarter >> 1)
-        if child ~= 0 and half == 1 then
-            map[board.place(left, top)] = child
-        elseif child ~= 0 then
-            add_node(map, nodes, child, left, top)
-        end
+-- A tree is what a macrocell file has: a node a line, told by its number, and read where it is looked at. A node has
+-- its level, for 2^level columns and rows, and the numbers of its quarters, at level 1 their states; 0 is empty.
+local function tree_of(text)
+    local tree = {lines = {}, nodes = {[0] = {0, 0, 0, 0, 0}}}
+    for line in text:gmatch("\n(%d[^\n]*)") do tree.lines[#tree.lines + 1] = line end
+    tree.root = #tree.lines
+    return tree
+end
+
+local function node_of(tree, number)
+    local node = tree.nodes[number]
+    if not node then
+        local level, nw, ne, sw, se = tree.lines[number]:match("^(%d+) (%d+) (%d+) (%d+) (%d+)")
+        node = {tonumber(level), tonumber(nw), tonumber(ne), tonumber(sw), tonumber(se)}
+        tree.nodes[number] = node
+    end
+    return node
+end
+
+local function add_node(tree, level, nw, ne, sw, se)
+    tree.lines[#tree.lines + 1] = level .. " " .. nw .. " " .. ne .. " " .. sw .. " " .. se
+    return #tree.lines
+end
+
+-- Makes a tree's root one of a greater level, with the same cells in its middle.
+local function lift(tree, level)
+    if tree.root == 0 then return end
+    for above = node_of(tree, tree.root)[1] + 1, level do
+        local _, nw, ne, sw, se = table.unpack(node_of(tree, tree.root))
+        nw = nw > 0 and add_node(tree, above - 1, 0, 0, 0, nw) or 0
+        ne = ne > 0 and add_node(tree, above - 1, 0, 0, ne, 0) or 0
+        sw = sw > 0 and add_node(tree, above - 1, 0, sw, 0, 0) or 0
+        se = se > 0 and add_node(tree, above - 1, se, 0, 0, 0) or 0
+        tree.root = add_node(tree, above, nw, ne, sw, se)
     end
 end
 
--- The map of the pattern that Golly shows. It goes by a macrocell file, since Golly gives no rectangle of a pattern
--- beyond 10^9, and looks at each row of one that is given.
-function board.read_golly(path)
+-- How many nodes two trees begin with that are the same.
+local function alike(from, to)
+    local count = 0
+    while from.lines[count + 1] and from.lines[count + 1] == to.lines[count + 1] do count = count + 1 end
+    return count
+end
+
+-- Whether two nodes are the same. What differs in a square of a pair of trees is added to its maps; what lies outside
+-- of the plane is not the board's. Nodes that are found to be the same are noted, and so compared just once: squares
+-- that did not change cost little, wherever they stand, though most have another number behind the first change.
+local function compare(pair, a, b, half, x, y)
+    if a == b and b <= pair.alike or pair.twins[b] == a then return true end
+    if x >= PAST or y >= PAST or x + 2 * half <= LEAST or y + 2 * half <= LEAST then return false end
+    local from, to, is_same = node_of(pair.from, a), node_of(pair.to, b), true
+    for quarter = 0, 3 do
+        local was, is = from[quarter + 2], to[quarter + 2]
+        local left, top = x + half * (quarter & 1), y + half * (quarter >> 1)
+        if half > 1 then
+            is_same = compare(pair, was, is, half // 2, left, top) and is_same
+        elseif was ~= is then
+            local place = board.place(left, top)
+            pair.before[place], pair.now[place] = was, is
+            is_same = false
+        end
+    end
+    if is_same then pair.twins[b] = a end
+    return is_same
+end
+
+-- The cells in which one macrocell text differs from another: the map of their states before, and that of their
+-- states now, both with the dead ones.
+function board.changes(text_before, text_now)
+    if text_before == text_now then return {}, {} end
+    local from, to = tree_of(text_before), tree_of(text_now)
+    local pair = {from = from, to = to, alike = alike(from, to), twins = {}, before = {}, now = {}}
+    local level = math.max(node_of(from, from.root)[1], node_of(to, to.root)[1])
+    assert(level <= MOST_LEVEL, "the pattern is too far apart")
+    lift(from, level)
+    lift(to, level)
+    -- north is up in a macrocell file, and row 0 is the last of its upper half
+    local half = 1 << level >> 1
+    if level > 0 then compare(pair, from.root, to.root, half, -half, 1 - half) end
+    return pair.before, pair.now
+end
+
+-- The pattern that Golly shows, as the text of a macrocell file. It goes by one, since Golly gives no rectangle of a
+-- pattern beyond 10^9, and looks at each row of one that is given.
+function board.saved(path)
     local name = g.getname()
     g.save(path, "mc")
     g.setname(name)
-    local map, nodes = {}, {}
-    for line in io.lines(path) do
-        local level, nw, ne, sw, se = line:match("^(%d+) (%d+) (%d+) (%d+) (%d+)$")
-        if level then
-            nodes[#nodes + 1] = {tonumber(level), tonumber(nw), tonumber(ne), tonumber(sw), tonumber(se)}
-        end
-    end
-    if #nodes > 0 then
-        local level = nodes[#nodes][1]
-        assert(level <= MOST_LEVEL, "the pattern is too far apart")
-        -- north is up in a macrocell file, and row 0 is the last of its upper half
-        add_node(map, nodes, #nodes, -(1 << (level - 1)), 1 - (1 << (level - 1)))
-    end
+    return board.text_of(path)
+end
+
+function board.text_of(path)
+    local file = assert(io.open(path))
+    local text = file:read("a")
+    file:close()
+    return text
+end
+
+-- The map of the pattern that Golly shows.
+function board.read_golly(path)
+    local _, map = board.changes("", board.saved(path))
     return map
 end
 
@@ -246,13 +310,20 @@ function Helper:position()
     return self.output:seek() - #table.concat(self.pieces)
 end
 
+-- Hears what came from a position on, also what was heard before.
+function Helper:hear_from(position)
+    self.output:seek("set", position)
+    self.pieces = {}
+    self:hear()
+end
+
 -- Hears what came. An answer goes to who asked.
 function Helper:hear()
     for line in self:lines() do
         local word = line:match("^%S*")
-        if ANSWERS[word] then
-            local answered = table.remove(self.asked, 1)
-            if answered then answered(line, word) end
+        local answered = ANSWERS[word] and table.remove(self.asked, 1)
+        if answered then
+            answered(line, word)
         elseif word == "process" then
             self.process = line:match("%d+")
         elseif word == "joined" then
@@ -267,10 +338,15 @@ function Helper:hear()
     end
 end
 
--- Says a command. Once its answer is there, the answer's line and first word are given to a function.
-function Helper:ask(command, answered)
+-- Says a command; what comes of it is told as news.
+function Helper:say(command)
     self.commands:write(command, "\n")
     self.commands:flush()
+end
+
+-- Says a command. Once its answer is there, the answer's line and first word are given to a function.
+function Helper:ask(command, answered)
+    self:say(command)
     self.asked[#self.asked + 1] = answered
 end
 

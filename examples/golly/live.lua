@@ -17,6 +17,8 @@ local STROKE, GENERATION, SCREEN = 100, 100, 200
 local MOST_ON_THE_WAY = 16
 -- the rows of an area beyond which Golly would look too long for what to take back
 local MOST_ROWS = 1 << 16
+-- seconds in which a click has to come, where one is awaited
+local PATIENCE = 20
 local LATER = "later generations"
 local HELP = ": delete clears, v and o paste, z takes back, p looks ahead, escape leaves"
 
@@ -282,7 +284,31 @@ local function go_on()
     g.sleep(pencil and 5 or 15)
 end
 
+-- Whether this script stands in Golly's command line.
+local function is_of_command_line()
+    local file = io.open("/proc/self/cmdline")
+    if not file then return false end
+    local words = file:read("a")
+    file:close()
+    return words:find("live.lua", 1, true) ~= nil
+end
+
+-- Whether Golly takes events. A script of its command line is started by a timer, which may strike while Golly waits
+-- for what the clipboard has; then none comes until the script has ended. So there a first one is awaited: a click.
+local function takes_events()
+    if not is_of_command_line() then return true end
+    g.show("click here to join the board")
+    g.update()
+    local begin = g.millisecs()
+    while g.getevent() == "" do
+        if g.millisecs() - begin > 1000 * PATIENCE then return false end
+        g.sleep(15)
+    end
+    return true
+end
+
 local function main()
+    if not takes_events() then return "no click came: run live.lua again, by its key or by File > Run Recent" end
     local port = board.port()
     helper = board.start(g.getdir("temp") .. "live/", port, "--follow --changes", news)
     if not helper:is_joined() then return helper:reason() end

@@ -16,9 +16,10 @@ local PATIENCE = 60
 local folder = g.getdir("temp") .. "sync/"
 local helper
 
--- What is kept from run to run: the layer's name, the rule, how many runs were done, of which the last, N, left the
--- board as it was in the file N.rle, how far the helper was heard, and how many answers it owed a run that was ended.
-local KEPT = {"name", "rule", "runs", "heard", "owed"}
+-- What is kept from run to run: the layer's name, the rule, how many runs were done, of which the last, N, left Golly
+-- as it is in the macrocell file N.mc, and the board so too; how far the helper was heard then; and how many runs
+-- since then asked it for news, and were ended.
+local KEPT = {"name", "rule", "runs", "heard", "asked"}
 
 local function read_kept()
     local kept = {}
@@ -30,10 +31,14 @@ local function read_kept()
 end
 
 local function keep(kept)
-    kept.heard, kept.owed = helper:position(), #helper.asked
     local file = assert(io.open(folder .. "kept", "w"))
     for _, name in ipairs(KEPT) do file:write(name, " ", kept[name], "\n") end
     file:close()
+end
+
+-- The file of what stood in Golly behind the last run, and before the first.
+local function last_file(kept)
+    return folder .. kept.runs .. ".mc"
 end
 
 -- Joins the board in the first run; why it did not, where it did not.
@@ -46,13 +51,9 @@ local function join()
         return reason
     end
     helper:open_layer(port)
-    keep {name = helper.name, rule = helper.rule, runs = 0}
-end
-
--- Goes on where the run before stopped to hear the helper.
-local function come_again(kept)
-    helper.output:seek("set", kept.heard)
-    for i = 1, kept.owed do helper.asked[i] = function() end end
+    local kept = {name = helper.name, rule = helper.rule, runs = 0, heard = 0, asked = 0}
+    assert(io.open(last_file(kept), "w")):close()
+    keep(kept)
 end
 
 -- Why what stands in Golly is not the board with drawings; nothing where it is.
@@ -66,47 +67,122 @@ local function obstacle(kept)
     end
 end
 
--- Sends cells, and has the board written to a file then; what was refused, or did not come.
-local function exchange(cells, file)
-    local refusal, is_written
-    for _, command in ipairs(board.drawing(cells)) do
-        helper:ask(command, function(line, word) refusal = word == "refused" and line or refusal end)
+-- What came of an exchange: the cells that look different on the board than behind the last run that was done, whether
+-- there are more than are told, what was refused, and how many runs have had their news.
+local function new_outcome()
+    return {looks = {}, is_more = false, refusal = nil, answered = 0}
+end
+
+-- Who notes in an outcome what the helper tells.
+local function news_to(outcome)
+    return {
+        now = function(line)
+            for x, y, state in line:gmatch("(%-?%d+) (%-?%d+) (%d+)") do
+                outcome.looks[board.place(tonumber(x), tonumber(y))] = tonumber(state)
+            end
+        end,
+        many = function() outcome.is_more = true end,
+        refused = function(line) outcome.refusal = line end,
+        cell = function() outcome.answered = outcome.answered + 1 end,
+    }
+end
+
+-- What has to be sent of what was drawn: a run that was ended may have sent the rest, or have shown what others drew.
+local function unsent(drawn, looks)
+    local cells = {}
+    for place, state in pairs(drawn) do
+        if looks[place] ~= state then
+            local x, y = board.at(place)
+            board.add(cells, x, y, state)
+        end
     end
-    helper:ask("export! 0 " .. file, function(line, word)
-        refusal = word == "refused" and line or refusal
-        is_written = line:match("^wrote %d+ (.*)$") == file
-    end)
-    helper:await(PATIENCE, function() return #helper.asked == 0 end)
-    if not is_written and not refusal then refusal = helper:reason() end
-    return is_written, refusal
+    return cells
+end
+
+-- Sends what was drawn, and hears how the board looks then; how many cells were sent, what came, and whether that is
+-- all. A cell is shown last, which tells that all was told that this run asked for, and the ended ones before it.
+local function exchange(kept, drawn)
+    local outcome = new_outcome()
+    helper.news = news_to(outcome)
+    local function is_answered() return outcome.answered == kept.asked end
+    helper:hear_from(kept.heard)
+    if not helper:await(PATIENCE, is_answered) then return 0, outcome, false end
+    local cells = unsent(drawn, outcome.looks)
+    for _, command in ipairs(board.drawing(cells)) do helper:say(command) end
+    -- nothing that Escape ends stands between the two
+    kept.asked = kept.asked + 1
+    keep(kept)
+    helper:say("poll\nshow 0 0")
+    return #cells // 3, outcome, helper:await(PATIENCE, is_answered)
+end
+
+-- The map of the whole board, of which more is different than is told; or why it is not there.
+local function whole_board()
+    local answer
+    helper:ask("export! 0 board.rle", function(line) answer = line end)
+    helper:await(PATIENCE, function() return answer end)
+    if answer and answer:find("^wrote") then return board.read_rle(folder .. "board.rle") end
+    return nil, answer or helper:reason()
+end
+
+-- The cells that have to be set in Golly: where the board looks otherwise than was drawn, or as nothing was drawn.
+local function to_put(looks, before, drawn)
+    for place, state in pairs(before) do looks[place] = looks[place] or state end
+    local cells = {}
+    for place, state in pairs(looks) do
+        if drawn[place] ~= state then
+            local x, y = board.at(place)
+            board.add(cells, x, y, state)
+        end
+    end
+    return cells
+end
+
+-- Shows cells, and keeps what stands in Golly for the next run.
+local function show(kept, cells)
+    local old = last_file(kept)
+    kept.runs = kept.runs + 1
+    board.put(cells)
+    if #cells > 0 then board.saved(last_file(kept)) else assert(os.rename(folder .. "board.mc", last_file(kept))) end
+    kept.heard, kept.asked = helper:position(), 0
+    keep(kept)
+    os.remove(old)
+end
+
+-- The cells that have to be set in Golly where more is different than is told; or why that is not known.
+local function all_to_put(text)
+    local whole, reason = whole_board()
+    if not whole then return nil, reason end
+    local _, here = board.changes("", text)
+    return board.difference(here, whole)
 end
 
 local function sync(kept)
-    local was = kept.runs == 0 and {} or board.read_rle(folder .. kept.runs .. ".rle")
-    local here = board.read_golly(folder .. "board.mc")
-    local drawn = board.difference(was, here)
-    local file = kept.runs + 1 .. ".rle"
-    local is_written, refusal = exchange(drawn, file)
-    if not is_written then return refusal end
-    local changed = board.difference(here, board.read_rle(folder .. file))
-    local sent_count, changed_count = #drawn // 3, #changed // 3
-    board.put(changed)
-    os.remove(folder .. kept.runs .. ".rle")
-    kept.runs = kept.runs + 1
-    return refusal or sent_count .. " cells sent, " .. changed_count .. " changed here"
+    local text = board.saved(folder .. "board.mc")
+    local before, drawn = board.changes(board.text_of(last_file(kept)), text)
+    local sent_count, outcome, is_done = exchange(kept, drawn)
+    if not is_done then return outcome.refusal or helper:reason() end
+    local cells, reason
+    if outcome.is_more then
+        cells, reason = all_to_put(text)
+    else
+        cells = to_put(outcome.looks, before, drawn)
+    end
+    if not cells then return reason end
+    local put_count = #cells // 3
+    show(kept, cells)
+    return outcome.refusal or sent_count .. " cells sent, " .. put_count .. " changed here"
 end
 
 -- A run at a board that was joined. Escape ends it alone: what it did not send or take, the next does.
 local function run()
     local kept = read_kept()
-    come_again(kept)
     local is_well, message = pcall(function() return obstacle(kept) or sync(kept) end)
     if not is_well then
         if not board.is_escape(message) then error(message, 0) end
         g.continue("")
         message = "it was stopped: the next run goes on"
     end
-    keep(kept)
     return message
 end
 
