@@ -59,15 +59,21 @@ function board.list(map)
     return cells
 end
 
--- The cells in which one map differs from another, with their states in the other.
-function board.difference(from, to)
+-- The cells of a map, its dead ones too, that look otherwise than another map says, which may say nothing of them.
+function board.cells_beside(map, other)
     local cells = {}
-    for place, state in pairs(to) do
-        if from[place] ~= state then
+    for place, state in pairs(map) do
+        if other[place] ~= state then
             local x, y = board.at(place)
             board.add(cells, x, y, state)
         end
     end
+    return cells
+end
+
+-- The cells in which one map differs from another, with their states in the other.
+function board.difference(from, to)
+    local cells = board.cells_beside(to, from)
     for place in pairs(from) do
         if not to[place] then
             local x, y = board.at(place)

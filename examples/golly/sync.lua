@@ -87,18 +87,6 @@ local function news_to(outcome)
     }
 end
 
--- What has to be sent of what was drawn: a run that was ended may have sent the rest, or have shown what others drew.
-local function unsent(drawn, looks)
-    local cells = {}
-    for place, state in pairs(drawn) do
-        if looks[place] ~= state then
-            local x, y = board.at(place)
-            board.add(cells, x, y, state)
-        end
-    end
-    return cells
-end
-
 -- Sends what was drawn, and hears how the board looks then; how many cells were sent, what came, and whether that is
 -- all. A cell is shown last, which tells that all was told that this run asked for, and the ended ones before it.
 local function exchange(kept, drawn)
@@ -107,7 +95,8 @@ local function exchange(kept, drawn)
     local function is_answered() return outcome.answered == kept.asked end
     helper:hear_from(kept.heard)
     if not helper:await(PATIENCE, is_answered) then return 0, outcome, false end
-    local cells = unsent(drawn, outcome.looks)
+    -- a run that was ended may have sent the rest, or have shown what others drew
+    local cells = board.cells_beside(drawn, outcome.looks)
     for _, command in ipairs(board.drawing(cells)) do helper:say(command) end
     -- nothing that Escape ends stands between the two
     kept.asked = kept.asked + 1
@@ -128,14 +117,7 @@ end
 -- The cells that have to be set in Golly: where the board looks otherwise than was drawn, or as nothing was drawn.
 local function to_put(looks, before, drawn)
     for place, state in pairs(before) do looks[place] = looks[place] or state end
-    local cells = {}
-    for place, state in pairs(looks) do
-        if drawn[place] ~= state then
-            local x, y = board.at(place)
-            board.add(cells, x, y, state)
-        end
-    end
-    return cells
+    return board.cells_beside(looks, drawn)
 end
 
 -- Shows cells, and keeps what stands in Golly for the next run.
