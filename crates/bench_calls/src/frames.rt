@@ -10,7 +10,7 @@ use memory_hub::MemoryHub;
 use message_frames::{FrameFault, Frames, frame};
 use replica_sessions::Session;
 use samples::plane_of;
-use session_service::serve;
+use session_service::{Unheard, serve};
 use std::alloc::{AllocError, Global};
 use std::rt::Clock;
 use std::thread::Threads;
@@ -114,7 +114,7 @@ impl<R: Threads + Copy + Drop + Sync> Stream<R> {
         let mut replies = Vec::new(self.alloc);
         let mut sink = WriteSink::new(&mut replies);
         let mut source = ReadSource::new(self.bytes.as_slice());
-        let end = serve(self.alloc, &mut source, &mut sink, &mut session)?;
+        let end = serve(&mut source, &mut sink, &mut session, &mut Unheard)?;
         Ok((end.requests, session.into_hub().fresh()))
     }
 

@@ -138,6 +138,20 @@ impl BoardReader {
         replace_with(&mut self.window, (), |window, ()| planed(window))
     }
 
+    /// Hands out the plane of a list that begins with what was seen, and says how many entries that list has.
+    /// The whole list is handed out then. After a fault nothing more is handed out than before.
+    pub fn hand_out(&mut self) -> Result<(Plane, u64), SeatFault>
+        ensures seen { GoesOn self.old.window.front self.new.window.front }
+        ensures plane { IfOk result (λ p. AreSame (map_of p.0) (greatest (edits_of (list_of self.new.window.front)))) }
+        ensures count { IfOk result (λ p. (p.1 ≡ length (list_of self.new.window.front)) × (self.new.handed ≡ length (list_of self.new.window.front))) }
+        ensures fault { IfErr result (λ f. (self.new.handed ≡ self.old.handed) × (f ≡ SeatFault.Closed → self.new.window.front ≡ self.old.window.front)) }
+    {
+        let plane = self.plane()?;
+        let count = self.window.front.len();
+        self.handed = count;
+        Ok((plane, count))
+    }
+
     /// From now on it sees no less than this list.
     pub fn learn(&mut self, front: &Front)
         requires origin { origin front.now ≡ origin self.old.window.front }

@@ -1,7 +1,7 @@
 -- What the first frame of a reply spells.
 use Rattle.std.specs.Prelude.{◌≡◌, ◌≢◌, ℕ, ◌<◌, ◌≤◌, ◌^◌, List, [], ◌∷◌, ◌++◌, length}
 use Rattle.std.specs.Result.{IsOk}
-use Rattle.std.specs.Int.{w16, w32, to_be_bytes}
+use Rattle.std.specs.Int.{w16, w32, w64, to_be_bytes}
 use Rattle.generations_rule.specs.Rule.{GenerationsRule, IsRule}
 use Rattle.generations_rule.specs.RuleText.{parsed, text_of}
 use Rattle.session_hub.specs.Replies.{hello_body, most_edits, whole_mark}
@@ -9,6 +9,8 @@ use Rattle.client_protocol.specs.declared.answer.Answer.{Answer}
 use Rattle.client_protocol.specs.declared.answer.Answer.TheVariants as answer
 use Rattle.client_protocol.specs.declared.greeting.Greeting.{Greeting}
 use Rattle.client_protocol.specs.declared.greeting.Greeting.TheVariants as greeting
+use Rattle.client_protocol.specs.declared.pieced.Pieced.{Pieced}
+use Rattle.client_protocol.specs.declared.pieced.Pieced.TheVariants as pieced
 use Rattle.client_protocol.specs.declared.polled.Polled.{Polled}
 use Rattle.client_protocol.specs.declared.polled.Polled.TheVariants as polled
 
@@ -43,6 +45,22 @@ abbrev pub SpellsCount : List ℕ → Polled → Type 0
 SpellsCount bytes (polled.Edits number) = (number ≤ most_edits) × (bytes ≡ to_be_bytes w32 number)
 SpellsCount bytes polled.Whole = bytes ≡ to_be_bytes w32 whole_mark
 SpellsCount bytes _ = ⊥
+
+-- ---- pieces
+
+-- a 0, of how many edits the plane is, in eight bytes, and how many frames follow, in four
+abbrev pub pieced_body : ℕ → ℕ → List ℕ
+pieced_body edits frames = 0 ∷ (to_be_bytes w64 edits ++ to_be_bytes w32 frames)
+
+abbrev pub SpellsPieced : List ℕ → Pieced → Type 0
+SpellsPieced body (pieced.Pieces edits frames) = body ≡ pieced_body edits frames
+SpellsPieced body (pieced.Refused number) = IsRefusal body number
+SpellsPieced body pieced.Faulty = IsNoRefusal body × ((edits frames : ℕ) → edits < 2 ^ 64 → frames < 2 ^ 32 → body ≢ pieced_body edits frames)
+
+-- the same of the bytes behind the 0
+abbrev pub SpellsCounts : List ℕ → Pieced → Type 0
+SpellsCounts bytes (pieced.Pieces edits frames) = bytes ≡ to_be_bytes w64 edits ++ to_be_bytes w32 frames
+SpellsCounts bytes _ = ⊥
 
 -- ---- greetings
 

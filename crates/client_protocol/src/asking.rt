@@ -19,9 +19,14 @@ pub enum Asking<'a> {
     Poll,
     /// To end the session.
     Bye,
+    /// For what is new, once there is something, or so many milliseconds are over, at most 60,000.
+    Await(u32),
+    /// For the whole plane in pieces.
+    Pieces,
 }
 
-/// The body of a request. One of more than 2^24 bytes is refused, whatever memory there is.
+/// The body of a request. One of more than 2^24 bytes is refused, whatever memory there is. A session finds no
+/// request in an `Await` of more than 60,000 milliseconds.
 pub fn request_body(alloc: Global, asking: Asking<'_>) -> Result<Framed, FrameFault>
     ensures spelt { IfOk result (λ framed. framed ≡ asking_bytes asking.entry) }
     ensures meant { IfOk result (λ framed. request_of framed ≡ asked_as asking.entry) }
@@ -32,5 +37,7 @@ pub fn request_body(alloc: Global, asking: Asking<'_>) -> Result<Framed, FrameFa
         Asking::Push(text) => Framed::of_parts(alloc, &[2], text),
         Asking::Poll => Framed::of_body(alloc, &[3]),
         Asking::Bye => Framed::of_body(alloc, &[6]),
+        Asking::Await(milliseconds) => Framed::of_parts(alloc, &[8], &milliseconds.to_be_bytes()),
+        Asking::Pieces => Framed::of_body(alloc, &[11]),
     }
 }

@@ -4,9 +4,11 @@
 mod answer;
 mod asking;
 mod greeting;
+mod pieced;
 mod polled;
 
 pub use answer::{Answer, answer_in};
 pub use asking::{Asking, request_body};
 pub use greeting::{Greeting, greeting_in};
+pub use pieced::{Pieced, pieced_in};
 pub use polled::{Polled, polled_in};

@@ -2,8 +2,10 @@
 #![tactic(auto)]
 
 mod address;
+mod alarm;
 mod closing;
 mod connections;
+mod ears;
 mod fault;
 mod server;
 mod turning;

@@ -13,7 +13,8 @@ ghost use Rattle.genedit_serve.specs.Serving.{Serves, ServesAt};
 
 use crate::address::address;
 use crate::closing::{closing, listening};
-use crate::connections::{Connections, Knock};
+use crate::connections::{Connections, Knock, Rousing};
+use crate::ears::hearings;
 use crate::fault::{server_fault, start_fault};
 use crate::turning::Turning;
 use devices::{ReadSource, Sink, WriteSink};
@@ -28,6 +29,7 @@ use std::marker::Brand;
 use std::net::{Net, TcpListener, TcpStream};
 use std::sync::Wait;
 use std::thread::Threads;
+use std::time::Clock;
 
 /// How many submissions the inbox of a served board has room for. A session has one at a time.
 pub const INBOX: u16 = 64;
@@ -73,6 +75,7 @@ pub fn listen<R: Net<Listener = TcpListener, Stream = TcpStream>>(
 /// `start` and `finish` refuse is told as they do.
 pub fn serve_on<
     R: Net<Listener = TcpListener, Stream = TcpStream>
+        + Clock
         + Threads
         + Wait
         + Copy
@@ -112,6 +115,7 @@ pub fn serve_on<
 fn serve<
     J: Naming + Send + 'static,
     R: Net<Listener = TcpListener, Stream = TcpStream>
+        + Clock
         + Threads
         + Wait
         + Copy
@@ -148,6 +152,7 @@ fn serve<
 fn seats_served<
     J: Naming + Send + 'static,
     R: Net<Listener = TcpListener, Stream = TcpStream>
+        + Clock
         + Threads
         + Wait
         + Copy
@@ -173,6 +178,8 @@ fn seats_served<
     let Ok(theirs) = listener.try_clone() else {
         return Err(ServerFault::Read);
     };
+    let count = u16::try_from(seats.len()).unwrap_or(u16::MAX);
+    let (left, alarms) = hearings(&rt, alloc, count)?;
     let started = match Turning::start(rt, alloc, theirs) {
         Ok(started) => started,
         Err(_) => return Err(ServerFault::Memory),
@@ -180,13 +187,15 @@ fn seats_served<
     let Some((turning, seated)) = started else {
         return Err(ServerFault::Read);
     };
-    let count = u16::try_from(seats.len()).unwrap_or(u16::MAX);
-    let knock = Knock { rt: &rt, port };
+    let rousing = Rousing {
+        knock: Knock { rt: &rt, port },
+        alarms,
+    };
     let streams = Streams {
-        acceptor: Connections::of(rt, listener, count, seated),
-        wake: &knock,
+        acceptor: Connections::of(rt, listener, left, seated),
+        wake: &rousing,
     };
     let finished = serve_seats(rt, alloc, relay, seats, streams);
-    turning.end(&rt, &knock);
+    turning.end(&rt, &rousing.knock);
     finished
 }

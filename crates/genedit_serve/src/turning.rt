@@ -6,7 +6,6 @@ ghost use Rattle.message_frames.specs.Frames.{frame_text};
 
 use crate::connections::Knock;
 use crossbeam_channel::{Receiver, Sender, bounded};
-use seat_server::Wake;
 use std::alloc::{AllocError, Global};
 use std::collections::VecDeque;
 use std::io::{Read, Write};
@@ -63,7 +62,7 @@ impl Turning {
     /// Ends it: a last connection lets it look up.
     pub(crate) fn end<R: Threads + Net>(self, rt: &R, knock: &Knock<'_, R>) {
         self.is_over.store(true, Ordering::SeqCst);
-        knock.wake();
+        knock.knock();
         self.thread.join(rt);
     }
 }

@@ -6,7 +6,7 @@ use crate::telling::{fault_of, pushed, session_of, taken};
 use delta_exchange::ReadFault;
 use devices::{ReadSource, WriteSink};
 use frame_service::{ServeFault, Served};
-use session_service::serve;
+use session_service::{Unheard, serve};
 use std::alloc::Global;
 use std::test::Fail;
 use std::thread::Threads;
@@ -254,10 +254,10 @@ fn served<R: Threads + Sync + Drop>(
     let mut session = session_of(rt, alloc)?;
     let mut out = Vec::new(alloc);
     let end = serve(
-        alloc,
         &mut ReadSource::new(bytes.as_slice()),
         &mut WriteSink::new(&mut out),
         &mut session,
+        &mut Unheard,
     );
     Ok((end, out == bytes_of(alloc, pushed)?))
 }

@@ -6,7 +6,7 @@ use devices::{ReadSource, WriteSink};
 use frame_service::{Reply, ServeFault, Served};
 use memory_hub::MemoryHub;
 use replica_sessions::Session;
-use session_service::serve;
+use session_service::{Unheard, serve};
 use std::alloc::{AllocError, Global};
 use std::test::Fail;
 use std::thread::Threads;
@@ -150,10 +150,10 @@ fn served<R: Threads + Sync + Drop>(
     let mut session = session_of(rt, alloc)?;
     let mut out = Vec::new(alloc);
     let end = serve(
-        alloc,
         &mut ReadSource::new(stream),
         &mut WriteSink::new(&mut out),
         &mut session,
+        &mut Unheard,
     );
     Ok((end, out))
 }

@@ -1,5 +1,5 @@
 -- What the hub in memory does.
-use Rattle.std.specs.Prelude.{◌≡◌, ◌≢◌, ◌⊎◌, ⊤, ℕ, ◌<◌, false, IsTrue, List, [], ◌∷◌, ◌++◌, Option, Some, None, Result, Ok, Err}
+use Rattle.std.specs.Prelude.{◌≡◌, ◌≢◌, ◌⊎◌, ⊤, ℕ, ◌+◌, ◌-◌, ◌^◌, ◌<◌, min, false, IsTrue, List, [], ◌∷◌, ◌++◌, length, Option, Some, Ok, Err}
 use Rattle.generations_rule.specs.Rule.{GenerationsRule}
 use Rattle.edit_stamps.specs.Edit.{PlaneEdit, HaveStatesBelow, has_states_below}
 use Rattle.edit_stamps.specs.PlaneMap.{HasStatesBelow}
@@ -8,9 +8,8 @@ use Rattle.stamped_writes.specs.Write.{AreSame}
 use Rattle.stamped_tree.specs.Plane.{StampedPlane, map_of}
 use Rattle.session_hub.specs.declared.fault.HubFault.{HubFault}
 use Rattle.session_hub.specs.declared.fault.HubFault.TheVariants.{NotYours, StateRange, Full, Closed, StoreFull, Memory}
-use Rattle.poll_news.specs.declared.news.News.{News}
 use Rattle.poll_news.specs.declared.news.News.TheVariants.{Edits, Whole}
-use Rattle.session_hub.specs.HubCall.{HubCall, Pushes, Polls, Shows}
+use Rattle.session_hub.specs.HubCall.{HubCall, Pushes, Polls, Shows, Hands}
 
 -- what is known of it: its rule and its seat, the edits that the next poll hands out, the plane that it shows, how many
 -- edits that plane is of, where the next poll gives it, and what it refuses each call by
@@ -47,6 +46,11 @@ IsEditRefused h edit StoreFull = ⊥
 abbrev pub IsRefused : MemoryState → HubFault → MemoryState → Type 0
 IsRefused old fault new = (new ≡ old) × ((old.refuses ≡ Some fault) ⊎ (fault ≡ Memory))
 
+-- of how many edits a plane is that is handed out: those behind it, and those that a poll would hand out; more than a word
+-- says are told as the most that it says
+abbrev pub edits_in : MemoryState → ℕ
+edits_in h = min (2 ^ 64 - 1) (h.behind + length h.fresh)
+
 abbrev pub IsMemoryCall : MemoryState → HubCall → MemoryState → Type 0
 IsMemoryCall old (Pushes edit (Ok done)) new = KeepsPlane old new × (replica_in edit.stamp ≡ old.number) × IsTrue (has_states_below old.rule.states edit)
     × (new.fresh ≡ old.fresh ++ edit ∷ []) × (new.behind ≡ old.behind)
@@ -57,3 +61,6 @@ IsMemoryCall old (Polls (Ok (Whole plane count))) new = KeepsPlane old new × (0
 IsMemoryCall old (Polls (Err fault)) new = IsRefused old fault new
 IsMemoryCall old (Shows (Ok plane)) new = (new ≡ old) × AreSame (map_of plane) (map_of old.plane)
 IsMemoryCall old (Shows (Err fault)) new = IsRefused old fault new
+IsMemoryCall old (Hands (Ok given)) new = KeepsPlane old new × AreSame (map_of given.0) (map_of old.plane) × (given.1 ≡ edits_in old)
+    × (new.fresh ≡ []) × (new.behind ≡ 0)
+IsMemoryCall old (Hands (Err fault)) new = IsRefused old fault new

@@ -14,7 +14,8 @@ use std::alloc::Global;
 use std::marker::Model;
 
 /// A hub of one seat: what is pushed is what the next poll hands out, and the plane is the one that it was
-/// given. Where some edits are said to be behind the plane, the next poll gives the plane.
+/// given. Where some edits are said to be behind the plane, the next poll gives the plane. A plane that is
+/// handed out whole is of the edits behind it and of those that a poll would have handed out.
 #[derive(Drop)]
 pub struct MemoryHub {
     alloc: Global,
@@ -113,6 +114,21 @@ impl Hub for MemoryHub {
         }
         let edits = std::mem::replace(&mut self.fresh, Vec::new(self.alloc));
         Ok(News::Edits(EditList::of_vec(edits)))
+    }
+
+    fn has_news(&self) -> bool {
+        self.behind > 0 || !self.fresh.is_empty()
+    }
+
+    fn hand_out(&mut self) -> Result<(Plane, u64), HubFault> {
+        if let Some(fault) = self.refuses {
+            return Err(fault);
+        }
+        let plane = self.plane.copy()?;
+        let count = self.behind.saturating_add(self.fresh.len() as u64);
+        self.behind = 0;
+        self.fresh = Vec::new(self.alloc);
+        Ok((plane, count))
     }
 
     fn plane(&mut self) -> Result<Plane, HubFault> {

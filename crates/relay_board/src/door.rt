@@ -1,4 +1,5 @@
-//! What the relay and its seats share beside the inbox: how far the relay is, and what wakes it.
+//! What the relay and its seats share beside the inbox: how far the relay is, how much it published, and
+//! what wakes it.
 
 use std::sync::Wait;
 use std::sync::atomic::{AtomicU64, Ordering};
@@ -15,11 +16,14 @@ enum Mark {
     Gone,
 }
 
-/// The mark of how far the relay is, and what the relay rests on. One thread at a time may rest, the relay's.
+/// The mark of how far the relay is, how many entries it published, and what it rests on. One thread at a time
+/// may rest, the relay's, and it alone publishes.
 #[derive(Drop)]
 pub struct Door {
     /// A `Mark`.
     mark: AtomicU64,
+    /// How many entries were published. No clause speaks of it either.
+    published: AtomicU64,
     parker: Parker,
 }
 
@@ -28,6 +32,7 @@ impl Door {
     pub fn new() -> Door {
         Door {
             mark: AtomicU64::new(Mark::Open as u64),
+            published: AtomicU64::new(0),
             parker: Parker::new(),
         }
     }
@@ -51,6 +56,16 @@ impl Door {
     /// The relay is gone.
     pub fn leave(&self) {
         self.mark.store(Mark::Gone as u64, Ordering::SeqCst);
+    }
+
+    /// So many entries are published by now.
+    pub fn publish(&self, count: u64) {
+        self.published.store(count, Ordering::SeqCst);
+    }
+
+    /// How many entries were published at one moment of the call, at least.
+    pub fn published(&self) -> u64 {
+        self.published.load(Ordering::SeqCst)
     }
 
     /// Wakes the relay, or lets its next rest end at once.

@@ -228,7 +228,9 @@ impl<J: Naming, R: Wait + Drop> Relay<J, R> {
                     unreachable!()
                 };
                 let (seat, stamp) = (kept.entry.seat, kept.entry.edit.stamp());
-                self.answered = Some(answered(&self.rt, kept, self.publisher.front()));
+                let front = self.publisher.front();
+                self.door.publish(front.len());
+                self.answered = Some(answered(&self.rt, kept, front));
                 self.told = false;
                 tally(self.counts.as_mut_slice(), seat);
                 Ok(stamp)

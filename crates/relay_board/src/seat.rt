@@ -205,6 +205,27 @@ impl<J: Naming> Seat<J> {
         self.reader.poll()
     }
 
+    /// Whether more was published than this seat was handed, as far as is known, or the relay is gone, so that
+    /// nothing more comes. No clause speaks of it: the relay publishes meanwhile. What a receipt came for is
+    /// known. It takes no lock and no memory.
+    pub fn has_news(&self) -> bool {
+        self.reader.handed < self.door.published() || self.door.is_gone()
+    }
+
+    /// Hands out the plane of a list that begins with what was seen, and says how many entries that list has.
+    /// The whole list is handed out then. It never waits.
+    pub fn hand_out(&mut self) -> Result<(Plane, u64), SeatFault>
+        ensures same { HasRead self.old self.new }
+        ensures plane { IfOk result (λ p. AreSame (map_of p.0) (greatest (edits_of self.new.seen))) }
+        ensures count { IfOk result (λ p. (p.1 ≡ length self.new.seen) × (self.new.handed ≡ length self.new.seen)) }
+        ensures fault { IfErr result (λ f. (self.new.handed ≡ self.old.handed) × (f ≡ SeatFault.Closed → self.new.seen ≡ self.old.seen)) }
+        ensures states { IfOk result (λ p. HasStatesBelow self.new.rule.states (map_of p.0)) }
+    {
+        // For the proof alone: the call tells that what is held is a rule.
+        let _rule = self.rule.states();
+        self.reader.hand_out()
+    }
+
     /// The greatest write at a coordinate, of a list that begins with what was seen. It takes no memory, and
     /// never waits.
     pub fn view(&mut self, x: i32, y: i32) -> Result<Write, SeatFault>

@@ -100,7 +100,7 @@ in_journal w r h e is here = inr (inl (r, h, is, here))
 none_in : (e : PlaneEdit) → Contains [] e → ⊥
 none_in e (k, below, is) = absurd (omega (arith, below))
 
-only_one : (x y : PlaneEdit) → Contains (x ∷ []) y → y ≡ x
+pub only_one : (x y : PlaneEdit) → Contains (x ∷ []) y → y ≡ x
 only_one x y (zero, below, is) = sym is
 only_one x y (suc k, below, is) = absurd (omega (arith, below))
 

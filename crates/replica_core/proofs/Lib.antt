@@ -12,5 +12,6 @@ pub mod PeerLaws
 pub mod RoomLaws
 mod RunLaws
 pub mod NotedEdits
+mod AgainLaws
 pub mod StateLaws
 pub mod UniverseLaws

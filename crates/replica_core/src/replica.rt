@@ -1,6 +1,6 @@
 //! One replica of a shared plane.
 
-ghost use Rattle.std.specs.Prelude.{List, Ok, take, drop, ◌⊎◌, ◌≡◌, ◌≢◌, ◌≤◌, ◌↔◌, ◌++◌, ◌∷◌, [], ℕ, false, Contains, IfOk, IfErr, IfSome, IsTrue, OnOk, OnErr, length, max};
+ghost use Rattle.std.specs.Prelude.{List, Ok, Some, slice_get, take, drop, ◌⊎◌, ◌≡◌, ◌≢◌, ◌≤◌, ◌↔◌, ◌++◌, ◌∷◌, [], ℕ, false, Contains, IfOk, IfErr, IfSome, IsTrue, OnOk, OnErr, length, max};
 ghost use Rattle.square_store.specs.Limits.{usual_room};
 ghost use Rattle.std.specs.Result.{IsOk};
 ghost use Rattle.generations_rule.specs.Refusal.{Answers};
@@ -80,7 +80,7 @@ impl Replica {
     ghost use Rattle.replica_core.specs.Exchange.{delta_given, IsTakingMap, IsTakingOf, IsTakingText};
     ghost use Rattle.export.specs.Export.{IsRoomWanted};
     ghost use Rattle.replica_core.specs.Exporting.{IsExportFault, IsExportOf};
-    ghost use Rattle.replica_core.specs.Replica.{edit_drawn, IsDraw, IsJournalOf, IsMadeAs, IsNew, IsReplica, IsSnapshot, IsTaking};
+    ghost use Rattle.replica_core.specs.Replica.{edit_drawn, IsDraw, IsJournalOf, IsMadeAs, IsNew, IsReplica, IsSnapshot, IsTaking, Takes};
 
     /// A replica that holds nothing, with room for 2^26 squares. The only error is want of memory.
     pub fn new(alloc: Global, rule: Rule, number: u16) -> Result<Replica, Fault>
@@ -142,6 +142,21 @@ impl Replica {
         ensures states { HaveStatesBelow self.now.rule.states self.now.journal }
     {
         self.journal.as_slice()
+    }
+
+    /// Whether the journal has an edit at a place, counted from 0. Where it has, taking the edit once more would
+    /// change nothing.
+    pub fn has_at(&self, place: usize, edit: &Edit) -> bool
+        ensures value { IsTrue result ↔ (slice_get self.now.journal place ≡ Some edit.now) }
+        ensures taken { IsTrue result → Takes self.now self.now (Edits (edit.now ∷ [])) }
+        ensures tellable { IsTrue result → AreTellable self.now.rule.states (edit.now ∷ []) }
+    {
+        let journal = self.journal.as_slice();
+        if place < journal.len() {
+            journal[place].same(edit)
+        } else {
+            false
+        }
     }
 
     /// The plane that it holds.

@@ -1,5 +1,5 @@
 -- Answers to polls.
-use Rattle.std.proofs.Common.{◌≡◌, ℕ, List, [], ◌++◌, Option, Some, None, Ok, Err, inl, inr, sym, ap, subst, ◌∙◌, append-nil}
+use Rattle.std.proofs.Common.{◌≡◌, ℕ, List, [], ◌∷◌, ◌++◌, Option, Some, None, Ok, Err, refl, inl, inr, sym, ap, subst, ◌∙◌, append-nil}
 use Rattle.std.specs.Prelude.{◌⊎◌}
 use Rattle.generations_rule.specs.Rule.{GenerationsRule}
 use Rattle.edit_stamps.specs.Edit.{PlaneEdit}
@@ -20,6 +20,17 @@ same_kept a b p q e f = cc
 
 pub settled : (edits late old : List PlaneEdit) → late ≡ [] → edits ++ late ≡ old → edits ≡ old
 settled edits late old none all = sym (append-nil edits) ∙ ap (λ l. edits ++ l) (sym none) ∙ all
+
+pub none_kept : (edits late : List PlaneEdit) → edits ≡ [] → late ≡ [] → edits ++ late ≡ []
+none_kept edits late none no_late = rw (none, no_late) refl
+
+no_edits : (edits late : List PlaneEdit) → edits ++ late ≡ [] → (edits ≡ []) × (late ≡ [])
+no_edits [] late none = (refl, none)
+no_edits (e ∷ edits) late none = absurd cc
+
+-- where nothing is kept there are no edits and no plane
+pub nothing_kept_has : (edits late : List PlaneEdit) (plane : Option StampedPlane) → the_kept (edits ++ late) plane ≡ nothing_kept → (edits ≡ []) × (late ≡ []) × (plane ≡ None)
+nothing_kept_has edits late plane none = let both = no_edits edits late (ap (λ (k : Kept). k.edits) none) in (both.0, both.1, ap (λ (k : Kept). k.plane) none)
 
 module _ (r : GenerationsRule) (seat : ℕ) (kept : Kept) (out : List (List ℕ)) (left : Kept) where
   -- a kept plane, without a call

@@ -3,7 +3,7 @@ use Rattle.std.specs.Prelude.{◌≡◌, ⊤, ℕ, ◌+◌, ◌*◌, List, lengt
 use Rattle.session_hub.specs.Request.{Request, numbers}
 use Rattle.session_hub.specs.Request as requests
 use Rattle.replica_sessions.specs.declared.kind.Kind.{Kind}
-use Rattle.replica_sessions.specs.declared.kind.Kind.TheVariants.{Hello, Push, Poll, Whole, Export, Bye, Many, Faulty}
+use Rattle.replica_sessions.specs.declared.kind.Kind.TheVariants.{Hello, Push, Poll, Whole, Export, Bye, Many, Await, Pieces, Faulty}
 
 -- the request of a kind, with the bytes behind the kind
 abbrev pub request_by : Kind → List ℕ → Request
@@ -14,6 +14,8 @@ request_by Whole rest = requests.Whole
 request_by (Export g) rest = requests.Export g
 request_by Bye rest = requests.Bye
 request_by (Many count) rest = requests.Many (numbers count (drop 2 rest))
+request_by (Await milliseconds) rest = requests.Await milliseconds
+request_by Pieces rest = requests.Pieces
 request_by Faulty rest = requests.Faulty
 
 -- the bytes behind the kind of many exports are as many as it says

@@ -1,8 +1,11 @@
 //! Requests by their kinds.
 
 ghost use Rattle.std.specs.Prelude.{◌≡◌};
-ghost use Rattle.session_hub.specs.Request.{request_of, request_as, many_of};
+ghost use Rattle.session_hub.specs.Request.{request_of, request_as, sized, many_of, await_of};
 ghost use Rattle.replica_sessions.specs.Kinds.{request_by, IsWholeRest};
+
+/// The longest that a request may await news, in milliseconds: a minute.
+const MOST_WAIT: u32 = 60_000;
 
 /// What a request asks. The text of a push, and the generations of a request for many exports, stand in
 /// the bytes behind its kind.
@@ -15,6 +18,10 @@ pub enum Kind {
     Export(u32),
     Bye,
     Many(u16),
+    /// A poll that waits for news, for so many milliseconds at most.
+    Await(u32),
+    /// The whole plane, in as many frames as it takes.
+    Pieces,
     Faulty,
 }
 
@@ -34,38 +41,35 @@ fn kind_by(kind: u8, rest: &[u8]) -> Kind
     ensures whole { IsWholeRest result rest.now }
 {
     if kind == 1 {
-        if rest.len() == 0 {
-            Kind::Hello
-        } else {
-            Kind::Faulty
-        }
+        bare(Kind::Hello, rest)
     } else if kind == 2 {
         Kind::Push
     } else if kind == 3 {
-        if rest.len() == 0 {
-            Kind::Poll
-        } else {
-            Kind::Faulty
-        }
+        bare(Kind::Poll, rest)
     } else if kind == 4 {
-        if rest.len() == 0 {
-            Kind::Whole
-        } else {
-            Kind::Faulty
-        }
+        bare(Kind::Whole, rest)
     } else if kind == 5 {
         export_by(rest)
     } else if kind == 6 {
-        if rest.len() == 0 {
-            Kind::Bye
-        } else {
-            Kind::Faulty
-        }
+        bare(Kind::Bye, rest)
     } else if kind == 7 {
         many_by(rest)
+    } else if kind == 8 {
+        await_by(rest)
+    } else if kind == 11 {
+        bare(Kind::Pieces, rest)
     } else {
         Kind::Faulty
     }
+}
+
+/// A kind behind which nothing may stand.
+fn bare(kind: Kind, rest: &[u8]) -> Kind
+    requires { IsWholeRest kind rest.now }
+    ensures request { sized 0 rest.now (request_by kind rest.now) ≡ request_by result rest.now }
+    ensures whole { IsWholeRest result rest.now }
+{
+    if rest.len() == 0 { kind } else { Kind::Faulty }
 }
 
 fn export_by(rest: &[u8]) -> Kind
@@ -89,6 +93,21 @@ fn many_by(rest: &[u8]) -> Kind
     let count = u16::from_be_bytes([rest[0], rest[1]]);
     if rest.len() == 2 + 4 * usize::from(count) {
         Kind::Many(count)
+    } else {
+        Kind::Faulty
+    }
+}
+
+fn await_by(rest: &[u8]) -> Kind
+    ensures request { await_of rest.now ≡ request_by result rest.now }
+    ensures whole { IsWholeRest result rest.now }
+{
+    if rest.len() != 4 {
+        return Kind::Faulty;
+    }
+    let milliseconds = u32::from_be_bytes([rest[0], rest[1], rest[2], rest[3]]);
+    if milliseconds <= MOST_WAIT {
+        Kind::Await(milliseconds)
     } else {
         Kind::Faulty
     }

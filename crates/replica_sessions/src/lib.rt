@@ -5,6 +5,7 @@ mod bodies;
 mod fault;
 mod kept;
 mod kind;
+mod pieces;
 mod planes;
 mod polls;
 mod pushes;

@@ -1,6 +1,6 @@
 //! Sessions.
 
-ghost use Rattle.std.specs.Prelude.{◌≡◌, ◌∷◌, [], IfOk};
+ghost use Rattle.std.specs.Prelude.{◌≡◌, ◌≢◌, true, ◌∷◌, [], IfOk};
 ghost use Rattle.std.specs.Result.{result_ok};
 ghost use Rattle.session_hub.specs.Request.{is_bye, Hello as AsksHello};
 ghost use Rattle.session_hub.specs.Replies.{hello_body, nothing_kept, Kept};
@@ -12,6 +12,7 @@ use crate::bodies::{framed, hello, one_frame};
 use crate::fault::SessionFault;
 use crate::kept::KeptNews;
 use crate::kind::{Kind, kind_of};
+use crate::pieces::pieces_reply;
 use crate::planes::{export_reply, many_reply, plane_reply};
 use crate::polls::poll_reply;
 use crate::pushes::push_reply;
@@ -23,7 +24,7 @@ use std::alloc::{AllocError, Global};
 use std::marker::Model;
 use std::thread::Threads;
 
-/// A hub, and what is kept of polls whose reply found no memory.
+/// A hub, and what is kept of its answers whose reply found no memory.
 #[derive(Drop)]
 pub struct Session<H, R> {
     rt: R,
@@ -72,6 +73,18 @@ impl<H: Hub, R: Threads + Sync + Drop> Session<H, R> {
         Ok(Reply { frames, last })
     }
 
+    /// Whether there is something that was not handed out: what is kept, or news of the hub.
+    pub fn has_news(&self) -> bool
+        ensures { self.now.kept ≢ nothing_kept → result ≡ true }
+    {
+        !self.kept.is_empty() || self.hub.has_news()
+    }
+
+    /// What it takes memory from.
+    pub fn alloc(&self) -> Global {
+        self.alloc
+    }
+
     /// The hub as it is.
     pub fn into_hub(self) -> H
         ensures { result ≡ self.hub }
@@ -98,6 +111,8 @@ fn is_last(kind: Kind) -> bool
         | Kind::Whole
         | Kind::Export(_)
         | Kind::Many(_)
+        | Kind::Await(_)
+        | Kind::Pieces
         | Kind::Faulty => false,
     }
 }
@@ -120,11 +135,13 @@ fn frames_by<H: Hub, R: Threads + Sync>(
     match kind {
         Kind::Hello => hello_reply(alloc, hub, room),
         Kind::Push => push_reply(alloc, hub, room, rest),
-        Kind::Poll => poll_reply(alloc, hub, kept, room),
+        // A request that awaits news was waited for before.
+        Kind::Poll | Kind::Await(_) => poll_reply(alloc, hub, kept, room),
         Kind::Whole => plane_reply(alloc, hub, room),
         Kind::Export(generation) => export_reply(alloc, hub, room, generation),
         Kind::Bye => room.refusal(0),
         Kind::Many(count) => many_reply(rt, alloc, hub, room, count, rest),
+        Kind::Pieces => pieces_reply(alloc, hub, kept, room),
         Kind::Faulty => room.refusal(SessionFault::Request.number()),
     }
 }

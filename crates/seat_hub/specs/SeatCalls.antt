@@ -12,7 +12,7 @@ use Rattle.relay_board.specs.declared.fault.SubmitFault.TheVariants as refusals
 use Rattle.relay_board.specs.Refusals.{Passes}
 use Rattle.relay_board.specs.Seating.{Seating, IsSame, HasRead}
 use Rattle.session_hub.specs.declared.fault.HubFault.TheVariants.{NotYours, StateRange, Full, Closed, StoreFull, Memory}
-use Rattle.session_hub.specs.HubCall.{HubCall, Pushes, Polls, Shows}
+use Rattle.session_hub.specs.HubCall.{HubCall, Pushes, Polls, Shows, Hands}
 use Rattle.board.specs.Handing.{IsNews}
 use Rattle.seat_hub.specs.Refusals.{IsRefused}
 
@@ -61,6 +61,10 @@ IsSeatCall a (Polls (Ok news)) b = IsHanded a b × IsNews (edits_of b.seen) a.ha
 IsSeatCall a (Polls (Err Closed)) b = IsUnread a b × (b.seen ≡ a.seen)
 IsSeatCall a (Polls (Err Memory)) b = IsUnread a b
 IsSeatCall a (Polls (Err _)) b = ⊥
+IsSeatCall a (Hands (Ok given)) b = IsHanded a b × AreSame (map_of given.0) (greatest (edits_of b.seen)) × (given.1 ≡ length b.seen)
+IsSeatCall a (Hands (Err Closed)) b = IsUnread a b × (b.seen ≡ a.seen)
+IsSeatCall a (Hands (Err Memory)) b = IsUnread a b
+IsSeatCall a (Hands (Err _)) b = ⊥
 IsSeatCall a (Shows (Ok plane)) b = IsUnread a b × AreSame (map_of plane) (greatest (edits_of b.seen))
 IsSeatCall a (Shows (Err Closed)) b = IsUnread a b × (b.seen ≡ a.seen)
 IsSeatCall a (Shows (Err Memory)) b = IsUnread a b

@@ -75,6 +75,17 @@ impl<J: Naming, R: Wait + Drop> Hub for SeatHub<J, R> {
         }
     }
 
+    fn has_news(&self) -> bool {
+        self.seat.has_news()
+    }
+
+    fn hand_out(&mut self) -> Result<(Plane, u64), HubFault> {
+        match self.seat.hand_out() {
+            Err(fault) => Err(refused_read(fault)),
+            Ok(given) => Ok(given),
+        }
+    }
+
     fn plane(&mut self) -> Result<Plane, HubFault> {
         match self.seat.plane() {
             Err(fault) => Err(refused_read(fault)),

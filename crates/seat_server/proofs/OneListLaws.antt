@@ -27,11 +27,11 @@ use Rattle.seat_hub.specs.SeatCalls.{IsSeatCall}
 use Rattle.session_hub.specs.declared.fault.HubFault.{HubFault}
 use Rattle.session_hub.specs.declared.fault.HubFault.TheVariants.{NotYours, StateRange, Full, Closed, StoreFull, Memory}
 use Rattle.session_hub.specs.HubFault.{hub_fault_number}
-use Rattle.session_hub.specs.HubCall.{AllowsAtMost, HubCall, Polls, Pushes, Shows}
-use Rattle.session_hub.specs.Request.{Bye, Export, Faulty, Hello, Many, Poll, Push, Request, Whole, request_of}
-use Rattle.session_hub.specs.Replies.{IsKeptReply, IsPollReply, IsPushReply, IsReply, IsReplyOf, IsShownReply, IsWanting, KeepsAll, KeepsNews, Kept, RepliesOrWants, edits_frames, edits_left, edits_reply, most_edits, nothing_kept, pushed_of, refusal}
+use Rattle.session_hub.specs.HubCall.{AllowsAtMost, Hands, HubCall, Polls, Pushes, Shows}
+use Rattle.session_hub.specs.Request.{Await, Bye, Export, Faulty, Hello, Many, Pieces, Poll, Push, Request, Whole, request_of}
+use Rattle.session_hub.specs.Replies.{IsKeptReply, IsPiecesReply, IsPollReply, IsPushReply, IsReply, IsReplyOf, IsShownReply, IsWanting, IsWholeReply, KeepsAll, KeepsNews, Kept, RepliesOrWants, edits_frames, edits_left, edits_reply, most_edits, nothing_kept, pushed_of, refusal, with_plane}
 use Rattle.seat_server.specs.Sessions.{AreAttended, AreVisits, VisitValue, number_of, one_each, rule_of, session_at}
-use Rattle.seat_server.specs.OneList.{AreTextsOf, AreToldBehind, AreToldSeats, AreToldVisits, BeginsWithWant, Edits, HasAccepted, HaveSeenHanded, IsAccepted, IsTextOf, IsToldBehind, IsToldOf, Nothing, Plane, Telling, Tells, TellsNothing, TellsOfOneList, Texts}
+use Rattle.seat_server.specs.OneList.{AreTextsOf, AreToldBehind, AreToldSeats, AreToldVisits, BeginsWithWant, Counted, Edits, HasAccepted, HaveSeenHanded, IsAccepted, IsForNews, IsTextOf, IsToldBehind, IsToldOf, Nothing, Plane, Telling, Tells, TellsNothing, TellsOfOneList, Texts}
 
 -- ---- beginnings
 
@@ -202,6 +202,52 @@ module _ (r : GenerationsRule) (seat : ℕ) (earlier : List Exchange) (bytes : L
 
   -- ---- polls
 
+  -- it is so of a poll, and of one that waits
+  abbrev AtPolls : (Request → Type 0) → Type 0
+  AtPolls P = P Poll × ((milliseconds : ℕ) → P (Await milliseconds))
+
+  -- a poll, or one that waits: what is so of both is so of it
+  abbrev IsPolling : Request → Type 1
+  IsPolling q = (P : Request → Type 0) → AtPolls P → P q
+
+  polls : IsPolling Poll
+  polls P at = at.0
+
+  awaits : (milliseconds : ℕ) → IsPolling (Await milliseconds)
+  awaits milliseconds P at = at.1 milliseconds
+
+  -- it pushes nothing
+  poll_own : (b : Seating) (q : Request) → IsPolling q → request_of bytes ≡ q → Own b
+  poll_own b q poll is = poll (λ p. request_of bytes ≡ p → Own b) (
+    λ same. no_push b Poll same (λ text clash. cc),
+    λ milliseconds same. no_push b (Await milliseconds) same (λ text clash. cc),
+  ) is
+
+  poll_edits : (q : Request) (edits : List PlaneEdit) → IsPolling q → request_of bytes ≡ q → length edits ≤ most_edits → frames_of reply ≡ edits_frames r edits
+      → Tells r seat (request_of bytes) (Edits edits) (frames_of reply)
+  poll_edits q edits poll is fits out = asked q (Edits edits) is (poll (λ p. Tells r seat p (Edits edits) (frames_of reply)) ((fits, out), λ milliseconds. (fits, out)))
+
+  poll_plane : (q : Request) (p : StampedPlane) → IsPolling q → request_of bytes ≡ q → IsWholeReply r p (frames_of reply) → Tells r seat (request_of bytes) (Plane (map_of p)) (frames_of reply)
+  poll_plane q p poll is whole = asked q (Plane (map_of p)) is
+      (poll (λ asking. Tells r seat asking (Plane (map_of p)) (frames_of reply)) ((whole.text, whole.is_text, whole.frames), λ milliseconds. (whole.text, whole.is_text, whole.frames)))
+
+  poll_for_news : (q : Request) → IsPolling q → request_of bytes ≡ q → IsForNews (request_of bytes)
+  poll_for_news q poll is = subst IsForNews (sym is) (poll IsForNews (tt, λ milliseconds. tt))
+
+  -- a plane that was handed out is kept for a reply
+  plane_kept : (b : Seating) (left : Kept) (p : StampedPlane) → IsForNews (request_of bytes) → frames_of reply ≡ refusal 255 → IsPrefix a.seen b.seen → b.handed ≡ length b.seen
+      → AreSame (map_of p) (greatest (edits_of b.seen)) → left ≡ with_plane p → Steps r seat earlier x a b left
+  plane_kept b left p asks out grows all map is =
+      let older : IsOlder r (earlier ++ x ∷ []) b.seen p = record {
+        counted = earlier;
+        later = x ∷ [];
+        parts = refl;
+        want = (asks, out);
+        map = map;
+        has = accepted_grows r earlier (edits_of a.seen) (edits_of b.seen) (edits_begin a.seen b.seen grows) holds.accepted;
+      } in
+      handed_out b left grows all (not_done b 254 out) (subst (λ (k : Kept). KeepsOf r (earlier ++ x ∷ []) b.seen k.edits k.plane) (sym is) older) Nothing (inl (255, out)) tt
+
   -- the edits that are kept and those that are handed out are the last ones
   last_edits : (b : Seating) (edits : List PlaneEdit) → IsPrefix a.seen b.seen → take a.handed (edits_of b.seen) ++ edits ≡ edits_of b.seen
       → KeepsOf r earlier (take a.handed a.seen) kept.edits None → (before : List PlaneEdit) × (edits_of b.seen ≡ before ++ (kept.edits ++ edits))
@@ -212,62 +258,63 @@ module _ (r : GenerationsRule) (seat : ℕ) (earlier : List Exchange) (bytes : L
         ∙ append_assoc keeps.0 kept.edits edits),
   )
 
-  edits_told : (b : Seating) (left : Kept) (edits : List PlaneEdit) (fit : Bool) → nat_le (length (kept.edits ++ edits)) most_edits ≡ fit → request_of bytes ≡ Poll
+  edits_told : (b : Seating) (left : Kept) (edits : List PlaneEdit) (fit : Bool) (q : Request) → nat_le (length (kept.edits ++ edits)) most_edits ≡ fit → IsPolling q → request_of bytes ≡ q
       → IsPrefix a.seen b.seen → b.handed ≡ length b.seen
       → frames_of reply ≡ edits_reply r (kept.edits ++ edits) → left ≡ edits_left (kept.edits ++ edits)
       → (before : List PlaneEdit) × (edits_of b.seen ≡ before ++ (kept.edits ++ edits)) → Steps r seat earlier x a b left
-  edits_told b left edits true fit poll grows all out same last =
+  edits_told b left edits true q fit poll is grows all out same last =
       let kept_is : left ≡ nothing_kept = same ∙ rw fit refl in
       let out_is : frames_of reply ≡ edits_frames r (kept.edits ++ edits) = out ∙ rw fit refl in
       let fits : length (kept.edits ++ edits) ≤ most_edits = grind (arith, nat_tests, fit) in
-      handed_out b left grows all (no_push b Poll poll (λ text clash. cc))
+      handed_out b left grows all (poll_own b q poll is)
       (subst (λ (k : Kept). KeepsOf r (earlier ++ x ∷ []) b.seen k.edits k.plane) (sym kept_is) (edits_of b.seen, sym (append-nil (edits_of b.seen))))
-      (Edits (kept.edits ++ edits)) (asked Poll (Edits (kept.edits ++ edits)) poll (fits, out_is)) last
-  edits_told b left edits false fit poll grows all out same last =
+      (Edits (kept.edits ++ edits)) (poll_edits q (kept.edits ++ edits) poll is fits out_is) last
+  edits_told b left edits false q fit poll is grows all out same last =
       let kept_is : left ≡ record { edits = kept.edits ++ edits; plane = None } = same ∙ rw fit refl in
       let out_is : frames_of reply ≡ refusal 21 = out ∙ rw fit refl in
-      handed_out b left grows all (no_push b Poll poll (λ text clash. cc))
+      handed_out b left grows all (poll_own b q poll is)
       (subst (λ (k : Kept). KeepsOf r (earlier ++ x ∷ []) b.seen k.edits k.plane) (sym kept_is) last)
       Nothing (inl (21, out_is)) tt
 
-  poll_failed : (b : Seating) (left : Kept) (fault : HubFault) → request_of bytes ≡ Poll → IsSeatCall a (Polls (Err fault)) b → frames_of reply ≡ refusal (hub_fault_number fault) → left ≡ kept
-      → Steps r seat earlier x a b left
-  poll_failed b left Closed poll call out same = quiet b left call.0.read.seen call.0.handed same (no_push b Poll poll (λ text clash. cc)) Nothing (inl (hub_fault_number Closed, out)) tt
-  poll_failed b left Memory poll call out same = quiet b left call.read.seen call.handed same (no_push b Poll poll (λ text clash. cc)) Nothing (inl (hub_fault_number Memory, out)) tt
-  poll_failed b left NotYours poll call out same = absurd call
-  poll_failed b left StateRange poll call out same = absurd call
-  poll_failed b left Full poll call out same = absurd call
-  poll_failed b left StoreFull poll call out same = absurd call
+  poll_failed : (b : Seating) (left : Kept) (fault : HubFault) (q : Request) → IsPolling q → request_of bytes ≡ q → IsSeatCall a (Polls (Err fault)) b
+      → frames_of reply ≡ refusal (hub_fault_number fault) → left ≡ kept → Steps r seat earlier x a b left
+  poll_failed b left Closed q poll is call out same = quiet b left call.0.read.seen call.0.handed same (poll_own b q poll is) Nothing (inl (hub_fault_number Closed, out)) tt
+  poll_failed b left Memory q poll is call out same = quiet b left call.read.seen call.handed same (poll_own b q poll is) Nothing (inl (hub_fault_number Memory, out)) tt
+  poll_failed b left NotYours q poll is call out same = absurd call
+  poll_failed b left StateRange q poll is call out same = absurd call
+  poll_failed b left Full q poll is call out same = absurd call
+  poll_failed b left StoreFull q poll is call out same = absurd call
 
   -- without a kept plane
-  polled : (b : Seating) (left : Kept) (call : Option HubCall) → request_of bytes ≡ Poll → KeepsOf r earlier (take a.handed a.seen) kept.edits None → AllowsAtMost IsSeatCall a call b
-      → IsPollReply r kept call (frames_of reply) left → Steps r seat earlier x a b left
-  polled b left None poll keeps allowed is = absurd is
-  polled b left (Some (Pushes e answer)) poll keeps allowed is = absurd is
-  polled b left (Some (Shows answer)) poll keeps allowed is = absurd is
-  polled b left (Some (Polls (Err fault))) poll keeps allowed is = poll_failed b left fault poll allowed is.0 is.1
-  polled b left (Some (Polls (Ok (news.Edits edits)))) poll keeps allowed is =
-      edits_told b left edits (nat_le (length (kept.edits ++ edits)) most_edits) refl poll allowed.0.read.seen allowed.0.handed is.0 is.1
+  polled : (b : Seating) (left : Kept) (call : Option HubCall) (q : Request) → IsPolling q → request_of bytes ≡ q → KeepsOf r earlier (take a.handed a.seen) kept.edits None
+      → AllowsAtMost IsSeatCall a call b → IsPollReply r kept call (frames_of reply) left → Steps r seat earlier x a b left
+  polled b left None q poll is keeps allowed of = absurd of
+  polled b left (Some (Pushes e answer)) q poll is keeps allowed of = absurd of
+  polled b left (Some (Shows answer)) q poll is keeps allowed of = absurd of
+  polled b left (Some (Hands answer)) q poll is keeps allowed of = absurd of
+  polled b left (Some (Polls (Err fault))) q poll is keeps allowed of = poll_failed b left fault q poll is allowed of.0 of.1
+  polled b left (Some (Polls (Ok (news.Edits edits)))) q poll is keeps allowed of =
+      edits_told b left edits (nat_le (length (kept.edits ++ edits)) most_edits) q refl poll is allowed.0.read.seen allowed.0.handed of.0 of.1
       (last_edits b edits allowed.0.read.seen allowed.1.1 keeps)
-  polled b left (Some (Polls (Ok (news.Whole plane count)))) poll keeps allowed is =
-      handed_out b left allowed.0.read.seen allowed.0.handed (no_push b Poll poll (λ text clash. cc))
-      (subst (λ (k : Kept). KeepsOf r (earlier ++ x ∷ []) b.seen k.edits k.plane) (sym is.1) (edits_of b.seen, sym (append-nil (edits_of b.seen))))
-      (Plane (map_of plane)) (asked Poll (Plane (map_of plane)) poll (is.0.text, is.0.is_text, is.0.frames)) allowed.1.1
+  polled b left (Some (Polls (Ok (news.Whole plane count)))) q poll is keeps allowed of =
+      handed_out b left allowed.0.read.seen allowed.0.handed (poll_own b q poll is)
+      (subst (λ (k : Kept). KeepsOf r (earlier ++ x ∷ []) b.seen k.edits k.plane) (sym of.1) (edits_of b.seen, sym (append-nil (edits_of b.seen))))
+      (Plane (map_of plane)) (poll_plane q plane poll is of.0) allowed.1.1
 
   -- with one or without
-  poll_replied : (plane : Option StampedPlane) → kept.plane ≡ plane → (b : Seating) (left : Kept) (call : Option HubCall) → request_of bytes ≡ Poll → AllowsAtMost IsSeatCall a call b
-      → IsKeptReply r kept plane call (frames_of reply) left → Steps r seat earlier x a b left
-  poll_replied None none b left call poll allowed is =
-      polled b left call poll (subst (λ (p : Option StampedPlane). KeepsOf r earlier (take a.handed a.seen) kept.edits p) none holds.keeps) allowed is
-  poll_replied (Some p) some b left (Some call) poll allowed is = absurd is
-  poll_replied (Some p) some b left None poll allowed is =
+  poll_replied : (plane : Option StampedPlane) → kept.plane ≡ plane → (b : Seating) (left : Kept) (call : Option HubCall) (q : Request) → IsPolling q → request_of bytes ≡ q
+      → AllowsAtMost IsSeatCall a call b → IsKeptReply r kept plane call (frames_of reply) left → Steps r seat earlier x a b left
+  poll_replied None none b left call q poll is allowed of =
+      polled b left call q poll is (subst (λ (p : Option StampedPlane). KeepsOf r earlier (take a.handed a.seen) kept.edits p) none holds.keeps) allowed of
+  poll_replied (Some p) some b left (Some call) q poll is allowed of = absurd of
+  poll_replied (Some p) some b left None q poll is allowed of =
       let older : IsOlder r earlier (take a.handed a.seen) p = subst (λ (p : Option StampedPlane). KeepsOf r earlier (take a.handed a.seen) kept.edits p) some holds.keeps in
       let same : b ≡ a = allowed in
       let grows : IsPrefix a.seen b.seen = subst (λ (c : Seating). IsPrefix a.seen c.seen) (sym same) (prefix_self a.seen) in
       record {
         told = record {
           told = Plane (map_of p);
-          tells = asked Poll (Plane (map_of p)) poll (is.0.text, is.0.is_text, is.0.frames);
+          tells = poll_plane q p poll is of.0;
           seen = take a.handed a.seen;
           published = subst (λ (c : Seating). IsPrefix (take a.handed a.seen) c.seen) (sym same) (drop a.handed a.seen, take-append-drop a.handed a.seen);
           of = older.map;
@@ -279,34 +326,46 @@ module _ (r : GenerationsRule) (seat : ℕ) (earlier : List Exchange) (bytes : L
         };
         holds = record {
           handed = subst (λ (c : Seating). c.handed ≤ length c.seen) (sym same) holds.handed;
-          accepted = accepted_more r earlier x (edits_of b.seen) (accepted_grows r earlier (edits_of a.seen) (edits_of b.seen) (edits_begin a.seen b.seen grows) holds.accepted)
-              (no_push b Poll poll (λ text clash. cc));
-          keeps = subst (λ (k : Kept). KeepsOf r (earlier ++ x ∷ []) (take b.handed b.seen) k.edits k.plane) (sym is.1)
+          accepted = accepted_more r earlier x (edits_of b.seen) (accepted_grows r earlier (edits_of a.seen) (edits_of b.seen) (edits_begin a.seen b.seen grows) holds.accepted) (poll_own b q poll is);
+          keeps = subst (λ (k : Kept). KeepsOf r (earlier ++ x ∷ []) (take b.handed b.seen) k.edits k.plane) (sym of.1)
               (edits_of (take b.handed b.seen), sym (append-nil (edits_of (take b.handed b.seen))));
         };
         grows = grows;
       }
 
   -- a poll's news for whose reply there was no memory
-  news_kept : (b : Seating) (left : Kept) (given : News) → request_of bytes ≡ Poll → frames_of reply ≡ refusal 255 → kept.plane ≡ None → IsSeatCall a (Polls (Ok given)) b → KeepsNews kept given left
-      → Steps r seat earlier x a b left
-  news_kept b left (news.Edits edits) poll out none call is =
+  news_kept : (b : Seating) (left : Kept) (given : News) (q : Request) → IsPolling q → request_of bytes ≡ q → frames_of reply ≡ refusal 255 → kept.plane ≡ None → IsSeatCall a (Polls (Ok given)) b
+      → KeepsNews kept given left → Steps r seat earlier x a b left
+  news_kept b left (news.Edits edits) q poll is out none call of =
       let keeps : KeepsOf r earlier (take a.handed a.seen) kept.edits None = subst (λ (p : Option StampedPlane). KeepsOf r earlier (take a.handed a.seen) kept.edits p) none holds.keeps in
-      handed_out b left call.0.read.seen call.0.handed (no_push b Poll poll (λ text clash. cc))
-      (subst (λ (k : Kept). KeepsOf r (earlier ++ x ∷ []) b.seen k.edits k.plane) (sym is) (last_edits b edits call.0.read.seen call.1.1 keeps))
+      handed_out b left call.0.read.seen call.0.handed (poll_own b q poll is)
+      (subst (λ (k : Kept). KeepsOf r (earlier ++ x ∷ []) b.seen k.edits k.plane) (sym of) (last_edits b edits call.0.read.seen call.1.1 keeps))
       Nothing (inl (255, out)) tt
-  news_kept b left (news.Whole plane count) poll out none call is =
-      let older : IsOlder r (earlier ++ x ∷ []) b.seen plane = record {
-        counted = earlier;
-        later = x ∷ [];
-        parts = refl;
-        want = (poll, out);
-        map = call.1.1;
-        has = accepted_grows r earlier (edits_of a.seen) (edits_of b.seen) (edits_begin a.seen b.seen call.0.read.seen) holds.accepted;
-      } in
-      handed_out b left call.0.read.seen call.0.handed (no_push b Poll poll (λ text clash. cc))
-      (subst (λ (k : Kept). KeepsOf r (earlier ++ x ∷ []) b.seen k.edits k.plane) (sym is) older)
-      Nothing (inl (255, out)) tt
+  news_kept b left (news.Whole plane count) q poll is out none call of =
+      plane_kept b left plane (poll_for_news q poll is) out call.0.read.seen call.0.handed call.1.1 of
+
+  -- ---- the plane in pieces
+
+  hand_failed : (b : Seating) (left : Kept) (fault : HubFault) → Own b → IsSeatCall a (Hands (Err fault)) b → frames_of reply ≡ refusal (hub_fault_number fault) → left ≡ kept → Steps r seat earlier x a b left
+  hand_failed b left Closed own call out same = quiet b left call.0.read.seen call.0.handed same own Nothing (inl (hub_fault_number Closed, out)) tt
+  hand_failed b left Memory own call out same = quiet b left call.read.seen call.handed same own Nothing (inl (hub_fault_number Memory, out)) tt
+  hand_failed b left NotYours own call out same = absurd call
+  hand_failed b left StateRange own call out same = absurd call
+  hand_failed b left Full own call out same = absurd call
+  hand_failed b left StoreFull own call out same = absurd call
+
+  in_pieces : (b : Seating) (left : Kept) (call : Option HubCall) → request_of bytes ≡ Pieces → Own b → AllowsAtMost IsSeatCall a call b → IsPiecesReply r kept call (frames_of reply) left
+      → Steps r seat earlier x a b left
+  in_pieces b left None is own allowed of = absurd of
+  in_pieces b left (Some (Pushes e answer)) is own allowed of = absurd of
+  in_pieces b left (Some (Polls answer)) is own allowed of = absurd of
+  in_pieces b left (Some (Shows answer)) is own allowed of = absurd of
+  in_pieces b left (Some (Hands (Err fault))) is own allowed of = hand_failed b left fault own allowed of.0 of.1
+  in_pieces b left (Some (Hands (Ok given))) is own allowed of =
+      handed_out b left allowed.0.read.seen allowed.0.handed own
+      (subst (λ (k : Kept). KeepsOf r (earlier ++ x ∷ []) b.seen k.edits k.plane) (sym of.1) (edits_of b.seen, sym (append-nil (edits_of b.seen))))
+      (Counted (map_of given.0) given.1) (asked Pieces (Counted (map_of given.0) given.1) is (of.0.text, of.0.pieces, of.0.is_text, of.0.cut, of.0.frames))
+      (allowed.1, allowed.2 ∙ sym (length-map b.seen (λ (e : Entry). e.edit)))
 
   -- ---- requests that show the plane
 
@@ -332,6 +391,8 @@ module _ (r : GenerationsRule) (seat : ℕ) (earlier : List Exchange) (bytes : L
   plane_told b left p Hello is own call same of = absurd of
   plane_told b left p (Push text) is own call same of = absurd of
   plane_told b left p Poll is own call same of = absurd of
+  plane_told b left p (Await milliseconds) is own call same of = absurd of
+  plane_told b left p Pieces is own call same of = absurd of
   plane_told b left p Bye is own call same of = absurd of
 
   shown : (b : Seating) (left : Kept) (q : Request) (call : Option HubCall) → request_of bytes ≡ q → Own b → AllowsAtMost IsSeatCall a call b → left ≡ kept → IsShownReply r q call (frames_of reply)
@@ -339,6 +400,7 @@ module _ (r : GenerationsRule) (seat : ℕ) (earlier : List Exchange) (bytes : L
   shown b left q None is own allowed same of = absurd of
   shown b left q (Some (Pushes e answer)) is own allowed same of = absurd of
   shown b left q (Some (Polls answer)) is own allowed same of = absurd of
+  shown b left q (Some (Hands answer)) is own allowed same of = absurd of
   shown b left q (Some (Shows (Err fault))) is own allowed same of = show_failed b left fault own allowed of same
   shown b left q (Some (Shows (Ok p))) is own allowed same of = plane_told b left p q is own allowed same of
 
@@ -378,6 +440,7 @@ module _ (r : GenerationsRule) (seat : ℕ) (earlier : List Exchange) (bytes : L
       get_edit (f ∷ es) (suc at) is = get_edit es at is
   pushed b left text (Some (Polls answer)) is allowed same of = absurd of
   pushed b left text (Some (Shows answer)) is allowed same of = absurd of
+  pushed b left text (Some (Hands answer)) is allowed same of = absurd of
 
   -- ---- all requests
 
@@ -390,7 +453,9 @@ module _ (r : GenerationsRule) (seat : ℕ) (earlier : List Exchange) (bytes : L
   replied b left Bye None is allowed of = idle b left allowed of.1 (no_push b Bye is (λ text clash. cc)) (inl (0, of.0))
   replied b left Bye (Some call) is allowed of = absurd of
   replied b left (Push text) call is allowed of = pushed b left text call is allowed of.1 of.0
-  replied b left Poll call is allowed of = poll_replied kept.plane refl b left call is allowed of
+  replied b left Poll call is allowed of = poll_replied kept.plane refl b left call Poll polls is allowed of
+  replied b left (Await milliseconds) call is allowed of = poll_replied kept.plane refl b left call (Await milliseconds) (awaits milliseconds) is allowed of
+  replied b left Pieces call is allowed of = in_pieces b left call is (no_push b Pieces is (λ text clash. cc)) allowed of
   replied b left Whole call is allowed of = shown b left Whole call is (no_push b Whole is (λ text clash. cc)) allowed of.1 of.0
   replied b left (Export g) call is allowed of = shown b left (Export g) call is (no_push b (Export g) is (λ text clash. cc)) allowed of.1 of.0
   replied b left (Many gs) call is allowed of = shown b left (Many gs) call is (no_push b (Many gs) is (λ text clash. cc)) allowed of.1 of.0
@@ -405,7 +470,11 @@ module _ (r : GenerationsRule) (seat : ℕ) (earlier : List Exchange) (bytes : L
   wanted b left Poll None is allowed out keeps = idle b left allowed keeps (not_done b 254 out) (inl (255, out))
   wanted b left (Many gs) None is allowed out keeps = idle b left allowed keeps (not_done b 254 out) (inl (255, out))
   wanted b left (Push text) None is allowed out keeps = idle b left allowed keeps (not_done b 254 out) (inl (255, out))
-  wanted b left Poll (Some (Polls (Ok given))) is allowed out keeps = news_kept b left given is out keeps.0 allowed keeps.1
+  wanted b left Poll (Some (Polls (Ok given))) is allowed out keeps = news_kept b left given Poll polls is out keeps.0 allowed keeps.1
+  wanted b left (Await milliseconds) None is allowed out keeps = idle b left allowed keeps (not_done b 254 out) (inl (255, out))
+  wanted b left (Await milliseconds) (Some (Polls (Ok given))) is allowed out keeps = news_kept b left given (Await milliseconds) (awaits milliseconds) is out keeps.0 allowed keeps.1
+  wanted b left Pieces (Some (Hands (Ok given))) is allowed out keeps =
+      plane_kept b left given.0 (subst IsForNews (sym is) tt) out allowed.0.read.seen allowed.0.handed allowed.1 keeps
   wanted b left Whole (Some (Shows (Ok p))) is allowed out keeps = show_wanted b left p allowed out keeps
   wanted b left (Export g) (Some (Shows (Ok p))) is allowed out keeps = show_wanted b left p allowed out keeps
   wanted b left (Many gs) (Some (Shows (Ok p))) is allowed out keeps = show_wanted b left p allowed out keeps
@@ -416,17 +485,30 @@ module _ (r : GenerationsRule) (seat : ℕ) (earlier : List Exchange) (bytes : L
   wanted b left Poll (Some (Polls (Err fault))) is allowed out keeps = absurd keeps
   wanted b left Poll (Some (Pushes e answer)) is allowed out keeps = absurd keeps
   wanted b left Poll (Some (Shows answer)) is allowed out keeps = absurd keeps
+  wanted b left Poll (Some (Hands answer)) is allowed out keeps = absurd keeps
+  wanted b left (Await milliseconds) (Some (Polls (Err fault))) is allowed out keeps = absurd keeps
+  wanted b left (Await milliseconds) (Some (Pushes e answer)) is allowed out keeps = absurd keeps
+  wanted b left (Await milliseconds) (Some (Shows answer)) is allowed out keeps = absurd keeps
+  wanted b left (Await milliseconds) (Some (Hands answer)) is allowed out keeps = absurd keeps
+  wanted b left Pieces None is allowed out keeps = absurd keeps
+  wanted b left Pieces (Some (Hands (Err fault))) is allowed out keeps = absurd keeps
+  wanted b left Pieces (Some (Pushes e answer)) is allowed out keeps = absurd keeps
+  wanted b left Pieces (Some (Polls answer)) is allowed out keeps = absurd keeps
+  wanted b left Pieces (Some (Shows answer)) is allowed out keeps = absurd keeps
   wanted b left Whole None is allowed out keeps = absurd keeps
   wanted b left Whole (Some (Shows (Err fault))) is allowed out keeps = absurd keeps
   wanted b left Whole (Some (Pushes e answer)) is allowed out keeps = absurd keeps
   wanted b left Whole (Some (Polls answer)) is allowed out keeps = absurd keeps
+  wanted b left Whole (Some (Hands answer)) is allowed out keeps = absurd keeps
   wanted b left (Export g) None is allowed out keeps = absurd keeps
   wanted b left (Export g) (Some (Shows (Err fault))) is allowed out keeps = absurd keeps
   wanted b left (Export g) (Some (Pushes e answer)) is allowed out keeps = absurd keeps
   wanted b left (Export g) (Some (Polls answer)) is allowed out keeps = absurd keeps
+  wanted b left (Export g) (Some (Hands answer)) is allowed out keeps = absurd keeps
   wanted b left (Many gs) (Some (Shows (Err fault))) is allowed out keeps = absurd keeps
   wanted b left (Many gs) (Some (Pushes e answer)) is allowed out keeps = absurd keeps
   wanted b left (Many gs) (Some (Polls answer)) is allowed out keeps = absurd keeps
+  wanted b left (Many gs) (Some (Hands answer)) is allowed out keeps = absurd keeps
 
   by_want : (b : Seating) (left : Kept) (q : Request) (call : Option HubCall) → request_of bytes ≡ q → AllowsAtMost IsSeatCall a call b → IsWanting r q (frames_of reply) → KeepsAll kept q call left
       → Steps r seat earlier x a b left
@@ -437,6 +519,8 @@ module _ (r : GenerationsRule) (seat : ℕ) (earlier : List Exchange) (bytes : L
   by_want b left Bye call is allowed out keeps = absurd keeps
   by_want b left Hello call is allowed out keeps = wanted b left Hello call is allowed out keeps
   by_want b left Poll call is allowed out keeps = wanted b left Poll call is allowed out keeps
+  by_want b left (Await milliseconds) call is allowed out keeps = wanted b left (Await milliseconds) call is allowed out keeps
+  by_want b left Pieces call is allowed out keeps = wanted b left Pieces call is allowed out keeps
   by_want b left Whole call is allowed out keeps = wanted b left Whole call is allowed out keeps
   by_want b left (Export g) call is allowed out keeps = wanted b left (Export g) call is allowed out keeps
   by_want b left (Many gs) call is allowed out keeps = wanted b left (Many gs) call is allowed out keeps

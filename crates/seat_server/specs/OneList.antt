@@ -18,8 +18,8 @@ use Rattle.board.specs.Entries.{edits_of}
 use Rattle.board.specs.Origins.{list_of}
 use Rattle.board.specs.Showing.{Origin}
 use Rattle.relay_board.specs.Seating.{Seating}
-use Rattle.session_hub.specs.Request.{Request, Export, Hello, Many, Poll, Push, Whole, request_of}
-use Rattle.session_hub.specs.Replies.{done, edits_frames, export_body, hello_body, most_edits, pushed_of, refusal, text_body, whole_frames}
+use Rattle.session_hub.specs.Request.{Request, Await, Export, Hello, Many, Pieces, Poll, Push, Whole, request_of}
+use Rattle.session_hub.specs.Replies.{IsInPieces, done, edits_frames, export_body, hello_body, most_edits, pieces_reply, pushed_of, refusal, text_body, whole_frames}
 use Rattle.seat_server.specs.Serving.{FinishedValue, IsServed}
 use Rattle.seat_server.specs.Sessions.{VisitValue, number_of, one_each, rule_of}
 
@@ -30,6 +30,8 @@ pub data Telling : Type 0 where
   Edits : (edits : List PlaneEdit) → Telling
   -- a map of writes
   Plane : (map : Writes) → Telling
+  -- a map of writes, and how many edits it is of
+  Counted : (map : Writes) (count : ℕ) → Telling
   -- of each of some generations the text, or why there is none
   Texts : (generations : List ℕ) (answers : List (Result (List ℕ) ExportFault)) → Telling
 
@@ -51,6 +53,7 @@ abbrev pub IsToldOf : GenerationsRule → List PlaneEdit → Telling → Type 0
 IsToldOf r all Nothing = ⊤
 IsToldOf r all (Edits edits) = (before : List PlaneEdit) × (all ≡ before ++ edits)
 IsToldOf r all (Plane map) = AreSame map (greatest all)
+IsToldOf r all (Counted map count) = AreSame map (greatest all) × (count ≡ length all)
 IsToldOf r all (Texts gs answers) = AreTextsOf r all gs answers
 
 -- ---- by which frames it is told
@@ -64,6 +67,10 @@ abbrev pub Tells : GenerationsRule → ℕ → Request → Telling → List (Lis
 Tells r seat request Nothing frames = TellsNothing r seat request frames
 Tells r seat Poll (Edits edits) frames = (length edits ≤ most_edits) × (frames ≡ edits_frames r edits)
 Tells r seat Poll (Plane map) frames = (text : List ℕ) × IsStateText r map text × (frames ≡ whole_frames text)
+-- one that waits tells what a poll does
+Tells r seat (Await milliseconds) (Edits edits) frames = (length edits ≤ most_edits) × (frames ≡ edits_frames r edits)
+Tells r seat (Await milliseconds) (Plane map) frames = (text : List ℕ) × IsStateText r map text × (frames ≡ whole_frames text)
+Tells r seat Pieces (Counted map count) frames = (text : List ℕ) × (pieces : List (List ℕ)) × IsStateText r map text × IsInPieces text pieces × (frames ≡ pieces_reply count pieces)
 Tells r seat Whole (Plane map) frames = (text : List ℕ) × IsStateText r map text × (frames ≡ text_body text ∷ [])
 Tells r seat (Export g) (Texts gs answers) frames = (gs ≡ g ∷ []) × (frames ≡ map export_body answers)
 Tells r seat (Many asked) (Texts gs answers) frames = (gs ≡ asked) × (frames ≡ (0 ∷ to_be_bytes w16 (length gs)) ∷ map export_body answers)
@@ -83,15 +90,22 @@ abbrev pub HasAccepted : GenerationsRule → List PlaneEdit → List Exchange �
 HasAccepted r edits [] = ⊤
 HasAccepted r edits (x ∷ xs) = ((e : PlaneEdit) → IsAccepted r x e → (at : ℕ) × (slice_get edits at ≡ Some e)) × HasAccepted r edits xs
 
--- the first of these exchanges is a poll that wanted memory for its reply
+-- a request for what was not handed out yet: a poll, one that waits, or one for the plane in pieces
+abbrev pub IsForNews : Request → Type 0
+IsForNews Poll = ⊤
+IsForNews (Await milliseconds) = ⊤
+IsForNews Pieces = ⊤
+IsForNews _ = ⊥
+
+-- the first of these exchanges is such a request, which wanted memory for its reply
 abbrev pub BeginsWithWant : List Exchange → Type 0
 BeginsWithWant [] = ⊥
-BeginsWithWant (x ∷ xs) = (request_of x.request ≡ Poll) × (frames_of x.reply ≡ refusal 255)
+BeginsWithWant (x ∷ xs) = IsForNews (request_of x.request) × (frames_of x.reply ≡ refusal 255)
 
 -- ---- sessions
 
 -- Behind earlier exchanges of its session, what is replied tells of the beginning of a list. That has each edit that was
--- pushed and answered 0 before; or, where a whole plane is told for which an earlier poll wanted memory, before that poll.
+-- pushed and answered 0 before; or, where a whole plane is told for which an earlier request wanted memory, before that request.
 pub record IsToldBehind (r : GenerationsRule) (seat : ℕ) (list : List Entry) (earlier : List Exchange) (x : Exchange) : Type 0 where
   pub told : Telling
   pub tells : Tells r seat (request_of x.request) told (frames_of x.reply)

@@ -4,20 +4,33 @@ ghost use Rattle.std.specs.Prelude.{IfSome};
 ghost use Rattle.seat_server.specs.Sessions.{IsUnusedSink, IsUnusedSource};
 
 use devices::{Sink, Source};
+use session_service::Listen;
 
-/// Gives the two ends of one stream after another.
-pub trait Accept<S: Source, K: Sink> {
+/// The two ends of a stream, and what its session waits by.
+#[derive(Drop)]
+pub struct Ends<S, K, E> {
+    pub source: S,
+    pub sink: K,
+    pub ears: E,
+}
+
+/// Gives the ends of one stream after another.
+pub trait Accept<S: Source, K: Sink, E: Listen> {
     /// Waits for the next stream, which nobody has used. None where that failed.
-    fn accept(&mut self) -> Option<(S, K)>
-        ensures { IfSome result (λ ends. IsUnusedSource (S.known ends.0) × IsUnusedSink (K.known ends.1)) };
+    fn accept(&mut self) -> Option<Ends<S, K, E>>
+        ensures { IfSome result (λ ends. IsUnusedSource (S.known ends.source) × IsUnusedSink (K.known ends.sink)) };
 }
 
-/// Lets an `accept` return that waits on another thread.
+/// What ends waits on other threads.
 pub trait Wake {
+    /// Lets an `accept` return.
     fn wake(&self);
+
+    /// Lets each session look that waits for news.
+    fn announce(&self);
 }
 
-/// Where the streams of sessions come from, and what ends a wait for the next one.
+/// Where the streams of sessions come from, and what ends a wait for the next one, and for news.
 pub struct Streams<'a, A, W> {
     pub acceptor: A,
     pub wake: &'a W,

@@ -13,7 +13,7 @@ mod sessions;
 mod turns;
 mod visit;
 
-pub use accept::{Accept, Streams, Wake};
+pub use accept::{Accept, Ends, Streams, Wake};
 pub use fault::ServerFault;
 pub use laws::one_list_laws;
 pub use server::{Finished, serve_seats};

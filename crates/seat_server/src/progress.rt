@@ -48,10 +48,11 @@ impl Progress {
         self.over.load(Ordering::SeqCst)
     }
 
-    /// The relay takes no more turns: no further session begins. Wakes who waits for a stream.
+    /// The relay takes no more turns: no further session begins. Wakes who waits for a stream, or for news.
     pub fn give_up<W: Wake>(&self, wake: &W) {
         self.given_up.store(true, Ordering::SeqCst);
         wake.wake();
+        wake.announce();
     }
 
     pub fn has_given_up(&self) -> bool {

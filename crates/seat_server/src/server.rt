@@ -18,6 +18,7 @@ use crate::turns::take_turns;
 use crate::visit::Visit;
 use devices::{Sink, Source};
 use relay_board::{Account, Naming, Relay, Seat};
+use session_service::Listen;
 use std::alloc::{AllocError, Global};
 use std::collections::VecDeque;
 use std::marker::Model;
@@ -84,7 +85,8 @@ fn attending<
     R: Threads + Wait + Copy + Drop + Send + Sync + 'static,
     S: Source + Send + Drop + 'static,
     K: Sink + Send + Drop + 'static,
-    A: Accept<S, K> + Send + Drop + 'static,
+    E: Listen + Send + Drop + 'static,
+    A: Accept<S, K, E> + Send + Drop + 'static,
 >(
     rt: R,
     alloc: Global,
@@ -103,7 +105,7 @@ fn attending<
         &rt,
         promise,
         move || -> Result<Vec<Attended<J, S, K>>, ServerFault>
-            requires { IsSend J.row × IsSend R.row × IsSync R.row × IsSend S.row × IsSend K.row }
+            requires { IsSend J.row × IsSend R.row × IsSync R.row × IsSend S.row × IsSend K.row × IsSend E.row }
             ensures { IfOk result (λ v. AreAttended seats.items (one_each (map (λ a. a.1) v.items)) (map (λ a. a.0) v.items)) × IfErr result IsAttendFault }
         { all_attended(rt, alloc, &theirs, acceptor, seats) },
     );
@@ -161,7 +163,8 @@ pub fn serve_seats<
     R: Threads + Wait + Copy + Drop + Send + Sync + 'static,
     S: Source + Send + Drop + 'static,
     K: Sink + Send + Drop + 'static,
-    A: Accept<S, K> + Send + Drop + 'static,
+    E: Listen + Send + Drop + 'static,
+    A: Accept<S, K, E> + Send + Drop + 'static,
     W: Wake,
 >(
     rt: R,
@@ -180,7 +183,7 @@ pub fn serve_seats<
     let Streams { acceptor, wake } = streams;
     let progress = Arc::new(alloc, Progress::new(relay.bell()?))?;
     let accepting = attending(rt, alloc, &progress, acceptor, seats)?;
-    if let Some(fault) = take_turns(&rt, &mut relay, &progress) {
+    if let Some(fault) = take_turns(&rt, &mut relay, &progress, wake) {
         drop(relay);
         progress.give_up(wake);
         let _ended = accepting.join(&rt);

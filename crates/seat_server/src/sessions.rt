@@ -6,7 +6,7 @@ ghost use Rattle.seat_server.specs.Faults.{IsAttendFault};
 ghost use Rattle.seat_server.specs.declared.fault.ServerFault.TheVariants.{Memory};
 ghost use Rattle.seat_server.specs.Sessions.{AreAttended, IsFirstVisit, IsUnusedSink, IsUnusedSource, IsVisit, one_each};
 
-use crate::accept::Accept;
+use crate::accept::{Accept, Ends};
 use crate::fault::ServerFault;
 use crate::progress::Progress;
 use crate::visit::Visit;
@@ -15,7 +15,7 @@ use frame_service::{ServeFault, Served};
 use relay_board::{Naming, Seat};
 use replica_sessions::Session;
 use seat_hub::SeatHub;
-use session_service::serve;
+use session_service::{Listen, serve};
 use std::alloc::Global;
 use std::collections::VecDeque;
 use std::snapshot::Snapshot;
@@ -45,41 +45,45 @@ impl<J: Naming, S: Source, K: Sink> Promise<Attended<J, S, K>> for Attending<J, 
 type Thread<J, S, K> = PromisedHandle<Attended<J, S, K>, Attending<J, S, K>>;
 
 /// Serves one session over a seat and a stream: the seat as it is then, and how the session ended.
-fn serve_one<J: Naming, R: Threads + Wait + Sync + Copy + Drop, S: Source, K: Sink>(
+fn serve_one<J: Naming, R: Threads + Wait + Sync + Copy + Drop, S: Source, K: Sink, E: Listen>(
     rt: R,
     alloc: Global,
     seat: Seat<J>,
-    source: &mut S,
-    sink: &mut K,
+    ends: &mut Ends<S, K, E>,
 ) -> (Seat<J>, Result<Served, ServeFault>)
-    ensures { IsVisit seat (record { source = S.known source.old; source' = S.known source.new; from = K.known sink.old; to = K.known sink.new; end = result.1 }) result.0 }
+    ensures { IsVisit seat (record { source = S.known ends.old.source; source' = S.known ends.new.source; from = K.known ends.old.sink; to = K.known ends.new.sink; end = result.1 }) result.0 }
 {
     let mut session = Session::new(rt, alloc, SeatHub::new(seat, rt));
-    let end = serve(alloc, source, sink, &mut session);
+    let end = serve(
+        &mut ends.source,
+        &mut ends.sink,
+        &mut session,
+        &mut ends.ears,
+    );
     (session.into_hub().into_seat(), end)
 }
 
 /// Serves a seat over a stream of its own, and lets the stream go.
-fn attend<J: Naming, R: Threads + Wait + Sync + Copy + Drop, S: Source + Drop, K: Sink + Drop>(
-    rt: R,
-    alloc: Global,
-    seat: Seat<J>,
-    mut source: S,
-    mut sink: K,
-) -> Attended<J, S, K>
-    requires source { IsUnusedSource (S.known source) }
-    requires sink { IsUnusedSink (K.known sink) }
+fn attend<
+    J: Naming,
+    R: Threads + Wait + Sync + Copy + Drop,
+    S: Source + Drop,
+    K: Sink + Drop,
+    E: Listen + Drop,
+>(rt: R, alloc: Global, seat: Seat<J>, mut ends: Ends<S, K, E>) -> Attended<J, S, K>
+    requires source { IsUnusedSource (S.known ends.source) }
+    requires sink { IsUnusedSink (K.known ends.sink) }
     ensures visit { IsFirstVisit seat result.1 result.0 }
-    ensures stream { (result.1.source ≡ S.known source) × (result.1.from ≡ K.known sink) }
+    ensures stream { (result.1.source ≡ S.known ends.source) × (result.1.from ≡ K.known ends.sink) }
 {
-    let before = Snapshot::of(&source);
-    let from = Snapshot::of(&sink);
-    let (seat, end) = serve_one(rt, alloc, seat, &mut source, &mut sink);
+    let before = Snapshot::of(&ends.source);
+    let from = Snapshot::of(&ends.sink);
+    let (seat, end) = serve_one(rt, alloc, seat, &mut ends);
     let visit = Visit {
         source: before,
-        left: Snapshot::of(&source),
+        left: Snapshot::of(&ends.source),
         from,
-        to: Snapshot::of(&sink),
+        to: Snapshot::of(&ends.sink),
         end,
     };
     (seat, visit)
@@ -91,25 +95,26 @@ fn begun<
     R: Threads + Wait + Copy + Drop + Send + Sync + 'static,
     S: Source + Send + Drop + 'static,
     K: Sink + Send + Drop + 'static,
->(rt: R, alloc: Global, seat: Seat<J>, source: S, sink: K) -> Option<Thread<J, S, K>>
-    requires source { IsUnusedSource (S.known source) }
-    requires sink { IsUnusedSink (K.known sink) }
+    E: Listen + Send + Drop + 'static,
+>(rt: R, alloc: Global, seat: Seat<J>, ends: Ends<S, K, E>) -> Option<Thread<J, S, K>>
+    requires source { IsUnusedSource (S.known ends.source) }
+    requires sink { IsUnusedSink (K.known ends.sink) }
     ensures seat { IfSome result (λ h. h.promise.seat.value ≡ seat) }
-    ensures stream { IfSome result (λ h. (S.known h.promise.source.value ≡ S.known source) × (K.known h.promise.sink.value ≡ K.known sink)) }
+    ensures stream { IfSome result (λ h. (S.known h.promise.source.value ≡ S.known ends.source) × (K.known h.promise.sink.value ≡ K.known ends.sink)) }
 {
     let promise = Attending {
         seat: Snapshot::of(&seat),
-        source: Snapshot::of(&source),
-        sink: Snapshot::of(&sink),
+        source: Snapshot::of(&ends.source),
+        sink: Snapshot::of(&ends.sink),
     };
     let begun = thread::spawn_with(
         &rt,
         promise,
         move || -> Attended<J, S, K>
-            requires source { IsUnusedSource (S.known source) }
-            requires sink { IsUnusedSink (K.known sink) }
-            ensures { IsFirstVisit seat result.1 result.0 × (result.1.source ≡ S.known source) × (result.1.from ≡ K.known sink) }
-        { attend(rt, alloc, seat, source, sink) },
+            requires source { IsUnusedSource (S.known ends.source) }
+            requires sink { IsUnusedSink (K.known ends.sink) }
+            ensures { IsFirstVisit seat result.1 result.0 × (result.1.source ≡ S.known ends.source) × (result.1.from ≡ K.known ends.sink) }
+        { attend(rt, alloc, seat, ends) },
     );
     begun.ok()
 }
@@ -121,7 +126,8 @@ fn begin_all<
     R: Threads + Wait + Copy + Drop + Send + Sync + 'static,
     S: Source + Send + Drop + 'static,
     K: Sink + Send + Drop + 'static,
-    A: Accept<S, K> + Drop,
+    E: Listen + Send + Drop + 'static,
+    A: Accept<S, K, E> + Drop,
 >(
     rt: R,
     alloc: Global,
@@ -136,13 +142,13 @@ fn begin_all<
     let mut threads = Vec::new(alloc);
     let mut left = VecDeque::from(seats);
     while let Some(seat) = left.pop_front() {
-        let Some((source, sink)) = acceptor.accept() else {
+        let Some(ends) = acceptor.accept() else {
             return (threads, false);
         };
         if progress.has_given_up() {
             return (threads, false);
         }
-        let Some(thread) = begun(rt, alloc, seat, source, sink) else {
+        let Some(thread) = begun(rt, alloc, seat, ends) else {
             return (threads, false);
         };
         match threads.push(thread) {
@@ -182,7 +188,8 @@ fn attend_all<
     R: Threads + Wait + Copy + Drop + Send + Sync + 'static,
     S: Source + Send + Drop + 'static,
     K: Sink + Send + Drop + 'static,
-    A: Accept<S, K> + Drop,
+    E: Listen + Send + Drop + 'static,
+    A: Accept<S, K, E> + Drop,
 >(
     rt: R,
     alloc: Global,
@@ -210,7 +217,8 @@ pub fn all_attended<
     R: Threads + Wait + Copy + Drop + Send + Sync + 'static,
     S: Source + Send + Drop + 'static,
     K: Sink + Send + Drop + 'static,
-    A: Accept<S, K> + Drop,
+    E: Listen + Send + Drop + 'static,
+    A: Accept<S, K, E> + Drop,
 >(
     rt: R,
     alloc: Global,

@@ -5,6 +5,7 @@ ghost use Rattle.std.specs.Prelude.{◌≡◌, IfSome};
 ghost use Rattle.relay_board.specs.declared.fault.TurnFault.TheVariants.{StoreFull};
 ghost use Rattle.seat_server.specs.Turning.{IsTurned};
 
+use crate::accept::Wake;
 use crate::progress::Progress;
 use relay_board::{Naming, Relay, Turn, TurnFault};
 use std::sync::Wait;
@@ -28,12 +29,14 @@ fn rest_when_failed() -> Duration
     Duration::from_millis(1)
 }
 
-/// Takes turns until the sessions are over, and rests where there is nothing to do. Where 1,000 turns in a
-/// row failed, the fault of the last one. Once a stream or a thread could not be had, the relay is closed.
-pub fn take_turns<J: Naming, R: Wait + Drop, H: Wait>(
+/// Takes turns until the sessions are over, and rests where there is nothing to do. What is published is
+/// announced to who waits for news. Where 1,000 turns in a row failed, the fault of the last one. Once a stream
+/// or a thread could not be had, the relay is closed.
+pub fn take_turns<J: Naming, R: Wait + Drop, H: Wait, W: Wake>(
     rt: &H,
     relay: &mut Relay<J, R>,
     progress: &Progress,
+    wake: &W,
 ) -> Option<TurnFault>
     ensures same { (relay.new.made ≡ relay.old.made) × (relay.new.origin ≡ relay.old.origin) }
     ensures turned { IsTurned 1000 relay.old result relay.new }
@@ -43,7 +46,10 @@ pub fn take_turns<J: Naming, R: Wait + Drop, H: Wait>(
     let mut closed = false;
     for _ in rt.forever() {
         match relay.turn() {
-            Turn::Published(_) => failed = 0,
+            Turn::Published(_) => {
+                wake.announce();
+                failed = 0;
+            }
             Turn::Idle => {
                 if progress.is_over() {
                     return None;

@@ -8,6 +8,7 @@ use std::net::{Net, TcpListener, TcpStream};
 use std::sync::Wait;
 use std::test::Fail;
 use std::thread::Threads;
+use std::time::Clock;
 
 /// Whether a session of seat 1 that greets, pushes an edit, polls it back and ends gets the replies of the
 /// protocol.
@@ -77,6 +78,7 @@ struct Lesson {
 
 fn begin<
     R: Net<Listener = TcpListener, Stream = TcpStream>
+        + Clock
         + Threads
         + Wait
         + Copy

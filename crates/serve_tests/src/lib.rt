@@ -2,6 +2,8 @@
 #![tactic(auto)]
 
 #[cfg(test)]
+mod awaiting;
+#[cfg(test)]
 mod clients;
 #[cfg(test)]
 mod crowd;

@@ -13,6 +13,7 @@ use std::sync::Wait;
 use std::test::Fail;
 use std::thread;
 use std::thread::{JoinHandle, Threads};
+use std::time::Clock;
 
 /// How a server ended, and what it printed.
 #[derive(Drop)]
@@ -32,6 +33,7 @@ impl Served {
     /// A server of so many seats under `/2/3`, one at least, at any port that is free.
     pub fn start<
         R: Net<Listener = TcpListener, Stream = TcpStream>
+            + Clock
             + Threads
             + Wait
             + Copy
@@ -68,6 +70,7 @@ impl Served {
 
 fn run<
     R: Net<Listener = TcpListener, Stream = TcpStream>
+        + Clock
         + Threads
         + Wait
         + Copy

@@ -12,6 +12,8 @@ pub data HubCall : Type 0 where
   Polls : (answer : Result News HubFault) → HubCall
   -- the hub was asked for its plane
   Shows : (answer : Result StampedPlane HubFault) → HubCall
+  -- the hub handed out its plane whole, and said of how many edits it is
+  Hands : (answer : Result (StampedPlane × ℕ) HubFault) → HubCall
 
 -- what a hub does in a call that may be made or not: without one it stays as it is
 abbrev pub AllowsAtMost : {H : Type 0} → (H → HubCall → H → Type 0) → H → Option HubCall → H → Type 0

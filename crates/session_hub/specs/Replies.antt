@@ -1,6 +1,6 @@
 -- The replies of a session: the bodies of its frames.
-use Rattle.std.specs.Prelude.{◌≡◌, ◌⊎◌, ⊤, ℕ, ◌+◌, ◌-◌, ◌^◌, Bool, true, false, nat_le, if◌then◌else◌, List, [], ◌∷◌, ◌++◌, map, length, Option, Some, None, Result, Ok, Err}
-use Rattle.std.specs.Int.{w16, w32, to_be_bytes}
+use Rattle.std.specs.Prelude.{◌≡◌, ◌≢◌, ◌⊎◌, ℕ, ◌+◌, ◌-◌, ◌^◌, nat_le, nat_lt, if◌then◌else◌, List, [], ◌∷◌, ◌++◌, map, length, take, drop, Option, Some, None, Result, Ok, Err}
+use Rattle.std.specs.Int.{w16, w32, w64, to_be_bytes}
 use Rattle.square_store.specs.Limits.{usual_room}
 use Rattle.generations_rule.specs.Refusal.{◌>>=◌}
 use Rattle.generations_rule.specs.Rule.{GenerationsRule}
@@ -20,14 +20,13 @@ use Rattle.delta_exchange.specs.State.{IsTellableMap}
 use Rattle.delta_exchange.specs.StateText.{IsStateText}
 use Rattle.delta_exchange.specs.Versions.{IsReadableStateText}
 use Rattle.stamped_writes.specs.Write.{Writes}
-use Rattle.session_hub.specs.declared.fault.HubFault.{HubFault}
 use Rattle.poll_news.specs.declared.news.News.{News}
 use Rattle.poll_news.specs.declared.news.News.TheVariants as news
 use Rattle.session_hub.specs.HubFault.{hub_fault_number}
-use Rattle.session_hub.specs.HubCall.{HubCall, Pushes, Polls, Shows}
-use Rattle.session_hub.specs.Request.{Request, Hello, Push, Poll, Whole, Export, Bye, Many, Faulty}
+use Rattle.session_hub.specs.HubCall.{HubCall, Pushes, Polls, Shows, Hands}
+use Rattle.session_hub.specs.Request.{Request, Hello, Push, Poll, Whole, Export, Bye, Many, Await, Pieces, Faulty}
 
--- what is kept of polls whose reply found no memory: edits in order, or a whole plane
+-- what is kept of what the hub handed out where the reply found no memory: edits in order, or a whole plane
 pub record Kept : Type 0 where
   pub edits : List PlaneEdit
   pub plane : Option StampedPlane
@@ -129,6 +128,35 @@ IsKeptReply r kept None call out left = IsPollReply r kept call out left
 IsKeptReply r kept (Some plane) None out left = IsWholeReply r plane out × (left ≡ nothing_kept)
 IsKeptReply r kept (Some plane) (Some call) out left = ⊥
 
+-- ---- pieces
+
+-- a text in pieces, in order: each is as long as a frame may be, but for the last, and none is empty
+abbrev pub IsInPieces : List ℕ → List (List ℕ) → Type 0
+IsInPieces text [] = text ≡ []
+IsInPieces text (piece ∷ pieces) = (piece ≢ []) × (piece ≡ take most_body text) × IsInPieces (drop most_body text) pieces
+
+-- of how many edits the plane is, how many pieces follow, and each in a frame of its own
+abbrev pub pieces_frames : ℕ → List (List ℕ) → List (List ℕ)
+pieces_frames count pieces = (0 ∷ (to_be_bytes w64 count ++ to_be_bytes w32 (length pieces))) ∷ pieces
+
+-- unless they are too many for a reply
+abbrev pub pieces_reply : ℕ → List (List ℕ) → List (List ℕ)
+pieces_reply count pieces = if nat_lt (length pieces) (2 ^ 32) then pieces_frames count pieces else refusal 21
+
+-- a whole plane handed out in pieces
+pub record IsInPiecesReply (r : GenerationsRule) (p : StampedPlane) (count : ℕ) (out : List (List ℕ)) : Type 0 where
+  pub text : List ℕ
+  pub is_text : IsStateText r (map_of p) text
+  pub pieces : List (List ℕ)
+  pub cut : IsInPieces text pieces
+  pub frames : out ≡ pieces_reply count pieces
+
+-- what is replied to who asks for the plane in pieces, and what is kept then: what was kept is of that plane too
+abbrev pub IsPiecesReply : GenerationsRule → Kept → Option HubCall → List (List ℕ) → Kept → Type 0
+IsPiecesReply r kept (Some (Hands (Ok given))) out left = IsInPiecesReply r given.0 given.1 out × (left ≡ nothing_kept)
+IsPiecesReply r kept (Some (Hands (Err fault))) out left = (out ≡ refusal (hub_fault_number fault)) × (left ≡ kept)
+IsPiecesReply r kept _ out left = ⊥
+
 -- ---- planes and exports
 
 -- the state text of the hub's plane
@@ -177,6 +205,8 @@ IsReply r seat kept Hello None out left = (out ≡ hello_body r seat ∷ []) × 
 IsReply r seat kept Bye None out left = (out ≡ done) × (left ≡ kept)
 IsReply r seat kept (Push text) call out left = IsPushReply r text call out × (left ≡ kept)
 IsReply r seat kept Poll call out left = IsKeptReply r kept kept.plane call out left
+IsReply r seat kept (Await milliseconds) call out left = IsKeptReply r kept kept.plane call out left
+IsReply r seat kept Pieces call out left = IsPiecesReply r kept call out left
 IsReply r seat kept Whole call out left = IsShownReply r Whole call out × (left ≡ kept)
 IsReply r seat kept (Export g) call out left = IsShownReply r (Export g) call out × (left ≡ kept)
 IsReply r seat kept (Many gs) call out left = IsShownReply r (Many gs) call out × (left ≡ kept)
@@ -195,6 +225,9 @@ KeepsAll kept Hello None left = left ≡ kept
 KeepsAll kept (Push text) None left = left ≡ kept
 KeepsAll kept Poll None left = left ≡ kept
 KeepsAll kept Poll (Some (Polls (Ok given))) left = (kept.plane ≡ None) × KeepsNews kept given left
+KeepsAll kept (Await milliseconds) None left = left ≡ kept
+KeepsAll kept (Await milliseconds) (Some (Polls (Ok given))) left = (kept.plane ≡ None) × KeepsNews kept given left
+KeepsAll kept Pieces (Some (Hands (Ok given))) left = left ≡ with_plane given.0
 KeepsAll kept Whole (Some (Shows (Ok p))) left = left ≡ kept
 KeepsAll kept (Export g) (Some (Shows (Ok p))) left = left ≡ kept
 KeepsAll kept (Many gs) None left = left ≡ kept

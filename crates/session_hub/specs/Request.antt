@@ -11,6 +11,10 @@ pub data Request : Type 0 where
   Export : (generation : ℕ) → Request
   Bye : Request
   Many : (generations : List ℕ) → Request
+  -- a poll that waits for news, for so many milliseconds at most
+  Await : (milliseconds : ℕ) → Request
+  -- the plane in pieces
+  Pieces : Request
   -- bytes that are no request
   Faulty : Request
 
@@ -27,6 +31,14 @@ announced rest = from_be_bytes w16 (take 2 rest)
 abbrev pub many_of : List ℕ → Request
 many_of rest = if nat_le 2 (length rest) && length rest == 2 + 4 * announced rest then Many (numbers (announced rest) (drop 2 rest)) else Faulty
 
+-- the longest that a poll may wait, in milliseconds: a minute
+abbrev pub most_wait : ℕ
+most_wait = 60_000
+
+-- four bytes, a number of milliseconds within that
+abbrev pub await_of : List ℕ → Request
+await_of rest = if length rest == 4 && nat_le (from_be_bytes w32 rest) most_wait then Await (from_be_bytes w32 rest) else Faulty
+
 -- a request whose body has just so many bytes behind its kind
 abbrev pub sized : ℕ → List ℕ → Request → Request
 sized n rest request = if length rest == n then request else Faulty
@@ -41,7 +53,9 @@ request_as kind rest =
     else (if kind == 5 then sized 4 rest (Export (from_be_bytes w32 rest))
     else (if kind == 6 then sized 0 rest Bye
     else (if kind == 7 then many_of rest
-    else Faulty))))))
+    else (if kind == 8 then await_of rest
+    else (if kind == 11 then sized 0 rest Pieces
+    else Faulty))))))))
 
 -- the request of a body: its first byte is the kind
 abbrev pub request_of : List ℕ → Request

@@ -1,10 +1,10 @@
 -- Requests and replies, worked out.
-use Rattle.std.specs.Prelude.{◌≡◌, ℕ, List, [], ◌∷◌, true, false, refl}
+use Rattle.std.specs.Prelude.{◌≡◌, [], ◌∷◌, true, false, refl}
 use Rattle.std.specs.Fmt.{digits}
 use Rattle.generations_rule.specs.Rule.{GenerationsRule}
 use Rattle.generations_rule.specs.RuleText.{text_of_set}
-use Rattle.session_hub.specs.Request.{Request, Hello, Push, Export, Many, Faulty, request_of}
-use Rattle.session_hub.specs.Replies.{hello_body, edits_frames, refusal, whole_frames}
+use Rattle.session_hub.specs.Request.{Hello, Push, Export, Many, Await, Pieces, Faulty, request_of}
+use Rattle.session_hub.specs.Replies.{hello_body, edits_frames, pieces_frames, whole_frames}
 
 hello : request_of (1 ∷ []) ≡ Hello
 hello = refl
@@ -39,6 +39,24 @@ many_cut = refl
 many_with_more : request_of (7 ∷ 0 ∷ 0 ∷ 0 ∷ []) ≡ Faulty
 many_with_more = refl
 
+await_a_second : request_of (8 ∷ 0 ∷ 0 ∷ 3 ∷ 232 ∷ []) ≡ Await 1000
+await_a_second = refl
+
+await_a_minute : request_of (8 ∷ 0 ∷ 0 ∷ 234 ∷ 96 ∷ []) ≡ Await 60_000
+await_a_minute = refl
+
+await_longer : request_of (8 ∷ 0 ∷ 0 ∷ 234 ∷ 97 ∷ []) ≡ Faulty
+await_longer = refl
+
+await_cut : request_of (8 ∷ 0 ∷ 0 ∷ 3 ∷ []) ≡ Faulty
+await_cut = refl
+
+pieces : request_of (11 ∷ []) ≡ Pieces
+pieces = refl
+
+pieces_with_more : request_of (11 ∷ 0 ∷ []) ≡ Faulty
+pieces_with_more = refl
+
 -- Brian's Brain, at seat 1
 brain : GenerationsRule
 brain = record {
@@ -56,3 +74,6 @@ no_edits = refl
 
 whole_of_nothing : whole_frames [] ≡ (0 ∷ 255 ∷ 255 ∷ 255 ∷ 255 ∷ []) ∷ [] ∷ []
 whole_of_nothing = refl
+
+pieces_of_two_bytes : pieces_frames 258 ((1 ∷ 2 ∷ []) ∷ []) ≡ (0 ∷ 0 ∷ 0 ∷ 0 ∷ 0 ∷ 0 ∷ 0 ∷ 1 ∷ 2 ∷ 0 ∷ 0 ∷ 0 ∷ 1 ∷ []) ∷ (1 ∷ 2 ∷ []) ∷ []
+pieces_of_two_bytes = refl

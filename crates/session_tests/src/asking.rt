@@ -7,7 +7,7 @@ use crate::texts::bytes_of;
 use devices::{Failed, Sink, Source};
 use frame_service::{ServeFault, Served};
 use replica_sessions::Session;
-use session_service::serve;
+use session_service::{Unheard, serve};
 use std::alloc::{AllocError, Global};
 use std::sync::atomic::{AtomicU64, Ordering};
 use std::test::Fail;
@@ -129,7 +129,7 @@ fn ended<R: Threads + Sync + Drop>(
         gone_out: &gone_out,
         pushes: 0,
     };
-    let end = serve(alloc, &mut source, &mut sink, &mut session);
+    let end = serve(&mut source, &mut sink, &mut session, &mut Unheard);
     Ok((end, gone_out.load(Ordering::SeqCst)))
 }
 

@@ -7,6 +7,8 @@ mod accounts;
 #[cfg(test)]
 mod asking;
 #[cfg(test)]
+mod awaiting;
+#[cfg(test)]
 mod boards;
 #[cfg(test)]
 mod borders;

@@ -11,7 +11,7 @@ use crate::texts::bytes_of;
 use frame_service::{ServeFault, Served};
 use generations_rule::Rule;
 use relay_board::{Naming, Opened, start};
-use session_service::serve;
+use session_service::{Unheard, serve};
 use std::alloc::{AllocError, Global};
 use std::marker::Brand;
 use std::sync::Wait;
@@ -76,7 +76,7 @@ fn served<J: Naming, R: Threads + Wait + Drop + Sync>(
     let requests = bytes_of(alloc, REQUESTS)?;
     let mut source = Pieces::of(&requests, devices.size, devices.pull);
     let mut sink = Keeper::new(alloc, devices.push, devices.part);
-    let end = serve(alloc, &mut source, &mut sink, session);
+    let end = serve(&mut source, &mut sink, session, &mut Unheard);
     Ok((end, sink.pushes, replied(alloc, &sink.bytes)?))
 }
 

@@ -6,7 +6,7 @@ use crate::texts::bytes_of;
 use devices::{ReadSource, WriteSink};
 use frame_service::{ServeFault, Served};
 use replica_sessions::Session;
-use session_service::{serve, serve_within};
+use session_service::{Unheard, serve, serve_within};
 use std::alloc::Global;
 use std::test::Fail;
 use std::thread::Threads;
@@ -82,10 +82,10 @@ fn outcome<R: Threads + Sync + Drop>(
     let mut session = Session::new(rt, alloc, hub_of(alloc, NOTHING)?);
     let mut out = Vec::new(alloc);
     let end = serve(
-        alloc,
         &mut Pieces::of(&bytes, size, 0),
         &mut WriteSink::new(&mut out),
         &mut session,
+        &mut Unheard,
     );
     Ok((end, out == bytes_of(alloc, case.pushed)?))
 }
@@ -121,10 +121,10 @@ fn cut<R: Threads + Sync + Drop>(
     let mut session = Session::new(rt, alloc, hub_of(alloc, NOTHING)?);
     let mut out = Vec::new(alloc);
     let end = serve(
-        alloc,
         &mut ReadSource::new(bytes.as_slice()),
         &mut WriteSink::new(&mut out),
         &mut session,
+        &mut Unheard,
     );
     Ok((end, session.into_hub().fresh()))
 }
@@ -164,10 +164,10 @@ fn greeted<R: Threads + Sync + Drop>(
     let mut session = Session::new(rt, alloc, hub_of(alloc, NOTHING)?);
     let mut sink = Keeper::new(alloc, 0, 0);
     let end = serve_within(
-        alloc,
         &mut Greetings::of(size),
         &mut sink,
         &mut session,
+        &mut Unheard,
         turns,
     );
     Ok((end, sink.pushes))

@@ -6,7 +6,8 @@ ghost use Rattle.std.specs.Arc.{arc_value};
 use devices::{ReadSource, WriteSink};
 use generations_rule::Rule;
 use relay_board::{BoardSize, Naming, Opened, TurnFault, start_within};
-use seat_server::{Accept, ServerFault, Streams, Wake, serve_seats};
+use seat_server::{Accept, Ends, ServerFault, Streams, Wake, serve_seats};
+use session_service::Unheard;
 use stamped_tree::Limits;
 use std::alloc::Global;
 use std::marker::Brand;
@@ -42,12 +43,16 @@ struct OneStream<R: Drop> {
     marks: Arc<Marks, Global>,
 }
 
-impl<R: Clock + Drop> Accept<ReadSource<&'static [u8]>, WriteSink<Vec<u8>>> for OneStream<R> {
-    fn accept(&mut self) -> Option<(ReadSource<&'static [u8]>, WriteSink<Vec<u8>>)> {
+impl<R: Clock + Drop> Accept<ReadSource<&'static [u8]>, WriteSink<Vec<u8>>, Unheard>
+    for OneStream<R> {
+    fn accept(&mut self) -> Option<Ends<ReadSource<&'static [u8]>, WriteSink<Vec<u8>>, Unheard>> {
         if !self.is_given {
             self.is_given = true;
-            let sink = WriteSink::new(Vec::new(self.alloc));
-            return Some((ReadSource::new(PUSH), sink));
+            return Some(Ends {
+                source: ReadSource::new(PUSH),
+                sink: WriteSink::new(Vec::new(self.alloc)),
+                ears: Unheard,
+            });
         }
         for _ in 0..MOST_RESTS {
             if self.marks.told.load(Ordering::SeqCst) {
@@ -64,6 +69,9 @@ impl Wake for Marks {
     fn wake(&self) {
         self.told.store(true, Ordering::SeqCst);
     }
+
+    /// Nobody listens for news.
+    fn announce(&self) {}
 }
 
 /// Why a board ends whose relay has no room for the first edit.
