@@ -18,23 +18,23 @@ use std::io::{IsTerminal, StdinLock};
 use std::net::{Net, TcpListener, TcpStream};
 use std::process::ExitCode;
 use std::random::RandomSource;
-use std::rt::{Env, Files};
+use std::rt::Files;
 use std::sync::Wait;
 use std::thread::Threads;
 use std::time::Clock;
 
 fn main(rt: HostRuntime) -> ExitCode {
-    match work(&rt, rt.stdout().is_terminal()) {
-        Ok(status) => ExitCode::from(status),
-        Err(ending) => ExitCode::from(ending.tell(&rt)),
-    }
+    let status = match given(&rt) {
+        Ok(words) => work(&rt, &words, rt.stdout().is_terminal()),
+        Err(ending) => ending.tell(&rt),
+    };
+    ExitCode::from(status)
 }
 
 /// Does what the words ask for; the status of the process. Nothing is read before the words and the rule
 /// in them are found to be in order.
 fn work<
-    R: Env
-        + Files
+    R: Files
         + Input<Reader = StdinLock<'static>>
         + Print
         + Eprint
@@ -49,11 +49,15 @@ fn work<
         + Send
         + Sync
         + 'static,
->(rt: &R, to_terminal: bool) -> Result<u8, Ending> {
+>(rt: &R, words: &[String], to_terminal: bool) -> u8 {
     let alloc = rt.alloc();
-    let words = given(rt)?;
-    let task = asked(alloc, &words)?;
-    Ok(perform(rt, alloc, &task, to_terminal)?)
+    match asked(alloc, words) {
+        Ok(task) => match perform(rt, alloc, &task, to_terminal) {
+            Ok(status) => status,
+            Err(fault) => Ending::Run(fault).tell(rt),
+        },
+        Err(ending) => ending.tell(rt),
+    }
 }
 
 /// Does a task; the status of the process.

@@ -19,6 +19,7 @@ use std::random::RandomSource;
 use std::rt::Files;
 use std::sync::Wait;
 use std::thread::Threads;
+use std::time::Clock;
 
 /// All is well.
 const WELL: u8 = 0;
@@ -113,6 +114,7 @@ pub fn serve<
         + Eprint
         + RandomSource
         + Net<Listener = TcpListener, Stream = TcpStream>
+        + Clock
         + Threads
         + Wait
         + Copy

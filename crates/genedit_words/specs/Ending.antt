@@ -20,5 +20,5 @@ pub record IsWordsStatus (kind : ErrorKind) (status : ℕ) : Type 0 where
 abbrev pub IsStatusOf : Ending → ℕ → Type 0
 IsStatusOf (ending.Words error) status = IsWordsStatus (kind_of error) status
 IsStatusOf ending.NoText status = status ≡ 2
-IsStatusOf (ending.Rule line) status = status ≡ 2
+IsStatusOf (ending.Rule rule) status = status ≡ 2
 IsStatusOf (ending.Run fault) status = status ≡ exit_status fault

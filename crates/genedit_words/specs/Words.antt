@@ -1,6 +1,6 @@
 -- What the words of the command line ask for.
 use Rattle.std.specs.Option.{option_map_or}
-use Rattle.std.specs.Prelude.{◌≡◌, ◌∷◌, [], ℕ, Bool, List, Option, Some, None, Result, Ok, Err, codes, pos, string_bytes}
+use Rattle.std.specs.Prelude.{◌≡◌, ◌∷◌, [], ℕ, Bool, List, Option, Some, None, Result, Ok, Err, codes, pos}
 use Rattle.std.specs.Prelude.{true, false, if◌then◌else◌, option_map, option_and_then, unwrap_or}
 use Rattle.std.specs.Str.{bytes_eq}
 use Rattle.std.specs.Str.Parse.{digits_value, without_leading_plus}
@@ -16,7 +16,7 @@ use Rattle.genedit_io.specs.declared.fault.RunFault.TheVariants.{Memory}
 use Rattle.genedit_words.specs.declared.ending.Ending.{Ending}
 use Rattle.genedit_words.specs.declared.ending.Ending.TheVariants as ending
 use Rattle.genedit_words.specs.declared.task.JoinTask.{JoinTask}
-use Rattle.genedit_words.specs.Misspelt.{Misspelt, misspelt_text}
+use Rattle.genedit_words.specs.Misspelt.{Misspelt}
 use Rattle.genedit_words.specs.Told.{Told, Viewed, Check, Join, Rle, Run, Serve, View}
 
 -- the rule, or the word that spells none
@@ -230,15 +230,9 @@ task_asked words = option_and_then task_of (subcommand_of genedit_app words)
 abbrev pub Asks : List Text → Result Told Misspelt → Type 0
 Asks words task = (fault_of genedit_app words ≡ []) × (task_asked words ≡ Some task)
 
--- the words ask for a rule that is none, and this is said of it
-pub record AsksMisspelt (words : List Text) (line : List ℕ) : Type 0 where
-  pub misspelt : Misspelt
-  pub asks : Asks words (Err misspelt)
-  pub told : line ≡ misspelt_text misspelt.text misspelt.why
-
 -- why no task comes of words: they are no command line, they spell no rule, or memory is refused
 abbrev pub EndsWords : List Text → Ending → Type 0
 EndsWords words (ending.Words error) = HasKind (fault_of genedit_app words) error
 EndsWords words ending.NoText = ⊥
-EndsWords words (ending.Rule line) = AsksMisspelt words (string_bytes line)
+EndsWords words (ending.Rule rule) = Asks words (Err (record { text = rule.text.now; why = rule.why }))
 EndsWords words (ending.Run fault) = fault ≡ Memory

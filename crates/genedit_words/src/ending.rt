@@ -6,6 +6,7 @@ ghost use Rattle.genedit_words.specs.Ending.{IsStatusOf, IsWordsStatus};
 ghost use Rattle.genedit_io.specs.RunFault.{exit_status};
 
 use crate::advice::line_of;
+use crate::misspelt::MisspeltRule;
 use clap::Error;
 use clap::error::ErrorKind;
 use genedit_io::RunFault;
@@ -16,21 +17,21 @@ const WORDS_STATUS: u8 = 2;
 
 /// Why the program ends before its work is done.
 #[derive(Drop)]
-pub enum Ending {
+pub enum Ending<'a> {
     /// The words are at fault, or ask for help.
     Words(Error),
     /// A word is no text.
     NoText,
-    /// A word spells no rule: what is said of it.
-    Rule(String),
+    /// A word spells no rule.
+    Rule(MisspeltRule<'a>),
     /// The work was left.
     Run(RunFault),
 }
 
-impl Ending {
+impl Ending<'_> {
     /// Says it on standard error, or gives help on standard output; the status of the process.
     pub fn tell<R: Print + Eprint + AllocGlobal>(self, rt: &R) -> u8
-        ensures { IsStatusOf self result }
+        ensures { IsStatusOf self.entry result }
     {
         match self {
             Ending::Words(error) => tell_words(rt, &error),
@@ -38,8 +39,8 @@ impl Ending {
                 let _ = rt.eprintln("genedit: a word is not UTF-8");
                 WORDS_STATUS
             }
-            Ending::Rule(line) => {
-                let _ = eprintln!(rt; "genedit: {}", line.as_str());
+            Ending::Rule(rule) => {
+                let _ = eprintln!(rt; "genedit: {rule}");
                 WORDS_STATUS
             }
             Ending::Run(fault) => tell_fault(rt, fault),
@@ -47,33 +48,33 @@ impl Ending {
     }
 }
 
-impl From<Error> for Ending {
+impl<'a> From<Error> for Ending<'a> {
     ghost use Rattle.genedit_words.specs.declared.ending.Ending.TheVariants as ending;
 
     ghost from_gives = { λ error given. given ≡ ending.Words error };
 
-    fn from(error: Error) -> Ending {
+    fn from(error: Error) -> Ending<'a> {
         Ending::Words(error)
     }
 }
 
-impl From<AllocError> for Ending {
+impl<'a> From<AllocError> for Ending<'a> {
     ghost use Rattle.genedit_words.specs.declared.ending.Ending.TheVariants as ending;
     ghost use Rattle.genedit_io.specs.declared.fault.RunFault.TheVariants.{Memory};
 
     ghost from_gives = { λ _ given. given ≡ ending.Run Memory };
 
-    fn from(_error: AllocError) -> Ending {
+    fn from(_error: AllocError) -> Ending<'a> {
         Ending::Run(RunFault::Memory)
     }
 }
 
-impl From<RunFault> for Ending {
+impl<'a> From<RunFault> for Ending<'a> {
     ghost use Rattle.genedit_words.specs.declared.ending.Ending.TheVariants as ending;
 
     ghost from_gives = { λ fault given. given ≡ ending.Run fault };
 
-    fn from(fault: RunFault) -> Ending {
+    fn from(fault: RunFault) -> Ending<'a> {
         Ending::Run(fault)
     }
 }

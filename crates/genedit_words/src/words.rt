@@ -23,7 +23,7 @@ use std::rt::Env;
 const INTERVAL: u16 = 50;
 
 /// The words with which the program was started, its own name first, as `bound` makes them.
-pub fn given<R: Env + AllocGlobal>(rt: &R) -> Result<Vec<String>, Ending> {
+pub fn given<R: Env + AllocGlobal>(rt: &R) -> Result<Vec<String>, Ending<'static>> {
     match std::env::args(rt) {
         Ok(words) => {
             let words: Vec<String> = words.collect(rt.alloc())?;
@@ -35,7 +35,7 @@ pub fn given<R: Env + AllocGlobal>(rt: &R) -> Result<Vec<String>, Ending> {
 }
 
 /// What the words ask for. Help and the version come as an error, too.
-pub fn asked(alloc: Global, words: &[String]) -> Result<Task<'_>, Ending>
+pub fn asked(alloc: Global, words: &[String]) -> Result<Task<'_>, Ending<'_>>
     ensures asks { IfOk result (λ task. Asks (map string_bytes words.now) (Ok (told_of task))) }
     ensures range { IfOk result IsInRange }
     ensures ends { IfErr result (EndsWords (map string_bytes words.now)) }
@@ -43,7 +43,7 @@ pub fn asked(alloc: Global, words: &[String]) -> Result<Task<'_>, Ending>
     let matches = command(alloc)?.try_get_matches_from(words)?;
     match task(&matches) {
         Ok(task) => Ok(task),
-        Err(rule) => Err(Ending::Rule(rule.to_string(alloc)?)),
+        Err(rule) => Err(Ending::Rule(rule)),
     }
 }
 

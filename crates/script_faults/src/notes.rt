@@ -49,7 +49,12 @@ pub fn notes_in(alloc: Global, script: &[u8]) -> Result<Notes, AllocError>
     while let Some(line) = lines.next_line() {
         if !due.passes(line.text) {
             let closed = opens_closed(due, line.text, lines, &mut ends);
-            push_told(&mut notes, note_at(alloc, due, &told, line, lines, closed)?)?;
+            let spoken = Spoken {
+                line,
+                behind: lines,
+                closed,
+            };
+            push_told(&mut notes, note_at(alloc, due, &told, spoken)?)?;
             told = told.behind(due, line);
             due = due.behind(line.text, closed);
         }
@@ -115,18 +120,29 @@ impl Told {
     }
 }
 
-/// What is told of a line that is not skipped, with these lines behind it.
+/// A line that is not skipped, the lines behind it, and whether it opens a block that has its `end` there.
+#[derive(Clone, Copy)]
+struct Spoken<'a> {
+    line: ScriptLine<'a>,
+    behind: Lines<'a>,
+    closed: bool,
+}
+
+/// What is told of a line that is not skipped.
 fn note_at(
     alloc: Global,
     due: Due,
     told: &Told,
-    line: ScriptLine<'_>,
-    behind: Lines<'_>,
-    closed: bool,
+    spoken: Spoken<'_>,
 ) -> Result<Option<Note>, AllocError>
-    requires { closed ≡ (opens due line.text.now && has_end (lines_from behind.number behind.rest.now)) }
-    ensures { IfOk result (λ note. fault_lines (option_to_list note) ≡ if_faulty (is_faulty due line.entry.text.now (lines_from behind.entry.number behind.entry.rest.now)) line.entry.number) }
+    requires { spoken.closed ≡ (opens due spoken.line.text.now && has_end (lines_from spoken.behind.number spoken.behind.rest.now)) }
+    ensures { IfOk result (λ note. fault_lines (option_to_list note) ≡ if_faulty (is_faulty due spoken.entry.line.text.now (lines_from spoken.entry.behind.number spoken.entry.behind.rest.now)) spoken.entry.line.number) }
 {
+    let Spoken {
+        line,
+        behind,
+        closed,
+    } = spoken;
     match due {
         Due::End(_) => Ok(None),
         Due::Rule => match rule_in(line.text) {

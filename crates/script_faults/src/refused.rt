@@ -1,7 +1,7 @@
 //! What was refused, and what would be right.
 
-ghost use Rattle.std.specs.Prelude.{◌≡◌, IfOk, IfSome, option_map};
-ghost use Rattle.script_faults.specs.Refusals.{cells_known, replicas_known, states_known};
+ghost use Rattle.std.specs.Prelude.{◌≡◌, IfOk, option_map};
+ghost use Rattle.script_faults.specs.Refusals.{cells_known, refusal_words, replicas_known, said_of, states_known};
 
 use std::alloc::{AllocError, Global};
 
@@ -25,12 +25,12 @@ const STATE_RANGE: u8 = 11;
 const NO_REPLICA: u8 = 26;
 
 impl Refused {
-    ghost use Rattle.std.specs.Prelude.{◌≡◌, IfOk, IfSome};
-    ghost use Rattle.script_faults.specs.Refusals.{bounds_known};
+    ghost use Rattle.std.specs.Prelude.{◌≡◌, IfOk};
+    ghost use Rattle.script_faults.specs.Refusals.{cure_text};
 
     /// What is wrong with it and what would be right, in words: with the bounds where they are known.
     pub fn cure(&self, alloc: Global) -> Result<String, AllocError>
-        ensures { IfOk result (λ text. IfSome (bounds_known self.now) (λ told. text.bytes.items ≡ told)) }
+        ensures { IfOk result (λ text. text.bytes.items ≡ cure_text self.now) }
     {
         let bounds = match self.number {
             TOO_MANY_CELLS => cells_text(alloc, self.cells)?,
@@ -83,7 +83,9 @@ fn replicas_text(alloc: Global, replicas: Option<u16>) -> Result<Option<String>,
 }
 
 /// What is said of a refusal, by its number, where no bounds are known.
-fn words_of(number: u8) -> &'static str {
+fn words_of(number: u8) -> &'static str
+    ensures { result.now ≡ said_of refusal_words number }
+{
     match number {
         4 => "a pattern begins with a header `x = w, y = h`, behind comments",
         5 => "this can stand neither as a cell nor as the end of a row or of the pattern",

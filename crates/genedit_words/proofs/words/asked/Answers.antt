@@ -1,4 +1,4 @@
-use Rattle.std.proofs.Common.{map, string_bytes, Err, Ok, rules}
+use Rattle.std.proofs.Common.{map, string_bytes, Err, Ok}
 use Rattle.genedit_words.specs.Told.{told_of}
 use Rattle.genedit_words.proofs.ParseLaws.{asks, ends_words, is_named, is_parse}
 use Rattle.genedit_words.proofs.words.asked.Goals as goal
@@ -21,11 +21,7 @@ returns-clause-ends c =
     let m = c.in_ok-matches.matches in
     let words = map string_bytes c.args.words.now in
     let parse = is_parse _ words m c.in_ok-command.ensures c.in_ok-matches.ensures.matches c.in_ok-matches.ensures.kinds in
-    record {
-      misspelt = record { text = c.in-Err.rule.text.now; why = c.in-Err.rule.why };
-      asks = asks words m (Err (record { text = c.in-Err.rule.text.now; why = c.in-Err.rule.why })) parse c.in-Err.ensures.asked;
-      told = search rules;
-    }
+    asks words m (Err (record { text = c.in-Err.rule.text.now; why = c.in-Err.rule.why })) parse c.in-Err.ensures.asked
 
 pub returns-in_err-matches-clause-ends : goal.returns-in_err-matches-clause-ends
 returns-in_err-matches-clause-ends c =
