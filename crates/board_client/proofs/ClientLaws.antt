@@ -20,6 +20,7 @@ use Rattle.replica_core.proofs.HeadlineLaws.{greatest_of}
 use Rattle.replica_core.proofs.PeerLaws.{holds_what_it_took}
 use Rattle.replica_events.specs.declared.edit_spec.EditSpec.{EditSpec}
 use Rattle.stamped_tree.specs.Plane.{map_of}
+use Rattle.frame_line.specs.Receiving.{bytes_in}
 use Rattle.board_client.specs.Hearing.{AreTaken, IsTaken}
 use Rattle.board_client.specs.Laws.{DrawsAbove, HoldsWhatItHeard, TellEdits}
 
@@ -36,13 +37,19 @@ taken_edits rule E (e ∷ F) (text ∷ texts) r s held taken told =
     let next = holds_what_it_took.edits rule E (e ∷ []) r taken.0 held (one.edits (e ∷ []) tellable spelt) in
     subst (λ F. HoldsEdits rule F s) (append_assoc E (e ∷ []) F) (taken_edits rule (E ++ e ∷ []) F texts taken.0 s next taken.2 told.2)
 
+pub taken_plane : (rule : GenerationsRule) (E F : List PlaneEdit) (text : List ℕ) (r s : ReplicaState) → HoldsEdits rule E r → IsTaken r text s → IsTellableMap rule.states (greatest F)
+    → IsReadableStateText rule (greatest F) text → HoldsEdits rule (E ++ F) s
+taken_plane rule E F text r s held taken tellable spelt =
+    holds_what_it_took.map rule E F r s (greatest F) held (λ c. refl)
+    (taken.map (greatest F) (subst (λ g. IsTellableMap g.states (greatest F)) (sym held.same_rule) tellable) (subst (λ g. IsReadableStateText g (greatest F) text) (sym held.same_rule) spelt))
+
 pub holds_what_it_heard : HoldsWhatItHeard
 holds_what_it_heard = record {
-  edits = λ rule E F count a b r s held p told. taken_edits rule E F p.texts r s held p.taken told;
-  whole = λ rule E F a b r s held p tellable spelt.
-      holds_what_it_took.map rule E F r s (greatest F) held (λ c. refl)
-      (p.taken.map (greatest F) (subst (λ g. IsTellableMap g.states (greatest F)) (sym held.same_rule) tellable) (subst (λ g. IsReadableStateText g (greatest F) p.text) (sym held.same_rule) spelt));
+  edits = λ said rule E F count a b r s held p told. taken_edits rule E F p.texts r s held p.taken told;
+  whole = λ said rule E F a b r s held p tellable spelt. taken_plane rule E F p.text r s held p.taken tellable spelt;
+  pieces = λ rule E F a b r s held p tellable spelt. taken_plane rule E F (bytes_in p.pieces) r s held p.taken tellable spelt;
   drawn = λ rule E e a b r s held p. holds_what_it_took.edits rule E (e ∷ []) r s held p.1;
+  drawn_behind = λ rule E e a b r s held p. holds_what_it_took.edits rule E (e ∷ []) r s held p.1;
 }
 
 -- ---- counters

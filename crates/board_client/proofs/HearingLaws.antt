@@ -1,5 +1,5 @@
 -- Texts that were heard and taken, one after another.
-use Rattle.std.proofs.Common.{ℕ, ◌+◌, List, [], ◌∷◌, ◌++◌, refl, ap, subst, ◌∙◌, length-append}
+use Rattle.std.proofs.Common.{◌≡◌, ℕ, ◌+◌, List, [], ◌∷◌, ◌++◌, refl, ap, subst, ◌∙◌, length-append}
 use Rattle.replica_core.specs.Replica.{ReplicaState}
 use Rattle.board_client.specs.Client.{LineState}
 use Rattle.board_client.specs.Hearing.{AreDeltas, AreHeard, AreTaken, HasHeard, IsAsAnnounced, IsTaken}
@@ -13,6 +13,13 @@ taken_on (first ∷ texts) text a b c p q = (p.0, p.1, taken_on texts text p.0 b
 deltas_on : (texts : List (List ℕ)) (text : List ℕ) → AreDeltas texts → IsAsAnnounced Edits text → AreDeltas (texts ++ text ∷ [])
 deltas_on [] text p q = (q, tt)
 deltas_on (first ∷ texts) text p q = (p.0, deltas_on texts text p.1 q)
+
+-- a replica that takes texts stays of its rule
+pub rule_kept : (texts : List (List ℕ)) (old new : ReplicaState) → AreTaken old texts new → new.rule ≡ old.rule
+rule_kept [] old new taken = ap (λ (r : ReplicaState). r.rule) taken
+rule_kept (text ∷ texts) old new taken =
+    let one : IsTaken old text taken.0 = taken.1 in
+    rule_kept texts taken.0 new taken.2 ∙ one.told.2.2.one.rule
 
 pub heard_none : (a : LineState) (old : ReplicaState) → AreHeard 0 a a old old
 heard_none a old = record { texts = []; number = refl; talk = nothing a; deltas = tt; taken = refl }

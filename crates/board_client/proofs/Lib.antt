@@ -1,7 +1,10 @@
 pub mod TryLaws
 pub mod HearingLaws
+pub mod OwnLaws
+pub mod PiecesLaws
 pub mod PollingLaws
 pub mod PushingLaws
 pub mod GreetingLaws
 pub mod ClientLaws
 pub mod DrawingLaws
+pub mod PublishingLaws

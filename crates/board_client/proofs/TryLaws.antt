@@ -1,5 +1,5 @@
 -- What was said, heard and refused, one after another.
-use Rattle.std.proofs.Common.{◌≡◌, ℕ, ◌+◌, List, [], ◌∷◌, ◌++◌, length, map, replicate, refl, sym, ap, subst, ◌∙◌, length-append}
+use Rattle.std.proofs.Common.{◌≡◌, ℕ, ◌+◌, List, [], ◌∷◌, ◌++◌, length, map, replicate, refl, sym, ap, subst, ◌∙◌, length-append, arith}
 use Rattle.std.proofs.lemmas.List.{map-append, replicate-append-replicate}
 use Rattle.frame_line.proofs.TalkLaws.{talk_none, talk_on}
 use Rattle.board_client.specs.Client.{LineState, IsTalk}
@@ -43,4 +43,15 @@ refused_again P request times x a b c p brief talk = record {
   numbers = p.numbers ++ x ∷ [];
   often = length-append p.numbers (x ∷ []) ∙ ap (λ n. n + 1) p.often;
   refused = refused_on P request p.numbers x a b c p.refused brief talk;
+}
+
+-- once before
+pub refused_before : (P : ℕ → Type 0) (request : List ℕ) (times x : ℕ) (a b c : LineState) → P x → IsTalk a b (request ∷ []) ((x ∷ []) ∷ []) → IsRefused P request times b c → IsRefused P request (times + 1) a c
+refused_before P request times x a b c brief talk p = record {
+  numbers = x ∷ p.numbers;
+  often = omega (arith, p.often);
+  refused = record {
+    each = (brief, p.refused.each);
+    talk = both a b c (request ∷ []) (replicate (length p.numbers) request) ((x ∷ []) ∷ []) (map alone p.numbers) talk p.refused.talk;
+  };
 }

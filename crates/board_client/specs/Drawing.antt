@@ -1,11 +1,9 @@
 -- What a drawing does.
 use Rattle.std.specs.Prelude.{◌≡◌, ℕ, max, List, [], ◌∷◌, Result, Ok, Err}
 use Rattle.std.specs.Result.{IsOk}
-use Rattle.generations_rule.specs.Rule.{GenerationsRule}
 use Rattle.edit_stamps.specs.Edit.{PlaneEdit}
 use Rattle.edit_stamps.specs.PlaneMap.{IsGreatestStamp}
 use Rattle.edit_stamps.specs.Stamp.{counter_in}
-use Rattle.delta_exchange.specs.Spelling.{delta_text}
 use Rattle.delta_exchange.specs.declared.message.Content.{Content}
 use Rattle.delta_exchange.specs.declared.message.Content.TheVariants as content
 use Rattle.replica_core.specs.declared.fault.Fault.{Fault}
@@ -20,33 +18,54 @@ use Rattle.board_client.specs.declared.fault.ClientFault.TheVariants.{Line, NoRe
 use Rattle.board_client.specs.declared.pushing.Pushing.{Pushing}
 use Rattle.board_client.specs.declared.pushing.Pushing.TheVariants as pushing
 use Rattle.board_client.specs.Client.{LineState}
-use Rattle.board_client.specs.Pushing.{IsPush}
+pub use Rattle.board_client.specs.Pushing.{push_bytes}
+use Rattle.board_client.specs.Pushing.{IsPush, IsPushEnd}
 
--- the request that an edit be published
-abbrev pub push_bytes : GenerationsRule → PlaneEdit → List ℕ
-push_bytes r e = 2 ∷ delta_text r (e ∷ [])
+-- what comes of a push's request on the line
+abbrev pub Pushes : Type 1
+Pushes = List ℕ → LineState → LineState → Result Pushing ClientFault → Type 0
 
 -- an edit, and no other content
 abbrev pub IsEditAlone : PlaneEdit → Content → Type 0
 IsEditAlone e c = c ≡ content.Edits (e ∷ [])
 
 -- the request was pushed, and ended so; the replica is as it was
-abbrev pub IsPushedAs : List ℕ → LineState → LineState → ReplicaState → ReplicaState → Result Pushing ClientFault → Type 0
-IsPushedAs request a b old new result = IsPush request a b result × (new ≡ old)
+abbrev pub IsPushedAs : Pushes → List ℕ → LineState → LineState → ReplicaState → ReplicaState → Result Pushing ClientFault → Type 0
+IsPushedAs P request a b old new result = P request a b result × (new ≡ old)
 
 -- the board has the edit, and the replica took it, or did not
-abbrev pub IsPublished : PlaneEdit → LineState → LineState → ReplicaState → ReplicaState → Result (Unit {0}) Fault → Type 0
-IsPublished e a b old new result = IsPush (push_bytes old.rule e) a b (Ok pushing.Done) × IsTakingOf old new (IsEditAlone e) result
+abbrev pub IsPublishedBy : Pushes → PlaneEdit → LineState → LineState → ReplicaState → ReplicaState → Result (Unit {0}) Fault → Type 0
+IsPublishedBy P e a b old new result = P (push_bytes old.rule e) a b (Ok pushing.Done) × IsTakingOf old new (IsEditAlone e) result
 
 -- what came of an edit that was to be published
+abbrev pub IsPublishingBy : Pushes → PlaneEdit → LineState → LineState → ReplicaState → ReplicaState → Result Drawing ClientFault → Type 0
+IsPublishingBy P e a b old new (Ok (Drawn counter)) = (counter ≡ counter_in e.stamp) × IsPublishedBy P e a b old new (Ok tt)
+IsPublishingBy P e a b old new (Ok (Unpublished number)) = IsPushedAs P (push_bytes old.rule e) a b old new (Ok (pushing.Refused number))
+IsPublishingBy P e a b old new (Ok (Refused fault)) = ⊥
+IsPublishingBy P e a b old new (Err Memory) = ⊥
+IsPublishingBy P e a b old new (Err (Text fault)) = IsPublishedBy P e a b old new (Err fault)
+IsPublishingBy P e a b old new (Err (Line fault)) = IsPushedAs P (push_bytes old.rule e) a b old new (Err (Line fault))
+IsPublishingBy P e a b old new (Err NoReply) = IsPushedAs P (push_bytes old.rule e) a b old new (Err NoReply)
+
+-- an edit that the board has was taken, or was not
+abbrev pub IsOwnTaken : PlaneEdit → ReplicaState → ReplicaState → Result Drawing ClientFault → Type 0
+IsOwnTaken e old new (Ok (Drawn counter)) = (counter ≡ counter_in e.stamp) × IsTakingOf {A = Unit {0}} old new (IsEditAlone e) (Ok tt)
+IsOwnTaken e old new (Err (Text fault)) = IsTakingOf {A = Unit {0}} old new (IsEditAlone e) (Err fault)
+IsOwnTaken e old new result = ⊥
+
+-- its push was said and answered
+abbrev pub IsPublished : PlaneEdit → LineState → LineState → ReplicaState → ReplicaState → Result (Unit {0}) Fault → Type 0
+IsPublished e a b old new result = IsPublishedBy IsPush e a b old new result
+
 abbrev pub IsPublishing : PlaneEdit → LineState → LineState → ReplicaState → ReplicaState → Result Drawing ClientFault → Type 0
-IsPublishing e a b old new (Ok (Drawn counter)) = (counter ≡ counter_in e.stamp) × IsPublished e a b old new (Ok tt)
-IsPublishing e a b old new (Ok (Unpublished number)) = IsPushedAs (push_bytes old.rule e) a b old new (Ok (pushing.Refused number))
-IsPublishing e a b old new (Ok (Refused fault)) = ⊥
-IsPublishing e a b old new (Err Memory) = (b ≡ a) × (new ≡ old)
-IsPublishing e a b old new (Err (Text fault)) = IsPublished e a b old new (Err fault)
-IsPublishing e a b old new (Err (Line fault)) = IsPushedAs (push_bytes old.rule e) a b old new (Err (Line fault))
-IsPublishing e a b old new (Err NoReply) = IsPushedAs (push_bytes old.rule e) a b old new (Err NoReply)
+IsPublishing e a b old new result = IsPublishingBy IsPush e a b old new result
+
+-- the same behind the saying of its push
+abbrev pub IsPublishedEnd : PlaneEdit → LineState → LineState → ReplicaState → ReplicaState → Result (Unit {0}) Fault → Type 0
+IsPublishedEnd e a b old new result = IsPublishedBy IsPushEnd e a b old new result
+
+abbrev pub IsPublishingEnd : PlaneEdit → LineState → LineState → ReplicaState → ReplicaState → Result Drawing ClientFault → Type 0
+IsPublishingEnd e a b old new result = IsPublishingBy IsPushEnd e a b old new result
 
 -- nothing was pushed, and the replica is as it was
 abbrev pub IsUntouched : LineState → LineState → ReplicaState → ReplicaState → Type 0

@@ -33,7 +33,7 @@ IsGreetingOnce a b (Ok (Refused number)) = IsGreeted (Refused number) a b
 IsGreetingOnce a b (Ok Faulty) = ⊥
 IsGreetingOnce a b (Err NoReply) = IsGreeted Faulty a b
 IsGreetingOnce a b (Err Memory) = IsWanting a b
-IsGreetingOnce a b (Err (Line fault)) = IsAsked {B = List ℕ} (λ body. body) hello_request a b (Err (Line fault))
+IsGreetingOnce a b (Err (Line fault)) = IsAsked {B = List ℕ} (λ body. body) (hello_request ∷ []) a b (Err (Line fault))
 IsGreetingOnce a b (Err (Text fault)) = ⊥
 
 -- ---- tries
@@ -48,7 +48,7 @@ IsGreetingRefusedForAMoment _ = ⊥
 
 -- what came of a greeting that was tried
 abbrev pub IsGreeting : LineState → LineState → Result Greeting ClientFault → Type 0
-IsGreeting a b result = IsTried IsMomentaryGreetingRefusal IsGreetingRefusedForAMoment hello_request IsGreetingOnce a b result
+IsGreeting a b result = IsTried 9 IsMomentaryGreetingRefusal IsGreetingRefusedForAMoment hello_request IsGreetingOnce a b result
 
 -- ---- farewells
 

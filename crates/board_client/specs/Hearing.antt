@@ -28,24 +28,46 @@ pub record IsUnheard (fault : LineFault) (a b : LineState) : Type 0 where
   pub received : IsReceived {B = List ℕ} (λ body. body) (2 ^ 32) a.frames b.frames a.source b.source (Err fault)
   pub sink : b.sink ≡ a.sink
 
--- the sink failed, so that nothing could be said, or not all of it
-pub record IsUnsaid (fault : LineFault) (a b : LineState) : Type 0 where
+-- the sink failed, so that a request could not be said, or not all of it
+pub record IsSinkFailure (fault : LineFault) (a b : LineState) : Type 0 where
   pub write : fault ≡ lines.Write
   pub failed : b.sink.failures ≡ one_more a.sink.failures
   pub frames : b.frames ≡ a.frames
   pub source : b.source ≡ a.source
 
--- a request was said, and then nothing came
-pub record IsUnanswered (request : List ℕ) (fault : LineFault) (a b : LineState) : Type 0 where
+-- that only where something was to be said
+abbrev pub IsUnsaid : List (List ℕ) → LineFault → LineState → LineState → Type 0
+IsUnsaid [] fault a b = ⊥
+IsUnsaid (request ∷ more) fault a b = IsSinkFailure fault a b
+
+-- a request was said; or the line failed
+abbrev pub IsSaid : {A : Type 0} → List ℕ → LineState → LineState → Result A ClientFault → Type 0
+IsSaid request a b (Ok done) = IsTalk a b (request ∷ []) []
+IsSaid request a b (Err (Line fault)) = IsSinkFailure fault a b
+IsSaid request a b (Err fault) = ⊥
+
+-- or memory for it was wanting, and nothing said
+abbrev pub IsSaidOrWanting : {A : Type 0} → List ℕ → LineState → LineState → Result A ClientFault → Type 0
+IsSaidOrWanting request a b (Err Memory) = b ≡ a
+IsSaidOrWanting request a b result = IsSaid request a b result
+
+-- a body was heard; or none came
+abbrev pub IsHeard : {B : Type 0} → (B → List ℕ) → LineState → LineState → Result B ClientFault → Type 0
+IsHeard bytes_of a b (Ok body) = IsTalk a b [] (bytes_of body ∷ [])
+IsHeard bytes_of a b (Err (Line fault)) = IsUnheard fault a b
+IsHeard bytes_of a b (Err fault) = ⊥
+
+-- this was said, and then nothing came
+pub record IsUnanswered (said : List (List ℕ)) (fault : LineFault) (a b : LineState) : Type 0 where
   pub mid : LineState
-  pub said : IsTalk a mid (request ∷ []) []
+  pub talk : IsTalk a mid said []
   pub unheard : IsUnheard fault mid b
 
--- a request was said, and the first body of its reply heard; or the line failed
-abbrev pub IsAsked : {B : Type 0} → (B → List ℕ) → List ℕ → LineState → LineState → Result B ClientFault → Type 0
-IsAsked bytes_of request a b (Ok body) = IsTalk a b (request ∷ []) (bytes_of body ∷ [])
-IsAsked bytes_of request a b (Err (Line fault)) = IsUnsaid fault a b ⊎ IsUnanswered request fault a b
-IsAsked bytes_of request a b (Err fault) = ⊥
+-- this was said, a request or nothing, and the first body of a reply heard; or the line failed
+abbrev pub IsAsked : {B : Type 0} → (B → List ℕ) → List (List ℕ) → LineState → LineState → Result B ClientFault → Type 0
+IsAsked bytes_of said a b (Ok body) = IsTalk a b said (bytes_of body ∷ [])
+IsAsked bytes_of said a b (Err (Line fault)) = IsUnsaid said fault a b ⊎ IsUnanswered said fault a b
+IsAsked bytes_of said a b (Err fault) = ⊥
 
 -- ---- what is taken
 

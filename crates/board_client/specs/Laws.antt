@@ -14,7 +14,9 @@ use Rattle.replica_core.specs.Replica.{ReplicaState, edit_drawn}
 use Rattle.replica_events.specs.declared.edit_spec.EditSpec.{EditSpec}
 use Rattle.stamped_tree.specs.Plane.{map_of}
 use Rattle.board_client.specs.Client.{LineState}
-use Rattle.board_client.specs.Drawing.{IsPublished}
+use Rattle.frame_line.specs.Receiving.{bytes_in}
+use Rattle.board_client.specs.Drawing.{IsPublished, IsPublishedEnd}
+use Rattle.board_client.specs.Pieces.{BringsPieces}
 use Rattle.board_client.specs.Polling.{BringsEdits, BringsWhole}
 
 -- each text tells one of these edits, in order
@@ -23,14 +25,17 @@ TellEdits r [] [] = ⊤
 TellEdits r (e ∷ edits) (text ∷ texts) = AreTellable r.states (e ∷ []) × (text ≡ delta_text r (e ∷ [])) × TellEdits r edits texts
 TellEdits r _ _ = ⊥
 
--- A replica that holds some edits holds, behind a poll that brought others, those more; behind one that brought the plane of
--- some list, those of that list more, whichever of the lists it stands for is meant; and behind a drawing that the board has, that
--- edit more. So clients that were handed the same edits, or planes of them, show, write and export the same.
+-- A replica that holds some edits holds, behind a poll that brought others, those more, whether its reply was heard at once or
+-- awaited; behind one that brought the plane of some list, whole or in pieces, those of that list more, whichever of the lists it
+-- stands for is meant; and behind a drawing that the board has, that edit more. So clients that were handed the same edits, or planes of them, show, write and export the same.
 pub record HoldsWhatItHeard : Type 0 where
-  pub edits : (rule : GenerationsRule) (E F : List PlaneEdit) (count : ℕ) (a b : LineState) (r s : ReplicaState) → HoldsEdits rule E r → (p : BringsEdits count a b r s) → TellEdits rule F p.texts → HoldsEdits rule (E ++ F) s
-  pub whole : (rule : GenerationsRule) (E F : List PlaneEdit) (a b : LineState) (r s : ReplicaState) → HoldsEdits rule E r → (p : BringsWhole a b r s) → IsTellableMap rule.states (greatest F)
+  pub edits : (said : List (List ℕ)) (rule : GenerationsRule) (E F : List PlaneEdit) (count : ℕ) (a b : LineState) (r s : ReplicaState) → HoldsEdits rule E r → (p : BringsEdits said count a b r s) → TellEdits rule F p.texts → HoldsEdits rule (E ++ F) s
+  pub whole : (said : List (List ℕ)) (rule : GenerationsRule) (E F : List PlaneEdit) (a b : LineState) (r s : ReplicaState) → HoldsEdits rule E r → (p : BringsWhole said a b r s) → IsTellableMap rule.states (greatest F)
       → IsReadableStateText rule (greatest F) p.text → HoldsEdits rule (E ++ F) s
+  pub pieces : (rule : GenerationsRule) (E F : List PlaneEdit) (a b : LineState) (r s : ReplicaState) → HoldsEdits rule E r → (p : BringsPieces a b r s) → IsTellableMap rule.states (greatest F)
+      → IsReadableStateText rule (greatest F) (bytes_in p.pieces) → HoldsEdits rule (E ++ F) s
   pub drawn : (rule : GenerationsRule) (E : List PlaneEdit) (e : PlaneEdit) (a b : LineState) (r s : ReplicaState) → HoldsEdits rule E r → IsPublished e a b r s (Ok tt) → HoldsEdits rule (E ++ e ∷ []) s
+  pub drawn_behind : (rule : GenerationsRule) (E : List PlaneEdit) (e : PlaneEdit) (a b : LineState) (r s : ReplicaState) → HoldsEdits rule E r → IsPublishedEnd e a b r s (Ok tt) → HoldsEdits rule (E ++ e ∷ []) s
 
 -- The counter of an edit that a client draws is above the one that it was given, and above that of each edit that its replica
 -- holds, so above those of its own drawings before it that the board has: no two of those have one stamp.

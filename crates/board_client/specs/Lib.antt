@@ -1,8 +1,13 @@
 pub mod Client
 pub mod Hearing
 pub mod Tries
+pub mod Refusal
+pub mod Pieces
 pub mod Polling
+pub mod Awaiting
 pub mod Pushing
+pub mod Pushed
 pub mod Drawing
+pub mod Saying
 pub mod Greeting
 pub mod Laws

@@ -19,12 +19,12 @@ pub record IsRefused (P : ℕ → Type 0) (request : List ℕ) (times : ℕ) (a 
   pub often : length numbers ≡ times
   pub refused : AreRefused P request numbers a b
 
--- a request was refused at most nine times, each time by a number that is as P says, and this is what came of it behind that:
--- once more such a refusal only as the tenth
-pub record IsTried {R : Type 0} (P : ℕ → Type 0) (IsRefusedForAMoment : R → Type 0) (request : List ℕ) (SaysOnce : LineState → LineState → Result R ClientFault → Type 0) (a b : LineState) (result : Result R ClientFault) : Type 0 where
+-- a request was refused so often at most, each time by a number that is as P says, and this is what came of it behind that:
+-- once more such a refusal only behind all of them
+pub record IsTried {R : Type 0} (most : ℕ) (P : ℕ → Type 0) (IsRefusedForAMoment : R → Type 0) (request : List ℕ) (SaysOnce : LineState → LineState → Result R ClientFault → Type 0) (a b : LineState) (result : Result R ClientFault) : Type 0 where
   pub times : ℕ
   pub mid : LineState
   pub refusals : IsRefused P request times a mid
-  pub few : times ≤ 9
+  pub few : times ≤ most
   pub last : SaysOnce mid b result
-  pub patient : IfOk result (λ heard. IsRefusedForAMoment heard → times ≡ 9)
+  pub patient : IfOk result (λ heard. IsRefusedForAMoment heard → times ≡ most)

@@ -1,7 +1,9 @@
 //! Greetings and farewells.
 
-ghost use Rattle.std.specs.Prelude.{◌↔◌, IsTrue};
-ghost use Rattle.board_client.specs.Greeting.{IsGreeting, IsGreetingOnce, IsGreetingRefusedForAMoment, IsLeaving};
+ghost use Rattle.std.specs.Prelude.{◌↔◌, IsTrue, []};
+ghost use Rattle.board_client.specs.Greeting.{IsGreeting, IsGreetingOnce, IsGreetingRefusedForAMoment, IsLeaving, bye_request};
+ghost use Rattle.board_client.specs.Hearing.{IsSaidOrWanting};
+ghost use Rattle.board_client.specs.Pushing.{IsAnswering};
 
 use crate::fault::ClientFault;
 use crate::pushing::Pushing;
@@ -56,6 +58,24 @@ impl<'a, C: Clock, S: Source + Drop, K: Sink + Drop> Server<'a, C, S, K> {
             return Err(ClientFault::Memory);
         };
         self.push_once(&request)
+    }
+
+    /// Says farewell where a reply is still to come, which is heard before `hear_farewell`. Nothing is said on
+    /// the line after that.
+    pub fn say_farewell(&mut self) -> Result<(), ClientFault>
+        ensures { IsSaidOrWanting bye_request self.old self.new result }
+    {
+        match request_body(self.alloc, Asking::Bye) {
+            Ok(request) => self.say(&request),
+            Err(_) => Err(ClientFault::Memory),
+        }
+    }
+
+    /// Hears the answer to a farewell that was said.
+    pub fn hear_farewell(&mut self) -> Result<Pushing, ClientFault>
+        ensures { IsAnswering [] self.old self.new result }
+    {
+        self.hear_answer()
     }
 }
 

@@ -2,7 +2,8 @@
 
 ghost use Rattle.std.specs.Prelude.{◌≡◌, ◌↔◌, IsTrue, Ok};
 ghost use Rattle.delta_exchange.specs.MessageReading.{begins_as_delta};
-ghost use Rattle.board_client.specs.Hearing.{AreTextsHeard, IsAsked, IsTextHeard, is_of_edits};
+ghost use Rattle.std.specs.Prelude.{[], ◌∷◌};
+ghost use Rattle.board_client.specs.Hearing.{AreTextsHeard, IsAsked, IsHeard, IsSaid, IsTextHeard, is_of_edits};
 
 use crate::fault::ClientFault;
 use crate::server::Server;
@@ -22,7 +23,7 @@ pub(crate) enum Announced {
 }
 
 /// Whether a text begins as one that was announced.
-fn is_announced(announced: Announced, text: &[u8]) -> bool
+pub(crate) fn is_announced(announced: Announced, text: &[u8]) -> bool
     ensures { IsTrue result ↔ (begins_as_delta text.now ≡ Ok (is_of_edits announced)) }
 {
     match (announced, is_delta(text)) {
@@ -33,7 +34,8 @@ fn is_announced(announced: Announced, text: &[u8]) -> bool
 }
 
 impl<'a, C: Clock, S: Source + Drop, K: Sink + Drop> Server<'a, C, S, K> {
-    /// Hears a text that was announced, and takes what it tells. `NoReply` where it is of the other kind.
+    /// Hears a text that was announced, and takes what it tells. `NoReply` where it is of the other kind. An edit
+    /// of the client's own that comes back is not read again.
     pub(crate) fn hear_text(
         &mut self,
         replica: &mut Replica,
@@ -41,13 +43,17 @@ impl<'a, C: Clock, S: Source + Drop, K: Sink + Drop> Server<'a, C, S, K> {
     ) -> Result<(), ClientFault>
         ensures { IsTextHeard announced self.old self.new replica.old replica.new result }
     {
-        let text = match self.line.hear() {
+        let text = match self.hear() {
             Ok(text) => text,
-            Err(fault) => return Err(ClientFault::Line(fault)),
+            Err(fault) => return Err(fault),
         };
         let bytes: &[u8] = &text;
         if !is_announced(announced, bytes) {
             return Err(ClientFault::NoReply);
+        }
+        if self.is_own(replica, bytes) {
+            self.forget_own();
+            return Ok(());
         }
         match replica.take_bytes(bytes) {
             Ok(()) => Ok(()),
@@ -72,18 +78,33 @@ impl<'a, C: Clock, S: Source + Drop, K: Sink + Drop> Server<'a, C, S, K> {
         Ok(())
     }
 
-    /// Says a request, and hears the first body of its reply.
-    pub(crate) fn ask(&mut self, request: &Framed) -> Result<Vec<u8>, ClientFault>
-        ensures { IsAsked (λ body. body.items) request.now self.old self.new result }
+    /// Says a request.
+    pub(crate) fn say(&mut self, request: &Framed) -> Result<(), ClientFault>
+        ensures { IsSaid request.now self.old self.new result }
     {
         match self.line.say(request) {
-            Ok(()) => {}
-            Err(fault) => return Err(ClientFault::Line(fault)),
+            Ok(()) => Ok(()),
+            Err(fault) => Err(ClientFault::Line(fault)),
         }
-        let body = match self.line.hear() {
-            Ok(body) => body,
-            Err(fault) => return Err(ClientFault::Line(fault)),
-        };
-        Ok(body)
+    }
+
+    /// Hears the next body.
+    pub(crate) fn hear(&mut self) -> Result<Vec<u8>, ClientFault>
+        ensures { IsHeard (λ body. body.items) self.old self.new result }
+    {
+        match self.line.hear() {
+            Ok(body) => Ok(body),
+            Err(fault) => Err(ClientFault::Line(fault)),
+        }
+    }
+
+    /// Says a request, and hears the first body of its reply.
+    pub(crate) fn ask(&mut self, request: &Framed) -> Result<Vec<u8>, ClientFault>
+        ensures { IsAsked (λ body. body.items) (request.now ∷ []) self.old self.new result }
+    {
+        match self.say(request) {
+            Ok(()) => self.hear(),
+            Err(fault) => Err(fault),
+        }
     }
 }

@@ -4,12 +4,16 @@
 //! handed (Shapiro et al., INRIA RR-7506).
 #![tactic(auto)]
 
+mod awaiting;
 mod fault;
 mod greeting;
 mod hearing;
 mod laws;
+mod own;
+mod pieces;
 mod polling;
 mod publishing;
+mod pushed;
 mod pushing;
 mod server;
 mod tries;
@@ -17,6 +21,7 @@ mod tries;
 pub use fault::ClientFault;
 pub use laws::client_laws;
 pub use polling::Polling;
-pub use publishing::Drawing;
+pub use publishing::{Drawing, Saying};
+pub use pushed::Pushed;
 pub use pushing::Pushing;
 pub use server::Server;

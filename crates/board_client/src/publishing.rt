@@ -1,10 +1,14 @@
 //! Drawings, and edits that are published.
 
-ghost use Rattle.std.specs.Prelude.{◌≡◌, IsTrue, IfErr, IfOk};
+ghost use Rattle.std.specs.Prelude.{◌≡◌, IsTrue, IfErr, IfOk, Ok};
 ghost use Rattle.edit_stamps.specs.Edit.{has_states_below};
-ghost use Rattle.board_client.specs.Drawing.{IsDrawing, IsPublishing, push_bytes};
+ghost use Rattle.board_client.specs.Drawing.{IsDrawing, IsOwnTaken, IsPublishingEnd};
+ghost use Rattle.board_client.specs.Pushing.{push_bytes};
+ghost use Rattle.board_client.specs.Saying.{IsDrawingSaid, SaysPush};
 
 use crate::fault::ClientFault;
+use crate::own::Own;
+use crate::pushed::Pushed;
 use crate::pushing::Pushing;
 use crate::server::Server;
 use client_protocol::{Asking, request_body};
@@ -31,6 +35,15 @@ pub enum Drawing {
     Unpublished(u8),
 }
 
+/// What came of a drawing whose push was to be said.
+#[derive(Drop)]
+pub enum Saying {
+    /// The push of this edit was said.
+    Said(Pushed),
+    /// There is no such edit; nothing was said.
+    Refused(Fault),
+}
+
 impl<'a, C: Clock, S: Source + Drop, K: Sink + Drop> Server<'a, C, S, K> {
     /// Draws what a replica would draw of what it holds, with a counter above a given one too, and has it
     /// published: only where the board has the edit does the replica take it. So it wins each cell that the
@@ -43,29 +56,76 @@ impl<'a, C: Clock, S: Source + Drop, K: Sink + Drop> Server<'a, C, S, K> {
     ) -> Result<Drawing, ClientFault>
         ensures { IsDrawing after spec.now self.old self.new replica.old replica.new result }
     {
-        match replica.edit_of(after, spec) {
-            Ok(edit) => self.publish(replica, &edit),
-            Err(Fault::Memory) => Err(ClientFault::Memory),
-            Err(fault) => Ok(Drawing::Refused(fault)),
+        match self.say_drawing(replica, after, spec) {
+            Ok(Saying::Said(pushed)) => self.end_drawing(replica, pushed),
+            Ok(Saying::Refused(fault)) => Ok(Drawing::Refused(fault)),
+            Err(fault) => Err(fault),
         }
     }
 
-    /// Pushes an edit, and has a replica take it where the board has it.
-    fn publish(&mut self, replica: &mut Replica, edit: &Edit) -> Result<Drawing, ClientFault>
-        requires { IsTrue (has_states_below replica.old.rule.states edit.now) }
-        ensures { IsPublishing edit.now self.old self.new replica.old replica.new result }
+    /// Makes the edit of a drawing, and says its push; nothing is heard. So a drawing goes out while a reply is
+    /// still to come: that is heard first, and then `end_drawing` hears the push's answer.
+    pub fn say_drawing(
+        &mut self,
+        replica: &Replica,
+        after: u64,
+        spec: &EditSpec,
+    ) -> Result<Saying, ClientFault>
+        ensures { IsDrawingSaid after spec.now self.old self.new replica.now result }
     {
-        let request = match push_request(self.alloc, &replica.rule(), edit) {
+        match replica.edit_of(after, spec) {
+            Ok(edit) => self.say_push(&replica.rule(), edit),
+            Err(Fault::Memory) => Err(ClientFault::Memory),
+            Err(fault) => Ok(Saying::Refused(fault)),
+        }
+    }
+
+    /// Says the push of an edit.
+    fn say_push(&mut self, rule: &Rule, edit: Edit) -> Result<Saying, ClientFault>
+        requires { IsTrue (has_states_below rule.now.states edit) }
+        ensures { SaysPush rule.now (Ok edit) self.old self.new result }
+    {
+        let request = match push_request(self.alloc, rule, &edit) {
             Ok(request) => request,
             Err(fault) => return Err(fault),
         };
-        match self.push(&request) {
-            Ok(Pushing::Refused(number)) => Ok(Drawing::Unpublished(number)),
-            Ok(Pushing::Done) => match replica.take_edits(slice::from_ref(edit)) {
-                Ok(()) => Ok(Drawing::Drawn(edit.stamp().counter())),
-                Err(fault) => Err(ClientFault::Text(fault)),
-            },
+        match self.say(&request) {
+            Ok(()) => Ok(Saying::Said(Pushed::new(*rule, edit, request))),
             Err(fault) => Err(fault),
+        }
+    }
+
+    /// Hears the answer to a drawing whose push was said, and has a replica take the edit where the board has
+    /// it. Where the board's inbox is full, or memory was wanted, the same bytes are pushed again, as in `push`.
+    pub fn end_drawing(
+        &mut self,
+        replica: &mut Replica,
+        pushed: Pushed,
+    ) -> Result<Drawing, ClientFault>
+        requires { pushed.rule ≡ replica.old.rule }
+        ensures { IsPublishingEnd pushed.edit self.old self.new replica.old replica.new result }
+    {
+        match self.end_push(pushed.request()) {
+            Ok(Pushing::Refused(number)) => Ok(Drawing::Unpublished(number)),
+            Ok(Pushing::Done) => self.take_own(replica, pushed),
+            Err(fault) => Err(fault),
+        }
+    }
+
+    /// Has a replica take an edit that the board has.
+    fn take_own(&mut self, replica: &mut Replica, pushed: Pushed) -> Result<Drawing, ClientFault>
+        requires { pushed.rule ≡ replica.old.rule }
+        ensures line { self.new ≡ self.old }
+        ensures taken { IsOwnTaken pushed.edit replica.old replica.new result }
+    {
+        let place = replica.journal().len();
+        match replica.take_edits(slice::from_ref(pushed.edit())) {
+            Ok(()) => {
+                let counter = pushed.edit().stamp().counter();
+                self.keep_own(Own { pushed, place });
+                Ok(Drawing::Drawn(counter))
+            }
+            Err(fault) => Err(ClientFault::Text(fault)),
         }
     }
 }

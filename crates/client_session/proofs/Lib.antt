@@ -6,3 +6,6 @@ pub mod WaitLaws
 pub mod JoinLaws
 pub mod DrawnLaws
 pub mod LineLaws
+pub mod FollowLaws
+pub mod BehindLaws
+pub mod PollLaws

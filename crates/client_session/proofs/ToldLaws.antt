@@ -1,5 +1,5 @@
 -- What is told of a board is what the replica holds.
-use Rattle.std.proofs.Common.{◌≡◌, ℕ, true, List, [], ◌∷◌, ◌++◌, Option, Some, None, Result, Ok, Err, length, drop, refl, sym, ap, subst, ◌∙◌}
+use Rattle.std.proofs.Common.{◌≡◌, ℕ, true, List, [], ◌∷◌, ◌++◌, Option, Some, None, Result, Ok, Err, length, drop, refl, sym, ap, subst, ◌∙◌, inl, inr}
 use Rattle.generations_rule.specs.Rule.{GenerationsRule}
 use Rattle.edit_stamps.specs.Edit.{PlaneEdit, greatest}
 use Rattle.stamped_writes.specs.Write.{Writes, AreSame, greater, joined, unwritten}
@@ -12,10 +12,14 @@ use Rattle.delta_exchange.specs.declared.fault.ReadFault.{ReadFault}
 use Rattle.stamped_tree.specs.Tree.{Tree}
 use Rattle.generations_rule.specs.Refusal.{◌>>=◌}
 use Rattle.replica_core.specs.Replica.{ReplicaState, IsReplica, Takes}
+use Rattle.board_client.specs.Client.{LineState}
 use Rattle.board_client.specs.Hearing.{AreDeltas, AreTaken, IsTaken}
+use Rattle.board_client.specs.Polling.{IsFallenBack, IsNewsHeard, IsPoll, poll_request}
+use Rattle.board_client.specs.declared.polling.Polling.TheVariants as polling
 use Rattle.board_client.specs.declared.publishing.Drawing.{Drawing}
 use Rattle.board_client.specs.declared.publishing.Drawing.TheVariants.{Drawn, Refused, Unpublished}
-use Rattle.board_client.specs.Drawing.{IsDrawing}
+use Rattle.board_client.specs.Drawing.{IsDrawing, IsPublishingBy, Pushes}
+use Rattle.board_client.specs.Pushing.{IsPush, IsPushEnd}
 use Rattle.replica_events.specs.declared.edit_spec.EditSpec.{EditSpec}
 use Rattle.pattern_cells.specs.declared.cell.Cell.{Cell}
 use Rattle.pattern_cells.specs.Cells.{place_of}
@@ -28,7 +32,8 @@ use Rattle.client_session.specs.Joining.{IsBlank}
 use Rattle.client_session.specs.Lines.{drawn_line, now_line}
 use Rattle.client_session.specs.Moment.{Moment}
 use Rattle.client_session.specs.Telling.{ShowsAll, TellsCame}
-use Rattle.client_session.specs.Laws.{IsShown, IsShownAs, ShowsWhatItHolds, TellsWhatChanged, TellsWhatTookItsPlace}
+use Rattle.client_session.specs.Laws.{IsShown, IsShownAs, OfEach, ShowsWhatItHeard, ShowsWhatItHolds, TellsWhatChanged, TellsWhatTookItsPlace}
+use Rattle.client_session.specs.News.{Comes, IsAwaited, IsReplyHeard, PollsBy}
 use Rattle.client_session.proofs.FreshLaws.{Grows, HoldsAll, grows_by, grows_not, grows_on, joins_behind}
 
 -- ---- what a replica takes
@@ -86,32 +91,67 @@ blank_shown Nothing (Some plane) p new blank = absurd blank
 blank_shown Changes None p new blank = absurd blank
 blank_shown Changes (Some plane) p new blank = λ c. blank.shows c ∙ sym (new c)
 
--- behind a drawing, by what came of it
-drawn_shown : (drawing : Drawing) (after : ℕ) (spec : EditSpec) (m n : Moment) → IsReplica m.workspace.replica → IsShown m.workspace → IsDrawing after spec m.line n.line m.workspace.replica n.workspace.replica (Ok drawing)
+-- behind an edit that was to be published, by what came of it
+published_shown : (P : Pushes) (drawing : Drawing) (e : PlaneEdit) (m n : Moment) → IsReplica m.workspace.replica → IsShown m.workspace → IsPublishingBy P e m.line n.line m.workspace.replica n.workspace.replica (Ok drawing)
     → TellsDrawing drawing (length m.workspace.replica.journal) (record m.workspace { replica = n.workspace.replica }) n.workspace m.out n.out → IsShown n.workspace
-drawn_shown (Drawn counter) after spec m n is shown d tells =
-    let e : PlaneEdit = d.2.0 in
-    let takes = d.2.2.1.1 in
+published_shown P (Drawn counter) e m n is shown d tells =
+    let takes = d.1.1 in
     record {
       shown = shown_behind m.workspace.shown n.workspace.shown m.workspace.replica.plane n.workspace.replica.plane [] (drop (length m.workspace.replica.journal) n.workspace.replica.journal) (m.out ++ drawn_line counter n.workspace.replica.number) n.out
           shown.shown (joins_behind m.workspace.replica.journal n.workspace.replica.journal (map_of m.workspace.replica.plane) (map_of n.workspace.replica.plane)
           (took m.workspace.replica n.workspace.replica takes.0 (e ∷ []) is.journal.held takes.1 takes.2)) tells.told;
     }
+published_shown P (Refused fault) e m n is shown d tells = absurd d
+published_shown P (Unpublished number) e m n is shown d tells = still_shown m.workspace n.workspace (ap (λ s. s.shown) tells.kept) d.1 shown
+
+-- behind a drawing
+drawn_shown : (drawing : Drawing) (after : ℕ) (spec : EditSpec) (m n : Moment) → IsReplica m.workspace.replica → IsShown m.workspace → IsDrawing after spec m.line n.line m.workspace.replica n.workspace.replica (Ok drawing)
+    → TellsDrawing drawing (length m.workspace.replica.journal) (record m.workspace { replica = n.workspace.replica }) n.workspace m.out n.out → IsShown n.workspace
+drawn_shown (Drawn counter) after spec m n is shown d tells = published_shown IsPush (Drawn counter) d.2.0 m n is shown d.2.2 tells
 drawn_shown (Refused fault) after spec m n is shown d tells = still_shown m.workspace n.workspace (ap (λ s. s.shown) tells.1) d.2.1.1 shown
-drawn_shown (Unpublished number) after spec m n is shown d tells = still_shown m.workspace n.workspace (ap (λ s. s.shown) tells.kept) d.2.2.1 shown
+drawn_shown (Unpublished number) after spec m n is shown d tells = published_shown IsPush (Unpublished number) d.2.0 m n is shown d.2.2 tells
 
 pub shows_what_it_holds : ShowsWhatItHolds
 shows_what_it_holds = record {
   joined = λ telling number rule s fresh. record { shown = blank_shown telling s.shown s.replica.plane fresh.replica.map fresh.shown };
-  edits = λ count m n is shown p. record {
-    shown = shown_behind m.workspace.shown n.workspace.shown m.workspace.replica.plane n.workspace.replica.plane _ (drop (length m.workspace.replica.journal) n.workspace.replica.journal) m.out n.out shown.shown
-        (joins_behind m.workspace.replica.journal n.workspace.replica.journal (map_of m.workspace.replica.plane) (map_of n.workspace.replica.plane)
-        (took_all p.polled.last.texts m.workspace.replica n.workspace.replica is.journal.held p.polled.last.deltas p.polled.last.taken)) p.told.told;
-  };
-  whole = λ m n p. record { shown = all_shown m.workspace.shown n.workspace.shown n.workspace.replica.plane p.told.cells p.told.shows };
-  refused = λ number m n shown p. still_shown m.workspace n.workspace (ap (λ s. s.shown) p.told.0) p.polled.last.kept shown;
   drawn = λ after spec outcome m n is shown d. drawn_shown d.drawing after spec m n is shown d.drawn d.told;
+  published = λ e outcome m n is shown d. published_shown IsPushEnd d.drawing e m n is shown d.drawn d.told;
 }
+
+-- texts of edits were taken, one after another
+abbrev TakesTexts : ReplicaState → ReplicaState → Type 0
+TakesTexts r s = (texts : List (List ℕ)) × AreDeltas texts × AreTaken r texts s
+
+module _ (P : Comes) (texts_of : (count : ℕ) (a b : LineState) (r s : ReplicaState) → P a b r s (Ok (polling.Edits count)) → TakesTexts r s)
+    (kept : (number : ℕ) (a b : LineState) (r s : ReplicaState) → P a b r s (Ok (polling.Refused number)) → s ≡ r) where
+  edits_shown : (count : ℕ) (m n : Moment) → IsReplica m.workspace.replica → IsShown m.workspace → PollsBy P (polling.Edits count) m n → IsShown n.workspace
+  edits_shown count m n is shown p =
+      let taken = texts_of count m.line n.line m.workspace.replica n.workspace.replica p.polled in
+      record {
+        shown = shown_behind m.workspace.shown n.workspace.shown m.workspace.replica.plane n.workspace.replica.plane _ (drop (length m.workspace.replica.journal) n.workspace.replica.journal) m.out n.out shown.shown
+            (joins_behind m.workspace.replica.journal n.workspace.replica.journal (map_of m.workspace.replica.plane) (map_of n.workspace.replica.plane)
+            (took_all taken.0 m.workspace.replica n.workspace.replica is.journal.held taken.1 taken.2)) p.told.told;
+      }
+
+  shows_what_it_heard : ShowsWhatItHeard P
+  shows_what_it_heard = record {
+    edits = edits_shown;
+    whole = λ m n p. record { shown = all_shown m.workspace.shown n.workspace.shown n.workspace.replica.plane p.told.cells p.told.shows };
+    refused = λ number m n shown p. still_shown m.workspace n.workspace (ap (λ s. s.shown) p.told.0) (kept number m.line n.line m.workspace.replica n.workspace.replica p.polled) shown;
+  }
+
+-- a reply that is refused leaves a replica as it is, also where the plane in pieces is refused behind it
+kept_refused : (said : List (List ℕ)) (number : ℕ) (a b : LineState) (old new : ReplicaState) → IsNewsHeard said a b old new (Ok (polling.Refused number)) → new ≡ old
+kept_refused said number a b old new (inl once) = once.1.kept
+kept_refused said number a b old new (inr back) = back.pieces.1.1.last.kept ∙ back.refused.kept
+
+pub shows_each : OfEach ShowsWhatItHeard
+shows_each = (
+  shows_what_it_heard IsPoll (λ count a b r s p. (p.last.texts, p.last.deltas, p.last.taken)) (λ number a b r s p. kept_refused (poll_request ∷ []) number p.mid b r s p.last),
+  shows_what_it_heard IsAwaited (λ count a b r s p. (p.texts, p.deltas, p.taken)) (λ number a b r s p. kept_refused [] number a b r s p),
+  shows_what_it_heard IsReplyHeard (λ count a b r s p. (p.texts, p.deltas, p.taken)) (λ number a b r s p. p.kept),
+  shows_what_it_heard IsFallenBack (λ count a b r s p. absurd p.last) (λ number a b r s p. p.1.1.last.kept),
+)
 
 -- ---- what changed
 
@@ -131,8 +171,8 @@ told_as_changed (Some before) (Some after) shown p q lines came out told is firs
 told_as_changed (Some before) None shown p q lines came out told is first last tells = absurd tells
 told_as_changed None after shown p q lines came out told is first last tells = absurd cc
 
-pub tells_what_changed : TellsWhatChanged
-tells_what_changed count m n shown is first last p =
+tells_what_changed : (P : Comes) → TellsWhatChanged P
+tells_what_changed P count m n shown is first last p =
     let t = told_as_changed m.workspace.shown n.workspace.shown shown m.workspace.replica.plane n.workspace.replica.plane _ (drop (length m.workspace.replica.journal) n.workspace.replica.journal) m.out n.out is first.shown last.shown p.told.told in
     record { cells = t.0; changes = t.1; told = t.2 }
 
@@ -141,9 +181,15 @@ changed_as_a_whole (Some before) (Some after) shown p q cells is first shows = a
 changed_as_a_whole (Some before) None shown p q cells is first shows = absurd shows
 changed_as_a_whole None after shown p q cells is first shows = absurd cc
 
-pub tells_what_took_its_place : TellsWhatTookItsPlace
-tells_what_took_its_place m n shown is first p = record {
+tells_what_took_its_place : (P : Comes) → TellsWhatTookItsPlace P
+tells_what_took_its_place P m n shown is first p = record {
   cells = p.told.cells;
   changes = changed_as_a_whole m.workspace.shown n.workspace.shown shown m.workspace.replica.plane n.workspace.replica.plane p.told.cells is first.shown p.told.shows;
   told = p.told.told;
 }
+
+pub changed_each : OfEach TellsWhatChanged
+changed_each = (tells_what_changed IsPoll, tells_what_changed IsAwaited, tells_what_changed IsReplyHeard, tells_what_changed IsFallenBack)
+
+pub replaced_each : OfEach TellsWhatTookItsPlace
+replaced_each = (tells_what_took_its_place IsPoll, tells_what_took_its_place IsAwaited, tells_what_took_its_place IsReplyHeard, tells_what_took_its_place IsFallenBack)

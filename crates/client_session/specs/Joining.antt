@@ -43,6 +43,7 @@ pub record IsFresh (telling : Telling) (number : ℕ) (rule : GenerationsRule) (
   pub patterns : (name : List ℕ) → pattern_in s.patterns name ≡ no_patterns name
   pub shown : IsBlank telling s.shown
   pub counted : s.counted ≡ 0
+  pub awaited : s.awaited ≡ None
   pub open_still : s.closed ≡ false
   pub quiet : s.quiet ≡ is_quiet telling
 

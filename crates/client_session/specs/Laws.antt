@@ -1,6 +1,7 @@
 -- What is told of a board is what the replica holds.
 use Rattle.std.specs.Prelude.{◌≡◌, ⊤, ℕ, List, ◌++◌, Option, Some, None}
 use Rattle.generations_rule.specs.Rule.{GenerationsRule}
+use Rattle.edit_stamps.specs.Edit.{PlaneEdit}
 use Rattle.pattern_cells.specs.declared.cell.Cell.{Cell}
 use Rattle.stamped_writes.specs.Write.{AreSame}
 use Rattle.stamped_tree.specs.Plane.{StampedPlane, map_of}
@@ -11,11 +12,13 @@ use Rattle.board_client.specs.declared.polling.Polling.TheVariants as polling
 use Rattle.client_session.specs.declared.outcome.Outcome.{Outcome}
 use Rattle.client_session.specs.declared.joining.Telling.{Telling}
 use Rattle.client_session.specs.declared.workspace.Workspace.{Workspace}
-use Rattle.client_session.specs.Drawing.{DrawsAndTells}
+use Rattle.client_session.specs.Drawing.{DrawsAndTellsBy}
 use Rattle.client_session.specs.Joining.{IsFresh}
 use Rattle.client_session.specs.Lines.{now_line, replaced_lines, whole_line}
 use Rattle.client_session.specs.Moment.{Moment}
-use Rattle.client_session.specs.News.{Polls}
+use Rattle.board_client.specs.Drawing.{IsDrawing, IsPublishingEnd}
+use Rattle.board_client.specs.Polling.{IsFallenBack, IsPoll}
+use Rattle.client_session.specs.News.{Comes, IsAwaited, IsReplyHeard, PollsBy}
 
 -- a map that is told is a plane's
 abbrev pub IsShownAs : StampedPlane → Option StampedPlane → Type 0
@@ -26,13 +29,21 @@ IsShownAs plane (Some shown) = AreSame (map_of shown) (map_of plane)
 pub record IsShown (s : Workspace) : Type 0 where
   pub shown : IsShownAs s.replica.plane s.shown
 
--- So it is of a client that joins, and so it stays behind a poll, whatever it brought, and behind a drawing.
+-- So it is of a client that joins, and so it stays behind a drawing, also one whose push was said before.
 pub record ShowsWhatItHolds : Type 0 where
   pub joined : (telling : Telling) (number : ℕ) (rule : GenerationsRule) (s : Workspace) → IsFresh telling number rule s → IsShown s
-  pub edits : (count : ℕ) (m n : Moment) → IsReplica m.workspace.replica → IsShown m.workspace → Polls (polling.Edits count) m n → IsShown n.workspace
-  pub whole : (m n : Moment) → Polls polling.Whole m n → IsShown n.workspace
-  pub refused : (number : ℕ) (m n : Moment) → IsShown m.workspace → Polls (polling.Refused number) m n → IsShown n.workspace
-  pub drawn : (after : ℕ) (spec : EditSpec) (outcome : Outcome) (m n : Moment) → IsReplica m.workspace.replica → IsShown m.workspace → DrawsAndTells after spec m n outcome → IsShown n.workspace
+  pub drawn : (after : ℕ) (spec : EditSpec) (outcome : Outcome) (m n : Moment) → IsReplica m.workspace.replica → IsShown m.workspace → DrawsAndTellsBy (IsDrawing after spec) m n outcome → IsShown n.workspace
+  pub published : (e : PlaneEdit) (outcome : Outcome) (m n : Moment) → IsReplica m.workspace.replica → IsShown m.workspace → DrawsAndTellsBy (IsPublishingEnd e) m n outcome → IsShown n.workspace
+
+-- And so it stays behind what came of a poll, whatever it brought.
+pub record ShowsWhatItHeard (P : Comes) : Type 0 where
+  pub edits : (count : ℕ) (m n : Moment) → IsReplica m.workspace.replica → IsShown m.workspace → PollsBy P (polling.Edits count) m n → IsShown n.workspace
+  pub whole : (m n : Moment) → PollsBy P polling.Whole m n → IsShown n.workspace
+  pub refused : (number : ℕ) (m n : Moment) → IsShown m.workspace → PollsBy P (polling.Refused number) m n → IsShown n.workspace
+
+-- what holds of polls, of the replies to those that wait, of these where more was said behind them, and of planes in pieces
+abbrev pub OfEach : (Comes → Type 0) → Type 0
+OfEach L = L IsPoll × L IsAwaited × L IsReplyHeard × L IsFallenBack
 
 -- a line tells the cells whose state is another one in the replica's map than before
 pub record TellsDifferences (m n : Moment) (out : List ℕ) : Type 0 where
@@ -42,8 +53,8 @@ pub record TellsDifferences (m n : Moment) (out : List ℕ) : Type 0 where
 
 -- Where cells that look different are told and what is told is what the replica holds, before and behind a poll that brought
 -- edits, it tells just those cells.
-abbrev pub TellsWhatChanged : Type 0
-TellsWhatChanged = (count : ℕ) (m n : Moment) (shown : StampedPlane) → m.workspace.shown ≡ Some shown → IsShown m.workspace → IsShown n.workspace → Polls (polling.Edits count) m n → TellsDifferences m n m.out
+abbrev pub TellsWhatChanged : Comes → Type 0
+TellsWhatChanged P = (count : ℕ) (m n : Moment) (shown : StampedPlane) → m.workspace.shown ≡ Some shown → IsShown m.workspace → IsShown n.workspace → PollsBy P (polling.Edits count) m n → TellsDifferences m n m.out
 
 -- the line that a whole plane came, and behind it the cells whose state is another one in the replica's map than before
 pub record TellsReplaced (m n : Moment) : Type 0 where
@@ -52,5 +63,5 @@ pub record TellsReplaced (m n : Moment) : Type 0 where
   pub told : n.out ≡ m.out ++ whole_line ++ replaced_lines cells
 
 -- So it is behind a poll that brought a whole plane.
-abbrev pub TellsWhatTookItsPlace : Type 0
-TellsWhatTookItsPlace = (m n : Moment) (shown : StampedPlane) → m.workspace.shown ≡ Some shown → IsShown m.workspace → Polls polling.Whole m n → TellsReplaced m n
+abbrev pub TellsWhatTookItsPlace : Comes → Type 0
+TellsWhatTookItsPlace P = (m n : Moment) (shown : StampedPlane) → m.workspace.shown ≡ Some shown → IsShown m.workspace → PollsBy P polling.Whole m n → TellsReplaced m n

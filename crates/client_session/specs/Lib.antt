@@ -2,6 +2,8 @@ pub mod Lines
 pub mod Moment
 pub mod Telling
 pub mod News
+pub mod Late
+pub mod Leaving
 pub mod Waiting
 pub mod Drawing
 pub mod Exporting

@@ -1,12 +1,11 @@
 -- The lines that a client prints.
-use Rattle.std.specs.Prelude.{ℕ, zero, suc, ℤ, Bool, ◌||◌, ◌==◌, not, nat_lt, if◌then◌else◌, List, [], ◌∷◌, ◌++◌, length, take, drop, codes, decimal, filter, flat_map, Option, Some, None}
+use Rattle.std.specs.Prelude.{ℕ, zero, suc, ℤ, nat_lt, if◌then◌else◌, List, [], ◌∷◌, ◌++◌, length, take, drop, codes, decimal, flat_map, Option, Some, None}
 use Rattle.std.specs.Fmt.{signed_decimal}
 use Rattle.generations_rule.specs.Rule.{GenerationsRule}
 use Rattle.generations_rule.specs.RuleText.{text_of}
 use Rattle.pattern_cells.specs.declared.cell.Cell.{Cell}
 use Rattle.edit_stamps.specs.declared.rect.Rect.{Rect}
 use Rattle.edit_stamps.specs.Edit.{PlaneEdit}
-use Rattle.edit_stamps.specs.Stamp.{replica_in}
 use Rattle.genedit_io.specs.RunFault.{run_fault_text}
 use Rattle.genedit_io.specs.declared.fault.RunFault.TheVariants.{Refused}
 use Rattle.genedit_lib.specs.Output.{no_pattern_line, stamp_text}
@@ -45,17 +44,9 @@ area_text (Some area) = rect_text area
 abbrev pub edit_line : PlaneEdit → List ℕ
 edit_line e = codes "edit " ++ stamp_text e.stamp ++ area_text e.area ++ codes " cells" ++ cells_text e.cells ++ codes "\n"
 
--- whether an edit was drawn at another seat
-abbrev pub is_of_another : ℕ → PlaneEdit → Bool
-is_of_another number e = not (replica_in e.stamp == number)
-
--- an edit of the seat's own is told only where a push was refused by 30
-abbrev pub is_told : Bool → ℕ → PlaneEdit → Bool
-is_told closed number e = closed || is_of_another number e
-
--- a line for each edit that is told
-abbrev pub edit_lines : Bool → ℕ → List PlaneEdit → List ℕ
-edit_lines closed number edits = flat_map edit_line (filter (is_told closed number) edits)
+-- a line for each edit
+abbrev pub edit_lines : List PlaneEdit → List ℕ
+edit_lines edits = flat_map edit_line edits
 
 -- cells that look different, as they are now; no line where there is none
 abbrev pub now_line : List Cell → List ℕ

@@ -1,12 +1,11 @@
 -- A client between two commands.
-use Rattle.std.specs.Prelude.{◌≡◌, ⊤, ℕ, List, ◌++◌, length, drop, filter, Result, Ok, Err}
+use Rattle.std.specs.Prelude.{◌≡◌, ⊤, ℕ, ◌-◌, List, ◌++◌, length, drop, Result, Ok, Err}
 use mathlib.Core.List.{IsPrefix}
 use Rattle.edit_stamps.specs.Edit.{PlaneEdit}
 use Rattle.board_client.specs.Client.{LineState}
 use Rattle.client_session.specs.declared.fault.CommandFault.{CommandFault}
 use Rattle.client_session.specs.declared.fault.CommandFault.TheVariants.{Client, Refused, Memory, StoreFull}
 use Rattle.client_session.specs.declared.workspace.Workspace.{Workspace}
-use Rattle.client_session.specs.Lines.{is_of_another}
 
 -- the line to the server, what the client works with, and what it printed
 pub record Moment : Type 0 where
@@ -14,9 +13,13 @@ pub record Moment : Type 0 where
   pub workspace : Workspace
   pub out : List ℕ
 
--- how many edits of others came since a number of edits, or a whole plane, was last told
+-- how many edits of others came since a number of edits, or a whole plane, was last told: those of the journal that are not counted off
 abbrev pub others : Workspace → ℕ
-others s = length (filter (is_of_another s.replica.number) (drop s.counted s.replica.journal))
+others s = length s.replica.journal - s.counted
+
+-- how many are counted off so that there are as many others as before, where the journal had so many edits then: what was drawn since is none of others
+abbrev pub counted_behind : ℕ → Workspace → ℕ
+counted_behind known s = length s.replica.journal - (known - s.counted)
 
 -- the edits that a poll or a drawing put behind a client's journal
 abbrev pub came : Workspace → Workspace → List PlaneEdit

@@ -1,5 +1,5 @@
 -- Worked values of the definitions.
-use Rattle.std.specs.Prelude.{◌≡◌, ℕ, true, false, [], ◌∷◌, ◌++◌, replicate, None, Some, codes, refl, pos, negsuc}
+use Rattle.std.specs.Prelude.{◌≡◌, ℕ, [], ◌∷◌, ◌++◌, replicate, None, Some, codes, refl, pos, negsuc}
 use Rattle.std.specs.Fmt.{digits}
 use Rattle.generations_rule.specs.RuleText.{rule_of_text, text_of_set}
 use Rattle.edit_stamps.specs.Edit.{PlaneEdit}
@@ -26,13 +26,9 @@ pub cleared_area : edit_line clear ≡ codes "edit 2 1 area 0 0 2 1 cells\n"
 unfolding digits
 cleared_area = refl
 
-pub own_edits_are_not_told : edit_lines false 2 (stroke ∷ clear ∷ []) ≡ codes "edit 2 1 area 0 0 2 1 cells\n"
+pub each_edit_in_a_line : edit_lines (stroke ∷ clear ∷ []) ≡ codes "edit 3 2 cells 3 -4 1\nedit 2 1 area 0 0 2 1 cells\n"
 unfolding digits
-own_edits_are_not_told = refl
-
-pub all_are_told_behind_30 : edit_lines true 2 (stroke ∷ clear ∷ []) ≡ codes "edit 3 2 cells 3 -4 1\nedit 2 1 area 0 0 2 1 cells\n"
-unfolding digits
-all_are_told_behind_30 = refl
+each_edit_in_a_line = refl
 
 pub two_cells_look_different : now_line (record { x = pos 1; y = pos 0; state = 2 } ∷ record { x = pos 0; y = pos 7; state = 0 } ∷ []) ≡ codes "now 1 0 2 0 7 0\n"
 unfolding digits

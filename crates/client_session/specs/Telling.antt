@@ -54,9 +54,9 @@ ShowsAll plane None None cells = cells ≡ []
 ShowsAll plane (Some before) (Some after) cells = ShowsPlane plane before after cells
 ShowsAll plane _ _ cells = ⊥
 
--- the lines of edits behind so many of the journal; those of the client's own are told only where a push was refused by 30, and by a client that is quiet none
+-- the lines of edits behind so many of the journal; by a client that is quiet none
 abbrev pub came_lines : ℕ → Workspace → List ℕ
-came_lines known s = if s.quiet then [] else edit_lines s.closed s.replica.number (drop known s.replica.journal)
+came_lines known s = if s.quiet then [] else edit_lines (drop known s.replica.journal)
 
 -- edits behind so many of the journal are told, each in a line, or what they change
 pub record TellsBehind (known : ℕ) (old new : Workspace) (out out' : List ℕ) : Type 0 where

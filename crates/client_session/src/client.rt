@@ -1,7 +1,7 @@
 //! A client of a board.
 
 ghost use Rattle.std.specs.Prelude.{◌≡◌, [], OnErr, OnOk};
-ghost use Rattle.board_client.specs.Greeting.{IsLeaving};
+ghost use Rattle.client_session.specs.Leaving.{LeavesBehind, LeavesBoard};
 ghost use Rattle.client_session.specs.Moment.{BreaksOff, Prints};
 
 use crate::workspace::Workspace;
@@ -74,11 +74,29 @@ impl<'a, C: Clock, S: Source + Drop, K: Sink + Drop> Client<'a, C, S, K> {
         self.out.extend_from_slice(text)
     }
 
-    /// Says farewell, and hears the answer. Nothing is said on the line after that.
+    /// Says farewell, and hears the answer. Where a poll waits its reply is heard before, and taken, and nothing
+    /// told of it. Nothing is said on the line after that.
     pub fn leave(&mut self) -> Result<Pushing, ClientFault>
-        ensures left { IsLeaving self.old.line self.new.line result }
-        ensures kept { self.new ≡ record self.old { line = self.new.line } }
+        ensures { LeavesBoard self.old.workspace.awaited self.old self.new result }
     {
-        self.server.leave()
+        match self.workspace.awaited {
+            None => self.server.leave(),
+            Some(_) => self.leave_behind(),
+        }
+    }
+
+    /// The farewell where a poll waits.
+    fn leave_behind(&mut self) -> Result<Pushing, ClientFault>
+        ensures { LeavesBehind self.old self.new result }
+    {
+        match self.server.say_farewell() {
+            Ok(()) => {}
+            Err(fault) => return Err(fault),
+        }
+        self.workspace.awaited = None;
+        match self.server.hear_reply(&mut self.workspace.replica) {
+            Ok(_) => self.server.hear_farewell(),
+            Err(fault) => Err(fault),
+        }
     }
 }

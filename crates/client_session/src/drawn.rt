@@ -1,7 +1,7 @@
 //! Drawings, and what is told of them.
 
 ghost use Rattle.std.specs.Prelude.{◌≡◌, ◌++◌, drop, false, IfErr, OnErr, OnOk};
-ghost use Rattle.client_session.specs.Drawing.{DrawingFindsNoRoom, DrawsAs, IsDrawCommand, TellsDrawing, TellsDrawn};
+ghost use Rattle.client_session.specs.Drawing.{DrawingFindsNoRoom, DrawsAs, DrawsFrom, IsDrawCommand, TellsDrawing, TellsDrawn};
 ghost use Rattle.client_session.specs.Lines.{drawn_line, refusal_line};
 ghost use Rattle.client_session.specs.declared.outcome.Outcome.TheVariants.{Refused};
 ghost use Rattle.client_session.specs.Moment.{IsCutShort, IsPrinted, IsWant};
@@ -26,9 +26,20 @@ impl<'a, C: Clock, S: Source + Drop, K: Sink + Drop> Client<'a, C, S, K> {
     /// Polls, tells what came, and draws an edit with a counter above a given one too, 0 where none is:
     /// `drawn C R`, and where cells that look different are told those behind it; or a refusal of the edit,
     /// of the poll or of the push. Once a push was refused by 30 it is `refused 30 Closed`, and nothing is
-    /// pushed.
+    /// pushed. Where a poll waits none is said: the push is said behind it, and its reply told first, of a refusal
+    /// nothing. Where there is nothing to push the poll waits on.
     pub fn draw(&mut self, after: u64, spec: &EditSpec) -> Result<Outcome, CommandFault>
         ensures { IsDrawCommand after spec.now self.old self.new result }
+    {
+        match self.workspace.awaited {
+            Some(_) => self.draw_waiting(after, spec),
+            None => self.draw_polled(after, spec),
+        }
+    }
+
+    /// The drawing where no poll waits.
+    fn draw_polled(&mut self, after: u64, spec: &EditSpec) -> Result<Outcome, CommandFault>
+        ensures { DrawsFrom None after spec.now self.old self.new result }
     {
         match self.news() {
             Ok(News::Refused) => Ok(Outcome::Refused),
@@ -48,14 +59,14 @@ impl<'a, C: Clock, S: Source + Drop, K: Sink + Drop> Client<'a, C, S, K> {
     }
 
     /// Whether a push was refused by 30.
-    fn is_closed(&self) -> bool
+    pub(crate) fn is_closed(&self) -> bool
         ensures { result ≡ self.now.workspace.closed }
     {
         self.workspace.closed
     }
 
     /// Tells that the board is closed to it.
-    fn tell_closed(&mut self) -> Result<Outcome, CommandFault>
+    pub(crate) fn tell_closed(&mut self) -> Result<Outcome, CommandFault>
         ensures { IsPrinted Refused (refusal_line 30) self.old self.new result }
     {
         match push_refusal(self.server.alloc(), &mut self.out, CLOSED) {
@@ -87,7 +98,7 @@ impl<'a, C: Clock, S: Source + Drop, K: Sink + Drop> Client<'a, C, S, K> {
 
 impl Workspace {
     /// Tells what came of a drawing, behind so many edits of the journal.
-    fn tell_drawing(
+    pub(crate) fn tell_drawing(
         &mut self,
         alloc: Global,
         drawing: Drawing,
@@ -128,6 +139,8 @@ impl Workspace {
     {
         push_drawn(out, counter, self.replica.number())?;
         let own = behind(self.replica.journal(), known);
-        tell_own(alloc, &mut self.shown, out, own)
+        tell_own(alloc, &mut self.shown, out, own)?;
+        self.counted = self.counted_behind(known);
+        Ok(())
     }
 }

@@ -92,7 +92,7 @@ impl<'a, C: Clock, S: Source + Drop, K: Sink + Drop> Client<'a, C, S, K> {
             workspace,
             out,
         };
-        match client.follow() {
+        match client.first_poll() {
             Ok(()) => Ok(client),
             Err(fault) => Err(client.unjoined(fault)),
         }
@@ -157,6 +157,7 @@ fn fresh(
         patterns: Patterns::new(alloc),
         shown,
         counted: 0,
+        awaited: None,
         closed: false,
         quiet: is_quiet(telling),
     })

@@ -4,9 +4,12 @@
 
 mod client;
 mod drawn;
+mod drawn_behind;
 mod exporting;
 mod fault;
+mod following;
 mod joining;
+mod late;
 mod laws;
 mod lines;
 mod naming;
@@ -20,6 +23,7 @@ mod workspace;
 
 pub use client::Client;
 pub use fault::CommandFault;
+pub use following::Followed;
 pub use joining::{Telling, Unjoined};
 pub use laws::session_laws;
 pub use outcome::Outcome;

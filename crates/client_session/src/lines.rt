@@ -4,7 +4,7 @@ ghost use Rattle.std.specs.Prelude.{◌≡◌, ◌++◌, codes, decimal, OnErr, 
 ghost use mathlib.Core.List.{IsPrefix};
 ghost use Rattle.std.specs.Fmt.{signed_decimal};
 ghost use Rattle.genedit_lib.specs.Output.{stamp_text};
-ghost use Rattle.client_session.specs.Lines.{area_text, cell_text, cells_text, drawn_line, edit_line, edit_lines, edits_line, is_of_another, is_told, joined_line, late_line, many_line, nameless_line, now_line, now_lines, place_text, rect_text, refusal_line, replaced_lines, size_text, whole_line};
+ghost use Rattle.client_session.specs.Lines.{area_text, cell_text, cells_text, drawn_line, edit_line, edit_lines, edits_line, joined_line, late_line, many_line, nameless_line, now_line, now_lines, place_text, rect_text, refusal_line, replaced_lines, size_text, whole_line};
 
 use edit_stamps::{Edit, Rect, Stamp};
 use genedit_io::RunFault;
@@ -39,29 +39,15 @@ pub(crate) fn push_joined(
     Ok(())
 }
 
-/// A line for each edit that is told: those of other seats, or all.
-pub(crate) fn push_edits(
-    out: &mut Vec<u8>,
-    edits: &[Edit],
-    number: u16,
-    closed: bool,
-) -> Result<(), AllocError>
-    ensures told { OnOk result (out.new.items ≡ out.old.items ++ edit_lines closed number edits.now) }
+/// A line for each edit.
+pub(crate) fn push_edits(out: &mut Vec<u8>, edits: &[Edit]) -> Result<(), AllocError>
+    ensures told { OnOk result (out.new.items ≡ out.old.items ++ edit_lines edits.now) }
     ensures kept { OnErr result (IsPrefix out.old.items out.new.items) }
 {
     for edit in edits {
-        if closed || is_of_another(edit, number) {
-            push_edit(out, edit)?;
-        }
+        push_edit(out, edit)?;
     }
     Ok(())
-}
-
-/// Whether an edit was drawn at another seat than the one of this number.
-pub(crate) fn is_of_another(edit: &Edit, number: u16) -> bool
-    ensures { result ≡ is_of_another number edit.now }
-{
-    edit.stamp().replica() != number
 }
 
 fn push_edit(out: &mut Vec<u8>, edit: &Edit) -> Result<(), AllocError>

@@ -1,6 +1,6 @@
 //! Patterns that are given names.
 
-ghost use Rattle.std.specs.Prelude.{◌≡◌, ◌++◌, codes, List, ℕ, IfOk, OnErr, OnOk};
+ghost use Rattle.std.specs.Prelude.{◌≡◌, ◌++◌, codes, List, ℕ, OnErr, OnOk};
 ghost use mathlib.Core.List.{IsPrefix};
 ghost use Rattle.multistate_rle.specs.Reading.{parsed};
 ghost use Rattle.genedit_lib.specs.Output.{naming_text, with_text};
@@ -12,7 +12,6 @@ use devices::{Sink, Source};
 use genedit_lib::{Patterns, pattern_text, push_text, text_refusal};
 use genedit_script::{PatternName, PatternText};
 use multistate_rle::{RleFault, parse};
-use pattern_cells::Pattern;
 use std::alloc::{AllocError, Global};
 use std::time::Clock;
 
@@ -34,13 +33,6 @@ impl<'a, C: Clock, S: Source + Drop, K: Sink + Drop> Client<'a, C, S, K> {
             name,
             text,
         )
-    }
-
-    /// A copy of the pattern that a name stands for.
-    pub fn pattern(&self, name: &PatternName) -> Result<Option<Pattern>, AllocError>
-        ensures { IfOk result (λ pattern. pattern ≡ pattern_in self.now.workspace.patterns name.now) }
-    {
-        self.workspace.patterns.copy_of(name)
     }
 }
 

@@ -10,6 +10,7 @@ use crate::lines::push_nameless;
 use crate::outcome::Outcome;
 use devices::{Sink, Source};
 use genedit_script::PatternName;
+use pattern_cells::Pattern;
 use replica_events::EditSpec;
 use std::alloc::AllocError;
 use std::time::Clock;
@@ -60,6 +61,7 @@ impl<'a, C: Clock, S: Source + Drop, K: Sink + Drop> Client<'a, C, S, K> {
             },
         }
     }
+
     /// What a paste draws, if the name stands for a pattern.
     fn pasted(
         &self,
@@ -71,9 +73,16 @@ impl<'a, C: Clock, S: Source + Drop, K: Sink + Drop> Client<'a, C, S, K> {
         ensures want { IfErr result (λ _. IsSome (option_map (paste_spec mode corner) (pattern_in self.now.workspace.patterns name.now))) }
     {
         let pattern = self.workspace.patterns.copy_of(name)?;
-        Ok(match mode {
-            PasteMode::Copy => pattern.map(|pattern| EditSpec::Copy(pattern, corner.x, corner.y)),
-            PasteMode::Or => pattern.map(|pattern| EditSpec::Or(pattern, corner.x, corner.y)),
-        })
+        Ok(pattern.map(|pattern| paste_spec(mode, corner, pattern)))
+    }
+}
+
+/// What is drawn of a pattern.
+fn paste_spec(mode: PasteMode, corner: Corner, pattern: Pattern) -> EditSpec
+    ensures { result ≡ paste_spec mode corner pattern }
+{
+    match mode {
+        PasteMode::Copy => EditSpec::Copy(pattern, corner.x, corner.y),
+        PasteMode::Or => EditSpec::Or(pattern, corner.x, corner.y),
     }
 }

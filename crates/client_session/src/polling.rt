@@ -4,7 +4,8 @@ ghost use Rattle.std.specs.Prelude.{◌≡◌, drop, IfErr, OnErr, OnOk};
 ghost use Rattle.client_session.specs.Waiting.{IsCount};
 ghost use Rattle.client_session.specs.Lines.{edits_line, late_line};
 ghost use Rattle.client_session.specs.Moment.{IsCutShort, IsWant, TellsCount, others};
-ghost use Rattle.client_session.specs.News.{IsFollowing, IsNews, IsPollTold};
+ghost use Rattle.board_client.specs.Polling.{IsPoll};
+ghost use Rattle.client_session.specs.News.{IsFollowing, IsNews, IsNewsBy, IsPollToldBy};
 ghost use Rattle.client_session.specs.Telling.{CameFindsNoRoom, IsPollingTold, TellsBehind, TellsWhole, WholeFindsNoRoom};
 
 use crate::client::Client;
@@ -31,9 +32,8 @@ pub(crate) enum News {
 }
 
 impl<'a, C: Clock, S: Source + Drop, K: Sink + Drop> Client<'a, C, S, K> {
-    /// Polls, and tells what came: `whole`, or else each edit, or nothing; or, behind `whole` too, the cells that
-    /// look different. Of a refusal nothing is told.
-    pub fn follow(&mut self) -> Result<(), CommandFault>
+    /// The poll of a client that joins, which tells what came. Of a refusal nothing is told.
+    pub(crate) fn first_poll(&mut self) -> Result<(), CommandFault>
         ensures { IsFollowing self.old self.new result }
     {
         match self.told_poll() {
@@ -59,6 +59,16 @@ impl<'a, C: Clock, S: Source + Drop, K: Sink + Drop> Client<'a, C, S, K> {
     pub(crate) fn news(&mut self) -> Result<News, CommandFault>
         ensures { IsNews self.old self.new result }
     {
+        match self.workspace.awaited {
+            Some(milliseconds) => self.news_behind(milliseconds),
+            None => self.news_alone(),
+        }
+    }
+
+    /// The same where no poll waits.
+    fn news_alone(&mut self) -> Result<News, CommandFault>
+        ensures { IsNewsBy IsPoll self.old self.new result }
+    {
         match self.told_poll() {
             Ok(Polling::Edits(_)) => Ok(News::Edits),
             Ok(Polling::Whole) => Ok(News::Whole),
@@ -73,8 +83,8 @@ impl<'a, C: Clock, S: Source + Drop, K: Sink + Drop> Client<'a, C, S, K> {
     }
 
     /// Polls, and tells what came. A refusal by 21 ends the client: what the board had to hand out is lost.
-    fn told_poll(&mut self) -> Result<Polling, CommandFault>
-        ensures { IsPollTold self.old self.new result }
+    pub(crate) fn told_poll(&mut self) -> Result<Polling, CommandFault>
+        ensures { IsPollToldBy IsPoll self.old self.new result }
     {
         let alloc = self.server.alloc();
         let known = self.workspace.replica.journal().len();
@@ -116,7 +126,7 @@ impl<'a, C: Clock, S: Source + Drop, K: Sink + Drop> Client<'a, C, S, K> {
 
 impl Workspace {
     /// Tells what a poll brought, behind so many edits of the journal.
-    fn tell(
+    pub(crate) fn tell(
         &mut self,
         alloc: Global,
         polling: Polling,
@@ -151,7 +161,7 @@ impl Workspace {
             Some(shown) => tell_changes(alloc, shown, out, came),
             None if quiet => Ok(()),
             None => {
-                push_edits(out, came, self.replica.number(), self.closed)?;
+                push_edits(out, came)?;
                 Ok(())
             }
         }

@@ -1,9 +1,7 @@
 //! What a client works with.
 
-ghost use Rattle.std.specs.Prelude.{◌≡◌, drop, filter, length};
-ghost use Rattle.client_session.specs.Lines.{is_of_another};
+ghost use Rattle.std.specs.Prelude.{◌≡◌, drop};
 
-use crate::lines::is_of_another;
 use edit_stamps::Edit;
 use genedit_lib::Patterns;
 use held_plane::HeldPlane;
@@ -19,8 +17,11 @@ pub struct Workspace {
     pub patterns: Patterns,
     /// What was told of the board, where the cells that look different are told and not each edit.
     pub shown: Option<HeldPlane>,
-    /// How many edits stood in the replica's journal when a number of edits, or a whole plane, was last told.
+    /// How many edits of the replica's journal are counted off: those that stood there when a number of edits, or a
+    /// whole plane, was last told, and those that the client drew since.
     pub counted: usize,
+    /// For how many milliseconds the poll waits that was said and is not answered yet, if there is one.
+    pub awaited: Option<u32>,
     /// Whether a push was refused by 30. Then nothing is pushed any more.
     pub closed: bool,
     /// Whether edits that come are not told.
@@ -28,25 +29,22 @@ pub struct Workspace {
 }
 
 impl Workspace {
-    ghost use Rattle.client_session.specs.Moment.{others};
+    ghost use Rattle.client_session.specs.Moment.{counted_behind, others};
 
     /// How many edits of others came since a number of edits, or a whole plane, was last told.
     pub(crate) fn others(&self) -> usize
         ensures { result ≡ others self.now }
     {
-        let since = behind(self.replica.journal(), self.counted);
-        count_others(since, self.replica.number())
+        self.replica.journal().len().saturating_sub(self.counted)
     }
-}
 
-/// How many edits of a list were drawn at another seat than the one of a number.
-fn count_others(edits: &[Edit], number: u16) -> usize
-    ensures { result ≡ length (filter (is_of_another number) edits.now) }
-{
-    edits
-        .iter()
-        .filter(|edit| is_of_another(edit, number))
-        .count()
+    /// How many edits are counted off, where the journal had so many before the client drew.
+    pub(crate) fn counted_behind(&self, known: usize) -> usize
+        ensures { result ≡ counted_behind known self.now }
+    {
+        let others = known.saturating_sub(self.counted);
+        self.replica.journal().len().saturating_sub(others)
+    }
 }
 
 /// The edits of a list from a place on.

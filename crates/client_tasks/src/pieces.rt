@@ -12,8 +12,9 @@ use replica_events::{CellList, EditSpec};
 use std::alloc::{AllocError, Global};
 use std::time::Clock;
 
-/// Draws cells in edits of as many as one may have, each behind a poll of its own and with a counter above
-/// a given one too. Behind an edit that is refused, or may be, no more is drawn.
+/// Draws cells in edits of as many as one may have, each behind a poll of its own, the first behind one that
+/// waits, where one does, and with a counter above a given one too. Behind an edit that is refused, or may be,
+/// no more is drawn.
 pub(crate) fn draw_all<C: Clock, S: Source + Drop, K: Sink + Drop>(
     client: &mut Client<'_, C, S, K>,
     after: u64,

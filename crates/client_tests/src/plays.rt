@@ -134,7 +134,9 @@ fn does<R: Abort + Clock>(
             obey(client, line)?;
         }
         Act::Poll => client.poll()?,
-        Act::Follow => client.follow()?,
+        Act::Follow => {
+            client.follow()?;
+        }
         Act::Told(text) => assert_eq!(rt; told(client)?.as_str(), *text, "step {number}"),
     }
     Ok(())

@@ -1,29 +1,36 @@
 -- What a client does before and behind its commands.
-use Rattle.std.specs.Prelude.{ℕ, Bool, true, false, ◌==◌, if◌then◌else◌, ◌/◌, min, Option, Some, None}
+use Rattle.std.specs.Prelude.{ℕ, Bool, true, false, not, ◌==◌, if◌then◌else◌, ◌/◌, min, Option, Some, None}
 use Rattle.std.specs.Duration.{as_nanos}
 use Rattle.std.specs.declared.time.Duration.{Duration}
 use Rattle.client_commands.specs.declared.command.ClientCommand.{ClientCommand}
 use Rattle.client_commands.specs.declared.command.ClientCommand.TheVariants as command
+use Rattle.board_client.specs.declared.pushing.Pushing.{Pushing}
+use Rattle.board_client.specs.declared.pushing.Pushing.TheVariants as pushing
 use Rattle.client_session.specs.declared.outcome.Outcome.{Outcome}
 use Rattle.client_session.specs.declared.outcome.Outcome.TheVariants as outcome
 use Rattle.genedit_join.specs.declared.joined.Going.{Going}
 use Rattle.genedit_join.specs.declared.joined.Going.TheVariants as going
 
--- a command that says something to the server begins with a poll; `open` reads its file before that
-abbrev pub may_poll : ClientCommand → Bool
-may_poll (command.Draw drawing) = true
-may_poll (command.Copy at) = true
-may_poll (command.Or at) = true
-may_poll (command.Export generation file) = true
-may_poll command.Poll = true
-may_poll (command.Wait wait) = true
-may_poll (command.Save file) = true
-may_poll (command.Pattern name text) = false
-may_poll (command.Show x y) = false
-may_poll (command.Sleep milliseconds) = false
-may_poll (command.Open file) = false
-may_poll command.Help = false
-may_poll command.Bye = false
+-- a command that says something to the server begins with a poll, but a drawing where a poll waits; `open` reads its file before that
+abbrev pub asks_ahead : ClientCommand → Bool → Bool
+asks_ahead (command.Draw drawing) awaited = not awaited
+asks_ahead (command.Copy at) awaited = not awaited
+asks_ahead (command.Or at) awaited = not awaited
+asks_ahead (command.Export generation file) awaited = true
+asks_ahead command.Poll awaited = true
+asks_ahead (command.Wait wait) awaited = true
+asks_ahead (command.Save file) awaited = true
+asks_ahead (command.Pattern name text) awaited = false
+asks_ahead (command.Show x y) awaited = false
+asks_ahead (command.Sleep milliseconds) awaited = false
+asks_ahead (command.Open file) awaited = false
+asks_ahead command.Help awaited = false
+asks_ahead command.Bye awaited = false
+
+-- the number with which an edit was answered
+abbrev pub number_of : Pushing → ℕ
+number_of pushing.Done = 0
+number_of (pushing.Refused number) = number
 
 -- how many whole milliseconds are left of a time, at most 2^32 - 1
 abbrev pub whole_milliseconds : Option Duration → ℕ

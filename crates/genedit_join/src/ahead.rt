@@ -8,7 +8,7 @@ ghost use Rattle.devices.specs.Count.{one_more};
 use crate::patience::has_waited;
 use devices::{Failed, Sink};
 use std::io;
-use std::io::{Read, Write};
+use std::io::Write;
 use std::net::TcpStream;
 use std::sync::Arc;
 use std::sync::atomic::{AtomicBool, Ordering};
@@ -193,17 +193,5 @@ impl Ahead {
     /// No longer so: whether that happened.
     pub(crate) fn was_push_lent(&self) -> bool {
         !self.polls.is_push_lent.swap(false, Ordering::SeqCst)
-    }
-
-    /// The answer to such an edit, once something has come: 0, or the number of its refusal. Nothing where what
-    /// comes is no such answer.
-    pub(crate) fn answer(&self) -> Option<u8> {
-        let mut frame = [0u8; 5];
-        let mut stream = &self.stream;
-        stream.read_exact(&mut frame).ok()?;
-        match frame {
-            [0, 0, 0, 1, number] => Some(number),
-            _ => None,
-        }
     }
 }

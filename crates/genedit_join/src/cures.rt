@@ -4,20 +4,21 @@ ghost use Rattle.std.specs.Prelude.{◌≡◌};
 ghost use Rattle.genedit_join.specs.Cures.{is_form, is_mistake};
 
 use crate::ends::refused_number;
-use crate::fault::JoinFault;
 use crate::files::{FileFault, read_whole};
 use crate::joined::Joined;
 use crate::population::cells_told;
 use crate::telling::tell_cure;
 use client_commands::{ClientCommand, FileName};
 use devices::{Sink, Source};
-use genedit_io::RunFault;
 use pattern_files::FileKind;
 use replica_events::EditSpec;
 use script_faults::Refused;
 use std::alloc::{AllocError, Global};
 use std::rt::Files;
 use std::time::Clock;
+
+/// The refusal of more cells than may be drawn at once.
+const TOO_MANY: u8 = 8;
 
 /// What a command is about, as far as the cure of a refusal wants to know it.
 #[derive(Drop)]
@@ -31,20 +32,18 @@ pub(crate) enum About {
 }
 
 impl About {
-    /// What a command is about.
-    pub(crate) fn of(alloc: Global, command: &ClientCommand) -> Result<About, AllocError> {
+    /// What a command is about; nothing where memory is wanting for that.
+    pub(crate) fn of(alloc: Global, command: &ClientCommand) -> About {
         match command {
-            ClientCommand::Draw(drawing) => Ok(About::drawing(drawing)),
-            ClientCommand::Pattern(_, text) => Ok(About::Cells(cells_told(text.as_slice()))),
-            ClientCommand::Open(file) => Ok(About::File(FileName::of(alloc, file.as_bytes())?)),
-            _ => Ok(About::Nothing),
-        }
-    }
-
-    fn drawing(drawing: &EditSpec) -> About {
-        match drawing {
-            EditSpec::Cells(cells) => About::Cells(cells.as_slice().len() as u64),
-            EditSpec::Copy(_, _, _) | EditSpec::Or(_, _, _) | EditSpec::Clear(_) => About::Nothing,
+            ClientCommand::Draw(EditSpec::Cells(cells)) => {
+                About::Cells(cells.as_slice().len() as u64)
+            }
+            ClientCommand::Pattern(_, text) => About::Cells(cells_told(text.as_slice())),
+            ClientCommand::Open(file) => match FileName::of(alloc, file.as_bytes()) {
+                Ok(file) => About::File(file),
+                Err(_) => About::Nothing,
+            },
+            _ => About::Nothing,
         }
     }
 }
@@ -65,13 +64,20 @@ fn is_form(number: u8) -> bool
 
 impl<'a, R: Clock + Files + Eprint, S: Source + Drop, K: Sink + Drop> Joined<'a, R, S, K> {
     /// Tells what would be right, where the command of a line that ends at this one was refused for what it
-    /// says.
-    pub(crate) fn tell_cure(&self, line: u64, about: &About) -> Result<(), JoinFault> {
+    /// says. Where memory is wanting for that, nothing is told: the refusal stands, and the client goes on.
+    pub(crate) fn tell_cure(&self, line: u64, about: &About) {
+        if let Ok(Some(cure)) = self.cure(about) {
+            tell_cure(self.rt, line, cure.as_str());
+        }
+    }
+
+    /// What would be right in the place of what was refused for what it says.
+    fn cure(&self, about: &About) -> Result<Option<String>, AllocError> {
         let Some(number) = refused_number(self.client.printed()) else {
-            return Ok(());
+            return Ok(None);
         };
         if !is_mistake(number) {
-            return Ok(());
+            return Ok(None);
         }
         let alloc = self.client.alloc();
         if is_form(number)
@@ -79,21 +85,20 @@ impl<'a, R: Clock + Files + Eprint, S: Source + Drop, K: Sink + Drop> Joined<'a,
         {
             let kind = kind.text();
             let cure = format!(in alloc; "the file {kind}")?;
-            tell_cure(self.rt, line, cure.as_str());
-            return Ok(());
+            return Ok(Some(cure));
         }
         let refused = Refused {
             number,
             states: Some(self.client.replica().rule().states()),
             replicas: None,
-            cells: self.cells_of(about)?,
+            cells: self.cells_of(number, about)?,
         };
-        tell_cure(self.rt, line, refused.cure(alloc)?.as_str());
-        Ok(())
+        let cure = refused.cure(alloc)?;
+        Ok(Some(cure))
     }
 
     /// What the file is, where it is none that is read.
-    fn kind_of(&self, about: &About) -> Result<Option<FileKind>, JoinFault> {
+    fn kind_of(&self, about: &About) -> Result<Option<FileKind>, AllocError> {
         match about {
             About::File(file) => match self.text_of(file)? {
                 Some(text) => Ok(FileKind::of(&text)),
@@ -103,8 +108,11 @@ impl<'a, R: Clock + Files + Eprint, S: Source + Drop, K: Sink + Drop> Joined<'a,
         }
     }
 
-    /// How many cells are drawn, if that is known.
-    fn cells_of(&self, about: &About) -> Result<Option<u64>, JoinFault> {
+    /// How many cells are drawn, where they are too many and their number is known.
+    fn cells_of(&self, number: u8, about: &About) -> Result<Option<u64>, AllocError> {
+        if number != TOO_MANY {
+            return Ok(None);
+        }
         match about {
             About::Cells(cells) => Ok(Some(*cells)),
             About::File(file) => match self.text_of(file)? {
@@ -116,11 +124,11 @@ impl<'a, R: Clock + Files + Eprint, S: Source + Drop, K: Sink + Drop> Joined<'a,
     }
 
     /// What a file holds, if it can still be read.
-    fn text_of(&self, file: &FileName) -> Result<Option<Vec<u8>>, JoinFault> {
+    fn text_of(&self, file: &FileName) -> Result<Option<Vec<u8>>, AllocError> {
         match read_whole(self.rt, self.client.alloc(), file) {
             Ok(text) => Ok(Some(text)),
             Err(FileFault::Refused(_)) => Ok(None),
-            Err(FileFault::Memory) => Err(JoinFault::Run(RunFault::Memory)),
+            Err(FileFault::Memory) => Err(AllocError),
         }
     }
 }

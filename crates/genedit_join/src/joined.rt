@@ -2,10 +2,11 @@
 
 ghost use Rattle.std.specs.Prelude.{◌≡◌, ◌&&◌, is_none};
 ghost use Rattle.client_tasks.specs.Carrying.{behind_drawing};
-ghost use Rattle.genedit_join.specs.Commands.{going_of, may_poll, whole_milliseconds};
+ghost use Rattle.genedit_join.specs.Commands.{asks_ahead, going_of, number_of, whole_milliseconds};
 ghost use Rattle.genedit_join.specs.Ends.{end_behind};
 
 use crate::ahead::Ahead;
+use crate::ears::Ears;
 use crate::ends::{Board, End, Tally, end_behind, goes_on, is_kept, is_rescued, refusal_in};
 use crate::fault::{JoinFault, of_client};
 use crate::files::{FileFault, read_whole, refused_text, write_whole, wrote_text};
@@ -15,11 +16,13 @@ use crate::own_files::OwnFiles;
 use crate::patience::{Patience, SECONDS, WaitStep, is_kept_after, say_waiting, step_after};
 use crate::rescue::{SeatPlace, has_writes, keep};
 use crate::telling::{tell_kept, tell_left_out, tell_lost, tell_unkept, warn_of_rule};
+use board_client::Pushing;
 use client_commands::{ClientCommand, FileName, FileTarget, Wait};
-use client_session::{Client, Outcome, end_of, rest_within, time_until};
+use client_session::{Client, Followed, Outcome, end_of, rest_within, time_until};
 use client_tasks::{Done, carry_on, carry_out, open};
 use devices::{Sink, Source};
 use genedit_io::{RunFault, push_output};
+use socket_watch::Came;
 use std::alloc::{AllocError, Global};
 use std::rt::Files;
 use std::thread;
@@ -27,6 +30,12 @@ use std::time::{Clock, Duration};
 
 /// How often a sleep or a wait is broken by a poll, at most.
 const TURNS: u64 = 0x1_0000_0000;
+
+/// For how many milliseconds a client that follows awaits news at a time.
+pub(crate) const AWAITED: u32 = 1000;
+
+/// By which a server refuses a request that it does not know.
+const UNKNOWN: u8 = 33;
 
 /// When a client polls.
 #[derive(Clone, Copy, Debug, PartialEq, Eq)]
@@ -60,6 +69,8 @@ pub(crate) struct Joined<'a, R: Clock, S: Source + Drop, K: Sink + Drop> {
     pub(crate) client: Client<'a, R, S, K>,
     pub(crate) options: JoinOptions,
     pub(crate) ahead: Ahead,
+    /// By what it waits while it follows; none where it polls for that.
+    ears: Option<Ears>,
     pub(crate) files: OwnFiles,
     pub(crate) tally: Tally,
     /// By which fault it lost its server, if it did and goes on.
@@ -75,6 +86,7 @@ impl<'a, R: Clock, S: Source + Drop, K: Sink + Drop> Joined<'a, R, S, K> {
         client: Client<'a, R, S, K>,
         options: JoinOptions,
         ahead: Ahead,
+        ears: Option<Ears>,
     ) -> Joined<'a, R, S, K> {
         let files = OwnFiles::none(client.alloc());
         Joined {
@@ -82,6 +94,7 @@ impl<'a, R: Clock, S: Source + Drop, K: Sink + Drop> Joined<'a, R, S, K> {
             client,
             options,
             ahead,
+            ears,
             files,
             tally: Tally {
                 faulty: false,
@@ -157,6 +170,35 @@ impl<'a, R: Clock + Files + Eprint, S: Source + Drop, K: Sink + Drop> Joined<'a,
         Ok(Going::On)
     }
 
+    /// Keeps a poll that waits open at the server, where the client follows and the server knows such a poll:
+    /// whether one is open.
+    pub(crate) fn awaits(&mut self) -> Result<bool, JoinFault> {
+        if self.ears.is_none() || !self.pace().is_following {
+            return Ok(false);
+        }
+        self.client.await_news(AWAITED)?;
+        Ok(true)
+    }
+
+    /// Waits for something of the server, or for a line, for so long at most.
+    pub(crate) fn listen(&mut self, most: Duration) -> Came {
+        match &mut self.ears {
+            Some(ears) => ears.wait(most),
+            None => Came::Nothing,
+        }
+    }
+
+    /// Hears what comes of the poll that waits. Where the server knows no such poll, the client polls from here
+    /// on; where it is refused for a moment, a moment is let pass.
+    pub(crate) fn hear_news(&mut self) -> Result<Going, JoinFault> {
+        match self.client.follow()? {
+            Followed::Told => {}
+            Followed::Refused(UNKNOWN) => self.ears = None,
+            Followed::Refused(_) => thread::sleep(self.rt, self.pace().interval()),
+        }
+        Ok(Going::On)
+    }
+
     /// Does nothing for so long, or polls meanwhile.
     fn sleep<O: Sink>(&mut self, milliseconds: u32, sink: &mut O) -> Result<(), JoinFault> {
         self.push_printed(sink)?;
@@ -170,9 +212,19 @@ impl<'a, R: Clock + Files + Eprint, S: Source + Drop, K: Sink + Drop> Joined<'a,
             let Some(left) = time_until(self.rt, end) else {
                 return Ok(());
             };
+            self.follow_within(left)?;
+            self.push_printed(sink)?;
+        }
+        Ok(())
+    }
+
+    /// Follows for so long at most: up to the next news, or to the next poll.
+    fn follow_within(&mut self, left: Duration) -> Result<(), JoinFault> {
+        if !self.awaits()? {
             thread::sleep(self.rt, rest_within(left, u32::from(self.options.interval)));
             self.follow()?;
-            self.push_printed(sink)?;
+        } else if self.listen(left) == Came::Byte {
+            self.hear_news()?;
         }
         Ok(())
     }
@@ -193,12 +245,17 @@ impl<'a, R: Clock + Files + Eprint, S: Source + Drop, K: Sink + Drop> Joined<'a,
                 return;
             }
             seconds = seconds.saturating_add(1);
-            if step_after(seconds, false) == WaitStep::Say {
-                say_waiting(self.rt);
-            }
-            if is_kept_after(seconds) {
-                self.keep_in_doubt();
-            }
+            self.wait_on(seconds);
+        }
+    }
+
+    /// What is done once an answer has not come for so many seconds, and is awaited further.
+    pub(crate) fn wait_on(&self, seconds: u64) {
+        if step_after(seconds, false) == WaitStep::Say {
+            say_waiting(self.rt);
+        }
+        if is_kept_after(seconds) {
+            self.keep_in_doubt();
         }
     }
 
@@ -241,7 +298,8 @@ impl<'a, R: Clock + Files + Eprint, S: Source + Drop, K: Sink + Drop> Joined<'a,
         if self.lost.is_some() {
             return Ok(carry_on(&mut self.client, command)?);
         }
-        if may_poll(&command) {
+        let awaited = self.client.is_awaiting();
+        if asks_ahead(&command, awaited) {
             self.await_poll();
         }
         let interval = self.interval();
@@ -250,7 +308,7 @@ impl<'a, R: Clock + Files + Eprint, S: Source + Drop, K: Sink + Drop> Joined<'a,
             command => {
                 self.ahead.lend_push();
                 let done = carry_out(&mut self.client, command, interval);
-                match self.late_answer()? {
+                match self.late_answer(awaited)? {
                     Some(outcome) => done_behind(outcome),
                     None => done?,
                 }
@@ -261,16 +319,15 @@ impl<'a, R: Clock + Files + Eprint, S: Source + Drop, K: Sink + Drop> Joined<'a,
     }
 
     /// What came of an edit whose answer did not begin within ten seconds, where the client lent one that is
-    /// such: the answer is awaited here, with the board at hand, and told.
-    fn late_answer(&mut self) -> Result<Option<Outcome>, JoinFault> {
+    /// such: the answer is awaited here, with the board at hand, and told; behind the reply to the poll that
+    /// waited, where the edit was said behind one.
+    fn late_answer(&mut self, awaited: bool) -> Result<Option<Outcome>, JoinFault> {
         if !self.ahead.was_push_lent() {
             return Ok(None);
         }
         self.keep_in_doubt();
         self.await_answer(SECONDS);
-        let Some(number) = self.ahead.answer() else {
-            return Err(JoinFault::Gone);
-        };
+        let number = number_of(self.client.hear_late(awaited)?);
         let outcome = late_outcome(number);
         if outcome == Outcome::Drawn {
             self.tell_drawn()?;
@@ -363,10 +420,13 @@ impl<'a, R: Clock + Files + Eprint, S: Source + Drop, K: Sink + Drop> Joined<'a,
             Err(FileFault::Memory) => return Err(JoinFault::Run(RunFault::Memory)),
         };
         self.warn(file.as_bytes(), &text)?;
-        self.await_poll();
+        let awaited = self.client.is_awaiting();
+        if !awaited {
+            self.await_poll();
+        }
         self.ahead.lend_push();
         let opened = open(&mut self.client, &text);
-        let outcome = match self.late_answer()? {
+        let outcome = match self.late_answer(awaited)? {
             Some(outcome) => {
                 tell_left_out(self.rt);
                 outcome
@@ -442,16 +502,14 @@ const READ: u8 = 36;
 
 const WRITE: u8 = 37;
 
-/// Whether a command may say something to the server, and so begins with a poll. One that opens a file reads
-/// that first.
-fn may_poll(command: &ClientCommand) -> bool
-    ensures { result ≡ may_poll command.now }
+/// Whether a command begins with a poll, which is then asked ahead: one that draws only where no poll waits,
+/// since what that brought is heard already. One that opens a file reads that first.
+fn asks_ahead(command: &ClientCommand, awaited: bool) -> bool
+    ensures { result ≡ asks_ahead command.now awaited }
 {
     match command {
-        ClientCommand::Draw(_)
-        | ClientCommand::Copy(_)
-        | ClientCommand::Or(_)
-        | ClientCommand::Export(_, _)
+        ClientCommand::Draw(_) | ClientCommand::Copy(_) | ClientCommand::Or(_) => !awaited,
+        ClientCommand::Export(_, _)
         | ClientCommand::Poll
         | ClientCommand::Wait(_)
         | ClientCommand::Save(_) => true,
@@ -471,6 +529,16 @@ fn whole_milliseconds(left: Option<Duration>) -> u32
     match left {
         Some(left) => u32::try_from(left.as_millis()).unwrap_or(u32::MAX),
         None => 0,
+    }
+}
+
+/// The number with which an edit was answered.
+fn number_of(pushing: Pushing) -> u8
+    ensures { result ≡ number_of pushing }
+{
+    match pushing {
+        Pushing::Done => 0,
+        Pushing::Refused(number) => number,
     }
 }
 

@@ -7,24 +7,25 @@ use crate::connection::{Connection, connect};
 use crate::cures::About;
 use crate::ends::{end_status, is_script};
 use crate::fault::JoinFault;
-use crate::joined::{Going, Joined, Pace};
+use crate::joined::{AWAITED, Going, Joined, Pace};
 use crate::patience::Patience;
 use crate::telling::{tell_doubt, tell_end, tell_fault, tell_open_block, tell_unkept};
 use crate::typed::{Typed, typed_lines};
 use board_client::Server;
 use client_commands::{Dictation, Heard};
 use client_session::{Client, CommandFault, Telling};
-use crossbeam_channel::{Receiver, RecvTimeoutError};
+use crossbeam_channel::{Receiver, RecvTimeoutError, TryRecvError};
 use devices::{Sink, Source};
 use genedit_io::{RunFault, push_output};
 use genedit_script::{says_something, without_return};
 use keyed_hash::HashKey;
+use socket_watch::Came;
 use std::alloc::Global;
 use std::net::{Net, TcpListener, TcpStream};
 use std::rt::Files;
 use std::sync::Wait;
 use std::thread::Threads;
-use std::time::Clock;
+use std::time::{Clock, Duration};
 
 /// How a client joins a board.
 #[derive(Clone, Copy)]
@@ -99,12 +100,17 @@ fn joined_to_its_end<
         line,
         ahead,
         patience,
+        ears,
     } = connect(rt, alloc, options.port)?;
     let client = client_at(Server::new(rt, alloc, line), options, &mut sink)?;
-    let mut joined = Joined::new(rt, client, options, ahead);
+    let (ears, bell) = match ears {
+        Some((ears, bell)) => (Some(ears), Some(bell)),
+        None => (None, None),
+    };
+    let mut joined = Joined::new(rt, client, options, ahead, ears);
     patience.unlimit();
     joined.push_printed(&mut sink)?;
-    let typed = typed_lines(*rt, alloc, source)?;
+    let typed = typed_lines(*rt, alloc, source, bell)?;
     let obeyed = obey_all(&mut joined, &typed, &patience, &mut sink);
     let pushed = joined.push_printed(&mut sink);
     let last = match obeyed {
@@ -173,11 +179,13 @@ fn obey_all<R: Wait + Clock + Files + Eprint, S: Source + Drop, K: Sink + Drop, 
     let mut dictation = Dictation::new(joined.client.alloc());
     for _ in rt.forever() {
         joined.push_printed(sink)?;
-        let went = match next_typed(rt, joined.pace(), typed) {
-            Next::Nothing => joined.follow(),
-            Next::Line(line) => hear(joined, &mut dictation, &line, sink),
-            Next::Failed(fault) => Err(JoinFault::Run(fault)),
-            Next::End => return leave_at_the_end(joined, &dictation, patience),
+        let went = match next_of(joined, typed) {
+            Err(fault) => Err(fault),
+            Ok(Next::Nothing) => joined.follow(),
+            Ok(Next::News) => joined.hear_news(),
+            Ok(Next::Line(line)) => hear(joined, &mut dictation, &line, sink),
+            Ok(Next::Failed(fault)) => Err(JoinFault::Run(fault)),
+            Ok(Next::End) => return leave_at_the_end(joined, &dictation, patience),
         };
         if joined.survived(went)? == Going::Leaving && has_left(joined, patience, sink)? {
             return Ok(());
@@ -222,11 +230,62 @@ fn has_left<R: Clock + Files + Eprint, S: Source + Drop, K: Sink + Drop, O: Sink
 enum Next {
     /// So far no line; it is time for a poll.
     Nothing,
+    /// The server says something.
+    News,
     Line(Vec<u8>),
     /// The lines cannot be read any further.
     Failed(RunFault),
     /// There are no more lines.
     End,
+}
+
+/// The next line, or something of the server to a client that follows; one that cannot await that waits for no
+/// longer than lies between two polls.
+fn next_of<R: Wait + Clock + Files + Eprint, S: Source + Drop, K: Sink + Drop>(
+    joined: &mut Joined<'_, R, S, K>,
+    typed: &Receiver<Typed, Global>,
+) -> Result<Next, JoinFault> {
+    if joined.awaits()? {
+        Ok(next_heard(joined, typed))
+    } else {
+        Ok(next_typed(joined.rt, joined.pace(), typed))
+    }
+}
+
+/// The next line, or something of the server, where a poll waits there. Where its reply has not come a second
+/// behind its time, it is late, and further with each second.
+fn next_heard<R: Wait + Clock + Files + Eprint, S: Source + Drop, K: Sink + Drop>(
+    joined: &mut Joined<'_, R, S, K>,
+    typed: &Receiver<Typed, Global>,
+) -> Next {
+    let second = Duration::from_millis(1000);
+    let mut most = second + Duration::from_millis(u64::from(AWAITED));
+    let mut late: u64 = 0;
+    let rt = joined.rt;
+    for _ in rt.forever() {
+        if let Some(next) = typed_by_now(rt, typed) {
+            return next;
+        }
+        match joined.listen(most) {
+            Came::Byte => return Next::News,
+            Came::Call => {}
+            Came::Nothing => {
+                late = late.saturating_add(1);
+                joined.wait_on(late);
+                most = second;
+            }
+        }
+    }
+    unreachable!()
+}
+
+/// The next line where it is there.
+fn typed_by_now<R: Wait>(rt: &R, typed: &Receiver<Typed, Global>) -> Option<Next> {
+    match typed.try_recv(rt) {
+        Ok(typed) => Some(typed_next(typed)),
+        Err(TryRecvError::Empty) => None,
+        Err(TryRecvError::Disconnected) => Some(Next::End),
+    }
 }
 
 /// The next line; a client that follows waits for no longer than lies between two polls.
@@ -271,9 +330,9 @@ fn hear<R: Clock + Files + Eprint, S: Source + Drop, K: Sink + Drop, O: Sink>(
             Ok(Going::On)
         }
         Heard::Command(command) => {
-            let about = About::of(joined.client.alloc(), &command)?;
+            let about = About::of(joined.client.alloc(), &command);
             let going = joined.obey(command, sink)?;
-            joined.tell_cure(dictation.lines(), &about)?;
+            joined.tell_cure(dictation.lines(), &about);
             if going == Going::InDoubt {
                 tell_doubt(joined.rt);
             }

@@ -5,6 +5,7 @@
 mod ahead;
 mod connection;
 mod cures;
+mod ears;
 mod ends;
 mod fault;
 mod files;

@@ -5,8 +5,9 @@ ghost use denote.Param.Send.{IsSend, IsSync};
 use crossbeam_channel::{Receiver, Sender, bounded};
 use devices::Source;
 use genedit_io::RunFault;
+use mio::Waker;
 use std::alloc::Global;
-use std::sync::Wait;
+use std::sync::{Arc, Wait};
 use std::thread::Threads;
 use std::{mem, thread};
 
@@ -33,18 +34,57 @@ enum Stop {
     Memory,
 }
 
-/// The lines of a source, which a thread of its own sends; behind the last, and behind a failure, there
-/// comes no more. Nobody waits for the thread.
+/// Where lines are sent, and what is called for each, if anything is.
+#[derive(Drop)]
+struct Sent {
+    sender: Sender<Typed, Global>,
+    bell: Option<Arc<Waker>>,
+}
+
+impl Sent {
+    /// Sends what came, and calls. `Stop::Unheard` where nobody receives any more.
+    fn send<R: Wait>(&self, rt: &R, typed: Typed) -> Result<(), Stop> {
+        let sent = self.sender.send(rt, typed);
+        ring(&self.bell);
+        match sent {
+            Ok(()) => Ok(()),
+            Err(_) => Err(Stop::Unheard),
+        }
+    }
+
+    /// Sends no more, and calls, so that this is seen.
+    fn end(self) {
+        let Sent { sender, bell } = self;
+        drop(sender);
+        ring(&bell);
+    }
+}
+
+fn ring(bell: &Option<Arc<Waker>>) {
+    if let Some(bell) = bell {
+        // Where that fails, the line is seen once the wait is over.
+        let _ = bell.wake();
+    }
+}
+
+/// The lines of a source, which a thread of its own sends, calling for each; behind the last, and behind a
+/// failure, there comes no more. Nobody waits for the thread.
 pub(crate) fn typed_lines<
     R: Threads + Wait + Copy + Drop + Send + Sync + 'static,
     S: Source + Send + Drop + 'static,
->(rt: R, alloc: Global, source: S) -> Result<Receiver<Typed, Global>, RunFault> {
+>(
+    rt: R,
+    alloc: Global,
+    source: S,
+    bell: Option<Arc<Waker>>,
+) -> Result<Receiver<Typed, Global>, RunFault> {
     let (sender, receiver) = bounded(alloc, WAITING)?;
+    let sent = Sent { sender, bell };
     let begun = thread::spawn(
         &rt,
         move ||
             requires { IsSend R.row × IsSync R.row × IsSend S.row }
-        { send_all(rt, alloc, source, &sender) },
+        { send_all(rt, alloc, source, sent) },
     );
     match begun {
         Ok(_thread) => Ok(receiver),
@@ -53,15 +93,11 @@ pub(crate) fn typed_lines<
 }
 
 /// Sends each line of a source, and why it was left before its end.
-fn send_all<R: Wait + Drop, S: Source + Drop>(
-    rt: R,
-    alloc: Global,
-    mut source: S,
-    sender: &Sender<Typed, Global>,
-) {
-    if let Some(fault) = sent_lines(&rt, alloc, &mut source, sender) {
-        let _ = sender.send(&rt, Typed::Failed(fault));
+fn send_all<R: Wait + Drop, S: Source + Drop>(rt: R, alloc: Global, mut source: S, sent: Sent) {
+    if let Some(fault) = sent_lines(&rt, alloc, &mut source, &sent) {
+        let _ = sent.send(&rt, Typed::Failed(fault));
     }
+    sent.end();
 }
 
 /// Sends each line of a source; why it was left before its end, where somebody still receives.
@@ -69,7 +105,7 @@ fn sent_lines<R: Wait, S: Source>(
     rt: &R,
     alloc: Global,
     source: &mut S,
-    sender: &Sender<Typed, Global>,
+    sent: &Sent,
 ) -> Option<RunFault> {
     let mut line = Vec::new(alloc);
     let mut piece = [0; PIECE];
@@ -78,9 +114,9 @@ fn sent_lines<R: Wait, S: Source>(
             return Some(RunFault::Read);
         };
         if count == 0 {
-            return last_sent(rt, sender, line);
+            return last_sent(rt, sent, line);
         }
-        match send_piece(rt, alloc, sender, &mut line, &piece[..count]) {
+        match send_piece(rt, alloc, sent, &mut line, &piece[..count]) {
             Ok(()) => {}
             Err(Stop::Unheard) => return None,
             Err(Stop::Memory) => return Some(RunFault::Memory),
@@ -90,9 +126,9 @@ fn sent_lines<R: Wait, S: Source>(
 }
 
 /// Sends what stands behind the last LF, if anything does.
-fn last_sent<R: Wait>(rt: &R, sender: &Sender<Typed, Global>, line: Vec<u8>) -> Option<RunFault> {
+fn last_sent<R: Wait>(rt: &R, sent: &Sent, line: Vec<u8>) -> Option<RunFault> {
     if !line.is_empty() {
-        let _ = sender.send(rt, Typed::Line(line));
+        let _ = sent.send(rt, Typed::Line(line));
     }
     None
 }
@@ -101,16 +137,14 @@ fn last_sent<R: Wait>(rt: &R, sender: &Sender<Typed, Global>, line: Vec<u8>) -> 
 fn send_piece<R: Wait>(
     rt: &R,
     alloc: Global,
-    sender: &Sender<Typed, Global>,
+    sent: &Sent,
     line: &mut Vec<u8>,
     piece: &[u8],
 ) -> Result<(), Stop> {
     for byte in piece {
         if *byte == b'\n' {
             let whole = mem::replace(line, Vec::new(alloc));
-            if sender.send(rt, Typed::Line(whole)).is_err() {
-                return Err(Stop::Unheard);
-            }
+            sent.send(rt, Typed::Line(whole))?;
         } else if line.push(*byte).is_err() {
             return Err(Stop::Memory);
         }

@@ -1,9 +1,10 @@
 -- The frames of replies and the requests of clients are bodies: none is too long.
-use Rattle.std.proofs.Common.{◌≡◌, ◌∙◌, ◌+◌, ◌≤◌, ◌++◌, ℕ, Bool, true, false, List, [], ◌∷◌, length, refl, arith, length-append}
-use Rattle.std.specs.Prelude.{Result, Ok, Err, Option, Some, None, map, nat_le}
+use Rattle.std.proofs.Common.{◌≡◌, ◌∙◌, ◌+◌, ◌≤◌, ◌++◌, ℕ, Bool, true, false, List, [], ◌∷◌, ap, length, refl, arith, length-append}
+use Rattle.std.specs.Prelude.{Result, Ok, Err, Option, Some, None, drop, map, nat_le, nat_lt, ◌^◌}
 use Rattle.std.specs.List.{AllByRecursion, list_all}
 use Rattle.std.specs.Int.{w32, to_be_bytes}
 use Rattle.std.proofs.lemmas.List.Folds.{list_all-append}
+use lib.ListN.{length-take}
 use Rattle.std.proofs.lemmas.Bool.Decides.{nat_tests}
 use Rattle.generations_rule.specs.Rule.{GenerationsRule, IsRule}
 use Rattle.generations_rule.specs.RuleText.{text_of}
@@ -14,10 +15,11 @@ use Rattle.delta_exchange.specs.Spelling.{area_text, delta_text, edit_text, head
 use Rattle.delta_exchange.proofs.DeltaCodec.{text_is_sized}
 use Rattle.delta_exchange.proofs.TextLengths.{edit_text_len}
 use Rattle.message_frames.specs.Frames.{is_body, most_body}
-use Rattle.session_hub.specs.Replies.{edits_frames, export_body, hello_body, text_body, whole_frames}
+use Rattle.session_hub.specs.Replies.{IsInPieces, edits_frames, export_body, hello_body, pieces_reply, text_body, whole_frames}
 use Rattle.replica_core.specs.World.{IsEditUnder}
 use Rattle.board_client.specs.Drawing.{push_bytes}
-use Rattle.shown_laws.specs.Turns.{Asking, Farewell, Greeting, IsAskable, Poll, Push, request_in}
+use Rattle.board_client.specs.Awaiting.{await_request}
+use Rattle.shown_laws.specs.Turns.{Asking, Await, Farewell, Greeting, IsAskable, Pieces, Poll, Push, request_in}
 
 pub both : (xs ys : List (List ℕ)) → list_all is_body xs ≡ true → list_all is_body ys ≡ true → list_all is_body (xs ++ ys) ≡ true
 both xs ys a b = list_all-append is_body xs ys ∙ rw (a, b) refl
@@ -65,6 +67,8 @@ push_is_body r e rule edit = fits (push_bytes r e) _ refl (omega (arith, delta_l
 pub asks_body : (r : GenerationsRule) (asking : Asking) → IsRule r → IsAskable r asking → is_body (request_in r asking) ≡ true
 asks_body r Greeting rule is = refl
 asks_body r Poll rule is = refl
+asks_body r (Await milliseconds) rule is = fits (await_request milliseconds) _ refl (omega arith)
+asks_body r Pieces rule is = refl
 asks_body r (Push e) rule is = push_is_body r e rule is.edit
 asks_body r Farewell rule is = refl
 
@@ -86,6 +90,18 @@ whole_by text false fit = rw fit refl
 
 pub whole_bodies : (text : List ℕ) → list_all is_body (whole_frames text) ≡ true
 whole_bodies text = whole_by text (nat_le (length text) most_body) refl
+
+pieces_fit : (text : List ℕ) (pieces : List (List ℕ)) → IsInPieces text pieces → list_all is_body pieces ≡ true
+pieces_fit text [] cut = refl
+pieces_fit text (piece ∷ pieces) cut =
+    rw (fits piece _ refl (omega (arith, ap length cut.1, length-take most_body text))) (pieces_fit (drop most_body text) pieces cut.2)
+
+pieces_by : (count : ℕ) (text : List ℕ) (pieces : List (List ℕ)) (few : Bool) → nat_lt (length pieces) (2 ^ 32) ≡ few → IsInPieces text pieces → list_all is_body (pieces_reply count pieces) ≡ true
+pieces_by count text pieces true few cut = rw (few, pieces_fit text pieces cut) refl
+pieces_by count text pieces false few cut = rw few refl
+
+pub pieces_bodies : (count : ℕ) (text : List ℕ) (pieces : List (List ℕ)) → IsInPieces text pieces → list_all is_body (pieces_reply count pieces) ≡ true
+pieces_bodies count text pieces cut = pieces_by count text pieces (nat_lt (length pieces) (2 ^ 32)) refl cut
 
 text_by : (text : List ℕ) (fit : Bool) → nat_le (length text + 1) most_body ≡ fit → is_body (text_body text) ≡ true
 text_by text true fit = rw fit (fits (0 ∷ text) _ refl (grind (arith, nat_tests, fit)))

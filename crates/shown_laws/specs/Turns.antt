@@ -1,21 +1,27 @@
 -- What a client asks of a board and hears, one request after another, and what its replica holds then.
-use Rattle.std.specs.Prelude.{◌≡◌, ℕ, ◌<◌, ◌≤◌, List, [], ◌∷◌, length, map, flat_map, Ok}
+use Rattle.std.specs.Prelude.{◌≡◌, ◌⊎◌, ℕ, ◌<◌, ◌≤◌, ◌^◌, List, [], ◌∷◌, length, map, flat_map, Ok}
 use Rattle.generations_rule.specs.Rule.{GenerationsRule}
 use Rattle.edit_stamps.specs.Edit.{PlaneEdit}
-use Rattle.client_protocol.specs.Spelling.{polled_body}
+use Rattle.client_protocol.specs.Spelling.{pieced_body, polled_body}
 use Rattle.session_hub.specs.Replies.{most_edits, whole_mark}
 use Rattle.replica_core.specs.Exchange.{IsTakingOf}
 use Rattle.replica_core.specs.Replica.{ReplicaState}
 use Rattle.replica_core.specs.World.{IsEditUnder}
+use Rattle.board_client.specs.Awaiting.{await_request}
 use Rattle.board_client.specs.Drawing.{IsEditAlone, push_bytes}
 use Rattle.board_client.specs.Greeting.{bye_request, hello_request}
 use Rattle.board_client.specs.Hearing.{AreTaken, IsTaken}
+use Rattle.board_client.specs.Pieces.{pieces_request}
 use Rattle.board_client.specs.Polling.{poll_request}
 
 -- what a client asks for
 pub data Asking : Type 0 where
   Greeting : Asking
   Poll : Asking
+  -- the same, but that the reply waits for news, for so many milliseconds at most
+  Await : (milliseconds : ℕ) → Asking
+  -- the whole plane, in pieces
+  Pieces : Asking
   -- that an edit be published
   Push : (edit : PlaneEdit) → Asking
   Farewell : Asking
@@ -30,6 +36,8 @@ pub data Hearing : Type 0 where
   Edits : (texts : List (List ℕ)) → Hearing
   -- the text of a whole plane
   Plane : (text : List ℕ) → Hearing
+  -- of how many edits a whole plane is, and its text in pieces
+  Pieced : (count : ℕ) (pieces : List (List ℕ)) → Hearing
   Done : Hearing
 
 pub record Turn : Type 0 where
@@ -41,6 +49,8 @@ pub record Turn : Type 0 where
 abbrev pub request_in : GenerationsRule → Asking → List ℕ
 request_in r Greeting = hello_request
 request_in r Poll = poll_request
+request_in r (Await milliseconds) = await_request milliseconds
+request_in r Pieces = pieces_request
 request_in r (Push e) = push_bytes r e
 request_in r Farewell = bye_request
 
@@ -49,6 +59,7 @@ heard_in (Refused number) = (number ∷ []) ∷ []
 heard_in (Offered body) = body ∷ []
 heard_in (Edits texts) = polled_body (length texts) ∷ texts
 heard_in (Plane text) = polled_body whole_mark ∷ text ∷ []
+heard_in (Pieced count pieces) = pieced_body count (length pieces) ∷ pieces
 heard_in Done = (0 ∷ []) ∷ []
 
 -- the bodies that are said, and those that are heard
@@ -60,13 +71,22 @@ heard_by turns = flat_map (λ (t : Turn). heard_in t.hearing) turns
 
 -- ---- the replica
 
--- What a turn does to the replica: it takes what a poll brought, and an edit whose push is done. A pair that is not named is no turn.
+-- the text that pieces are, put together in order
+abbrev pub put_together : List (List ℕ) → List ℕ
+put_together pieces = flat_map (λ (piece : List ℕ). piece) pieces
+
+-- What a turn does to the replica: it takes what a poll brought, waiting or not, and a plane in pieces as the text that they are
+-- together; and an edit whose push is done, unless that was heard too late, and the edit is left to a poll. A pair that is not named
+-- is no turn.
 abbrev pub IsTurn : GenerationsRule → Asking → Hearing → ReplicaState → ReplicaState → Type 0
 IsTurn r asking (Refused number) old new = (0 < number) × (new ≡ old)
 IsTurn r Greeting (Offered body) old new = new ≡ old
 IsTurn r Poll (Edits texts) old new = (length texts ≤ most_edits) × AreTaken old texts new
 IsTurn r Poll (Plane text) old new = IsTaken old text new
-IsTurn r (Push e) Done old new = IsTakingOf {A = Unit {0}} old new (IsEditAlone e) (Ok tt)
+IsTurn r (Await milliseconds) (Edits texts) old new = (length texts ≤ most_edits) × AreTaken old texts new
+IsTurn r (Await milliseconds) (Plane text) old new = IsTaken old text new
+IsTurn r Pieces (Pieced count pieces) old new = (length pieces < 2 ^ 32) × IsTaken old (put_together pieces) new
+IsTurn r (Push e) Done old new = IsTakingOf {A = Unit {0}} old new (IsEditAlone e) (Ok tt) ⊎ (new ≡ old)
 IsTurn r Farewell Done old new = new ≡ old
 IsTurn r asking hearing old new = ⊥
 

@@ -76,6 +76,17 @@ pub const POLL_PLANE: Row = Row {
     ],
 };
 
+/// News that are awaited for no time, and the plane in one piece, of no edit.
+pub const AWAIT: Row = row!(&[8, 0, 0, 0, 0], &[0, 0, 0, 0, 0]);
+
+pub const PIECES: Row = Row {
+    request: &[11],
+    bodies: &[
+        Body::Bytes(&[0, 0, 0, 0, 0, 0, 0, 0, 0, 0, 0, 0, 1]),
+        Body::StateBehind(&[]),
+    ],
+};
+
 pub const WHOLE: Row = Row {
     request: &[4],
     bodies: &[Body::StateBehind(&[0])],

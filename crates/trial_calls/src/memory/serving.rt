@@ -6,7 +6,7 @@ use crate::memory::sessions::session;
 use crate::memory::{Verdict, behind};
 use devices::{ReadSource, WriteSink};
 use frame_service::{ServeFault, Served};
-use session_service::serve;
+use session_service::{Unheard, serve};
 use std::alloc::Global;
 use std::thread::Threads;
 
@@ -108,10 +108,10 @@ fn served<R: Threads + Sync + Drop>(rt: R, alloc: Global, service: &Service) -> 
     };
     let mut source = ReadSource::new(service.requests);
     let end = serve(
-        alloc,
         &mut source,
         &mut WriteSink::new(&mut out),
         &mut session,
+        &mut Unheard,
     );
     met(end, &out, service)
 }

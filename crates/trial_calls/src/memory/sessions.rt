@@ -2,8 +2,8 @@
 
 use crate::memory::engines::PAIR;
 use crate::memory::rows::{
-    BYE, Body, EXPORT, FAULTY, HELLO, MANY, MANY_OF_TWO, POLL_BOTH, POLL_ONE, POLL_PLANE, POLL_TWO,
-    PUSH_ONE, PUSH_OTHER, PUSH_STATE, PUSH_TWO, PUSH_UNSTAMPED, Row, WHOLE,
+    AWAIT, BYE, Body, EXPORT, FAULTY, HELLO, MANY, MANY_OF_TWO, PIECES, POLL_BOTH, POLL_ONE,
+    POLL_PLANE, POLL_TWO, PUSH_ONE, PUSH_OTHER, PUSH_STATE, PUSH_TWO, PUSH_UNSTAMPED, Row, WHOLE,
 };
 use crate::memory::{Verdict, behind, exports, planes, serving, states, tell};
 use frame_service::Reply;
@@ -21,9 +21,11 @@ use std::thread::Threads;
 const ONE: [Cell; 1] = cells![(0, 0, 1)];
 
 /// Requests that are answered over a plane of some cells.
-static ASKED: [(&str, &[Cell], Row); 7] = [
+static ASKED: [(&str, &[Cell], Row); 9] = [
     ("Hello", &ONE, HELLO),
     ("Whole", &ONE, WHOLE),
+    ("Await", &ONE, AWAIT),
+    ("Pieces", &ONE, PIECES),
     ("Export", &ONE, EXPORT),
     ("Many", &ONE, MANY),
     ("Many of two cells", &PAIR, MANY_OF_TWO),

@@ -16,6 +16,9 @@ const NOT_YOURS: u8 = 28;
 /// A generation past the last.
 const LATE: u8 = 22;
 
+/// For how many milliseconds news may be awaited at most.
+const MOST_WAIT: u32 = 60_000;
+
 /// What is no request.
 const NO_REQUEST: u8 = 33;
 
@@ -50,6 +53,8 @@ impl SlowSession {
                 if generations.len() == usize::from(u16::from_be_bytes([*high, *low])) * 4 => {
                 self.many(&[0, *high, *low], generations)
             }
+            [8, a, b, c, d] if u32::from_be_bytes([*a, *b, *c, *d]) <= MOST_WAIT => self.poll(),
+            [11] => self.pieces(),
             _ => self.number(NO_REQUEST),
         }
     }
@@ -94,20 +99,23 @@ impl SlowSession {
         Ok(bodies)
     }
 
-    /// The block's leaf, and squares on it, up to the plane's last quarter.
     fn whole(&self) -> Result<Vec<Vec<u8>>, AllocError> {
         let mut body = Vec::from_slice(self.alloc, &[0])?;
-        push_head(&mut body, b"GLWS", 2, LIFE)?;
-        body.extend_from_slice(&[0, 0, 0, 29, 3])?;
-        push_block(&mut body)?;
-        for level in 4..31_u8 {
-            body.extend_from_slice(&[level, 1, 0, 0, 0, level - 4])?;
-            body.extend_from_slice(&[0; 27])?;
-        }
-        body.extend_from_slice(&[31])?;
-        body.extend_from_slice(&[0; 27])?;
-        body.extend_from_slice(&[1, 0, 0, 0, 27])?;
+        push_state(&mut body)?;
         self.one(body)
+    }
+
+    /// The plane in one piece, of as many edits as were fresh; none of them is polled later.
+    fn pieces(&mut self) -> Result<Vec<Vec<u8>>, AllocError> {
+        let fresh = std::mem::replace(&mut self.fresh, Vec::new(self.alloc));
+        let mut head = Vec::from_slice(self.alloc, &[0])?;
+        head.extend_from_slice(&(fresh.len() as u64).to_be_bytes())?;
+        head.extend_from_slice(&[0, 0, 0, 1])?;
+        let mut piece = Vec::new(self.alloc);
+        push_state(&mut piece)?;
+        let mut bodies = self.one(head)?;
+        bodies.push(piece)?;
+        Ok(bodies)
     }
 
     /// The block stays as it is; a generation that is too late is refused.
@@ -182,4 +190,18 @@ fn number_of(fault: ReadFault) -> u8 {
         ReadFault::Trailing => 20,
         ReadFault::Memory => 255,
     }
+}
+
+/// The state of the block: its leaf, and squares on it, up to the plane's last quarter.
+fn push_state(text: &mut Vec<u8>) -> Result<(), AllocError> {
+    push_head(text, b"GLWS", 2, LIFE)?;
+    text.extend_from_slice(&[0, 0, 0, 29, 3])?;
+    push_block(text)?;
+    for level in 4..31_u8 {
+        text.extend_from_slice(&[level, 1, 0, 0, 0, level - 4])?;
+        text.extend_from_slice(&[0; 27])?;
+    }
+    text.extend_from_slice(&[31])?;
+    text.extend_from_slice(&[0; 27])?;
+    text.extend_from_slice(&[1, 0, 0, 0, 27])
 }

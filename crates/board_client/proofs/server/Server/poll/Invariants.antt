@@ -1,5 +1,6 @@
 use Rattle.std.proofs.Common.{◌≡◌}
-use Rattle.board_client.specs.Polling.{IsMomentaryPollRefusal, poll_request}
+use Rattle.board_client.specs.Polling.{poll_request}
+use Rattle.board_client.specs.Refusal.{IsMomentaryPollRefusal}
 use Rattle.board_client.specs.Tries.{IsRefused}
 use Rattle.board_client.proofs.server.Server.poll.Given as goal
 

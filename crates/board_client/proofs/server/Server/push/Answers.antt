@@ -1,9 +1,8 @@
-use Rattle.board_client.proofs.TryLaws.{never_refused}
-use Rattle.board_client.proofs.PushingLaws.{push_again}
+use Rattle.board_client.proofs.PushingLaws.{push_unsaid, pushed_first}
 use Rattle.board_client.proofs.server.Server.push.Goals as goal
 
-pub loop-tried-init : goal.loop-tried-init
-loop-tried-init g c = never_refused _ _ _
+pub returns-in-Ok : goal.returns-in-Ok
+returns-in-Ok g c = pushed_first _ _ _ _ _ c.in-Ok.ensures c.end_push.ensures
 
-pub loop-tried-preserved : goal.loop-tried-preserved
-loop-tried-preserved g c = push_again _ _ _ _ _ c.in-Ok.pushing c.loop-tried.invariant (c.is_brief.ensures.0 cc) c.in-Ok.ensures
+pub returns-in-Err : goal.returns-in-Err
+returns-in-Err g c = push_unsaid _ _ _ c.in-Err.fault c.in-Err.ensures

@@ -1,13 +1,14 @@
 use Rattle.std.proofs.Common.{ap, length}
+use Rattle.board_client.specs.Drawing.{IsDrawing}
 use Rattle.client_session.proofs.DrawnLaws.{drawn_told, drawn_untold}
 use Rattle.client_session.proofs.client.Client.draw_open.Goals as goal
 
 pub returns-in-Err-tell_drawing : goal.returns-in-Err-tell_drawing
 returns-in-Err-tell_drawing g c =
-    drawn_untold _ _ _ (record { line = c.self.inside.server; workspace = c.self.inside.workspace; out = c.self.inside.out.items }) _ c.draw.new.replica (length c.journal-known.result.now) c.in-Ok.drawing
+    drawn_untold (IsDrawing c.args.after c.args.spec.now) _ (record { line = c.self.inside.server; workspace = c.self.inside.workspace; out = c.self.inside.out.items }) _ c.draw.new.replica (length c.journal-known.result.now) c.in-Ok.drawing
     c.self.view_is c.in-Ok.ensures (ap length c.journal-known.ensures.value) c.in-Err-tell_drawing.ensures.replica c.in-Err-tell_drawing.fault c.in-Err-tell_drawing.ensures.want c.in-Err-tell_drawing.ensures.cut
 
 pub returns : goal.returns
 returns g c =
-    drawn_told _ _ _ (record { line = c.self.inside.server; workspace = c.self.inside.workspace; out = c.self.inside.out.items }) _ c.draw.new.replica (length c.journal-known.result.now) c.in-Ok.drawing
+    drawn_told (IsDrawing c.args.after c.args.spec.now) _ (record { line = c.self.inside.server; workspace = c.self.inside.workspace; out = c.self.inside.out.items }) _ c.draw.new.replica (length c.journal-known.result.now) c.in-Ok.drawing
     c.self.view_is c.in-Ok.ensures (ap length c.journal-known.ensures.value) c.in-Ok-tell_drawing.ensures.replica c.outcome_of.result c.in-Ok-tell_drawing.ensures.told c.outcome_of.ensures
