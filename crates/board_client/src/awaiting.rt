@@ -44,8 +44,8 @@ impl<'a, C: Clock, S: Source + Drop, K: Sink + Drop> Server<'a, C, S, K> {
     }
 
     /// Hears the reply to a poll that was said, and has a replica take what comes, where more was said behind it,
-    /// whose answer comes next. The replica stays of its rule. Nothing is said: behind `Refused(21)` the plane is to be fetched once that
-    /// answer was heard.
+    /// whose answer comes next. The replica stays of its rule. Nothing is said: behind `Refused(21)` the plane is to
+    /// be fetched once that answer was heard.
     pub fn hear_reply(&mut self, replica: &mut Replica) -> Result<Polling, ClientFault>
         ensures taken { IsReplyTaken [] self.old self.new replica.old replica.new result }
         ensures rule { OnOk result (replica.new.rule ≡ replica.old.rule) }

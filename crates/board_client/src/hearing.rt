@@ -56,9 +56,13 @@ impl<'a, C: Clock, S: Source + Drop, K: Sink + Drop> Server<'a, C, S, K> {
             return Ok(());
         }
         match replica.take_bytes(bytes) {
-            Ok(()) => Ok(()),
-            Err(fault) => Err(ClientFault::Text(fault)),
+            Ok(()) => {}
+            Err(fault) => return Err(ClientFault::Text(fault)),
         }
+        if announced == Announced::Plane {
+            self.forget_all_own();
+        }
+        Ok(())
     }
 
     /// Hears so many texts of edits, and takes what each tells before the next is heard.

@@ -41,7 +41,8 @@ impl<'a, C: Clock, S: Source + Drop, K: Sink + Drop> Server<'a, C, S, K> {
         let _back = self.own.pop_front();
     }
 
-    /// Forgets all of them: a whole plane has those that the board published.
+    /// Forgets all of them: a whole plane has those that the board published, so that none of these comes back. One
+    /// that was published behind it comes, and is taken again.
     pub(crate) fn forget_all_own(&mut self)
         ensures { self.new ≡ self.old }
     {
