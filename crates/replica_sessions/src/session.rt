@@ -60,17 +60,32 @@ impl<H: Hub, R: Threads + Sync + Drop> Session<H, R> {
     {
         let room = Room::new(self.alloc)?;
         let (kind, rest) = kind_of(request);
-        let frames = frames_by(
-            &self.rt,
-            self.alloc,
-            &mut self.hub,
-            &mut self.kept,
-            room,
-            kind,
-            rest,
-        );
+        let frames = self.frames_by(room, kind, rest);
         let last = is_last(kind);
         Ok(Reply { frames, last })
+    }
+
+    /// The frames of the reply to a request by its kind.
+    fn frames_by(&mut self, room: Room, kind: Kind, rest: &[u8]) -> FrameList
+        requires { IsWholeRest kind rest.now }
+        ensures answer { IsAnswer H.allows (H.rule_of self.old.hub) (H.number_of self.old.hub) (request_by kind rest.now) self.old.hub self.old.kept result self.new.hub self.new.kept }
+        ensures rule { H.rule_of self.new.hub ≡ H.rule_of self.old.hub }
+        ensures number { H.number_of self.new.hub ≡ H.number_of self.old.hub }
+    {
+        let alloc = self.alloc;
+        let (hub, kept) = (&mut self.hub, &mut self.kept);
+        match kind {
+            Kind::Hello => hello_reply(alloc, hub, room),
+            Kind::Push => push_reply(alloc, hub, room, rest),
+            // A request that awaits news was waited for before.
+            Kind::Poll | Kind::Await(_) => poll_reply(alloc, hub, kept, room),
+            Kind::Whole => plane_reply(alloc, hub, room),
+            Kind::Export(generation) => export_reply(alloc, hub, room, generation),
+            Kind::Bye => room.refusal(0),
+            Kind::Many(count) => many_reply(&self.rt, alloc, hub, room, count, rest),
+            Kind::Pieces => pieces_reply(alloc, hub, kept, room),
+            Kind::Faulty => room.refusal(SessionFault::Request.number()),
+        }
     }
 
     /// Whether there is something that was not handed out: what is kept, or news of the hub.
@@ -114,35 +129,6 @@ fn is_last(kind: Kind) -> bool
         | Kind::Await(_)
         | Kind::Pieces
         | Kind::Faulty => false,
-    }
-}
-
-/// The frames of the reply to a request by its kind.
-fn frames_by<H: Hub, R: Threads + Sync>(
-    rt: &R,
-    alloc: Global,
-    hub: &mut H,
-    kept: &mut KeptNews,
-    room: Room,
-    kind: Kind,
-    rest: &[u8],
-) -> FrameList
-    requires { IsWholeRest kind rest.now }
-    ensures answer { IsAnswer H.allows (H.rule_of hub.old) (H.number_of hub.old) (request_by kind rest.now) hub.old (kept_of kept.old) result hub.new (kept_of kept.new) }
-    ensures rule { H.rule_of hub.new ≡ H.rule_of hub.old }
-    ensures number { H.number_of hub.new ≡ H.number_of hub.old }
-{
-    match kind {
-        Kind::Hello => hello_reply(alloc, hub, room),
-        Kind::Push => push_reply(alloc, hub, room, rest),
-        // A request that awaits news was waited for before.
-        Kind::Poll | Kind::Await(_) => poll_reply(alloc, hub, kept, room),
-        Kind::Whole => plane_reply(alloc, hub, room),
-        Kind::Export(generation) => export_reply(alloc, hub, room, generation),
-        Kind::Bye => room.refusal(0),
-        Kind::Many(count) => many_reply(rt, alloc, hub, room, count, rest),
-        Kind::Pieces => pieces_reply(alloc, hub, kept, room),
-        Kind::Faulty => room.refusal(SessionFault::Request.number()),
     }
 }
 
