@@ -13,7 +13,7 @@ pub record Moment : Type 0 where
   pub workspace : Workspace
   pub out : List ℕ
 
--- how many edits of others came since a number of edits, or a whole plane, was last told: those of the journal that are not counted off
+-- how many edits of others came since a number of edits, or a whole plane, was last told: those of the journal that are not counted off, of which one of its own that was in doubt is one as it comes
 abbrev pub others : Workspace → ℕ
 others s = length s.replica.journal - s.counted
 

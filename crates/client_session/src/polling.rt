@@ -98,7 +98,8 @@ impl<'a, C: Clock, S: Source + Drop, K: Sink + Drop> Client<'a, C, S, K> {
         }
     }
 
-    /// How many edits of others came since a number of edits, or a whole plane, was last told.
+    /// How many edits of others came since a number of edits, or a whole plane, was last told; one of the client's own
+    /// that was in doubt is among them as it comes.
     pub fn others(&self) -> usize
         ensures { result ≡ others self.now.workspace }
     {

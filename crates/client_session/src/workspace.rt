@@ -31,7 +31,8 @@ pub struct Workspace {
 impl Workspace {
     ghost use Rattle.client_session.specs.Moment.{counted_behind, others};
 
-    /// How many edits of others came since a number of edits, or a whole plane, was last told.
+    /// How many edits of others came since a number of edits, or a whole plane, was last told; one of the client's own
+    /// that was in doubt is among them as it comes.
     pub(crate) fn others(&self) -> usize
         ensures { result ≡ others self.now }
     {

@@ -114,7 +114,7 @@ static CLOSED_BOARD: [Step; 9] = [
     Step::Does(A, Act::Poll),
     Step::Does(
         A,
-        Act::Told("edit 1 1 cells 0 0 1\nedit 2 2 cells 5 5 2\nrefused 30 Closed\nedits 1\n"),
+        Act::Told("edit 1 1 cells 0 0 1\nedit 2 2 cells 5 5 2\nrefused 30 Closed\nedits 2\n"),
     ),
 ];
 
