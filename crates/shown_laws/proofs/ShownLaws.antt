@@ -503,8 +503,8 @@ module _ (r : GenerationsRule) (seat : ℕ) (list : List Entry) (rule : IsRule r
     turned (turns.Await milliseconds) (turns.Edits texts) askable request same is = brought texts (polls milliseconds request) same is.0 is.1
     turned (turns.Await milliseconds) (turns.Plane text) askable request same is = brought_plane text (polls milliseconds request) same is
     turned turns.Pieces (turns.Pieced count pieces) askable request same is = brought_pieces count pieces (told_to Pieces _ request refl) same is.0 is.1
-    turned (turns.Push e) turns.Done askable request same (inl taken) = done e askable request same taken
-    turned (turns.Push e) turns.Done askable request same (inr kept) =
+    turned (turns.Push e) turns.Done askable request same taken = done e askable request same taken
+    turned (turns.Push e) turns.Late askable request same kept =
         let one = push_alone _ behind.told frames (told_to (Push (delta_text r (e ∷ []))) _ request refl) in still (0 ∷ []) one.0 frames rest more E old new one.1 same kept holds within
     turned turns.Farewell turns.Done askable request same is =
         let one = bye_alone behind.told frames (told_to Bye _ request refl) in still (0 ∷ []) one.0 frames rest more E old new one.1 same is holds within
@@ -512,16 +512,20 @@ module _ (r : GenerationsRule) (seat : ℕ) (list : List Entry) (rule : IsRule r
     turned turns.Greeting (turns.Plane text) askable request same is = absurd is
     turned turns.Greeting (turns.Pieced count pieces) askable request same is = absurd is
     turned turns.Greeting turns.Done askable request same is = absurd is
+    turned turns.Greeting turns.Late askable request same is = absurd is
     turned turns.Poll (turns.Offered body) askable request same is = absurd is
     turned turns.Poll (turns.Pieced count pieces) askable request same is = absurd is
     turned turns.Poll turns.Done askable request same is = absurd is
+    turned turns.Poll turns.Late askable request same is = absurd is
     turned (turns.Await milliseconds) (turns.Offered body) askable request same is = absurd is
     turned (turns.Await milliseconds) (turns.Pieced count pieces) askable request same is = absurd is
     turned (turns.Await milliseconds) turns.Done askable request same is = absurd is
+    turned (turns.Await milliseconds) turns.Late askable request same is = absurd is
     turned turns.Pieces (turns.Offered body) askable request same is = absurd is
     turned turns.Pieces (turns.Edits texts) askable request same is = absurd is
     turned turns.Pieces (turns.Plane text) askable request same is = absurd is
     turned turns.Pieces turns.Done askable request same is = absurd is
+    turned turns.Pieces turns.Late askable request same is = absurd is
     turned (turns.Push e) (turns.Offered body) askable request same is = absurd is
     turned (turns.Push e) (turns.Edits texts) askable request same is = absurd is
     turned (turns.Push e) (turns.Plane text) askable request same is = absurd is
@@ -530,6 +534,7 @@ module _ (r : GenerationsRule) (seat : ℕ) (list : List Entry) (rule : IsRule r
     turned turns.Farewell (turns.Edits texts) askable request same is = absurd is
     turned turns.Farewell (turns.Plane text) askable request same is = absurd is
     turned turns.Farewell (turns.Pieced count pieces) askable request same is = absurd is
+    turned turns.Farewell turns.Late askable request same is = absurd is
 
   -- ---- one turn after another
 
@@ -540,6 +545,7 @@ module _ (r : GenerationsRule) (seat : ℕ) (list : List Entry) (rule : IsRule r
   heard_some (turns.Plane text) rest none = absurd cc
   heard_some (turns.Pieced count pieces) rest none = absurd cc
   heard_some turns.Done rest none = absurd cc
+  heard_some turns.Late rest none = absurd cc
 
   shown : (E : List PlaneEdit) (s : ReplicaState) → HoldsEdits r E s → Within E → ShowsOf r all s
   shown E s holds within = record {

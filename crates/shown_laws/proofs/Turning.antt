@@ -25,7 +25,7 @@ use Rattle.board_client.specs.Refusal.{BringsRefusal, IsMomentaryPollRefusal}
 use Rattle.board_client.specs.Tries.{AreAll, IsRefused}
 use Rattle.board_client.proofs.PollingLaws.{rule_stays}
 use Rattle.board_client.proofs.TryLaws.{both, nothing}
-use Rattle.shown_laws.specs.Turns.{AreTurns, Asking, Await, Done, Edits, Farewell, Greeting, Hearing, IsAskable, IsTurn, Offered, Pieced, Pieces, Plane, Poll, Push, Refused, Turn, heard_by, heard_in, request_in, said_by}
+use Rattle.shown_laws.specs.Turns.{AreTurns, Asking, Await, Done, Edits, Farewell, Greeting, Hearing, IsAskable, IsTurn, Late, Offered, Pieced, Pieces, Plane, Poll, Push, Refused, Turn, heard_by, heard_in, request_in, said_by}
 use Rattle.shown_laws.specs.Shown.{AreTurnsOfClients, AreTurnsOn, IsDue, IsPollRequest, IsHeardBefore, IsSaidAlone}
 
 abbrev turn : Asking → Hearing → Turn
@@ -179,6 +179,7 @@ news_turn r Farewell (Plane text) old new news is = absurd news
 news_turn r asking (Offered body) old new news is = absurd is
 news_turn r asking (Pieced count pieces) old new news is = absurd is
 news_turn r asking Done old new news is = absurd is
+news_turn r asking Late old new news is = absurd is
 
 module _ (r : GenerationsRule) where
   pieced : (polling : Polling) (a b : LineState) (old new : ReplicaState) → IsPieces a b old new (Ok polling) → AreTurnsOn r a b old new
@@ -262,7 +263,7 @@ module _ (r : GenerationsRule) (e : PlaneEdit) (old : ReplicaState) (rule : old.
 
   module _ (a b : LineState) (new : ReplicaState) where
     drawn : (counter : ℕ) → IsPublishing e a b old new (Ok (Drawn counter)) → AreTurnsOn r a b old new
-    drawn counter is = pushed 9 pushes.Done Done a b new is.1.0 (λ mid talk. talk) (inl is.1.1)
+    drawn counter is = pushed 9 pushes.Done Done a b new is.1.0 (λ mid talk. talk) is.1.1
 
     unpublished : (number : ℕ) → IsPublishing e a b old new (Ok (Unpublished number)) → AreTurnsOn r a b old new
     unpublished number is = pushed 9 (pushes.Refused number) (Refused number) a b new is.0 (λ mid answer. answer.1) (refused is.0.last, is.1) where
@@ -270,7 +271,7 @@ module _ (r : GenerationsRule) (e : PlaneEdit) (old : ReplicaState) (rule : old.
       refused answer = answer.0
 
     drawn_before : (counter : ℕ) → IsPublishingEnd e a b old new (Ok (Drawn counter)) → IsBegun r (Push e) [] a b old new
-    drawn_before counter is = pushed_before pushes.Done Done a b new is.1.0 (λ said mid talk. talk) (inl is.1.1)
+    drawn_before counter is = pushed_before pushes.Done Done a b new is.1.0 (λ said mid talk. talk) is.1.1
 
     some_refusal : (number : ℕ) → IsPushEnd (push_bytes old.rule e) a b (Ok (pushes.Refused number)) → 0 < number
     some_refusal number (inl final) = final.1.0
@@ -281,13 +282,14 @@ module _ (r : GenerationsRule) (e : PlaneEdit) (old : ReplicaState) (rule : old.
 
 -- ---- answers by which nothing is taken
 
-answered : (r : GenerationsRule) (asking : Asking) (pushing : Pushing) (said : List (List ℕ)) (a b : LineState) (s : ReplicaState) → IsTurn r asking Done s s → IsAnswering said a b (Ok pushing)
-    → IsBegun r asking said a b s s
-answered r asking pushes.Done said a b s done is = replied_alone r asking said a b s s (record { hearing = Done; talk = is; is = done })
-answered r asking (pushes.Refused number) said a b s done is = replied_alone r asking said a b s s (record { hearing = Refused number; talk = is.1; is = (is.0, refl) })
+answered : (r : GenerationsRule) (asking : Asking) (hearing : Hearing) (pushing : Pushing) (said : List (List ℕ)) (a b : LineState) (s : ReplicaState) → heard_in hearing ≡ (0 ∷ []) ∷ []
+    → IsTurn r asking hearing s s → IsAnswering said a b (Ok pushing) → IsBegun r asking said a b s s
+answered r asking hearing pushes.Done said a b s told done is =
+    replied_alone r asking said a b s s (record { hearing = hearing; talk = subst (IsTalk a b said) (sym told) is; is = done })
+answered r asking hearing (pushes.Refused number) said a b s told done is = replied_alone r asking said a b s s (record { hearing = Refused number; talk = is.1; is = (is.0, refl) })
 
 left : (r : GenerationsRule) (pushing : Pushing) (a b : LineState) (s : ReplicaState) → IsLeaving a b (Ok pushing) → AreTurnsOn r a b s s
-left r pushing a b s is = begun r Farewell a b s s tt (answered r Farewell pushing (request_in r Farewell ∷ []) a b s refl is)
+left r pushing a b s is = begun r Farewell a b s s tt (answered r Farewell Done pushing (request_in r Farewell ∷ []) a b s refl refl is)
 
 -- ---- what was said before its reply was heard
 
@@ -337,6 +339,6 @@ turns_of_clients = record {
       due r (Push e) a mid b old between new under is (drawn_before r e between (rule_due r (Push e) a mid old between rule is) under mid b new counter end);
   unpublished_due = λ r number e a mid b old between new rule under is end.
       due r (Push e) a mid b old between new under is (unpublished_before r e between (rule_due r (Push e) a mid old between rule is) under mid b new number end);
-  answered_late = λ r pushing e a mid b old new under is end. due r (Push e) a mid b old new new under is (answered r (Push e) pushing [] mid b new (inr refl) end);
-  left_due = λ r pushing a mid b old new is end. due r Farewell a mid b old new new tt is (answered r Farewell pushing [] mid b new refl end);
+  answered_late = λ r pushing e a mid b old new under is end. due r (Push e) a mid b old new new under is (answered r (Push e) Late pushing [] mid b new refl refl end);
+  left_due = λ r pushing a mid b old new is end. due r Farewell a mid b old new new tt is (answered r Farewell Done pushing [] mid b new refl refl end);
 }

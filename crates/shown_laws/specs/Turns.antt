@@ -1,5 +1,5 @@
 -- What a client asks of a board and hears, one request after another, and what its replica holds then.
-use Rattle.std.specs.Prelude.{◌≡◌, ◌⊎◌, ℕ, ◌<◌, ◌≤◌, ◌^◌, List, [], ◌∷◌, length, map, flat_map, Ok}
+use Rattle.std.specs.Prelude.{◌≡◌, ℕ, ◌<◌, ◌≤◌, ◌^◌, List, [], ◌∷◌, length, map, flat_map, Ok}
 use Rattle.generations_rule.specs.Rule.{GenerationsRule}
 use Rattle.edit_stamps.specs.Edit.{PlaneEdit}
 use Rattle.client_protocol.specs.Spelling.{pieced_body, polled_body}
@@ -39,6 +39,8 @@ pub data Hearing : Type 0 where
   -- of how many edits a whole plane is, and its text in pieces
   Pieced : (count : ℕ) (pieces : List (List ℕ)) → Hearing
   Done : Hearing
+  -- that an edit's push is done, too late for the replica to take the edit, which comes with a poll
+  Late : Hearing
 
 pub record Turn : Type 0 where
   pub asking : Asking
@@ -61,6 +63,7 @@ heard_in (Edits texts) = polled_body (length texts) ∷ texts
 heard_in (Plane text) = polled_body whole_mark ∷ text ∷ []
 heard_in (Pieced count pieces) = pieced_body count (length pieces) ∷ pieces
 heard_in Done = (0 ∷ []) ∷ []
+heard_in Late = (0 ∷ []) ∷ []
 
 -- the bodies that are said, and those that are heard
 abbrev pub said_by : GenerationsRule → List Turn → List (List ℕ)
@@ -76,8 +79,7 @@ abbrev pub put_together : List (List ℕ) → List ℕ
 put_together pieces = flat_map (λ (piece : List ℕ). piece) pieces
 
 -- What a turn does to the replica: it takes what a poll brought, waiting or not, and a plane in pieces as the text that they are
--- together; and an edit whose push is done, unless that was heard too late, and the edit is left to a poll. A pair that is not named
--- is no turn.
+-- together; and an edit whose push is done. A pair that is not named is no turn.
 abbrev pub IsTurn : GenerationsRule → Asking → Hearing → ReplicaState → ReplicaState → Type 0
 IsTurn r asking (Refused number) old new = (0 < number) × (new ≡ old)
 IsTurn r Greeting (Offered body) old new = new ≡ old
@@ -86,7 +88,8 @@ IsTurn r Poll (Plane text) old new = IsTaken old text new
 IsTurn r (Await milliseconds) (Edits texts) old new = (length texts ≤ most_edits) × AreTaken old texts new
 IsTurn r (Await milliseconds) (Plane text) old new = IsTaken old text new
 IsTurn r Pieces (Pieced count pieces) old new = (length pieces < 2 ^ 32) × IsTaken old (put_together pieces) new
-IsTurn r (Push e) Done old new = IsTakingOf {A = Unit {0}} old new (IsEditAlone e) (Ok tt) ⊎ (new ≡ old)
+IsTurn r (Push e) Done old new = IsTakingOf {A = Unit {0}} old new (IsEditAlone e) (Ok tt)
+IsTurn r (Push e) Late old new = new ≡ old
 IsTurn r Farewell Done old new = new ≡ old
 IsTurn r asking hearing old new = ⊥
 
