@@ -1,0 +1,4 @@
+pub mod BodyTexts
+pub mod BodyLaws
+pub mod BodyReads
+pub mod NewestLaws
