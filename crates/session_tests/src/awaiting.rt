@@ -13,6 +13,7 @@ use std::thread::Threads;
 use std::time::Duration;
 
 /// Ears that hear so many announcements, and then this, and note what they were asked.
+#[derive(Drop)]
 struct Noted {
     announcements: u32,
     last: Came,
