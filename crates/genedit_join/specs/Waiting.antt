@@ -19,10 +19,10 @@ has_waited WouldBlock = true
 has_waited TimedOut = true
 has_waited kind = false
 
--- a frame is a push by its fifth byte, which stands behind its length
-abbrev pub is_kind_of_push : Option ℕ → Bool
-is_kind_of_push (Some kind) = kind == 2
-is_kind_of_push None = false
+-- a frame is of a kind by its fifth byte, which stands behind its length
+abbrev pub is_the_kind : Option ℕ → ℕ → Bool
+is_the_kind (Some said) kind = said == kind
+is_the_kind None kind = false
 
-abbrev pub is_push : List ℕ → Bool
-is_push frame = is_kind_of_push (slice_get frame 4)
+abbrev pub is_of_kind : List ℕ → ℕ → Bool
+is_of_kind frame kind = is_the_kind (slice_get frame 4) kind

@@ -1,8 +1,7 @@
 //! Polls and edits whose answers are awaited while the board is at hand.
 
 ghost use Rattle.std.specs.Prelude.{◌≡◌};
-ghost use Rattle.genedit_join.specs.Waiting.{is_push};
-ghost use Rattle.std.specs.Prelude.{◌≡◌};
+ghost use Rattle.genedit_join.specs.Waiting.{is_of_kind};
 ghost use Rattle.devices.specs.Count.{one_more};
 
 use crate::patience::has_waited;
@@ -19,6 +18,9 @@ const POLL: &[u8] = b"\x00\x00\x00\x01\x03";
 /// The kind of a push.
 const PUSH: u8 = 2;
 
+/// The kind of a poll that waits.
+const AWAIT: u8 = 8;
+
 /// What the ends of a connection know of its polls. No clause speaks of it.
 #[derive(Drop)]
 pub(crate) struct Polls {
@@ -32,6 +34,8 @@ pub(crate) struct Polls {
     is_pushed: AtomicBool,
     /// The client lends an edit that is open: its answer may be awaited by another.
     is_push_lent: AtomicBool,
+    /// A poll that waits was said, and nothing came since.
+    is_awaited: AtomicBool,
 }
 
 impl Polls {
@@ -42,6 +46,7 @@ impl Polls {
             is_lent: AtomicBool::new(false),
             is_pushed: AtomicBool::new(false),
             is_push_lent: AtomicBool::new(false),
+            is_awaited: AtomicBool::new(false),
         }
     }
 
@@ -55,6 +60,16 @@ impl Polls {
     pub(crate) fn hear(&self) {
         self.is_open.store(false, Ordering::SeqCst);
         self.is_pushed.store(false, Ordering::SeqCst);
+        self.is_awaited.store(false, Ordering::SeqCst);
+    }
+
+    /// The client says something that is no poll that was asked ahead.
+    fn note(&self, frame: &[u8]) {
+        self.is_pushed
+            .store(is_of_kind(frame, PUSH), Ordering::SeqCst);
+        if is_of_kind(frame, AWAIT) {
+            self.is_awaited.store(true, Ordering::SeqCst);
+        }
     }
 
     /// Takes an edit that is open and lent; whether there is such an edit.
@@ -109,7 +124,7 @@ impl Sink for SayingSink {
         if bytes == POLL && self.polls.say() {
             return Ok(());
         }
-        self.polls.is_pushed.store(is_push(bytes), Ordering::SeqCst);
+        self.polls.note(bytes);
         match self.stream.write_all(bytes) {
             Ok(()) => Ok(()),
             Err(_) => {
@@ -127,12 +142,12 @@ fn count(n: &mut u64)
     *n = n.saturating_add(1);
 }
 
-/// Whether a frame is a push of an edit.
-fn is_push(frame: &[u8]) -> bool
-    ensures { result ≡ is_push frame.now }
+/// Whether a frame is a request of a kind.
+fn is_of_kind(frame: &[u8], kind: u8) -> bool
+    ensures { result ≡ is_of_kind frame.now kind }
 {
     match frame.get(4) {
-        Some(kind) => *kind == PUSH,
+        Some(said) => *said == kind,
         None => false,
     }
 }
@@ -193,5 +208,10 @@ impl Ahead {
     /// No longer so: whether that happened.
     pub(crate) fn was_push_lent(&self) -> bool {
         !self.polls.is_push_lent.swap(false, Ordering::SeqCst)
+    }
+
+    /// Whether the reply to a poll that waits is still to come, before that of what was said behind it.
+    pub(crate) fn is_awaited(&self) -> bool {
+        self.polls.is_awaited.load(Ordering::SeqCst)
     }
 }

@@ -298,8 +298,7 @@ impl<'a, R: Clock + Files + Eprint, S: Source + Drop, K: Sink + Drop> Joined<'a,
         if self.lost.is_some() {
             return Ok(carry_on(&mut self.client, command)?);
         }
-        let awaited = self.client.is_awaiting();
-        if asks_ahead(&command, awaited) {
+        if asks_ahead(&command, self.client.is_awaiting()) {
             self.await_poll();
         }
         let interval = self.interval();
@@ -308,7 +307,7 @@ impl<'a, R: Clock + Files + Eprint, S: Source + Drop, K: Sink + Drop> Joined<'a,
             command => {
                 self.ahead.lend_push();
                 let done = carry_out(&mut self.client, command, interval);
-                match self.late_answer(awaited)? {
+                match self.late_answer()? {
                     Some(outcome) => done_behind(outcome),
                     None => done?,
                 }
@@ -320,13 +319,14 @@ impl<'a, R: Clock + Files + Eprint, S: Source + Drop, K: Sink + Drop> Joined<'a,
 
     /// What came of an edit whose answer did not begin within ten seconds, where the client lent one that is
     /// such: the answer is awaited here, with the board at hand, and told; behind the reply to the poll that
-    /// waited, where the edit was said behind one.
-    fn late_answer(&mut self, awaited: bool) -> Result<Option<Outcome>, JoinFault> {
+    /// waited, where that is still to come.
+    fn late_answer(&mut self) -> Result<Option<Outcome>, JoinFault> {
         if !self.ahead.was_push_lent() {
             return Ok(None);
         }
         self.keep_in_doubt();
         self.await_answer(SECONDS);
+        let awaited = self.ahead.is_awaited();
         let number = number_of(self.client.hear_late(awaited)?);
         let outcome = late_outcome(number);
         if outcome == Outcome::Drawn {
@@ -420,13 +420,12 @@ impl<'a, R: Clock + Files + Eprint, S: Source + Drop, K: Sink + Drop> Joined<'a,
             Err(FileFault::Memory) => return Err(JoinFault::Run(RunFault::Memory)),
         };
         self.warn(file.as_bytes(), &text)?;
-        let awaited = self.client.is_awaiting();
-        if !awaited {
+        if !self.client.is_awaiting() {
             self.await_poll();
         }
         self.ahead.lend_push();
         let opened = open(&mut self.client, &text);
-        let outcome = match self.late_answer(awaited)? {
+        let outcome = match self.late_answer()? {
             Some(outcome) => {
                 tell_left_out(self.rt);
                 outcome
