@@ -90,19 +90,21 @@ export class Server {
 
 export class Session {
   constructor(server, key, reply, ended) {
-    Object.assign(this, { server, key, reply, ended, queue: [], isBusy: false, awaiting: null, handed: 0, isOver: false, inbox: null });
-    // the session before over the same seat ends first, its last Push answered
-    const before = server.how.chairs ? [...server.sessions].find(s => s.key === key && !s.isOver) : null;
+    Object.assign(this, { server, key, reply, ended, queue: [], isBusy: false, awaiting: null, handed: 0, isOver: false, inbox: null, after: [] });
+    // the sessions before over the same seat end first, their last Push answered
+    const before = server.how.chairs ? [...server.sessions].filter(s => s.key === key) : [];
     server.sessions.add(this);
-    this.isWaiting = false;
-    if (before) {
-      before.end();
-      before.ended();
-      if (before.isBusy) { this.isWaiting = true; before.then = () => { this.isWaiting = false; this.pump(); }; }
+    this.waits = 0;
+    for (const other of before) {
+      if (!other.isOver) { other.end(); other.ended(); }
+      if (!other.isBusy && !other.waits) continue;
+      this.waits++;
+      other.after.push(() => { this.waits--; this.pump(); });
     }
   }
   /** The socket is gone: what came whole is done, and nothing is told. */
-  end() { this.isOver = true; this.queue = []; this.awaiting = null; if (!this.isBusy) this.server.sessions.delete(this); }
+  end() { this.isOver = true; this.queue = []; this.awaiting = null; if (!this.isBusy) this.leave(); }
+  leave() { this.server.sessions.delete(this); for (const call of this.after.splice(0)) call(); }
   crash() {
     if (this.inbox && this.server.chance.is(.5)) this.server.publish(...this.inbox);
     this.inbox = null;
@@ -115,7 +117,7 @@ export class Session {
   say(...bytes) { if (!this.isOver) this.reply(Uint8Array.from(bytes)); }
   send(body) { if (!this.isOver) this.reply(body); }
   pump() {
-    while (!this.isWaiting && !this.isBusy && !this.awaiting && this.queue.length && !this.isOver) this.answer(this.queue.shift());
+    while (!this.waits && !this.isBusy && !this.awaiting && this.queue.length && !this.isOver) this.answer(this.queue.shift());
   }
   answer(body) {
     const { server } = this, kind = body[0], n = body.length;
@@ -160,8 +162,7 @@ export class Session {
       this.isBusy = false;
       server.publish(...what);
       this.say(0);
-      if (this.isOver) server.sessions.delete(this);
-      if (this.then) this.then();
+      if (this.isOver) this.leave();
       this.pump();
     });
   }
