@@ -133,6 +133,7 @@ read_of_board_names reading.Memory refused = absurd (refused refl)
 submit_names : (fault : SubmitFault) → IsNamed (submit_fault_number fault) None (submit_fault_text fault)
 submit_names submissions.NotYours refused = refl
 submit_names submissions.StateRange refused = refl
+submit_names submissions.OldStamp refused = refl
 submit_names submissions.Closed refused = refl
 submit_names submissions.Memory refused = absurd (refused refl)
 submit_names submissions.Full refused = refl
@@ -154,6 +155,7 @@ finish_names finishes.Memory refused = absurd (refused refl)
 hub_names : (fault : HubFault) → IsNamed (hub_fault_number fault) None (hub_fault_text fault)
 hub_names hubs.NotYours refused = refl
 hub_names hubs.StateRange refused = refl
+hub_names hubs.OldStamp refused = refl
 hub_names hubs.Full refused = refl
 hub_names hubs.Closed refused = refl
 hub_names hubs.StoreFull refused = refl

@@ -126,8 +126,20 @@ script = refl
 pub no_seat : name_of_number 45 ≡ codes "NoSeat"
 no_seat = refl
 
--- 40 to 44 are not used
-pub not_used : name_of_number 40 ≡ codes "?"
+pub old_stamp : name_of_number 40 ≡ codes "OldStamp"
+old_stamp = refl
+
+pub same_stamp : name_of_number 41 ≡ codes "SameStamp"
+same_stamp = refl
+
+pub no_document : name_of_number 42 ≡ codes "NoDocument"
+no_document = refl
+
+pub busy : name_of_number 43 ≡ codes "Busy"
+busy = refl
+
+-- 44 is not used
+pub not_used : name_of_number 44 ≡ codes "?"
 not_used = refl
 
 pub no_name : name_of_number 255 ≡ codes "?"

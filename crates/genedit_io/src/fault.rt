@@ -135,6 +135,10 @@ fn name_of(number: u8) -> &'static str
         37 => "Write",
         38 => "NoPattern",
         39 => "Script",
+        40 => "OldStamp",
+        41 => "SameStamp",
+        42 => "NoDocument",
+        43 => "Busy",
         45 => "NoSeat",
         _ => "?",
     }

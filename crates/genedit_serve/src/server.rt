@@ -99,6 +99,7 @@ pub fn serve_on<
     };
     let size = BoardSize {
         sessions: board.sessions,
+        is_kept: false,
         inbox: INBOX,
         limits: Limits::of_key(board.key),
     };

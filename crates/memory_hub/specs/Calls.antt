@@ -7,7 +7,7 @@ use Rattle.edit_stamps.specs.Stamp.{replica_in}
 use Rattle.stamped_writes.specs.Write.{AreSame}
 use Rattle.stamped_tree.specs.Plane.{StampedPlane, map_of}
 use Rattle.session_hub.specs.declared.fault.HubFault.{HubFault}
-use Rattle.session_hub.specs.declared.fault.HubFault.TheVariants.{NotYours, StateRange, Full, Closed, StoreFull, Memory}
+use Rattle.session_hub.specs.declared.fault.HubFault.TheVariants.{NotYours, StateRange, OldStamp, Full, Closed, StoreFull, Memory}
 use Rattle.poll_news.specs.declared.news.News.TheVariants.{Edits, Whole}
 use Rattle.session_hub.specs.HubCall.{HubCall, Pushes, Polls, Shows, Hands}
 
@@ -37,6 +37,7 @@ pub record KeepsPlane (old new : MemoryState) : Type 0 where
 abbrev pub IsEditRefused : MemoryState → PlaneEdit → HubFault → Type 0
 IsEditRefused h edit NotYours = replica_in edit.stamp ≢ h.number
 IsEditRefused h edit StateRange = (replica_in edit.stamp ≡ h.number) × (has_states_below h.rule.states edit ≡ false)
+IsEditRefused h edit OldStamp = ⊥
 IsEditRefused h edit Memory = ⊤
 IsEditRefused h edit Full = ⊥
 IsEditRefused h edit Closed = ⊥

@@ -1,5 +1,6 @@
 -- Why a relay did not finish, from its turns.
-use Rattle.std.proofs.Common.{◌≡◌, ◌≢◌, List, Some, inl, inr}
+use Rattle.std.specs.Prelude.{IfErr, IfOk}
+use Rattle.std.proofs.Common.{◌≡◌, ◌≢◌, List, Some, Result, Ok, Err, inl, inr}
 use Rattle.relay_board.specs.Relaying.{Relaying}
 use Rattle.relay_board.specs.Turns.{Takes}
 use Rattle.relay_board.specs.declared.fault.TurnFault.{TurnFault}
@@ -30,3 +31,15 @@ pub closing_left : (fault : FinishFault) (a : Relaying) (seats : List Seating) (
 closing_left Closed a seats b drained not_full ahead = (drained, ahead cc)
 closing_left StoreFull a seats b drained not_full ahead = absurd (not_full cc)
 closing_left Memory a seats b drained not_full ahead = inr drained
+
+-- ---- the end
+
+-- what is known of an account tells what is asked of it
+pub told_ok : {A E : Type 0} (r : Result A E) (P Q : A → Type 0) → ((a : A) → P a → Q a) → IfOk r P → IfOk r Q
+told_ok (Ok a) P Q f p = f a p
+told_ok (Err e) P Q f p = p
+
+-- the same of why there is none
+pub told_err : {A E : Type 0} (r : Result A E) (P Q R S : E → Type 0) → ((e : E) → P e → Q e → R e → S e) → IfErr r P → IfErr r Q → IfErr r R → IfErr r S
+told_err (Ok a) P Q R S f p q r = p
+told_err (Err e) P Q R S f p q r = f e p q r

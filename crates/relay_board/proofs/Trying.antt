@@ -1,32 +1,18 @@
 -- The relay's own plane, and what is tried on it.
-use Rattle.std.proofs.Common.{◌≡◌, inl, inr, Bool, true, false, List, [], ◌∷◌, ◌++◌, length, Option, sym, ap, ◌∙◌, arith, length-append, subst}
-use Rattle.stamped_writes.specs.declared.write.Write.{Write}
-use Rattle.stamped_writes.specs.Write.{greater, Writes, AreSame, joined}
-use Rattle.edit_stamps.specs.Edit.{PlaneEdit, greatest}
-use Rattle.edit_stamps.proofs.WriteLaws.{is_lattice, joins_lists}
+use Rattle.std.proofs.Common.{◌≡◌, ℕ, ◌+◌, List, [], ◌∷◌, ◌++◌, take, Some, slice_get, ap, ◌∙◌, append_assoc}
+use Rattle.stamped_writes.specs.Write.{Writes, AreSame, joined}
+use Rattle.edit_stamps.specs.Edit.{greatest}
 use Rattle.board.specs.declared.entry.Entry.{Entry}
 use Rattle.board.specs.Entries.{edits_of}
-use Rattle.board.proofs.Lists.{edits_more, greatest_more}
-use Rattle.inbox.specs.declared.submission.Submission.{Submission}
-use Rattle.relay_board.specs.Kept.{kept_of, IsTold, IsTried}
+use Rattle.board.proofs.Lists.{greatest_more}
+use Rattle.relay_board.proofs.Keeping.{take_next}
 
--- once the kept entry is joined in, the map has it, tried before or not
-pub tried_more : (p q : Writes) (e : Entry) (list : List Entry) → IsTried false p (e ∷ []) list → AreSame q (joined p (greatest (e.edit ∷ []))) → AreSame q (greatest (edits_of (list ++ e ∷ [])))
-tried_more p q e list (inl h) more = greatest_more list e p q h more
-tried_more p q e list (inr h) more = λ c.
-    let w : Write = greatest (e.edit ∷ []) c in
-    let v : Write = greatest (edits_of list) c in
-    let all : greatest (edits_of (list ++ e ∷ [])) c ≡ greater v w = ap (λ l. greatest l c) (edits_more list e) ∙ joins_lists (edits_of list) (e.edit ∷ []) c in
-    more c ∙ (ap (λ u. greater u w) (h c ∙ all) ∙ (is_lattice.associative v w w ∙ (ap (greater v) (is_lattice.idempotent w) ∙ sym all)))
+-- once the next kept entry is joined in, the map has one more
+pub tried_next : (p q : Writes) (n : ℕ) (e : Entry) (kept list : List Entry) → slice_get kept n ≡ Some e → AreSame p (greatest (edits_of (list ++ take n kept))) → AreSame q (joined p (greatest (e.edit ∷ []))) → AreSame q (greatest (edits_of (list ++ take (n + 1) kept)))
+tried_next p q n e kept list here was more c =
+    let longer : (list ++ take n kept) ++ e ∷ [] ≡ list ++ take (n + 1) kept = append_assoc list (take n kept) (e ∷ []) ∙ ap (λ l. list ++ l) (take_next kept n e here) in
+    greatest_more (list ++ take n kept) e p q was more c ∙ ap (λ (l : List Entry). greatest (edits_of l) c) longer
 
--- the same of a kept entry that was not announced, of which the edit alone was joined in
-pub tried_next : (told : Bool) (p q : Writes) (e : Entry) (kept list next : List Entry) (edits : List PlaneEdit) → told ≡ false → kept ≡ e ∷ [] → next ≡ list → edits ≡ e.edit ∷ [] → IsTried told p kept list → AreSame q (joined p (greatest edits)) → AreSame q (greatest (edits_of (next ++ kept)))
-tried_next told p q e kept list next edits off one same only h more =
-    let was : IsTried false p (e ∷ []) list = subst (λ b. IsTried b p (e ∷ []) list) off (subst (λ (k : List Entry). IsTried told p k list) one h) in
-    let joins : AreSame q (joined p (greatest (e.edit ∷ []))) = subst (λ (es : List PlaneEdit). AreSame q (joined p (greatest es))) only more in
-    subst (λ (l : List Entry). AreSame q (greatest (edits_of l))) (λ i. sym same i ++ sym one i) (tried_more p q e list was joins)
-
--- one entry that is kept and to be published next was announced, and so the map has it
-pub tried_told : (told : Bool) (p : Writes) (kept : Option Submission) (announced list : List Entry) → IsTold told kept announced list → announced ≡ list ++ kept_of kept → length (kept_of kept) ≡ 1 → IsTried told p (kept_of kept) list → AreSame p (greatest (edits_of (list ++ kept_of kept)))
-tried_told false p kept announced list was is one h = absurd (omega (arith, ap length (sym was ∙ is), length-append list (kept_of kept), one))
-tried_told true p kept announced list was is one h = h
+-- a map of some entries is that of entries that are the same
+pub tried_same : (p : Writes) (xs ys : List Entry) → xs ≡ ys → AreSame p (greatest (edits_of xs)) → AreSame p (greatest (edits_of ys))
+tried_same p xs ys same was c = was c ∙ ap (λ (l : List Entry). greatest (edits_of l) c) same

@@ -13,6 +13,7 @@ use Rattle.relay_board.specs.declared.fault.FinishFault.TheVariants as finish_fa
 abbrev pub submit_fault_number : SubmitFault → ℕ
 submit_fault_number submit_faults.NotYours = 28
 submit_fault_number submit_faults.StateRange = 11
+submit_fault_number submit_faults.OldStamp = 40
 submit_fault_number submit_faults.Closed = 30
 submit_fault_number submit_faults.Memory = 255
 submit_fault_number submit_faults.Full = 29
@@ -21,6 +22,7 @@ submit_fault_number submit_faults.Full = 29
 abbrev pub submit_fault_text : SubmitFault → List ℕ
 submit_fault_text submit_faults.NotYours = codes "NotYours"
 submit_fault_text submit_faults.StateRange = codes "StateRange"
+submit_fault_text submit_faults.OldStamp = codes "OldStamp"
 submit_fault_text submit_faults.Closed = codes "Closed"
 submit_fault_text submit_faults.Memory = codes "Memory"
 submit_fault_text submit_faults.Full = codes "Full"

@@ -6,6 +6,7 @@ pub mod Kept
 pub mod Seating
 pub mod Seats
 pub mod Refusals
+pub mod Rising
 pub mod Receiving
 pub mod Starting
 pub mod Closing

@@ -1,14 +1,15 @@
 -- What a contract sees of a seat, and of all seats in the order of their places.
-use Rattle.std.specs.Prelude.{◌≡◌, ℕ, ◌+◌, List, [], ◌∷◌, map, Some, slice_get}
+use Rattle.std.specs.Prelude.{◌≡◌, ℕ, ◌+◌, List, [], ◌∷◌, map, Option, Some, None, slice_get}
 use mathlib.Core.List.{IsPrefix}
 use Rattle.generations_rule.specs.Rule.{GenerationsRule}
 use Rattle.board.specs.declared.entry.Entry.{Entry}
 
--- its place, from 0, and the relay's rule; what it put, what it has seen and how much of that it was handed; how often
--- it found the inbox full, and the inbox's room
+-- its place, from 0, and the relay's rule; the counter above which those of its edits rise, where they have to; what it put,
+-- what it has seen and how much of that it was handed; how often it found the inbox full, and the inbox's room
 pub record Seating : Type 0 where
   pub place : ℕ
   pub rule : GenerationsRule
+  pub floor : Option ℕ
   pub mine : List Entry
   pub seen : List Entry
   pub handed : ℕ
@@ -30,7 +31,7 @@ BeginsWithAll list ss = (k : ℕ) (s : Seating) → slice_get ss k ≡ Some s �
 
 -- a seat at a place that has put, seen and been handed nothing
 abbrev pub fresh : ℕ → GenerationsRule → ℕ → Seating
-fresh place rule room = record { place = place; rule = rule; mine = []; seen = []; handed = 0; full = 0; room = room }
+fresh place rule room = record { place = place; rule = rule; floor = None; mine = []; seen = []; handed = 0; full = 0; room = room }
 
 -- they stand at their places, and have put, seen and been handed nothing
 abbrev pub AllFresh : GenerationsRule → ℕ → ℕ → List Seating → Type 0
@@ -41,6 +42,7 @@ AllFresh rule room n (s ∷ ss) = (s ≡ fresh n rule room) × AllFresh rule roo
 pub record IsSame (a b : Seating) : Type 0 where
   pub place : b.place ≡ a.place
   pub rule : b.rule ≡ a.rule
+  pub floor : b.floor ≡ a.floor
   pub room : b.room ≡ a.room
 
 -- what a read leaves alone too

@@ -20,6 +20,8 @@ pub enum SubmitFault {
     NotYours,
     /// A listed state is not below the rule's number of states.
     StateRange,
+    /// The board is kept in a file, and the stamp is not above the last of the seat's.
+    OldStamp,
     /// The relay takes no submission any more: `close` was called, or it was dropped.
     Closed,
     /// The system refused memory.
@@ -38,6 +40,7 @@ impl SubmitFault {
         match self {
             SubmitFault::NotYours => 28,
             SubmitFault::StateRange => 11,
+            SubmitFault::OldStamp => 40,
             SubmitFault::Closed => 30,
             SubmitFault::Memory => 255,
             SubmitFault::Full => 29,
@@ -51,6 +54,7 @@ impl SubmitFault {
         match self {
             SubmitFault::NotYours => "NotYours",
             SubmitFault::StateRange => "StateRange",
+            SubmitFault::OldStamp => "OldStamp",
             SubmitFault::Closed => "Closed",
             SubmitFault::Memory => "Memory",
             SubmitFault::Full => "Full",

@@ -76,24 +76,6 @@ pub fn is_whole<J: Naming, R: Wait + Drop>(relay: &Relay<J, R>, seats: &[Seat<J>
     in_order(seats)
 }
 
-/// Whether the list has of each seat as many entries as were accepted.
-fn has_all<J: Naming, R: Wait + Drop>(relay: &Relay<J, R>, seats: &[Seat<J>]) -> bool
-    ensures all { IsTrue result → HasAsMany relay.now.list (mines_of seats.now) }
-    ensures countable { IsTrue result → AreCountable (mines_of seats.now) }
-{
-    let counts = relay.counts();
-    for k in 0..seats.len() {
-        if k >= counts.len() {
-            return false;
-        }
-        let count = counts[k];
-        if count == u64::MAX || count < seats[k].accepted() {
-            return false;
-        }
-    }
-    true
-}
-
 /// Whether the front begins with what each seat has seen.
 fn begins_with_all<J: Naming>(front: &Front, seats: &[Seat<J>]) -> bool
     requires { origin front.now ≡ J.origin }
@@ -169,7 +151,7 @@ fn drained<J: Naming, R: Wait + Drop>(
 {
     // As `forever`, whose handle is lent with the relay: no run takes so many turns.
     for _ in 0..u64::MAX {
-        if relay.is_settled() && has_all(relay, seats) {
+        if relay.is_settled() && relay.has_all(seats) {
             return None;
         }
         match relay.turn() {
@@ -222,6 +204,34 @@ fn retired<J: Naming, R: Wait + Drop>(relay: Relay<J, R>, seats: Vec<Seat<J>>)
 }
 
 impl<J: Naming, R: Wait + Drop> Relay<J, R> {
+    /// Whether all that was taken is published: nothing is kept.
+    pub fn has_published_all(&self) -> bool
+        ensures kept { IsTrue result ↔ (self.now.kept ≡ []) }
+        ensures out { self.now.out ≡ self.now.list ++ self.now.kept }
+        ensures ready { self.now.ready ≤ length self.now.kept }
+    {
+        self.kept.is_empty()
+    }
+
+    /// Whether the published list has of each seat as many entries as were accepted of it, and a `u64` counts
+    /// them.
+    pub fn has_all(&self, seats: &[Seat<J>]) -> bool
+        ensures all { IsTrue result → HasAsMany self.now.list (mines_of seats.now) }
+        ensures countable { IsTrue result → AreCountable (mines_of seats.now) }
+    {
+        let counts = self.counts();
+        for k in 0..seats.len() {
+            if k >= counts.len() {
+                return false;
+            }
+            let count = counts[k];
+            if count == u64::MAX || count < seats[k].accepted() {
+                return false;
+            }
+        }
+        true
+    }
+
     /// Publishes what is left, makes the account, and ends the board. Where it does not finish, relay and seats
     /// come back, what was published stays published, the rest is still queued or kept, and it may be called
     /// again; after `StoreFull` it will be refused again. `Closed` only where a seat had seen more than was
@@ -241,6 +251,31 @@ impl<J: Naming, R: Wait + Drop> Relay<J, R> {
         if let Some(fault) = drained(&mut self, seats.as_slice()) {
             return Err((self, seats, finish_fault(fault)));
         }
+        self.end(alloc, seats)
+    }
+
+    /// Makes the account of a relay that has published all that was accepted, and ends the board. Nothing is
+    /// published any more; where it does not end, relay and seats come back as they were. `Closed` only where
+    /// a seat had seen more than was published.
+    pub fn end(
+        self,
+        alloc: Global,
+        seats: Vec<Seat<J>>,
+    ) -> Result<Account, (Relay<J, R>, Vec<Seat<J>>, FinishFault)>
+        requires closed { self.closed ≡ true }
+        requires all { self.made ≡ length seats.items }
+        requires order { Numbered 0 seats.items }
+        requires kept { self.kept ≡ [] }
+        requires many { HasAsMany self.list (mines_of seats.items) }
+        requires countable { AreCountable (mines_of seats.items) }
+        ensures whole { IfOk result (λ a. IsWhole self.origin self.list (list_of a.front) seats.items a) }
+        ensures list { IfOk result (λ a. list_of a.front ≡ self.list) }
+        ensures same { IfErr result (λ r. (r.0 ≡ self) × (r.1.items ≡ seats.items)) }
+        ensures fault { IfErr result (λ r. r.2 ≢ FinishFault.StoreFull) }
+        ensures unseen { IfErr result (λ r. r.2 ≡ FinishFault.Closed → ¬ (BeginsWithAll self.list seats.items)) }
+    {
+        // For the proof alone: the call tells that what was taken is what is published.
+        let _all = self.has_published_all();
         match closing(alloc, &self, seats.as_slice()) {
             Err(fault) => Err((self, seats, fault)),
             Ok(account) => {

@@ -46,6 +46,8 @@ fn seated<J: Naming>(
         alloc,
         rule,
         number: place + 1,
+        floor: None,
+        newest: 0,
         reader: BoardReader::new(alloc, window),
         post,
         door,
@@ -62,7 +64,7 @@ pub(crate) fn seats<J: Naming>(
     door: &Arc<Door, Global>,
     count: u16,
 ) -> Result<Vec<Seat<J>>, StartFault>
-    requires number { ((view drain.old.pass).made ≡ 0) × (count ≤ 64) }
+    requires number { ((view drain.old.pass).made ≡ 0) × (count ≤ 65) }
     requires empty { (publisher.old.list ≡ []) × (publisher.old.announced ≡ []) }
     requires rule { rule.states ≡ publisher.old.origin.states }
     requires named { (publisher.old.origin ≡ J.origin) × ((arc_value drain.old.queue).table.shared.table_id ≡ J.inbox) × ((view drain.old.pass).label ≡ label_of J.origin) }

@@ -1,7 +1,7 @@
 //! The start, in two steps: a board and an inbox without a name, and then the relay and the seats under a
 //! name. A name of what is only made now cannot be a parameter of the call that makes it.
 
-ghost use Rattle.std.specs.Prelude.{◌≡◌, ◌≢◌, ◌≤◌, [], true, false, length, IfOk, IfErr};
+ghost use Rattle.std.specs.Prelude.{◌≡◌, ◌≢◌, ◌≤◌, ◌+◌, [], true, false, length, replicate, IfOk, IfErr};
 ghost use Rattle.std.specs.Arc.{arc_value};
 ghost use Rattle.crossbeam_queue.specs.Passes.{view, ruled_capacity};
 ghost use Rattle.square_store.specs.Limits.{usual_room};
@@ -9,20 +9,23 @@ ghost use Rattle.stamped_writes.specs.Write.{unwritten, AreSame};
 ghost use Rattle.stamped_tree.specs.Plane.{map_of};
 ghost use Rattle.board.specs.Sights.{label_of};
 ghost use Rattle.relay_board.specs.Seating.{AllFresh};
-ghost use Rattle.relay_board.specs.Starting.{fits, Starts};
+ghost use Rattle.circular_buffer.specs.Buffer.{buffer};
+ghost use Rattle.relay_board.specs.Starting.{fits, seats_of, Starts};
+ghost use Rattle.relay_board.specs.Turns.{most_ready};
 
 use crate::door::Door;
 use crate::fault::StartFault;
 use crate::naming::Naming;
 use crate::new_seats::seats;
-use crate::relay::Relay;
+use crate::relay::{MOST_READY, Relay};
 use crate::seat::Seat;
 use board::Publisher;
+use circular_buffer::HeapCircularBuffer;
 use generations_rule::Rule;
 use held_plane::HeldPlane;
-use inbox::Drain;
+use inbox::{Drain, Submission};
 use square_store::Limits;
-use std::alloc::Global;
+use std::alloc::{AllocError, Global};
 use std::marker::PhantomData;
 use std::sync::{Arc, Wait};
 
@@ -35,10 +38,12 @@ pub const MOST_INBOX: u16 = 1024;
 /// What a board is opened for.
 #[derive(Clone, Copy)]
 pub struct BoardSize {
-    /// How many seats it has, 1 to 64.
+    /// How many seats it has for sessions, 1 to 64.
     pub sessions: u16,
     /// For how many submissions the inbox has room, 1 to 1,024.
     pub inbox: u16,
+    /// Whether the board is kept in a file, which has a seat of its own, the last.
+    pub is_kept: bool,
     /// The room of the relay's own plane, and the key of all its planes.
     pub limits: Limits,
 }
@@ -57,7 +62,7 @@ pub struct Opened<R: Wait + Drop> {
     pub ghost inbox: { ((view drain.pass).made ≡ 0) × ((view drain.pass).out ≡ []) × ((view drain.pass).known ≡ []) × (drain.empties ≡ 0) },
     pub ghost same: { (view drain.pass).label ≡ label_of publisher.origin },
     pub ghost ruled: { rule.states ≡ publisher.origin.states },
-    pub ghost few: { count ≤ 64 },
+    pub ghost few: { count ≤ 65 },
     pub ghost untried: { AreSame (map_of tried) (λ _. unwritten) },
 }
 
@@ -84,6 +89,15 @@ fn fits(sessions: u16, inbox: u16) -> bool
     1 <= sessions && sessions <= MOST_SESSIONS && 1 <= inbox && inbox <= MOST_INBOX
 }
 
+/// How many seats there are, with the file's.
+fn seats_of(sessions: u16, is_kept: bool) -> u16
+    requires { sessions ≤ 64 }
+    ensures value { result ≡ seats_of sessions is_kept }
+    ensures within { (sessions ≤ result) × (result ≤ sessions + 1) }
+{
+    if is_kept { sessions + 1 } else { sessions }
+}
+
 /// A board for so many sessions, 1 to 64, under a rule, with an inbox for so many submissions, 1 to 1,024,
 /// and room for 2^26 squares in the relay's own plane.
 pub fn start<R: Wait + Drop>(
@@ -99,13 +113,14 @@ pub fn start<R: Wait + Drop>(
     let size = BoardSize {
         sessions,
         inbox,
+        is_kept: false,
         limits: Limits::usual(),
     };
     start_within(rt, alloc, rule, size)
 }
 
-/// The same of another size: with room for so many squares in the relay's own plane, and with planes that
-/// find their squares by a key's hashes.
+/// The same of another size: with room for so many squares in the relay's own plane, with planes that find
+/// their squares by a key's hashes, and with one seat more where the board is kept in a file.
 pub fn start_within<R: Wait + Drop>(
     rt: R,
     alloc: Global,
@@ -113,20 +128,22 @@ pub fn start_within<R: Wait + Drop>(
     size: BoardSize,
 ) -> Result<Opened<R>, StartFault>
     requires { 1 ≤ size.limits.room }
-    ensures ok { IfOk result (λ o. (fits size.sessions size.inbox ≡ true) × (o.count ≡ size.sessions) × (o.rule ≡ rule) × (o.tried.store.room ≡ size.limits.room) × (ruled_capacity (arc_value o.drain.queue) ≡ size.inbox)) }
+    ensures ok { IfOk result (λ o. (fits size.sessions size.inbox ≡ true) × (o.count ≡ seats_of size.sessions size.is_kept) × (o.rule ≡ rule) × (o.tried.store.room ≡ size.limits.room) × (ruled_capacity (arc_value o.drain.queue) ≡ size.inbox)) }
     ensures err { IfErr result (λ f. Starts f (fits size.sessions size.inbox)) }
 {
     let BoardSize {
         sessions,
         inbox,
+        is_kept,
         limits,
     } = size;
     if !fits(sessions, inbox) {
         return Err(StartFault::Size);
     }
+    let count = seats_of(sessions, is_kept);
     let door = Arc::new(alloc, Door::new())?;
     let tried = HeldPlane::new(alloc, limits)?;
-    let seats = usize::from(sessions);
+    let seats = usize::from(count);
     let publisher = Publisher::new(&rt, alloc, rule.states(), seats, limits.key)?;
     let Ok(drain) = Drain::new(alloc, usize::from(inbox), &publisher.front()) else {
         publisher.end(&rt);
@@ -139,18 +156,33 @@ pub fn start_within<R: Wait + Drop>(
         door,
         alloc,
         rule,
-        count: sessions,
+        count,
         rt,
     })
 }
 
+/// The room of a relay: a count for each seat, and what is kept, which is nothing yet.
+fn rooms(
+    alloc: Global,
+    count: u16,
+) -> Result<(Vec<u64>, HeapCircularBuffer<Submission>), AllocError>
+    ensures counts { IfOk result (λ r. r.0.items ≡ replicate count 0) }
+    ensures kept { IfOk result (λ r. r.1 ≡ buffer [] most_ready) }
+{
+    let counts = vec![in alloc; 0u64; usize::from(count)]?;
+    let kept = HeapCircularBuffer::with_capacity(alloc, MOST_READY)?;
+    Ok((counts, kept))
+}
+
 impl<R: Wait + Drop> Opened<R> {
-    /// The relay, and the seats in the order of their numbers, 1 to as many as were asked for. `NoPlace` where
-    /// `left_right` gave no reader's place, which may be want of memory too.
+    /// The relay, and the seats in the order of their numbers, 1 to as many as were asked for, and then the
+    /// file's, where the board is kept in one. `NoPlace` where `left_right` gave no reader's place, which may be
+    /// want of memory too.
     pub fn named<J: Naming>(self) -> Result<(Relay<J, R>, Vec<Seat<J>>), StartFault>
         requires origin { self.publisher.origin ≡ J.origin }
         requires inbox { (arc_value self.drain.queue).table.shared.table_id ≡ J.inbox }
         ensures relay { IfOk result (λ r. (r.0.list ≡ []) × (r.0.out ≡ []) × (r.0.kept ≡ []) × (r.0.made ≡ self.count) × (r.0.closed ≡ false) × (r.0.empties ≡ 0) × (r.0.room ≡ self.tried.store.room)) }
+        ensures ready { IfOk result (λ r. r.0.ready ≡ 0) }
         ensures states { IfOk result (λ r. r.0.origin.states ≡ self.rule.states) }
         ensures seats { IfOk result (λ r. AllFresh self.rule (ruled_capacity (arc_value self.drain.queue)) 0 r.1.items × (length r.1.items ≡ self.count)) }
         ensures err { IfErr result (λ f. f ≢ StartFault.Size) }
@@ -165,8 +197,8 @@ impl<R: Wait + Drop> Opened<R> {
             count,
             rt,
         } = self;
-        let counts = match vec![in alloc; 0u64; usize::from(count)] {
-            Ok(counts) => counts,
+        let (counts, kept) = match rooms(alloc, count) {
+            Ok(rooms) => rooms,
             Err(_) => {
                 publisher.end(&rt);
                 return Err(StartFault::Memory);
@@ -182,7 +214,8 @@ impl<R: Wait + Drop> Opened<R> {
         let relay = Relay {
             publisher,
             drain,
-            kept: None,
+            kept,
+            ready: 0,
             told: false,
             answered: None,
             tried,

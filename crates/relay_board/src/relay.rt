@@ -1,6 +1,7 @@
-//! The relay: it takes what seats submit, one entry a turn, publishes it, and answers it.
+//! The relay: it takes what seats submit and makes it ready, and publishes what is ready, one entry after another, and
+//! answers it.
 
-ghost use Rattle.std.specs.Prelude.{◌≡◌, ◌⊎◌, ◌++◌, ◌∷◌, [], length, map, true, Err, IfOk, OnOk, IsTrue, ◌↔◌, MatchBool, MatchResult};
+ghost use Rattle.std.specs.Prelude.{◌≡◌, ◌⊎◌, ◌<◌, ◌+◌, ◌++◌, ◌∷◌, [], length, take, true, false, nat_lt, if◌then◌else◌, slice_get, option_copied, Err, OnOk, OnErr, IsTrue, ◌↔◌, MatchBool, MatchResult};
 ghost use mathlib.Core.List.{IsPrefix};
 ghost use Rattle.std.specs.Arc.{arc_value};
 ghost use Rattle.crossbeam_queue.specs.Passes.{view};
@@ -10,10 +11,13 @@ ghost use Rattle.board.specs.Sights.{label_of};
 ghost use Rattle.inbox.specs.Books.{label_in};
 ghost use Rattle.receipts.specs.About.{entry_of, known_by};
 ghost use Rattle.receipts.specs.Topics.{topic};
-ghost use Rattle.relay_board.specs.Kept.{EndsWith, kept_of};
+ghost use Rattle.edit_stamps.specs.Edit.{greatest};
+ghost use Rattle.stamped_writes.specs.Write.{AreSame, joined};
+ghost use Rattle.stamped_tree.specs.Plane.{map_of};
+ghost use Rattle.relay_board.specs.Kept.{AreFor, EndsWith, IsTold, kept_of};
 ghost use Rattle.relay_board.specs.Same.{Same};
 ghost use Rattle.relay_board.specs.Tallies.{Tallies};
-ghost use Rattle.relay_board.specs.Turns.{IsFetched, Idles, Turns};
+ghost use Rattle.relay_board.specs.Turns.{most_ready, FindsNone, IsFetched, Readies, Shows, ShowsFirst, Turns};
 
 use crate::door::Door;
 use crate::fault::{TurnFault, turn_fault};
@@ -21,6 +25,7 @@ use crate::naming::Naming;
 use crate::seat::Seat;
 use crate::tally::tally;
 use board::{Board, Entry, Front, Publisher};
+use circular_buffer::HeapCircularBuffer;
 use core::mem::replace_with;
 use edit_stamps::Stamp;
 use held_plane::{Added, HeldPlane};
@@ -32,6 +37,9 @@ use std::slice;
 use std::sync::{Arc, Wait};
 use std::time::Duration;
 
+/// The most entries that are ready at once.
+pub const MOST_READY: usize = 64;
+
 /// Who publishes what seats submit. It keeps the handle by which it waits, so that it may be dropped: its drop
 /// ends the board, and lets who waits for a receipt know.
 pub struct Relay<J: Naming, R: Wait + Drop> {
@@ -39,9 +47,11 @@ pub struct Relay<J: Naming, R: Wait + Drop> {
     pub(crate) publisher: Publisher,
     /// Its end of the inbox.
     pub(crate) drain: Drain,
-    /// What was taken and is not published yet.
-    pub(crate) kept: Option<Submission>,
-    /// Whether that was announced to the publisher.
+    /// What was taken and is not published yet, the oldest first.
+    pub(crate) kept: HeapCircularBuffer<Submission>,
+    /// How many of these are ready, from the first on.
+    pub(crate) ready: usize,
+    /// Whether the first of them was announced to the publisher.
     pub(crate) told: bool,
     /// That the last published entry was answered.
     pub(crate) answered: Option<Answered>,
@@ -76,6 +86,7 @@ impl<J: Naming, R: Wait + Drop> Drop for Relay<J, R> {
             publisher,
             drain: _,
             kept: _,
+            ready: _,
             told: _,
             answered: _,
             tried: _,
@@ -101,6 +112,19 @@ impl Bell {
     pub fn ring(&self) {
         self.door.ring();
     }
+}
+
+/// What came of making an entry ready.
+#[derive(Clone, Copy, Debug, PartialEq, Eq)]
+pub enum Readiness {
+    /// Nothing was kept that is not ready, and the inbox was empty at one moment of the call.
+    Idle,
+    /// 64 are ready. Nothing was taken.
+    Full,
+    /// One more is ready.
+    Ready,
+    /// It is kept, and the next call tries it again.
+    Failed(TurnFault),
 }
 
 /// What a turn did.
@@ -133,14 +157,59 @@ fn answered<R: Wait>(rt: &R, kept: Submission, front: Front) -> Answered
     answering.answer(rt, answer_of(&entry, front))
 }
 
-/// A copy of the entry that is kept.
-fn copied(kept: &Option<Submission>) -> Result<Entry, AllocError>
-    requires { length (kept_of kept.now) ≡ 1 }
-    ensures { IfOk result (λ e. kept_of kept.now ≡ e ∷ []) }
+/// Joins a kept edit into a plane.
+fn joined(
+    plane: &mut HeldPlane,
+    kept: &HeapCircularBuffer<Submission>,
+    at: usize,
+) -> Result<(), TurnFault>
+    requires { at < length kept.now.items }
+    ensures ok { OnOk result ((e : Entry) × (slice_get (kept_of kept.now.items) at ≡ Some e) × AreSame (map_of plane.new) (joined (map_of plane.old) (greatest (e.edit ∷ [])))) }
+    ensures err { OnErr result (AreSame (map_of plane.new) (map_of plane.old)) }
+    ensures room { plane.new.store.room ≡ plane.old.store.room }
+    ensures full { result ≡ Err TurnFault.StoreFull → length plane.new.store.squares ≡ plane.new.store.room }
 {
-    match kept {
-        None => unreachable!(),
-        Some(submission) => submission.entry.copy(),
+    let Some(next) = kept.get(at) else {
+        unreachable!()
+    };
+    match plane.join(Added::Edits(slice::from_ref(&next.entry.edit))) {
+        Ok(()) => Ok(()),
+        Err(fault) => Err(turn_fault(fault)),
+    }
+}
+
+/// Whether the first entry that is kept is announced as one more is kept behind so many that are ready: not if
+/// there are none.
+fn stays_told(told: bool, ready: usize) -> bool
+    ensures { result ≡ (if told then nat_lt 0 ready else false) }
+{
+    told && ready > 0
+}
+
+/// Announces the first entry that is kept, unless that was done.
+fn announced(
+    publisher: &mut Publisher,
+    told: bool,
+    kept: &HeapCircularBuffer<Submission>,
+) -> Result<(), AllocError>
+    requires some { 0 < length kept.now.items }
+    requires told { IsTold told (kept_of kept.now.items) publisher.old.announced publisher.old.list }
+    requires label { AreFor kept.now.items (label_of publisher.old.origin) }
+    ensures same { (publisher.new.list ≡ publisher.old.list) × (publisher.new.origin ≡ publisher.old.origin) }
+    ensures announced { MatchResult result (λ _. publisher.new.announced ≡ publisher.old.list ++ take 1 (kept_of kept.now.items)) (λ _. publisher.new.announced ≡ publisher.old.announced) }
+{
+    if told {
+        return Ok(());
+    }
+    let Some(first) = kept.front() else {
+        unreachable!()
+    };
+    let Ok(entry) = first.entry.copy() else {
+        return Err(AllocError);
+    };
+    match publisher.announce(entry) {
+        Ok(()) => Ok(()),
+        Err(_) => Err(AllocError),
     }
 }
 
@@ -152,89 +221,141 @@ fn shown<R: Wait>(publisher: &mut Publisher, rt: &R) -> Result<(), AllocError>
 }
 
 impl<J: Naming, R: Wait + Drop> Relay<J, R> {
-    /// Publishes the entry that is kept, or else the next one of the inbox: it is joined into the relay's own
-    /// plane, which may be full, then announced and published, and then its receipt is sent. `Idle` only if
-    /// nothing was kept and the inbox was empty at one moment of the call. Where it failed, the entry is kept.
+    /// Makes the next entry ready, the one that is kept behind those that are ready or else the next one of the
+    /// inbox: it is joined into the relay's own plane, which may be full. Nothing is published. `Idle` only if
+    /// nothing was kept that is not ready and the inbox was empty at one moment of the call.
+    pub fn ready(&mut self) -> Readiness
+        ensures same { Same self.old self.new }
+        ensures readied { Readies self.old result self.new }
+    {
+        if self.ready >= MOST_READY {
+            return Readiness::Full;
+        }
+        if !self.fetch() {
+            return Readiness::Idle;
+        }
+        match self.prepare() {
+            Ok(()) => Readiness::Ready,
+            Err(fault) => Readiness::Failed(fault),
+        }
+    }
+
+    /// Publishes the first entry that is ready, and then sends its receipt. Without memory nothing is published,
+    /// and it stays the first.
+    // The publisher holds one entry at a time, so it is announced no sooner than here.
+    pub fn show(&mut self) -> Result<Stamp, AllocError>
+        requires { 0 < self.old.ready }
+        ensures same { Same self.old self.new }
+        ensures shown { Shows self.old result self.new }
+    {
+        match announced(&mut self.publisher, self.told, &self.kept) {
+            Err(_) => return Err(AllocError),
+            Ok(()) => {}
+        }
+        self.told = true;
+        match shown(&mut self.publisher, &self.rt) {
+            Err(_) => Err(AllocError),
+            Ok(()) => {
+                let Some(first) = self.kept.pop_front() else {
+                    unreachable!()
+                };
+                let (seat, stamp) = (first.entry.seat, first.entry.edit.stamp());
+                let front = self.publisher.front();
+                self.door.publish(front.len());
+                self.answered = Some(answered(&self.rt, first, front));
+                self.ready -= 1;
+                self.told = false;
+                tally(self.counts.as_mut_slice(), seat);
+                Ok(stamp)
+            }
+        }
+    }
+
+    /// Publishes the first entry that is ready, and makes one ready before where none is. `Idle` only if nothing
+    /// was kept and the inbox was empty at one moment of the call. Where it failed, the entry is kept.
     pub fn turn(&mut self) -> Turn
         ensures same { Same self.old self.new }
         ensures turned { Turns self.old result self.new }
     {
-        if !self.fetch() {
-            return Turn::Idle;
+        if self.ready > 0 {
+            return self.show_first();
         }
-        if let Err(fault) = self.prepare() {
-            return Turn::Failed(fault);
-        }
-        match self.show() {
-            Ok(stamp) => Turn::Published(stamp),
-            Err(_) => Turn::Failed(TurnFault::Memory),
+        match self.ready() {
+            Readiness::Idle => Turn::Idle,
+            Readiness::Full => unreachable!(),
+            Readiness::Ready => self.show_first(),
+            Readiness::Failed(fault) => Turn::Failed(fault),
         }
     }
 
-    /// Takes a submission in, where none is kept. False where there is none.
-    fn fetch(&mut self) -> bool
-        ensures same { Same self.old self.new }
-        ensures list { self.new.list ≡ self.old.list }
-        ensures answered { self.new.answered ≡ self.old.answered }
-        ensures fetched { MatchBool result (IsFetched self.old self.new) (Idles self.old self.new) }
+    /// How many entries are ready to be published.
+    pub fn count_ready(&self) -> usize
+        ensures { result ≡ self.now.ready }
     {
-        if self.kept.is_some() {
+        self.ready
+    }
+
+    /// The entry at a place among those that are ready, the first to be published at 0.
+    pub fn ready_at(&self, at: usize) -> Option<&Entry>
+        ensures { option_copied result ≡ slice_get (take self.now.ready self.now.kept) at }
+    {
+        if at >= self.ready {
+            return None;
+        }
+        match self.kept.get(at) {
+            None => None,
+            Some(submission) => Some(&submission.entry),
+        }
+    }
+
+    /// Takes a submission in, where all that is kept is ready. False where there is none.
+    fn fetch(&mut self) -> bool
+        requires { self.old.ready < most_ready }
+        ensures same { Same self.old self.new }
+        ensures fetched { MatchBool result (IsFetched self.old self.new) (FindsNone self.old self.new) }
+    {
+        if self.ready < self.kept.len() {
             return true;
         }
         match self.drain.take(&self.rt) {
             None => false,
             Some(submission) => {
-                self.kept = Some(submission);
-                self.told = false;
+                self.told = stays_told(self.told, self.ready);
+                // There is room: as many are kept as are ready, fewer than 64.
+                let Ok(()) = self.kept.try_push_back(submission) else {
+                    unreachable!()
+                };
                 true
             }
         }
     }
 
-    /// Tries what is kept on the relay's own plane, and announces it.
+    /// Joins the edit that is kept behind those that are ready into the relay's own plane: then it is ready.
     fn prepare(&mut self) -> Result<(), TurnFault>
-        requires { length self.old.kept ≡ 1 }
-        ensures same { Same self.old self.new × (self.new.list ≡ self.old.list) × (self.new.kept ≡ self.old.kept) × (self.new.out ≡ self.old.out) × (self.new.empties ≡ self.old.empties) × (self.new.answered ≡ self.old.answered) }
-        ensures announced { OnOk result (self.new.announced ≡ self.old.list ++ self.old.kept) }
+        requires most { self.old.ready < most_ready }
+        requires one { self.old.ready < length self.old.kept }
+        ensures prepared { self.new ≡ record self.old { ready = self.new.ready; stored = self.new.stored } }
+        ensures ready { MatchResult result (λ _. self.new.ready ≡ self.old.ready + 1) (λ _. self.new.ready ≡ self.old.ready) }
         ensures full { result ≡ Err TurnFault.StoreFull → self.new.stored ≡ self.new.room }
     {
-        if self.told {
-            return Ok(());
+        match joined(&mut self.tried, &self.kept, self.ready) {
+            Err(fault) => Err(fault),
+            Ok(()) => {
+                self.ready += 1;
+                Ok(())
+            }
         }
-        let Ok(entry) = copied(&self.kept) else {
-            return Err(TurnFault::Memory);
-        };
-        if let Err(fault) = self.tried.join(Added::Edits(slice::from_ref(&entry.edit))) {
-            return Err(turn_fault(fault));
-        }
-        if self.publisher.announce(entry).is_err() {
-            return Err(TurnFault::Memory);
-        }
-        self.told = true;
-        Ok(())
     }
 
-    /// Publishes what was announced, and then answers it.
-    fn show(&mut self) -> Result<Stamp, AllocError>
-        requires kept { length self.old.kept ≡ 1 }
-        requires announced { self.old.announced ≡ self.old.list ++ self.old.kept }
-        ensures same { Same self.old self.new × (self.new.out ≡ self.old.out) × (self.new.empties ≡ self.old.empties) }
-        ensures shown { MatchResult result (λ s. (self.new.kept ≡ []) × (self.new.list ≡ self.old.list ++ self.old.kept) × (map (λ e. e.edit.stamp) self.old.kept ≡ s ∷ []) × (self.new.answered ≡ map (λ e. topic e self.new.origin) self.old.kept)) (λ _. (self.new.list ≡ self.old.list) × (self.new.kept ≡ self.old.kept) × (self.new.answered ≡ self.old.answered)) }
+    /// A turn that finds an entry ready.
+    fn show_first(&mut self) -> Turn
+        requires { 0 < self.old.ready }
+        ensures same { Same self.old self.new }
+        ensures turned { ShowsFirst self.old result self.new }
     {
-        match shown(&mut self.publisher, &self.rt) {
-            Err(_) => Err(AllocError),
-            Ok(()) => {
-                let Some(kept) = self.kept.take() else {
-                    unreachable!()
-                };
-                let (seat, stamp) = (kept.entry.seat, kept.entry.edit.stamp());
-                let front = self.publisher.front();
-                self.door.publish(front.len());
-                self.answered = Some(answered(&self.rt, kept, front));
-                self.told = false;
-                tally(self.counts.as_mut_slice(), seat);
-                Ok(stamp)
-            }
+        match self.show() {
+            Ok(stamp) => Turn::Published(stamp),
+            Err(_) => Turn::Failed(TurnFault::Memory),
         }
     }
 
@@ -273,7 +394,7 @@ impl<J: Naming, R: Wait + Drop> Relay<J, R> {
         ensures kept { IsTrue result ↔ (self.now.kept ≡ []) }
         ensures out { IsTrue result → self.now.out ≡ self.now.list }
     {
-        self.kept.is_none()
+        self.kept.is_empty()
     }
 
     /// How many entries were published of each seat.
@@ -324,6 +445,7 @@ impl<J: Naming, R: Wait + Drop> Relay<J, R> {
             publisher,
             drain,
             kept: _,
+            ready: _,
             told: _,
             answered: _,
             tried: _,

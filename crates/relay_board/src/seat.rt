@@ -1,6 +1,6 @@
 //! A seat: what it has seen, and its end of the inbox, under the name of its board and its inbox.
 
-ghost use Rattle.std.specs.Prelude.{◌≡◌, ◌⊎◌, ◌+◌, ◌++◌, ◌∷◌, ◌==◌, ◌↔◌, [], length, IsTrue, IfOk, IfErr, IfSome};
+ghost use Rattle.std.specs.Prelude.{◌≡◌, ◌⊎◌, ◌+◌, ◌++◌, ◌∷◌, ◌==◌, ◌↔◌, [], length, true, Some, IsTrue, IfOk, IfErr, IfSome};
 ghost use mathlib.Core.List.{IsPrefix};
 ghost use Rattle.std.specs.Arc.{arc_value};
 ghost use Rattle.crossbeam_queue.specs.Passes.{view};
@@ -18,7 +18,8 @@ ghost use Rattle.board.specs.Learning.{HasLearnt};
 ghost use Rattle.board.specs.Origins.{origin, list_of};
 ghost use Rattle.inbox.specs.Counts.{counted};
 ghost use Rattle.inbox.specs.Hands.{entry};
-ghost use Rattle.relay_board.specs.Refusals.{Passes, Refuses, Lasts};
+ghost use Rattle.relay_board.specs.Refusals.{BringRefuses, Lasts, looks_at, Passes, Refuses};
+ghost use Rattle.relay_board.specs.Rising.{GoesOn, has_risen, IsRising};
 ghost use Rattle.relay_board.specs.Seating.{IsSame, HasRead};
 
 use crate::door::Door;
@@ -43,6 +44,10 @@ pub struct Seat<J: Naming> {
     pub(crate) alloc: Global,
     pub(crate) rule: Rule,
     pub(crate) number: u16,
+    /// The counter above which those of its edits rise, where the board is kept in a file.
+    pub(crate) floor: Option<u64>,
+    /// The counter of the last edit that it put, or else the floor. Where there is no floor, nothing asks it.
+    pub(crate) newest: u64,
     pub(crate) reader: BoardReader,
     pub(crate) post: Post,
     /// What it shares with the relay beside the inbox.
@@ -77,10 +82,20 @@ fn is_of(edit: &Edit, number: u16) -> bool
 }
 
 /// Whether an edit's states are those of a rule.
-fn is_under(edit: &Edit, rule: &Rule) -> bool
+pub(crate) fn is_under(edit: &Edit, rule: &Rule) -> bool
     ensures { result ≡ has_states_below rule.now.states edit.now }
 {
     are_below(rule.states(), edit.listed_cells())
+}
+
+/// Whether an edit's counter is above the newest one; where there is no floor, any is.
+fn is_newer(edit: &Edit, floor: Option<u64>, newest: u64) -> bool
+    ensures { result ≡ has_risen floor newest edit.now }
+{
+    match floor {
+        None => true,
+        Some(_) => edit.stamp().counter() > newest,
+    }
 }
 
 impl<J: Naming> Seat<J> {
@@ -109,15 +124,34 @@ impl<J: Naming> Seat<J> {
         self.post.accepted()
     }
 
+    /// From now on the counters of its edits rise from this one on: for a board that is kept in a file, which
+    /// has no greater one of this seat's replica.
+    pub fn keep_above(&mut self, counter: u64)
+        requires { self.old.mine ≡ [] }
+        ensures { self.new ≡ record self.old { floor = Some counter } }
+    {
+        self.floor = Some(counter);
+        self.newest = counter;
+    }
+
+    /// The counter above which those of its edits rise, where they have to.
+    pub fn floor(&self) -> Option<u64>
+        ensures value { result ≡ self.now.floor }
+        ensures rises { IsRising self.now.floor (self.now.place + 1) self.now.mine }
+    {
+        self.floor
+    }
+
     /// Submits an edit. It is handed back where it is refused: in this order an edit whose stamp's replica is
-    /// not this seat's number, a state that the rule does not have, a relay that takes no submission any more,
-    /// want of memory, and an inbox that was full at one moment of the call.
+    /// not this seat's number, a state that the rule does not have, on a board that is kept in a file a stamp
+    /// whose counter is not above the last of the seat's, a relay that takes no submission any more, want of
+    /// memory, and an inbox that was full at one moment of the call.
     pub fn submit<R: Wait>(&mut self, rt: &R, edit: Edit) -> Result<Pending<J>, (Edit, SubmitFault)>
         ensures same { IsSame self.old self.new × (self.new.seen ≡ self.old.seen) × (self.new.handed ≡ self.old.handed) }
         ensures put { IfOk result (λ p. (p ≡ entry self.old.place (counted (length self.old.mine + 1)) edit) × (self.new.mine ≡ self.old.mine ++ p ∷ []) × (self.new.full ≡ self.old.full)) }
-        ensures passes { IfOk result (λ _. Passes (replica_in edit.stamp == self.old.place + 1) (has_states_below self.old.rule.states edit)) }
+        ensures passes { IfOk result (λ _. Passes (looks_at self.old edit)) }
         ensures denied { IfErr result (λ r. (r.0 ≡ edit) × (self.new.mine ≡ self.old.mine)) }
-        ensures refused { IfErr result (λ r. Refuses r.1 (replica_in edit.stamp == self.old.place + 1) (has_states_below self.old.rule.states edit) self.old.full self.new.full (Lasts self.old.room self.old.place self.old.mine)) }
+        ensures refused { IfErr result (λ r. Refuses r.1 (looks_at self.old edit) self.old.full self.new.full (Lasts self.old.room self.old.place self.old.mine)) }
     {
         if !is_of(&edit, self.number) {
             return Err((edit, SubmitFault::NotYours));
@@ -125,12 +159,33 @@ impl<J: Naming> Seat<J> {
         if !is_under(&edit, &self.rule) {
             return Err((edit, SubmitFault::StateRange));
         }
+        if !is_newer(&edit, self.floor, self.newest) {
+            return Err((edit, SubmitFault::OldStamp));
+        }
+        self.put(rt, edit)
+    }
+
+    /// Puts an edit that was looked at, where the relay takes any.
+    pub(crate) fn put<R: Wait>(
+        &mut self,
+        rt: &R,
+        edit: Edit,
+    ) -> Result<Pending<J>, (Edit, SubmitFault)>
+        requires below { has_states_below self.old.rule.states edit ≡ true }
+        requires goes_on { GoesOn self.old.floor (self.old.place + 1) self.old.mine edit }
+        ensures same { IsSame self.old self.new × (self.new.seen ≡ self.old.seen) × (self.new.handed ≡ self.old.handed) }
+        ensures put { IfOk result (λ p. (p ≡ entry self.old.place (counted (length self.old.mine + 1)) edit) × (self.new.mine ≡ self.old.mine ++ p ∷ []) × (self.new.full ≡ self.old.full)) }
+        ensures denied { IfErr result (λ r. (r.0 ≡ edit) × (self.new.mine ≡ self.old.mine)) }
+        ensures refused { IfErr result (λ r. BringRefuses r.1 true self.old.full self.new.full (Lasts self.old.room self.old.place self.old.mine)) }
+    {
         if !self.door.is_open() {
             return Err((edit, SubmitFault::Closed));
         }
         let front = front_of(&self.reader);
+        let last = edit.stamp().counter();
         match self.post.put(rt, self.alloc, &front, edit) {
             Ok(pending) => {
+                self.newest = last;
                 self.door.ring();
                 Ok(Pending::new(pending))
             }
@@ -291,6 +346,8 @@ impl<J: Naming> Seat<J> {
             alloc: _,
             rule: _,
             number: _,
+            floor: _,
+            newest: _,
             reader: _,
             post,
             door: _,

@@ -10,13 +10,19 @@ mod drawn;
 #[cfg(test)]
 mod ending;
 #[cfg(test)]
+mod files;
+#[cfg(test)]
 mod handing;
 #[cfg(test)]
 mod pairs;
 #[cfg(test)]
+mod readiness;
+#[cfg(test)]
 mod refusals;
 #[cfg(test)]
 mod resting;
+#[cfg(test)]
+mod rising;
 #[cfg(test)]
 mod rounds;
 #[cfg(test)]

@@ -94,6 +94,7 @@ fn a_full_store_keeps_what_was_submitted(rt: HostRuntime) -> Result<(), Fail> {
     let size = BoardSize {
         sessions: 1,
         inbox: 2,
+        is_kept: false,
         limits: Limits::of_room(29),
     };
     let opened = start_within(rt, rt.alloc(), Rule::parse(BRIANS_BRAIN)?, size)?;

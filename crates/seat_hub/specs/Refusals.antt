@@ -1,12 +1,11 @@
 -- Refusals of a seat, and how a hub tells them.
-use Rattle.std.specs.Prelude.{◌≡◌, ◌+◌, ◌==◌}
-use Rattle.edit_stamps.specs.Edit.{PlaneEdit, has_states_below}
-use Rattle.edit_stamps.specs.Stamp.{replica_in}
+use Rattle.std.specs.Prelude.{◌≡◌}
+use Rattle.edit_stamps.specs.Edit.{PlaneEdit}
 use Rattle.board.specs.declared.fault.SeatFault.{SeatFault}
 use Rattle.board.specs.declared.fault.SeatFault.TheVariants as reads
 use Rattle.relay_board.specs.declared.fault.SubmitFault.{SubmitFault}
-use Rattle.relay_board.specs.declared.fault.SubmitFault.TheVariants.{NotYours, StateRange, Closed, Memory, Full}
-use Rattle.relay_board.specs.Refusals.{Refuses, Lasts}
+use Rattle.relay_board.specs.declared.fault.SubmitFault.TheVariants.{NotYours, StateRange, OldStamp, Closed, Memory, Full}
+use Rattle.relay_board.specs.Refusals.{Refuses, Lasts, looks_at}
 use Rattle.relay_board.specs.Seating.{Seating, IsSame}
 use Rattle.session_hub.specs.declared.fault.HubFault.{HubFault}
 use Rattle.session_hub.specs.declared.fault.HubFault.TheVariants as hub
@@ -17,11 +16,12 @@ pub record IsRefused (a b : Seating) (edit : PlaneEdit) (fault : SubmitFault) : 
   pub mine : b.mine ≡ a.mine
   pub seen : b.seen ≡ a.seen
   pub handed : b.handed ≡ a.handed
-  pub cause : Refuses fault (replica_in edit.stamp == a.place + 1) (has_states_below a.rule.states edit) a.full b.full (Lasts a.room a.place a.mine)
+  pub cause : Refuses fault (looks_at a edit) a.full b.full (Lasts a.room a.place a.mine)
 
 abbrev pub hub_fault_of_submit : SubmitFault → HubFault
 hub_fault_of_submit NotYours = hub.NotYours
 hub_fault_of_submit StateRange = hub.StateRange
+hub_fault_of_submit OldStamp = hub.OldStamp
 hub_fault_of_submit Closed = hub.Closed
 hub_fault_of_submit Full = hub.Full
 hub_fault_of_submit Memory = hub.Memory

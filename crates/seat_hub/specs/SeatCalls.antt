@@ -1,7 +1,6 @@
 -- What the hub over a seat does.
-use Rattle.std.specs.Prelude.{◌≡◌, ◌⊎◌, ℕ, ◌+◌, ◌==◌, List, [], ◌∷◌, ◌++◌, length, Some, slice_get, Result, Ok, Err}
-use Rattle.edit_stamps.specs.Edit.{PlaneEdit, greatest, has_states_below}
-use Rattle.edit_stamps.specs.Stamp.{replica_in}
+use Rattle.std.specs.Prelude.{◌≡◌, ◌⊎◌, ℕ, ◌+◌, List, [], ◌∷◌, ◌++◌, length, Some, slice_get, Result, Ok, Err}
+use Rattle.edit_stamps.specs.Edit.{PlaneEdit, greatest}
 use Rattle.stamped_writes.specs.Write.{AreSame}
 use Rattle.stamped_tree.specs.Plane.{map_of}
 use Rattle.board.specs.declared.entry.Entry.{Entry}
@@ -9,9 +8,9 @@ use Rattle.board.specs.Entries.{edits_of}
 use Rattle.inbox.specs.Counts.{counted}
 use Rattle.inbox.specs.Hands.{entry}
 use Rattle.relay_board.specs.declared.fault.SubmitFault.TheVariants as refusals
-use Rattle.relay_board.specs.Refusals.{Passes}
+use Rattle.relay_board.specs.Refusals.{Passes, looks_at}
 use Rattle.relay_board.specs.Seating.{Seating, IsSame, HasRead}
-use Rattle.session_hub.specs.declared.fault.HubFault.TheVariants.{NotYours, StateRange, Full, Closed, StoreFull, Memory}
+use Rattle.session_hub.specs.declared.fault.HubFault.TheVariants.{NotYours, StateRange, OldStamp, Full, Closed, StoreFull, Memory}
 use Rattle.session_hub.specs.HubCall.{HubCall, Pushes, Polls, Shows, Hands}
 use Rattle.board.specs.Handing.{IsNews}
 use Rattle.seat_hub.specs.Refusals.{IsRefused}
@@ -23,7 +22,7 @@ entry_of a edit = entry a.place (counted (length a.mine + 1)) edit
 -- an edit was accepted
 pub record Submits (a b : Seating) (edit : PlaneEdit) : Type 0 where
   pub same : IsSame a b
-  pub passes : Passes (replica_in edit.stamp == a.place + 1) (has_states_below a.rule.states edit)
+  pub passes : Passes (looks_at a edit)
   pub mine : b.mine ≡ a.mine ++ entry_of a edit ∷ []
   pub full : b.full ≡ a.full
   pub seen : b.seen ≡ a.seen
@@ -52,6 +51,7 @@ abbrev pub IsSeatCall : Seating → HubCall → Seating → Type 0
 IsSeatCall a (Pushes edit (Ok done)) b = IsPushed a b edit
 IsSeatCall a (Pushes edit (Err NotYours)) b = IsRefused a b edit refusals.NotYours
 IsSeatCall a (Pushes edit (Err StateRange)) b = IsRefused a b edit refusals.StateRange
+IsSeatCall a (Pushes edit (Err OldStamp)) b = IsRefused a b edit refusals.OldStamp
 IsSeatCall a (Pushes edit (Err Full)) b = IsRefused a b edit refusals.Full
 IsSeatCall a (Pushes edit (Err Memory)) b = IsRefused a b edit refusals.Memory
 -- accepted without a receipt, or refused

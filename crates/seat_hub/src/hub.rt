@@ -101,6 +101,7 @@ fn refused_submission(fault: SubmitFault) -> HubFault
     match fault {
         SubmitFault::NotYours => HubFault::NotYours,
         SubmitFault::StateRange => HubFault::StateRange,
+        SubmitFault::OldStamp => HubFault::OldStamp,
         SubmitFault::Closed => HubFault::Closed,
         SubmitFault::Full => HubFault::Full,
         SubmitFault::Memory => HubFault::Memory,

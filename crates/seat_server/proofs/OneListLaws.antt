@@ -25,7 +25,7 @@ use Rattle.relay_board.specs.Seating.{BeginsWithAll, Seating}
 use Rattle.replica_sessions.specs.Answer.{AnswersAs, IsAnswered, SessionState}
 use Rattle.seat_hub.specs.SeatCalls.{IsSeatCall}
 use Rattle.session_hub.specs.declared.fault.HubFault.{HubFault}
-use Rattle.session_hub.specs.declared.fault.HubFault.TheVariants.{NotYours, StateRange, Full, Closed, StoreFull, Memory}
+use Rattle.session_hub.specs.declared.fault.HubFault.TheVariants.{NotYours, StateRange, OldStamp, Full, Closed, StoreFull, Memory}
 use Rattle.session_hub.specs.HubFault.{hub_fault_number}
 use Rattle.session_hub.specs.HubCall.{AllowsAtMost, Hands, HubCall, Polls, Pushes, Shows}
 use Rattle.session_hub.specs.Request.{Await, Bye, Export, Faulty, Hello, Many, Pieces, Poll, Push, Request, Whole, request_of}
@@ -282,6 +282,7 @@ module _ (r : GenerationsRule) (seat : ℕ) (earlier : List Exchange) (bytes : L
   poll_failed b left Memory q poll is call out same = quiet b left call.read.seen call.handed same (poll_own b q poll is) Nothing (inl (hub_fault_number Memory, out)) tt
   poll_failed b left NotYours q poll is call out same = absurd call
   poll_failed b left StateRange q poll is call out same = absurd call
+  poll_failed b left OldStamp q poll is call out same = absurd call
   poll_failed b left Full q poll is call out same = absurd call
   poll_failed b left StoreFull q poll is call out same = absurd call
 
@@ -351,6 +352,7 @@ module _ (r : GenerationsRule) (seat : ℕ) (earlier : List Exchange) (bytes : L
   hand_failed b left Memory own call out same = quiet b left call.read.seen call.handed same own Nothing (inl (hub_fault_number Memory, out)) tt
   hand_failed b left NotYours own call out same = absurd call
   hand_failed b left StateRange own call out same = absurd call
+  hand_failed b left OldStamp own call out same = absurd call
   hand_failed b left Full own call out same = absurd call
   hand_failed b left StoreFull own call out same = absurd call
 
@@ -374,6 +376,7 @@ module _ (r : GenerationsRule) (seat : ℕ) (earlier : List Exchange) (bytes : L
   show_failed b left Memory own call out same = quiet b left call.read.seen call.handed same own Nothing (inl (hub_fault_number Memory, out)) tt
   show_failed b left NotYours own call out same = absurd call
   show_failed b left StateRange own call out same = absurd call
+  show_failed b left OldStamp own call out same = absurd call
   show_failed b left Full own call out same = absurd call
   show_failed b left StoreFull own call out same = absurd call
 
@@ -410,6 +413,7 @@ module _ (r : GenerationsRule) (seat : ℕ) (earlier : List Exchange) (bytes : L
       → Steps r seat earlier x a b left
   push_refused b left e NotYours call out same = quiet b left (subst (IsPrefix a.seen) (sym call.seen) (prefix_self a.seen)) call.handed same (not_done b 27 out) Nothing (inl (28, out)) tt
   push_refused b left e StateRange call out same = quiet b left (subst (IsPrefix a.seen) (sym call.seen) (prefix_self a.seen)) call.handed same (not_done b 10 out) Nothing (inl (11, out)) tt
+  push_refused b left e OldStamp call out same = quiet b left (subst (IsPrefix a.seen) (sym call.seen) (prefix_self a.seen)) call.handed same (not_done b 39 out) Nothing (inl (40, out)) tt
   push_refused b left e Full call out same = quiet b left (subst (IsPrefix a.seen) (sym call.seen) (prefix_self a.seen)) call.handed same (not_done b 28 out) Nothing (inl (29, out)) tt
   push_refused b left e Memory call out same = quiet b left (subst (IsPrefix a.seen) (sym call.seen) (prefix_self a.seen)) call.handed same (not_done b 254 out) Nothing (inl (255, out)) tt
   push_refused b left e StoreFull call out same = absurd call

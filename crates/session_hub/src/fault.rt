@@ -13,6 +13,8 @@ pub enum HubFault {
     NotYours,
     /// A state is not below the rule's number of states.
     StateRange,
+    /// The board is kept in a file, and the stamp is not above the last of its replica.
+    OldStamp,
     /// What takes edits is full.
     Full,
     /// What takes or shows edits is closed.
@@ -33,6 +35,7 @@ impl HubFault {
         match self {
             HubFault::NotYours => 28,
             HubFault::StateRange => 11,
+            HubFault::OldStamp => 40,
             HubFault::Full => 29,
             HubFault::Closed => 30,
             HubFault::StoreFull => 13,
@@ -47,6 +50,7 @@ impl HubFault {
         match self {
             HubFault::NotYours => "NotYours",
             HubFault::StateRange => "StateRange",
+            HubFault::OldStamp => "OldStamp",
             HubFault::Full => "Full",
             HubFault::Closed => "Closed",
             HubFault::StoreFull => "StoreFull",

@@ -109,6 +109,7 @@ fn a_server_that_gives_up_waits_for_no_stream(rt: HostRuntime) -> Result<(), Fai
     let alloc = rt.alloc();
     let size = BoardSize {
         sessions: 2,
+        is_kept: false,
         inbox: 2,
         limits: Limits::of_room(9),
     };

@@ -46,6 +46,7 @@ fn opened<R: Wait + Drop + Copy>(
         Some(nodes) if nodes > 0 => {
             let size = BoardSize {
                 sessions: way.seats,
+                is_kept: false,
                 inbox: 2,
                 limits: Limits::of_room(nodes),
             };
