@@ -13,6 +13,9 @@ pub(crate) const NEW: &str = ".new";
 /// What the name of the mark ends with that says that a sync of a file failed.
 pub(crate) const DOUBT: &str = ".unsynced";
 
+/// What the name of the file ends with to which the bytes are saved that are cut off.
+pub(crate) const LOST: &str = ".lost";
+
 /// The name of a file, with an end.
 pub(crate) fn name_beside(alloc: Global, path: &str, end: &str) -> Result<String, AllocError> {
     let mut name = String::from_str(alloc, path)?;
@@ -26,6 +29,17 @@ pub(crate) fn sync_folder<R: Files<File = File>>(rt: &R, path: &str) -> io::Resu
         return Err(io::Error::from(ErrorKind::InvalidInput));
     };
     File::open(rt, folder)?.sync_all()
+}
+
+/// Adds bytes at the end of a file, on the disk. It is made where there is none.
+pub(crate) fn add_synced<R: Files<File = File>>(
+    rt: &R,
+    path: &str,
+    bytes: &[u8],
+) -> io::Result<()> {
+    let mut file = OpenOptions::new().append(true).create(true).open(rt, path)?;
+    file.write_all(bytes)?;
+    file.sync_all()
 }
 
 /// A file of these bytes, on the disk and locked, that takes the place of another. Where that fails there is

@@ -3,7 +3,7 @@
 ghost use Rattle.std.specs.Prelude.{◌≡◌, None};
 ghost use Rattle.devices.specs.Count.{failures_after};
 
-use crate::beside::{put_in_place, sync_folder};
+use crate::beside::{LOST, add_synced, name_beside, put_in_place, sync_folder};
 use kept_devices::{Failed, Keep, Reopen};
 use std::alloc::Global;
 use std::fs::{self, File};
@@ -29,12 +29,27 @@ pub struct FileKeep<'a, R: Files<File = File>> {
     pub(crate) synced: u64,
     pub(crate) is_doubtful: bool,
     pub(crate) failures: u64,
+    /// the kind of the last of these
+    pub(crate) failure: Option<ErrorKind>,
 }
 
 impl<'a, R: Files<File = File>> FileKeep<'a, R> {
     /// The path of the file, from the root, through no link.
     pub fn path(&self) -> &str {
         self.path.as_str()
+    }
+
+    /// Of which kind the last failure was, if there was one.
+    pub fn failure(&self) -> Option<ErrorKind> {
+        self.failure
+    }
+
+    /// Adds bytes at the end of the file beside it whose name ends with `.lost`, which is made where there is
+    /// none: at `Ok` they are on the disk.
+    pub fn save_lost(&self, alloc: Global, bytes: &[u8]) -> io::Result<()> {
+        let lost = name_beside(alloc, self.path.as_str(), LOST)?;
+        add_synced(self.rt, lost.as_str(), bytes)?;
+        sync_folder(self.rt, self.path.as_str())
     }
 
     fn try_sync(&mut self) -> io::Result<()>
@@ -119,8 +134,9 @@ impl<'a, R: Files<File = File>> FileKeep<'a, R> {
     {
         match done {
             Ok(value) => Ok(value),
-            Err(_) => {
+            Err(error) => {
                 self.failures = self.failures.saturating_add(1);
+                self.failure = Some(error.kind());
                 Err(Failed)
             }
         }

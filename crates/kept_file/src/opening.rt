@@ -19,8 +19,8 @@ pub enum OpenFault {
     Busy,
     /// What has the name is no regular file. It was not opened, nor read.
     NoFile,
-    /// The system refused it.
-    Refused,
+    /// The system refused it, by an error of this kind.
+    Refused(ErrorKind),
     /// Memory was refused.
     Memory,
 }
@@ -41,7 +41,7 @@ pub fn open<'a, R: Files<File = File>>(
             return match found(rt, alloc, path, file) {
                 Ok(keep) => Ok(keep),
                 Err(error) if error.kind() == ErrorKind::OutOfMemory => Err(OpenFault::Memory),
-                Err(_) => Err(OpenFault::Refused),
+                Err(error) => Err(OpenFault::Refused(error.kind())),
             };
         }
     }
@@ -58,18 +58,19 @@ fn is_something_else<R: Files>(rt: &R, path: &str) -> bool {
 
 /// The file, with the system's lock on it.
 fn locked<R: Files<File = File>>(rt: &R, path: &str) -> Result<File, OpenFault> {
-    let Ok(file) = OpenOptions::new()
+    let opened = OpenOptions::new()
         .read(true)
         .append(true)
         .create(true)
-        .open(rt, path)
-    else {
-        return Err(OpenFault::Refused);
+        .open(rt, path);
+    let file = match opened {
+        Ok(file) => file,
+        Err(error) => return Err(OpenFault::Refused(error.kind())),
     };
     match file.try_lock() {
         Ok(()) => Ok(file),
         Err(TryLockError::WouldBlock) => Err(OpenFault::Busy),
-        Err(TryLockError::Error(_)) => Err(OpenFault::Refused),
+        Err(TryLockError::Error(error)) => Err(OpenFault::Refused(error.kind())),
     }
 }
 
@@ -104,5 +105,6 @@ fn found<'a, R: Files<File = File>>(
         synced,
         is_doubtful,
         failures: 0,
+        failure: None,
     })
 }

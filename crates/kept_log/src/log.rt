@@ -48,6 +48,14 @@ pub struct Log<K: Keep> {
 }
 
 impl<K: Keep> Log<K> {
+    /// The file alone.
+    pub fn into_keep(self) -> K
+        ensures { result ≡ self.keep }
+    {
+        let Log { keep, state: _ } = self;
+        keep
+    }
+
     /// What it takes.
     pub fn state(&self) -> LogState
         ensures { result ≡ self.now.state }

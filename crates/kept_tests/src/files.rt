@@ -102,7 +102,7 @@ fn what_is_no_regular_file(rt: HostRuntime) -> Result<(), Fail> {
     let missing = within(alloc, folder.as_str(), "none/board")?;
     assert_eq!(rt;
         open(&rt, alloc, missing.as_str()).err(),
-        Some(OpenFault::Refused)
+        Some(OpenFault::Refused(ErrorKind::NotFound))
     );
     let path = within(alloc, folder.as_str(), "pattern.rle")?;
     fs::write(&rt, path.as_str(), "x = 3, y = 3")?;

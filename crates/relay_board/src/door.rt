@@ -12,6 +12,8 @@ enum Mark {
     Open,
     /// `close` was called.
     Closed,
+    /// It publishes nothing more. What is published can be read.
+    Ceased,
     /// It was dropped. One that finishes takes its seats in, so that nobody looks.
     Gone,
 }
@@ -47,10 +49,20 @@ impl Door {
         self.mark.load(Ordering::SeqCst) == Mark::Gone as u64
     }
 
+    /// Whether the relay publishes nothing more.
+    pub fn has_ceased(&self) -> bool {
+        self.mark.load(Ordering::SeqCst) >= Mark::Ceased as u64
+    }
+
     /// From now on the relay takes no submissions. A relay that rests wakes.
     pub fn close(&self) {
         self.mark.store(Mark::Closed as u64, Ordering::SeqCst);
         self.parker.unpark();
+    }
+
+    /// From now on the relay publishes nothing more.
+    pub fn cease(&self) {
+        self.mark.store(Mark::Ceased as u64, Ordering::SeqCst);
     }
 
     /// The relay is gone.

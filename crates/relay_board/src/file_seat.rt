@@ -1,15 +1,16 @@
 //! The seat by which what a file has is put on the board.
 
-ghost use Rattle.std.specs.Prelude.{◌≡◌, ◌+◌, ◌++◌, ◌∷◌, [], length, true, None, IfOk, IfErr};
+ghost use Rattle.std.specs.Prelude.{◌≡◌, ◌+◌, ◌++◌, ◌∷◌, [], length, true, None, IfOk, IfErr, IfSome};
+ghost use Rattle.board.specs.Learning.{HasLearnt};
 ghost use Rattle.edit_stamps.specs.Edit.{has_states_below};
 ghost use Rattle.inbox.specs.Counts.{counted};
 ghost use Rattle.inbox.specs.Hands.{entry};
 ghost use Rattle.relay_board.specs.Refusals.{BringRefuses, Lasts};
-ghost use Rattle.relay_board.specs.Seating.{IsSame};
+ghost use Rattle.relay_board.specs.Seating.{HasRead, IsSame};
 
 use crate::fault::SubmitFault;
 use crate::naming::Naming;
-use crate::receipt::Pending;
+use crate::receipt::{Pending, Receipt};
 use crate::seat::{Seat, is_under};
 use edit_stamps::Edit;
 use std::marker::Model;
@@ -56,6 +57,35 @@ impl<J: Naming> FileSeat<J> {
             return Err((edit, SubmitFault::StateRange));
         }
         self.seat.put(rt, edit)
+    }
+
+    /// Looks once for the receipt of that very edit. The pending comes back where nothing is there; it does not
+    /// where the relay published nothing more before the look.
+    pub fn try_receive<R: Wait>(
+        &mut self,
+        rt: &R,
+        pending: Pending<J>,
+    ) -> Result<Receipt<J>, Option<Pending<J>>>
+        ensures receipt { IfOk result (λ r. r.entry ≡ pending) }
+        ensures back { IfErr result (λ o. IfSome o (λ p. p ≡ pending)) }
+        ensures same { self.new ≡ self.old }
+    {
+        self.seat.try_receive(rt, pending)
+    }
+
+    /// From now on it sees no less than the receipt's list. It never waits.
+    pub fn learn(&mut self, receipt: &Receipt<J>)
+        ensures same { HasRead self.old self.new × (self.new.handed ≡ self.old.handed) }
+        ensures learnt { HasLearnt self.old.seen receipt.now.list self.new.seen }
+    {
+        self.seat.learn(receipt);
+    }
+
+    /// The seat.
+    pub fn seat(&self) -> &Seat<J>
+        ensures { result.now ≡ self.now }
+    {
+        &self.seat
     }
 
     /// How many of its edits were accepted; it stays at 2^64 - 1.

@@ -389,6 +389,15 @@ impl<J: Naming, R: Wait + Drop> Relay<J, R> {
         self.closed = true;
     }
 
+    /// From now on new submissions are refused, and who waits for a receipt is told that none comes: for a
+    /// relay that is to take no more turns. What is published can be read still.
+    pub fn cease(&mut self)
+        ensures closed { self.new ≡ record self.old { closed = true } }
+    {
+        self.door.cease();
+        self.closed = true;
+    }
+
     /// Whether nothing is kept.
     pub(crate) fn is_settled(&self) -> bool
         ensures kept { IsTrue result ↔ (self.now.kept ≡ []) }

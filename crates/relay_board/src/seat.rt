@@ -196,14 +196,14 @@ impl<J: Naming> Seat<J> {
         }
     }
 
-    /// Waits for the receipt of that very submission; `Gone` once the relay was dropped and a further try
-    /// found nothing. It takes no memory.
+    /// Waits for the receipt of that very submission; `Gone` once the relay publishes nothing more, or was
+    /// dropped, and a further try found nothing. It takes no memory.
     pub fn receive<R: Wait>(&mut self, rt: &R, mut pending: Pending<J>) -> Result<Receipt<J>, Gone>
         ensures receipt { IfOk result (λ r. r.entry ≡ pending) }
         ensures same { self.new ≡ self.old }
     {
         for _ in rt.forever() {
-            let gone = self.door.is_gone();
+            let gone = self.door.has_ceased();
             if let Ok(receipt) = pending.try_receive(rt) {
                 return Ok(receipt);
             }
@@ -216,7 +216,7 @@ impl<J: Naming> Seat<J> {
     }
 
     /// Looks once for the receipt of that very submission. The pending comes back where nothing is there; it
-    /// does not where the relay was gone before the look.
+    /// does not where the relay published nothing more before the look.
     pub fn try_receive<R: Wait>(
         &mut self,
         rt: &R,
@@ -226,7 +226,7 @@ impl<J: Naming> Seat<J> {
         ensures back { IfErr result (λ o. IfSome o (λ p. p ≡ pending)) }
         ensures same { self.new ≡ self.old }
     {
-        let gone = self.door.is_gone();
+        let gone = self.door.has_ceased();
         if let Ok(receipt) = pending.try_receive(rt) {
             return Ok(receipt);
         }

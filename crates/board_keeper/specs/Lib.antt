@@ -1,0 +1,9 @@
+pub mod Keeping
+pub mod Steps
+pub mod Turns
+pub mod Kept
+pub mod Working
+pub mod Faults
+pub mod Loading
+pub mod Ending
+pub mod Opening
