@@ -1,5 +1,5 @@
-mod SeatLaws
-mod ListLaws
+pub mod SeatLaws
+pub mod ListLaws
 mod TurningLaws
 mod EndingLaws
 pub mod OneListLaws

@@ -632,7 +632,7 @@ visited_all r seat (v ∷ visits) a b rule number handed (mid, first, rest) =
       grows = prefix_trans a.seen mid.seen b.seen one.grows others.grows;
     }
 
-seats_told : (list : List Entry) (before : List Seating) (all : List (List VisitValue)) (after : List Seating) → HaveSeenHanded before → AreAttended before all after → BeginsWithAll list after
+pub seats_told : (list : List Entry) (before : List Seating) (all : List (List VisitValue)) (after : List Seating) → HaveSeenHanded before → AreAttended before all after → BeginsWithAll list after
     → AreToldSeats list before all
 seats_told list [] [] [] handed met begins = tt
 seats_told list (a ∷ before) (visits ∷ all) (b ∷ after) handed met begins = (
@@ -647,7 +647,7 @@ seats_told list (a ∷ before) (vs ∷ all) [] handed met begins = absurd met
 -- ---- the account
 
 -- the last 1,024 of a list, and how many come before them
-counts_all : (list : List Entry) → length list - 1024 + length (last_of (edits_of list)) ≡ length list
+pub counts_all : (list : List Entry) → length list - 1024 + length (last_of (edits_of list)) ≡ length list
 counts_all list = omega (arith, length-drop (length (edits_of list) - 1024) (edits_of list), length-map list (λ (e : Entry). e.edit))
 
 pub tells_of_one_list : TellsOfOneList

@@ -16,5 +16,7 @@ mod visit;
 pub use accept::{Accept, Ends, Streams, Wake};
 pub use fault::ServerFault;
 pub use laws::one_list_laws;
-pub use server::{Finished, serve_seats};
+pub use progress::Progress;
+pub use server::{Attendance, AttendingAll, Finished, attending, parted, serve_seats};
+pub use sessions::Attended;
 pub use visit::Visit;

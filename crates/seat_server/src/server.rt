@@ -43,6 +43,13 @@ impl<S: Source, K: Sink> Model for Finished<S, K> {
 }
 
 impl<S: Source, K: Sink> Finished<S, K> {
+    /// Sessions, in the order of their seats, and the account of their board.
+    pub fn of(visits: Vec<Visit<S, K>>, account: Account) -> Finished<S, K>
+        ensures { result ≡ record { visits = visits.items; account = account } }
+    {
+        Finished { visits, account }
+    }
+
     /// The session of each seat, in the order of the seats.
     pub fn visits(&self) -> &[Visit<S, K>]
         ensures { result.now ≡ self.now.visits }
@@ -60,12 +67,12 @@ impl<S: Source, K: Sink> Finished<S, K> {
 
 /// That a thread serves these seats.
 #[derive(Drop)]
-struct AttendingAll<J: Naming> {
-    seats: Snapshot<Vec<Seat<J>>>,
+pub struct AttendingAll<J: Naming> {
+    pub seats: Snapshot<Vec<Seat<J>>>,
 }
 
 /// The thread that serves all seats.
-type Attendance<J, S, K> = PromisedHandle<
+pub type Attendance<J, S, K> = PromisedHandle<
     Result<Vec<Attended<J, S, K>>, ServerFault>,
     AttendingAll<J>,
 >;
@@ -79,8 +86,9 @@ impl<J: Naming, S: Source, K: Sink> Promise<Result<Vec<Attended<J, S, K>>, Serve
     ghost kept_by = { λ p r. IfOk r (λ v. AreAttended p.seats.value.items (one_each (map (λ a. a.1) v.items)) (map (λ a. a.0) v.items)) × IfErr r IsAttendFault };
 }
 
-/// Starts the thread that serves the seats. `Read` where it could not be started.
-fn attending<
+/// Starts the thread that serves the seats, each over the next stream that comes. `Read` where it could not be
+/// started.
+pub fn attending<
     J: Naming + Send + 'static,
     R: Threads + Wait + Copy + Drop + Send + Sync + 'static,
     S: Source + Send + Drop + 'static,
@@ -113,7 +121,7 @@ fn attending<
 }
 
 /// The seats, and their sessions.
-fn parted<J: Naming, S: Source, K: Sink>(
+pub fn parted<J: Naming, S: Source, K: Sink>(
     alloc: Global,
     attended: Vec<Attended<J, S, K>>,
 ) -> Result<(Vec<Seat<J>>, Vec<Visit<S, K>>), AllocError>

@@ -1,0 +1,4 @@
+pub mod Faults
+pub mod Running
+pub mod Serving
+pub mod Restarts
