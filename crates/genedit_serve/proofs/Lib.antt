@@ -1,1 +1,2 @@
 mod ServingLaws
+pub mod KeptLaws

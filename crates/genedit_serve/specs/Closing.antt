@@ -10,6 +10,10 @@ use Rattle.seat_server.specs.Sessions.{VisitValue}
 abbrev pub listening_line : ℕ → List ℕ
 listening_line port = codes "listening " ++ (decimal port ++ codes "\n")
 
+-- how many edits of a file were opened again, and how many bytes behind its last whole record were cut off
+abbrev pub kept_line : ℕ → ℕ → List ℕ
+kept_line edits lost = codes "kept " ++ (decimal edits ++ (codes " lost " ++ (decimal lost ++ codes "\n")))
+
 -- the number of the fault by which a session ended, if it did
 abbrev pub end_word : Result Served ServeFault → List ℕ
 end_word (Ok served) = []

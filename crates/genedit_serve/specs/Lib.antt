@@ -1,4 +1,5 @@
 pub mod Faults
 pub mod Closing
 pub mod Serving
+pub mod Keeping
 pub mod Rows

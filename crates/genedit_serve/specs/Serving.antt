@@ -17,7 +17,7 @@ use Rattle.genedit_serve.specs.Closing.{closing_text, listening_line}
 use Rattle.genedit_serve.specs.Faults.{run_fault_of_server, run_fault_of_start}
 
 -- a push that did not fail
-abbrev Pushes : KnownSink → KnownSink → List ℕ → Type 0
+abbrev pub Pushes : KnownSink → KnownSink → List ℕ → Type 0
 Pushes from to bytes = IsPush {A = Unit {0}} {E = Unit {0}} from to (Ok tt) bytes
 
 -- a push that failed; how many of its bytes were taken is not known

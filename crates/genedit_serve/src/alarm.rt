@@ -2,8 +2,9 @@
 
 use mio::Waker;
 use std::alloc::Global;
-use std::sync::Arc;
+use std::net::{Shutdown, TcpStream};
 use std::sync::atomic::{AtomicBool, Ordering};
+use std::sync::{Arc, Mutex, Wait};
 
 /// What tells a session that there are news. No clause speaks of it: another thread may change it at any
 /// moment.
@@ -13,6 +14,8 @@ pub(crate) struct Alarm {
     listens: AtomicBool,
     /// What ends its wait; none where it looks again and again.
     waker: Option<Waker>,
+    /// Its connection, where that may have to be ended from outside.
+    stream: Mutex<Option<TcpStream>>,
 }
 
 impl Alarm {
@@ -21,6 +24,27 @@ impl Alarm {
         Alarm {
             listens: AtomicBool::new(false),
             waker,
+            stream: Mutex::new(None),
+        }
+    }
+
+    /// From now on this is the session's connection.
+    pub(crate) fn hold<R: Wait>(&self, rt: &R, stream: TcpStream) {
+        *self.stream.lock(rt) = Some(stream);
+    }
+
+    /// The session has ended: its connection is held no longer. Where it is being ended from outside just now, it
+    /// is held until the board ends.
+    pub(crate) fn let_go(&self) {
+        if let Some(mut held) = self.stream.try_lock() {
+            *held = None;
+        }
+    }
+
+    /// Ends the session's connection, if it is held.
+    fn hang_up<R: Wait>(&self, rt: &R) {
+        if let Some(stream) = &*self.stream.lock(rt) {
+            let _ = stream.shutdown(Shutdown::Both);
         }
     }
 
@@ -54,6 +78,13 @@ impl Alarms {
     pub(crate) fn ring(&self) {
         for alarm in &self.all {
             alarm.ring();
+        }
+    }
+
+    /// Ends each connection that is held.
+    pub(crate) fn hang_up<R: Wait>(&self, rt: &R) {
+        for alarm in &self.all {
+            alarm.hang_up(rt);
         }
     }
 }

@@ -1,7 +1,7 @@
 //! What the server prints.
 
 ghost use Rattle.std.specs.Prelude.{◌≡◌, ◌++◌, ◌+◌, length, OnOk, IfOk, decimal};
-ghost use Rattle.genedit_serve.specs.Closing.{listening_line, end_word, session_line, session_lines, closed_line, closing_text};
+ghost use Rattle.genedit_serve.specs.Closing.{kept_line, listening_line, end_word, session_line, session_lines, closed_line, closing_text};
 
 use devices::{Sink, Source};
 use frame_service::{ServeFault, Served};
@@ -16,6 +16,19 @@ pub fn listening(alloc: Global, port: u16) -> Result<Vec<u8>, AllocError>
     let mut line = Vec::new(alloc);
     line.extend_from_slice(b"listening ")?;
     push_number(&mut line, u64::from(port))?;
+    line.push(b'\n')?;
+    Ok(line)
+}
+
+/// That so many edits of a file were opened again, and so many bytes behind its last whole record cut off.
+pub fn kept_line(alloc: Global, edits: usize, lost: usize) -> Result<Vec<u8>, AllocError>
+    ensures { IfOk result (λ line. line.items ≡ kept_line edits lost) }
+{
+    let mut line = Vec::new(alloc);
+    line.extend_from_slice(b"kept ")?;
+    push_number(&mut line, edits as u64)?;
+    line.extend_from_slice(b" lost ")?;
+    push_number(&mut line, lost as u64)?;
     line.push(b'\n')?;
     Ok(line)
 }

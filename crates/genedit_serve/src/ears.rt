@@ -32,6 +32,13 @@ impl Hearing {
     }
 }
 
+impl Hearing {
+    /// The session's alarm.
+    pub(crate) fn alarm(&self) -> &Alarm {
+        &self.alarm
+    }
+}
+
 /// What each of so many sessions waits by, and their alarms.
 pub(crate) fn hearings<R: Net>(
     rt: &R,
@@ -49,7 +56,6 @@ pub(crate) fn hearings<R: Net>(
 }
 
 /// What the session of a connection waits by: its socket, its alarm, and the clock.
-#[derive(Drop)]
 pub struct Ears<R> {
     rt: R,
     socket: TcpStream,
@@ -66,6 +72,19 @@ impl<R> Ears<R> {
             hearing,
             end: None,
         }
+    }
+}
+
+/// The alarm outlives the session, and is not to keep its connection open.
+impl<R: Drop> Drop for Ears<R> {
+    fn drop(self) {
+        self.hearing.alarm.let_go();
+        let Self {
+            rt: _,
+            socket: _,
+            hearing: _,
+            end: _,
+        } = self;
     }
 }
 

@@ -24,10 +24,11 @@ use keyed_hash::HashKey;
 use relay_board::{BoardSize, Naming, Opened, Relay, Seat, start_within};
 use seat_server::{Finished, ServerFault, Streams, serve_seats};
 use square_store::Limits;
-use std::alloc::Global;
+use std::alloc::{AllocError, Global};
 use std::marker::Brand;
 use std::net::{Net, TcpListener, TcpStream};
-use std::sync::Wait;
+use std::sync::atomic::AtomicBool;
+use std::sync::{Arc, Wait};
 use std::thread::Threads;
 use std::time::Clock;
 
@@ -47,9 +48,9 @@ pub struct ServedBoard {
 
 /// A listener, and the port at which it listens.
 #[derive(Drop)]
-struct Bound {
-    listener: TcpListener,
-    port: u16,
+pub(crate) struct Bound {
+    pub(crate) listener: TcpListener,
+    pub(crate) port: u16,
 }
 
 /// Listens at a port of this machine's loopback, where nobody comes in from outside; at any free one for 0; or
@@ -147,6 +148,17 @@ fn serve<
     }
 }
 
+/// A mark that is not set yet, twice.
+pub(crate) fn shared_mark(
+    alloc: Global,
+) -> Result<(Arc<AtomicBool, Global>, Arc<AtomicBool, Global>), AllocError> {
+    let Ok(mark) = Arc::new(alloc, AtomicBool::new(false)) else {
+        return Err(AllocError);
+    };
+    let other = Arc::try_clone(&mark)?;
+    Ok((mark, other))
+}
+
 /// Serves the seats of a relay to the connections of a listener, and turns away whoever comes after the last;
 /// at the end how the sessions ended, and the account. `Read` also where the thread that turns away could not
 /// be started.
@@ -188,12 +200,14 @@ fn seats_served<
     let Some((turning, seated)) = started else {
         return Err(ServerFault::Read);
     };
+    let (is_over, theirs) = shared_mark(alloc)?;
     let rousing = Rousing {
         knock: Knock { rt: &rt, port },
         alarms,
+        is_over,
     };
     let streams = Streams {
-        acceptor: Connections::of(rt, listener, left, seated),
+        acceptor: Connections::of(rt, listener, left, seated, theirs),
         wake: &rousing,
     };
     let finished = serve_seats(rt, alloc, relay, seats, streams);

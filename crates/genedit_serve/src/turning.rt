@@ -14,7 +14,7 @@ use std::sync::atomic::{AtomicBool, Ordering};
 use std::sync::{Arc, Wait};
 use std::thread;
 use std::thread::{JoinHandle, Threads};
-use std::time::Duration;
+use std::time::{Clock, Duration};
 
 /// How many connections are turned away at once, at most.
 const MOST: usize = 256;
@@ -60,7 +60,7 @@ impl Turning {
     }
 
     /// Ends it: a last connection lets it look up.
-    pub(crate) fn end<R: Threads + Net>(self, rt: &R, knock: &Knock<'_, R>) {
+    pub(crate) fn end<R: Threads + Net + Clock>(self, rt: &R, knock: &Knock<'_, R>) {
         self.is_over.store(true, Ordering::SeqCst);
         knock.knock();
         self.thread.join(rt);

@@ -1,0 +1,113 @@
+-- Boards that are kept: their seats, and how they end.
+use Rattle.std.proofs.Common.{◌≡◌, ◌⊎◌, ◌∙◌, ◌++◌, ◌+◌, ◌-◌, ◌<◌, ℕ, suc, List, [], ◌∷◌, length, map, ap, refl, sym, subst, inl, inr, arith, length-append}
+use Rattle.std.proofs.lemmas.List.{length-map}
+use Rattle.board.specs.Entries.{edits_of}
+use Rattle.board.specs.declared.entry.Entry.{Entry}
+use Rattle.board_keeper.specs.Loading.{AreRaised, IsLoaded, raised}
+use Rattle.devices.specs.Sink.{KnownSink}
+use Rattle.document_bodies.specs.Bodies.{edit_bodies, edit_body}
+use Rattle.document_bodies.specs.Counters.{AreNewestOf}
+use Rattle.document_bodies.specs.Newest.{RiseByReplica}
+use Rattle.generations_rule.specs.Rule.{GenerationsRule}
+use Rattle.genedit_io.specs.declared.fault.RunFault.{RunFault}
+use Rattle.genedit_io.specs.declared.fault.RunFault.TheVariants.{Script, Refused, Read, Turns, Write, Memory, StoreFull}
+use Rattle.relay_board.specs.Relaying.{Relaying}
+use Rattle.relay_board.specs.Seating.{AllFresh, IsSame, Numbered, Seating}
+use Rattle.genedit_serve.specs.Keeping.{AreInOrder, AreKeptSeats, IsKeptGivenUp, IsToldSoFar, IsUnopened, IsUntold, TellsKept}
+use Rattle.genedit_serve.specs.Serving.{Fails}
+use Rattle.genedit_serve.proofs.ServingLaws.{numbered}
+
+-- ---- seats
+
+-- the first of fresh seats are fresh
+front_fresh : (rule : GenerationsRule) (room n : ℕ) (xs : List Seating) (x : Seating) → AllFresh rule room n (xs ++ x ∷ []) → AllFresh rule room n xs
+front_fresh rule room n [] x all = tt
+front_fresh rule room n (y ∷ xs) x all = (all.0, front_fresh rule room (n + 1) xs x all.1)
+
+-- and the last stands behind them
+last_place : (rule : GenerationsRule) (room n : ℕ) (xs : List Seating) (x : Seating) → AllFresh rule room n (xs ++ x ∷ []) → x.place ≡ n + length xs
+last_place rule room n [] x all = ap (λ (s : Seating). s.place) all.0 ∙ omega arith
+last_place rule room n (y ∷ xs) x all = last_place rule room (n + 1) xs x all.1 ∙ omega arith
+
+-- seats that are raised stand where they stood
+raised_numbered : (newest : List ℕ) (n : ℕ) (ss : List Seating) → Numbered n ss → Numbered n (map (raised newest) ss)
+raised_numbered newest n [] order = tt
+raised_numbered newest n (s ∷ ss) order = (order.0, raised_numbered newest (n + 1) ss order.1)
+
+module _ (rule : GenerationsRule) (count : ℕ) (newest : List ℕ) (before after : List Seating) (file : Seating) (fresh : AllFresh rule 64 0 before) (many : length before ≡ count) (are : AreRaised newest before after file) where
+  all_fresh : AllFresh rule 64 0 (are.first ++ are.last ∷ [])
+  all_fresh = subst (AllFresh rule 64 0) are.all fresh
+
+  counted : length are.first + 1 ≡ count
+  counted = sym (length-append are.first (are.last ∷ [])) ∙ (sym (ap length are.all) ∙ many)
+
+  long : length after ≡ length are.first
+  long = ap length are.raised ∙ length-map are.first (raised newest)
+
+  -- what a file had stands on a board: its seats are those of a kept board
+  pub kept_seats : (edits : List Entry) → file.mine ≡ edits → RiseByReplica (edits_of edits) → AreNewestOf (edits_of edits) newest → AreKeptSeats rule (count - 1) after file
+  kept_seats edits mine rise counters = record {
+    rise = subst (λ (l : List Entry). RiseByReplica (edits_of l)) (sym mine) rise;
+    newest = newest;
+    counters = subst (λ (l : List Entry). AreNewestOf (edits_of l) newest) (sym mine) counters;
+    unused = are.first;
+    fresh = (front_fresh rule 64 0 are.first are.last all_fresh, omega (arith, counted));
+    raised = are.raised;
+  }
+
+  -- and stand in their order
+  pub kept_order : (made : ℕ) → made ≡ count → AreInOrder made after file
+  kept_order made all = record {
+    all = all ∙ (sym counted ∙ ap (λ n. n + 1) (sym long));
+    order = subst (Numbered 0) (sym are.raised) (raised_numbered newest 0 are.first (numbered rule 64 0 are.first (front_fresh rule 64 0 are.first are.last all_fresh)));
+    last = are.same.place ∙ (last_place rule 64 0 are.first are.last all_fresh ∙ omega (arith, long));
+  }
+
+-- ---- ends
+
+-- no fault of a script ends it, wherever the lines were
+pub given_up : (port : ℕ) (from to : KnownSink) (fault : RunFault) → IsUnopened fault → IsToldSoFar port from to → IsKeptGivenUp port from to fault
+given_up port from to (Script line) unscripted so_far = absurd unscripted
+given_up port from to (Refused number place) unscripted so_far = so_far
+given_up port from to Read unscripted so_far = so_far
+given_up port from to Turns unscripted so_far = absurd unscripted
+given_up port from to Write unscripted so_far = inl so_far
+given_up port from to Memory unscripted so_far = so_far
+given_up port from to StoreFull unscripted so_far = so_far
+
+-- before any line
+pub untold_yet : (port : ℕ) (from : KnownSink) (fault told : RunFault) → told ≡ fault → IsUnopened fault → IsKeptGivenUp port from from told
+untold_yet port from fault told same unscripted = subst (λ (f : RunFault). IsKeptGivenUp port from from f) (sym same) (given_up port from from fault unscripted (inl refl))
+
+-- amid the two lines
+pub untold : (port edits lost : ℕ) (from to : KnownSink) (fault told : RunFault) → told ≡ fault → IsUntold edits lost from to fault → IsKeptGivenUp port from to told
+untold port edits lost from to fault told same h = subst (λ (f : RunFault). IsKeptGivenUp port from to f) (sym same) (go fault h)
+  where
+    go : (fault : RunFault) → IsUntold edits lost from to fault → IsKeptGivenUp port from to fault
+    go (Script line) h = absurd h
+    go (Refused number place) h = absurd h
+    go Read h = absurd h
+    go Turns h = absurd h
+    go Write (inl fails) = inr (from, inl refl, fails)
+    go Write (inr line) = inr (line.0, inr (edits, lost, inl line.1), line.2)
+    go Memory (inl same) = inl same
+    go Memory (inr line) = inr (edits, lost, inl line)
+    go StoreFull h = absurd h
+
+-- behind them
+pub told_both : (port edits lost : ℕ) (from to : KnownSink) (fault : RunFault) → TellsKept edits lost port from to → IsUnopened fault → IsKeptGivenUp port from to fault
+told_both port edits lost from to fault tells unscripted = given_up port from to fault unscripted (inr (edits, lost, inr tells))
+
+-- and the closing lines were not pushed
+pub unclosed : (port edits lost : ℕ) (from between to : KnownSink) (fault told : RunFault) → TellsKept edits lost port from between → told ≡ fault
+    → ((fault ≡ Memory) × (to ≡ between)) ⊎ ((fault ≡ Write) × Fails between to) → IsKeptGivenUp port from to told
+unclosed port edits lost from between to fault told tells same (inl want) =
+    subst (λ (f : RunFault). IsKeptGivenUp port from to f) (sym (same ∙ want.0)) (subst (IsToldSoFar port from) (sym want.1) (inr (edits, lost, inr tells)))
+unclosed port edits lost from between to fault told tells same (inr fails) =
+    subst (λ (f : RunFault). IsKeptGivenUp port from to f) (sym (same ∙ fails.0)) (inr (between, inr (edits, lost, inr tells), fails.1))
+
+-- ---- edits
+
+-- as many edits as bodies
+pub as_many_edits : (r : GenerationsRule) (list : List Entry) (bodies : List (List ℕ)) → edit_bodies r (edits_of list) ≡ bodies → length list ≡ length bodies
+as_many_edits r list bodies are = sym (length-map list (λ (e : Entry). e.edit)) ∙ (sym (length-map (edits_of list) (edit_body r)) ∙ ap length are)

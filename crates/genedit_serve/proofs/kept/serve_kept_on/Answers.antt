@@ -1,0 +1,17 @@
+use Rattle.std.proofs.Common.{◌≡◌, ◌+◌, ℕ, arith, subst}
+use Rattle.devices.specs.Sink.{KnownSink}
+use Rattle.generations_rule.specs.Rule.{GenerationsRule}
+use Rattle.genedit_serve.specs.Keeping.{ServesKeptAt}
+use Rattle.genedit_serve.proofs.kept.serve_kept_on.Goals as goal
+
+-- the board was opened under the file's rule, with a seat more than its sessions have
+pub returns-in-Ok-start_within : goal.returns-in-Ok-start_within
+returns-in-Ok-start_within g c =
+    let from : KnownSink = g.K.Sink.known c.args.sink.now in
+    let to : KnownSink = g.K.Sink.known c.serve.new.sink in
+    let port : ℕ = c.port-port.result in
+    let many : c.in-Ok-start_within.opened.count ≡ c.args.board.sessions + 1 = c.in-Ok-start_within.ensures.ok.1 in (
+      port,
+      subst (λ (rule : GenerationsRule). ServesKeptAt rule c.args.board.sessions port from to c.serve.result) c.in-Ok-start_within.ensures.ok.2
+          (subst (λ (n : ℕ). ServesKeptAt c.in-Ok-start_within.opened.rule n port from to c.serve.result) (omega (arith, many)) c.serve.ensures),
+    )

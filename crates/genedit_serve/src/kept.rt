@@ -1,0 +1,400 @@
+//! The server of a board that is kept in a file.
+
+ghost use Rattle.std.specs.Prelude.{◌≡◌, ◌⊎◌, ◌≤◌, ◌<◌, ◌-◌, length, IfErr, IfOk};
+ghost use Rattle.std.specs.Arc.{arc_value};
+ghost use Rattle.board_keeper.specs.Opening.{HasHead};
+ghost use Rattle.crossbeam_queue.specs.Passes.{ruled_capacity};
+ghost use Rattle.generations_rule.specs.Rule.{IsRule};
+ghost use Rattle.kept_log.specs.Found.{IsReadTo, listed};
+ghost use Rattle.kept_log.specs.declared.log.LogState.TheVariants as log_state;
+ghost use Rattle.kept_server.specs.Serving.{IsServedBeside};
+ghost use Rattle.genedit_serve.specs.Closing.{closing_text};
+ghost use Rattle.genedit_serve.specs.Faults.{run_fault_of_kept};
+ghost use Rattle.genedit_serve.specs.Keeping.{AreInOrder, AreKeptSeats, IsKeptFile, IsUnopened, IsUntold, ServesKept, ServesKeptAt, TellsKept};
+ghost use Rattle.genedit_serve.specs.Serving.{Fails, Pushes};
+
+use crate::address::address;
+use crate::closing::{closing, kept_line, listening};
+use crate::connections::{Connections, Knock, Rousing};
+use crate::document::KeptFile;
+use crate::ears::hearings;
+use crate::fault::{kept_fault, start_fault};
+use crate::lost::save_lost;
+use crate::refusal::{FileRefusal, cause_of_file, load_refusal};
+use crate::server::{Bound, INBOX, shared_mark};
+use crate::turning::Turning;
+use board_keeper::{
+    Document, KeepFault, Keeper, KeptSeats, LoadedBoard, OpenFault, OpenLog, load_board, opened,
+};
+use devices::{ReadSource, Sink, WriteSink};
+use genedit_io::{Cause, RunFault, push_output};
+use generations_rule::Rule;
+use kept_file::FileKeep;
+use kept_log::{Found, Log};
+use kept_server::{KeptFault, serve_kept};
+use keyed_hash::HashKey;
+use relay_board::{BoardSize, Naming, Opened, start_within};
+use seat_server::{Finished, Streams};
+use square_store::Limits;
+use std::alloc::Global;
+use std::fs::File;
+use std::marker::Brand;
+use std::net::{Net, TcpListener, TcpStream};
+use std::rt::Files;
+use std::sync::Wait;
+use std::thread::Threads;
+use std::time::Clock;
+
+/// A board that is served and kept in a file.
+#[derive(Drop)]
+pub struct KeptBoard<'a, F: Files<File = File>> {
+    /// How many seats it has for sessions, 1 to 64.
+    pub sessions: u16,
+    /// By its hashes the planes find their squares.
+    pub key: HashKey,
+    pub file: KeptFile<'a, F>,
+}
+
+/// What is served, and where: the board's file, and the listener.
+#[derive(Drop)]
+struct Place<'a, F: Files<File = File>> {
+    file: KeptFile<'a, F>,
+    bound: Bound,
+}
+
+/// Serves the board of a file, as `serve_on` does. Before `listening PORT` stands the line of the file,
+/// `kept N lost B`: so many edits were opened again, and so many bytes behind the last whole record were cut off,
+/// which stand in the file beside it whose name ends with `.lost`. Each edit that a client is told as published
+/// is on the disk before; `closed L` counts those that were opened again, too.
+///
+/// Where what the file has is no board, it is refused, and nothing in it is changed. Where the file fails, no
+/// further edit is taken: where the disk is full, what was published is read until all have left, and else the
+/// connections are ended.
+pub fn serve_kept_on<
+    'a,
+    R: Net<Listener = TcpListener, Stream = TcpStream>
+        + Files<File = File>
+        + Eprint
+        + Clock
+        + Threads
+        + Wait
+        + Copy
+        + Drop
+        + Send
+        + Sync
+        + 'static,
+    K: Sink,
+>(
+    rt: &'a R,
+    alloc: Global,
+    listener: TcpListener,
+    board: KeptBoard<'a, R>,
+    sink: &mut K,
+) -> Result<(), FileRefusal>
+    requires sessions { (1 ≤ board.sessions) × (board.sessions ≤ 64) }
+    requires file { IsKeptFile board.file.rule board.file.found.parts.head board.file.found.parts.bodies.items board.file.found.bytes.items board.file.found.parts.whole }
+    ensures { ServesKept board.entry.file.rule board.entry.sessions (K.known sink.old) (K.known sink.new) result }
+{
+    let KeptBoard {
+        sessions,
+        key,
+        file,
+    } = board;
+    let Ok(address) = listener.local_addr() else {
+        return Err(FileRefusal::from(RunFault::Read));
+    };
+    let size = BoardSize {
+        sessions,
+        is_kept: true,
+        inbox: INBOX,
+        limits: Limits::of_key(key),
+    };
+    match start_within(*rt, alloc, file.rule, size) {
+        Ok(opened) => {
+            let port = address.port();
+            let place = Place {
+                file,
+                bound: Bound { listener, port },
+            };
+            serve::<Brand, R, K>(rt, alloc, opened, place, sink)
+        }
+        Err(fault) => Err(FileRefusal::from(start_fault(fault))),
+    }
+}
+
+/// Serves the seats of a board that was opened, once what the file has stands on it.
+fn serve<
+    'a,
+    J: Naming + Send + 'static,
+    R: Net<Listener = TcpListener, Stream = TcpStream>
+        + Files<File = File>
+        + Eprint
+        + Clock
+        + Threads
+        + Wait
+        + Copy
+        + Drop
+        + Send
+        + Sync
+        + 'static,
+    K: Sink,
+>(
+    rt: &'a R,
+    alloc: Global,
+    opened: Opened<R>,
+    place: Place<'a, R>,
+    sink: &mut K,
+) -> Result<(), FileRefusal>
+    requires origin { opened.publisher.origin ≡ J.origin }
+    requires inbox { (arc_value opened.drain.queue).table.shared.table_id ≡ J.inbox }
+    requires room { ruled_capacity (arc_value opened.drain.queue) ≡ 64 }
+    requires some { 0 < opened.count }
+    requires rule { place.file.rule ≡ opened.rule }
+    requires file { IsKeptFile place.file.rule place.file.found.parts.head place.file.found.parts.bodies.items place.file.found.bytes.items place.file.found.parts.whole }
+    ensures { ServesKeptAt opened.rule (opened.count - 1) place.entry.bound.port (K.known sink.old) (K.known sink.new) result }
+{
+    let Place { file, bound } = place;
+    let prepared = match made_ready::<J, R>(rt, alloc, opened, file) {
+        Ok(prepared) => prepared,
+        Err(refusal) => return Err(refusal),
+    };
+    let Prepared {
+        keeper,
+        seats,
+        edits,
+        lost,
+    } = prepared;
+    match told(alloc, (edits, lost), bound.port, sink) {
+        Ok(()) => {}
+        Err(fault) => return Err(FileRefusal::from(fault)),
+    }
+    match seats_served(rt, alloc, keeper, seats, bound) {
+        Err(refusal) => Err(refusal),
+        Ok(finished) => match closed(alloc, &finished, sink) {
+            Ok(()) => Ok(()),
+            Err(fault) => Err(FileRefusal::from(fault)),
+        },
+    }
+}
+
+/// What is served: a keeper whose board has what its file had, the seats, how many edits the file had, and how
+/// many bytes were cut off behind its last record.
+#[derive(Drop)]
+struct Prepared<'a, J: Naming, R: Files<File = File> + Wait + Drop> {
+    keeper: Keeper<J, R, FileKeep<'a, R>>,
+    seats: KeptSeats<J>,
+    edits: usize,
+    lost: usize,
+}
+
+/// Puts what a file has on a board that was opened, and opens the file.
+fn made_ready<'a, J: Naming, R: Files<File = File> + Eprint + Wait + Drop>(
+    rt: &'a R,
+    alloc: Global,
+    opened: Opened<R>,
+    file: KeptFile<'a, R>,
+) -> Result<Prepared<'a, J, R>, FileRefusal>
+    requires origin { opened.publisher.origin ≡ J.origin }
+    requires inbox { (arc_value opened.drain.queue).table.shared.table_id ≡ J.inbox }
+    requires room { ruled_capacity (arc_value opened.drain.queue) ≡ 64 }
+    requires some { 0 < opened.count }
+    requires rule { file.rule ≡ opened.rule }
+    requires file { IsKeptFile file.rule file.found.parts.head file.found.parts.bodies.items file.found.bytes.items file.found.parts.whole }
+    ensures seats { IfOk result (λ p. AreKeptSeats opened.rule (opened.count - 1) p.seats.seats.items p.seats.file) }
+    ensures order { IfOk result (λ p. AreInOrder p.keeper.relay.made p.seats.seats.items p.seats.file) }
+    ensures states { IfOk result (λ p. p.keeper.relay.origin.states ≡ opened.rule.states) }
+    ensures edits { IfOk result (λ p. p.edits ≡ length p.seats.file.mine) }
+    ensures refused { IfErr result (λ refusal. IsUnopened refusal.fault) }
+{
+    let KeptFile { found, rule } = file;
+    let (relay, seats) = match opened.named::<J>() {
+        Ok(named) => named,
+        Err(fault) => return Err(FileRefusal::from(start_fault(fault))),
+    };
+    let document = Document {
+        rule: &rule,
+        bodies: &found.parts.bodies,
+    };
+    let edits = found.parts.bodies.len();
+    let loaded = match load_board(rt, alloc, relay, seats, document) {
+        Ok(loaded) => loaded,
+        Err(fault) => return Err(load_refusal(fault)),
+    };
+    match opened_log(rt, alloc, &rule, found) {
+        Err(refusal) => Err(refusal),
+        Ok((log, lost)) => {
+            let LoadedBoard { relay, seats } = loaded;
+            let keeper = Keeper::new(alloc, relay, log, rule);
+            Ok(Prepared {
+                keeper,
+                seats,
+                edits,
+                lost,
+            })
+        }
+    }
+}
+
+/// Pushes the closing lines.
+fn closed<K: Sink>(
+    alloc: Global,
+    finished: &Finished<ReadSource<TcpStream>, WriteSink<TcpStream>>,
+    sink: &mut K,
+) -> Result<(), RunFault>
+    ensures closed { IfOk result (λ _. Pushes (K.known sink.old) (K.known sink.new) (closing_text finished.now)) }
+    ensures unclosed { IfErr result (λ fault. ((fault ≡ RunFault.Memory) × (K.known sink.new ≡ K.known sink.old)) ⊎ ((fault ≡ RunFault.Write) × Fails (K.known sink.old) (K.known sink.new))) }
+{
+    let text = closing(alloc, finished)?;
+    push_output(sink, &text)
+}
+
+/// Tells what was opened, and at which port the server listens.
+fn told<K: Sink>(
+    alloc: Global,
+    opened: (usize, usize),
+    port: u16,
+    sink: &mut K,
+) -> Result<(), RunFault>
+    ensures told { IfOk result (λ _. TellsKept opened.0 opened.1 port (K.known sink.old) (K.known sink.new)) }
+    ensures untold { IfErr result (IsUntold opened.0 opened.1 (K.known sink.old) (K.known sink.new)) }
+{
+    let line = kept_line(alloc, opened.0, opened.1)?;
+    push_output(sink, &line)?;
+    let line = listening(alloc, port)?;
+    push_output(sink, &line)
+}
+
+/// Opens the file of a board: what stands behind its last record is saved beside it, and cut off.
+fn opened_log<'a, R: Files<File = File> + Eprint>(
+    rt: &'a R,
+    alloc: Global,
+    rule: &Rule,
+    found: Found<FileKeep<'a, R>>,
+) -> Result<OpenLog<FileKeep<'a, R>>, FileRefusal>
+    requires rule { IsRule rule.now }
+    requires head { HasHead rule.now found.parts.head found.parts.bodies.items }
+    requires read { IsReadTo found.bytes.items (listed found.parts.head found.parts.bodies.items) found.parts.whole }
+    ensures open { IfOk result (λ o. o.0.state ≡ log_state.Open) }
+    ensures refused { IfErr result (λ refusal. IsUnopened refusal.fault) }
+{
+    save_lost(rt, alloc, &found)?;
+    match opened(alloc, rule, found) {
+        Ok(open) => Ok(open),
+        Err((OpenFault::Memory, _)) => Err(FileRefusal::memory()),
+        Err((OpenFault::Write, keep)) => Err(write_refusal(&keep)),
+    }
+}
+
+/// That a file failed, and why.
+fn write_refusal<F: Files<File = File>>(keep: &FileKeep<'_, F>) -> FileRefusal
+    ensures { result.fault ≡ RunFault.Write }
+{
+    let cause = keep.failure().map_or(Cause::Other, cause_of_file);
+    FileRefusal::of(RunFault::Write, cause.text())
+}
+
+/// Why there is no account.
+fn end_refusal<F: Files<File = File>>(fault: KeptFault, log: &Log<FileKeep<'_, F>>) -> FileRefusal
+    ensures { result.fault ≡ run_fault_of_kept fault }
+{
+    match fault {
+        KeptFault::Keep(KeepFault::Write) => write_refusal(&log.keep),
+        fault => FileRefusal::from(kept_fault(fault)),
+    }
+}
+
+/// Serves the seats of a keeper to the connections of a listener, and turns away whoever comes after the last; at
+/// the end how the sessions ended, and the account.
+fn seats_served<
+    'a,
+    J: Naming + Send + 'static,
+    R: Net<Listener = TcpListener, Stream = TcpStream>
+        + Files<File = File>
+        + Eprint
+        + Clock
+        + Threads
+        + Wait
+        + Copy
+        + Drop
+        + Send
+        + Sync
+        + 'static,
+>(
+    rt: &'a R,
+    alloc: Global,
+    keeper: Keeper<J, R, FileKeep<'a, R>>,
+    seats: KeptSeats<J>,
+    bound: Bound,
+) -> Result<Finished<ReadSource<TcpStream>, WriteSink<TcpStream>>, FileRefusal>
+    requires order { AreInOrder keeper.relay.made seats.seats.items seats.file }
+    ensures served { IfOk result (λ f. IsServedBeside keeper.entry.relay.origin seats.seats.items seats.file f) }
+    ensures refused { IfErr result (λ refusal. IsUnopened refusal.fault) }
+{
+    let Bound { listener, port } = bound;
+    let count = u16::try_from(seats.seats.len()).unwrap_or(u16::MAX);
+    let Doors {
+        turning,
+        streams,
+        rousing,
+    } = match opened_doors(rt, alloc, listener, port, count) {
+        Ok(doors) => doors,
+        Err(fault) => return Err(FileRefusal::from(fault)),
+    };
+    let streams = Streams {
+        acceptor: streams,
+        wake: &rousing,
+    };
+    let served = serve_kept(*rt, alloc, keeper, seats, streams);
+    turning.end(rt, &rousing.knock);
+    match served {
+        Ok((finished, _log)) => Ok(finished),
+        Err((fault, log)) => Err(end_refusal(fault, &log)),
+    }
+}
+
+/// What lets connections in: who turns the late ones away, where streams come from, and what wakes who waits.
+struct Doors<'a, R> {
+    turning: Turning,
+    streams: Connections<R>,
+    rousing: Rousing<'a, R>,
+}
+
+/// The doors of a listener for so many seats.
+fn opened_doors<
+    'a,
+    R: Net<Listener = TcpListener, Stream = TcpStream>
+        + Clock
+        + Threads
+        + Wait
+        + Copy
+        + Drop
+        + Send
+        + Sync
+        + 'static,
+>(
+    rt: &'a R,
+    alloc: Global,
+    listener: TcpListener,
+    port: u16,
+    count: u16,
+) -> Result<Doors<'a, R>, RunFault>
+    ensures { IfErr result IsUnopened }
+{
+    let Ok(theirs) = listener.try_clone() else {
+        return Err(RunFault::Read);
+    };
+    let (left, alarms) = hearings(rt, alloc, count)?;
+    let (is_over, mark) = shared_mark(alloc)?;
+    match Turning::start(*rt, alloc, theirs)? {
+        None => Err(RunFault::Read),
+        Some((turning, seated)) => Ok(Doors {
+            turning,
+            streams: Connections::of(*rt, listener, left, seated, mark).of_kept(),
+            rousing: Rousing {
+                knock: Knock { rt, port },
+                alarms,
+                is_over,
+            },
+        }),
+    }
+}
