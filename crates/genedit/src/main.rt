@@ -14,6 +14,7 @@ use crate::tasks::{check, rle, run, serve};
 use genedit_io::RunFault;
 use genedit_words::{Ending, Task, asked, given};
 use std::alloc::{AllocGlobal, Global};
+use std::fs::File;
 use std::io::{IsTerminal, StdinLock};
 use std::net::{Net, TcpListener, TcpStream};
 use std::process::ExitCode;
@@ -34,7 +35,7 @@ fn main(rt: HostRuntime) -> ExitCode {
 /// Does what the words ask for; the status of the process. Nothing is read before the words and the rule
 /// in them are found to be in order.
 fn work<
-    R: Files
+    R: Files<File = File>
         + Input<Reader = StdinLock<'static>>
         + Print
         + Eprint
@@ -62,7 +63,7 @@ fn work<
 
 /// Does a task; the status of the process.
 fn perform<
-    R: Files
+    R: Files<File = File>
         + Input<Reader = StdinLock<'static>>
         + Print
         + Eprint
@@ -84,7 +85,7 @@ fn perform<
         Task::Check(file) => check(rt, alloc, *file),
         Task::Rle(form) => rle(rt, alloc, form),
         Task::View(viewing) => view(rt, alloc, viewing, to_terminal),
-        Task::Serve(server) => serve(rt, alloc, *server),
+        Task::Serve(server) => serve(rt, alloc, server),
         Task::Join(client) => join(rt, alloc, *client),
     }
 }

@@ -1,6 +1,7 @@
 //! Files and ports that the words name, and what is said of those that the system refuses.
 
 use genedit_io::{Cause, RunFault, cause_of, file_fault_text, port_fault_text};
+use genedit_serve::FileRefusal;
 use std::alloc::{AllocError, Global};
 use std::fs;
 use std::rt::Files;
@@ -45,6 +46,25 @@ pub fn tell_unheard(
     let text = port_fault_text(alloc, port, cause)?;
     tell(rt, alloc, &text)?;
     Ok(RunFault::Read.exit_status())
+}
+
+/// Says why a board is not kept in a file, or not any more; the status of the process.
+pub fn tell_refused(
+    rt: &impl Eprint,
+    alloc: Global,
+    path: &str,
+    refusal: FileRefusal,
+) -> Result<u8, RunFault> {
+    let Some(why) = refusal.why else {
+        return Err(refusal.fault);
+    };
+    let mut name = String::from_str(alloc, path)?;
+    if refusal.is_of_lost {
+        name.push_str(".lost")?;
+    }
+    let text = file_fault_text(alloc, refusal.fault, name.as_bytes(), why)?;
+    tell(rt, alloc, &text)?;
+    Ok(refusal.fault.exit_status())
 }
 
 fn tell(rt: &impl Eprint, alloc: Global, text: &[u8]) -> Result<(), AllocError> {

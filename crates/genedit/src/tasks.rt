@@ -1,18 +1,20 @@
 //! Each task, with the input and the output that the process has; its answer is the status.
 
 ghost use Rattle.std.specs.Prelude.{◌≤◌};
+ghost use Rattle.genedit_words.specs.Given.{IsServable};
 
-use crate::opening::{opened, tell_unheard, tell_unread};
+use crate::opening::{opened, tell_refused, tell_unheard, tell_unread};
 use devices::{ReadSource, Source, WriteSink};
 use genedit_io::RunFault;
 use genedit_lib::run_script;
 use genedit_rle::rle_text;
-use genedit_serve::{ServedBoard, listen, serve_on};
+use genedit_serve::{KeptBoard, ServedBoard, listen, open_kept, serve_kept_on, serve_on};
 use genedit_words::{RleTask, ServeTask};
 use generations_rule::Rule;
 use keyed_hash::{HashKey, RandomBytes};
 use script_check::{CheckOutcome, check_script};
 use std::alloc::Global;
+use std::fs::File;
 use std::io;
 use std::net::{Net, TcpListener, TcpStream};
 use std::random::RandomSource;
@@ -108,9 +110,11 @@ fn checked<S: Source>(
     }
 }
 
-/// Serves a board, whose hashes have a key that is drawn from the system.
+/// Serves a board, whose hashes have a key that is drawn from the system; one that is kept in a file where the
+/// words name one.
 pub fn serve<
-    R: Print
+    R: Files<File = File>
+        + Print
         + Eprint
         + RandomSource
         + Net<Listener = TcpListener, Stream = TcpStream>
@@ -122,22 +126,86 @@ pub fn serve<
         + Send
         + Sync
         + 'static,
->(rt: &R, alloc: Global, server: ServeTask) -> Result<u8, RunFault>
-    requires { (1 ≤ server.sessions) × (server.sessions ≤ 64) }
+>(rt: &R, alloc: Global, server: &ServeTask<'_>) -> Result<u8, RunFault>
+    requires { IsServable server.now }
 {
     let Ok(key) = HashKey::drawn(&mut RandomBytes::of(rt)) else {
         return Err(RunFault::Read);
+    };
+    match server.keep {
+        Some(path) => serve_file(rt, alloc, server, path, key),
+        None => match server.rule {
+            Some(rule) => {
+                let board = ServedBoard {
+                    rule,
+                    sessions: server.sessions,
+                    key,
+                };
+                serve_board(rt, alloc, server.port, board)
+            }
+            None => unreachable!(),
+        },
+    }
+}
+
+/// Serves a board that is kept nowhere.
+fn serve_board<
+    R: Print
+        + Eprint
+        + Net<Listener = TcpListener, Stream = TcpStream>
+        + Clock
+        + Threads
+        + Wait
+        + Copy
+        + Drop
+        + Send
+        + Sync
+        + 'static,
+>(rt: &R, alloc: Global, port: u16, board: ServedBoard) -> Result<u8, RunFault>
+    requires { (1 ≤ board.sessions) × (board.sessions ≤ 64) }
+{
+    let listener = match listen(rt, port) {
+        Ok(listener) => listener,
+        Err(cause) => return tell_unheard(rt, alloc, port, cause),
+    };
+    let mut sink = WriteSink::new(io::writer(rt));
+    serve_on(*rt, alloc, listener, board, &mut sink)?;
+    Ok(WELL)
+}
+
+/// Serves the board of a file.
+fn serve_file<
+    R: Files<File = File>
+        + Print
+        + Eprint
+        + Net<Listener = TcpListener, Stream = TcpStream>
+        + Clock
+        + Threads
+        + Wait
+        + Copy
+        + Drop
+        + Send
+        + Sync
+        + 'static,
+>(rt: &R, alloc: Global, server: &ServeTask<'_>, path: &str, key: HashKey) -> Result<u8, RunFault>
+    requires { (1 ≤ server.now.sessions) × (server.now.sessions ≤ 64) }
+{
+    let file = match open_kept(rt, alloc, path, server.rule) {
+        Ok(file) => file,
+        Err(refusal) => return tell_refused(rt, alloc, path, refusal),
     };
     let listener = match listen(rt, server.port) {
         Ok(listener) => listener,
         Err(cause) => return tell_unheard(rt, alloc, server.port, cause),
     };
     let mut sink = WriteSink::new(io::writer(rt));
-    let board = ServedBoard {
-        rule: server.rule,
+    let board = KeptBoard {
         sessions: server.sessions,
         key,
+        file,
     };
-    serve_on(*rt, alloc, listener, board, &mut sink)?;
-    Ok(WELL)
+    match serve_kept_on(rt, alloc, listener, board, &mut sink) {
+        Ok(()) => Ok(WELL),
+        Err(refusal) => tell_refused(rt, alloc, path, refusal),
+    }
 }

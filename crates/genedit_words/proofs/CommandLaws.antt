@@ -19,7 +19,7 @@ use Rattle.clap.specs.declared.builder.value_parser.Reading.{Reading}
 use Rattle.clap.specs.declared.builder.value_parser.Reading.TheVariants as reading
 use Rattle.clap.specs.declared.builder.value_parser.ValueParser.TheVariants as vp
 use Rattle.genedit_words.specs.Given.{HasClient, HasFlag, HasNumber, HasRule, HasServer, HasView, IsNamed, MayHaveNumber}
-use Rattle.genedit_words.specs.Words.{check_shape, every_option, file_argument, flag, gen_option, genedit_app, join_shape, optional, port_option, rle_shape, rule_option, run_shape, serve_shape, sessions_option, view_shape}
+use Rattle.genedit_words.specs.Words.{board_rule, check_shape, every_option, file_argument, flag, gen_option, genedit_app, join_shape, optional, port_option, rle_shape, rule_option, run_shape, serve_shape, sessions_option, view_shape}
 use Rattle.genedit_words.proofs.Stops.{both_pass, stops_at_help, walk_passes}
 use Rattle.genedit_words.proofs.RowFacts.{IsWellUsed, UsesWell, all_ok, both_true, rows_well}
 use Rattle.genedit_words.proofs.RuleFacts.{HasValue, drops_minus, first_passes, fit_default, fits, flag_well, found_value, given_value, is_flag_text, keeps_all, no_default, ok, set_well}
@@ -41,15 +41,18 @@ abbrev view_built : Shape
 view_built = built_leaf (inherited whole.top view_shape)
 
 abbrev serve_built : Shape
-serve_built = built_leaf (inherited whole.top serve_shape)
+serve_built = built_leaf (inherited whole.top (serve_shape false))
 
 abbrev join_built : Shape
 join_built = built_leaf (inherited whole.top join_shape)
 
 -- ---- each use of an option adds a row that is in order
 
-abbrev given_rule : Rule
-given_rule = with_index 1 (filled rule_option)
+abbrev given_board_rule : Rule
+given_board_rule = with_index 1 (filled (board_rule false))
+
+abbrev given_keep : Rule
+given_keep = with_index 1 (filled (optional (codes "keep")))
 
 abbrev given_port : Rule
 given_port = with_index 1 (filled port_option)
@@ -57,8 +60,11 @@ given_port = with_index 1 (filled port_option)
 abbrev given_sessions : Rule
 given_sessions = with_index 1 (filled sessions_option)
 
-rule_well : UsesWell ok false given_rule
-rule_well = set_well given_rule refl (λ rows h. cc) (λ v vs passes. refl)
+board_rule_well : UsesWell ok false given_board_rule
+board_rule_well = set_well given_board_rule refl (λ rows h. cc) (λ v vs passes. refl)
+
+keep_well : UsesWell ok false given_keep
+keep_well = set_well given_keep refl (λ rows h. cc) (λ v vs passes. refl)
 
 port_well : UsesWell ok false given_port
 port_well = set_well given_port refl (λ rows h. cc) (λ v vs passes. first_passes false (vp.Signed (pos 0) (pos 65535)) v vs passes)
@@ -160,14 +166,16 @@ rle_well p = go (p given_file) (p given_form_rule) (p (filled help_rule))
     go false false false = tt
 
 serve_well : (p : Rule → Bool) → IsWellUsed ok false (find p serve_built.rules)
-serve_well p = go (p given_rule) (p given_port) (p given_sessions) (p (filled help_rule))
+serve_well p = go (p given_board_rule) (p given_port) (p given_sessions) (p given_keep) (p (filled help_rule))
   where
-    go : (a b c d : Bool) → IsWellUsed ok false (if a then Some given_rule else (if b then Some given_port else (if c then Some given_sessions else (if d then Some (filled help_rule) else None))))
-    go true b c d = rule_well
-    go false true c d = port_well
-    go false false true d = sessions_well
-    go false false false true = help_well
-    go false false false false = tt
+    go : (a b c d e : Bool) → IsWellUsed ok false (if a then Some given_board_rule else (if b then Some given_port else (if c then Some given_sessions
+        else (if d then Some given_keep else (if e then Some (filled help_rule) else None)))))
+    go true b c d e = board_rule_well
+    go false true c d e = port_well
+    go false false true d e = sessions_well
+    go false false false true e = keep_well
+    go false false false false true = help_well
+    go false false false false false = tt
 
 join_well : (p : Rule → Bool) → IsWellUsed ok false (find p join_built.rules)
 join_well p = go (p given_port) (p given_every) (p given_follow) (p given_changes) (p given_quiet) (p given_no_rescue) (p (filled help_rule))
@@ -269,22 +277,22 @@ rle_has_rule words passes =
     let given = none_missing (is_given (codes "rule") rows) false (asks_argument false false (not (is_given (codes "rule") rows) || false) parts.3) in
     has_first (codes "rule") rows (given_value (codes "rule") rows fine given.0)
 
--- `serve` has a rule, a port and a number of sessions
+-- `serve` has a port and a number of sessions
 serve_has_all : (words : List Text) → level_fault serve_built [] nothing_held words false [] ≡ [] → HasServer (rows_after serve_built.rules [] words)
 serve_has_all words passes =
     let rows = rows_after serve_built.rules [] words in
-    let has_rule = is_given (codes "rule") rows in
     let has_port = is_given (codes "port") rows in
     let has_sessions = is_given (codes "sessions") rows in
     let parts = level_passes serve_built [] nothing_held words false [] passes in
-    let fine = rows_well ok serve_built serve_well (plain_default given_rule refl, (plain_default given_port refl, (plain_default given_sessions refl, (plain_default (filled help_rule) refl, tt)))) words parts.0 parts.2 in
-    let rule = none_missing has_rule (not has_port || (not has_sessions || false)) (asks_argument false false (not has_rule || (not has_port || (not has_sessions || false))) parts.3) in
-    let port = none_missing has_port (not has_sessions || false) rule.1 in
+    let fine = rows_well ok serve_built serve_well (
+      plain_default given_board_rule refl,
+      (plain_default given_port refl, (plain_default given_sessions refl, (plain_default given_keep refl, (plain_default (filled help_rule) refl, tt)))),
+    ) words parts.0 parts.2 in
+    let port = none_missing has_port (not has_sessions || false) (asks_argument false false (not has_port || (not has_sessions || false)) parts.3) in
     let sessions = none_missing has_sessions false port.1 in
     let port_value = given_value (codes "port") rows fine port.0 in
     let sessions_value = given_value (codes "sessions") rows fine sessions.0 in
     record {
-      rule = has_first (codes "rule") rows (given_value (codes "rule") rows fine rule.0);
       port = has_number 0 65535 (codes "port") rows port_value port_value.fit;
       sessions = has_number 1 64 (codes "sessions") rows sessions_value sessions_value.fit;
     }

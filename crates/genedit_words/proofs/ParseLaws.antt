@@ -1,11 +1,14 @@
 -- What a parse of the words gives, and what the words ask for by it.
-use Rattle.std.proofs.Common.{◌≡◌, ◌∙◌, Bool, codes, true, false, refl, sym, ap, subst, List, [], Option, Some, None}
-use Rattle.std.specs.Prelude.{if◌then◌else◌, option_and_then, option_map, Result, Ok, Err, Box, IfErr, IsErrAnd}
+use Rattle.std.proofs.Common.{◌≡◌, ◌∙◌, ◌&&◌, ◌⊎◌, Bool, not, codes, true, false, refl, sym, ap, subst, List, [], Option, Some, None}
+use Rattle.std.specs.Prelude.{option_and_then, option_map, Result, Box}
 use Rattle.std.specs.Box.{box_value}
 use Rattle.std.specs.Str.{bytes_eq}
 use Rattle.std.proofs.lemmas.Slice.Eq.{bytes_eq-Decides}
 use Rattle.clap.specs.Walk.{Row, Text}
-use Rattle.clap.specs.Kinds.{HasKind}
+use Rattle.clap.specs.Kinds.{HasKind, IsAmong}
+use Rattle.clap.specs.Values.{kind_of}
+use Rattle.clap.specs.declared.error.kind.ErrorKind.{ErrorKind}
+use Rattle.clap.specs.declared.error.kind.ErrorKind.TheVariants.{OutOfMemory}
 use Rattle.clap.specs.declared.error.Error.{Error}
 use Rattle.clap.specs.Simple.{App, subcommand_of, HasMatchesOf, is_simple, subcommand_rows, subcommand_rows_of}
 use Rattle.clap.specs.Faults.{fault_of, is_simple_and_free}
@@ -14,10 +17,9 @@ use Rattle.clap.specs.declared.parser.matches.ArgMatches.{ArgMatches}
 use Rattle.clap.specs.declared.parser.matches.ArgMatches.TheViews.{out-ArgMatches, out-SubCommand}
 use Rattle.clap.specs.declared.parser.matches.SubCommand.{SubCommand}
 use Rattle.genedit_words.specs.Given.{Has, HasBy, IsNamed}
-use Rattle.genedit_words.specs.declared.ending.Ending.{Ending}
 use Rattle.genedit_words.specs.declared.ending.Ending.TheVariants as ending
 use Rattle.genedit_words.specs.Misspelt.{Misspelt}
-use Rattle.genedit_words.specs.Words.{Asks, EndsWords, genedit_app, task_of}
+use Rattle.genedit_words.specs.Words.{Asks, EndsWords, LacksRule, genedit_app, has_board, lacks_rule, task_of}
 use Rattle.genedit_words.specs.Told.{Told}
 use Rattle.genedit_words.proofs.CommandLaws.{words_named}
 
@@ -48,12 +50,15 @@ is_named words m parse = subst IsNamed (sym parse.entered) (words_named words pa
 pub asks : (words : List Text) (m : ArgMatches) (task : Result Told Misspelt) → IsParse words m → option_and_then task_of (subcommand_rows_of m) ≡ Some task → Asks words task
 asks words m task parse asked = (parse.passes, ap (option_and_then task_of) (sym parse.entered) ∙ asked)
 
--- words that are a fault end with an error of its kind
-pub ends_words : {T : Type 0} (app : App) (words : List Text) (error : Error) (r : Result T Ending) → app ≡ genedit_app
-    → (is_simple_and_free app ≡ true → HasKind (fault_of app words) error) → IsErrAnd r (λ given. given ≡ ending.Words error) → IfErr r (EndsWords words)
-ends_words app words error (Ok x) same kinds gives = tt
-ends_words app words error (Err e) same kinds gives =
-    subst (EndsWords words) (sym gives) (subst (λ (a : App). HasKind (fault_of a words) error) same (kinds (ap is_simple_and_free same)))
+pub lacks : (words : List Text) (m : ArgMatches) → IsParse words m → option_map lacks_rule (subcommand_rows_of m) ≡ Some true → LacksRule words
+lacks words m parse holds = (parse.passes, ap (option_map lacks_rule) (sym parse.entered) ∙ holds)
+
+-- words that are a fault end with an error of its kind, or another of the same
+pub ends_words : (app : App) (words : List Text) (error told : Error) → app ≡ genedit_app
+    → (is_simple_and_free app ≡ true → HasKind (fault_of app words) error) → kind_of told ≡ kind_of error → EndsWords words (ending.Words told)
+ends_words app words error told same kinds like =
+    let has : HasKind (fault_of genedit_app words) error = subst (λ (a : App). HasKind (fault_of a words) error) same (kinds (ap is_simple_and_free same)) in
+    subst (λ (kind : ErrorKind). (kind ≡ OutOfMemory) ⊎ IsAmong kind (fault_of genedit_app words)) (sym like) has
 
 -- ---- which subcommand it is
 
@@ -96,3 +101,26 @@ run_is_entered m named not_rle not_serve not_check not_view not_join =
     go false false false false true f same_a same_b same_c same_d same_e same_f has = absurd (not_view (is (codes "view") same_e))
     go false false false false false true same_a same_b same_c same_d same_e same_f has = absurd (not_join (is (codes "join") same_f))
     go false false false false false false same_a same_b same_c same_d same_e same_f has = absurd has
+
+-- ---- whether a server has a rule or a file
+
+-- it is told where a server is entered
+pub lacks_by : (entered : Option (Text × List Row)) (rows : List Row) → entered ≡ Some (codes "serve", rows) → option_map lacks_rule entered ≡ Some (not (has_board rows))
+lacks_by entered rows met = ap (option_map lacks_rule) met
+
+pub has_board_by : (entered : Option (Text × List Row)) (rows : List Row) → entered ≡ Some (codes "serve", rows) → option_map lacks_rule entered ≡ Some false → has_board rows ≡ true
+has_board_by entered rows met holds = go (has_board rows) (sym (lacks_by entered rows met) ∙ holds)
+  where
+    go : (b : Bool) → Some (not b) ≡ Some false → b ≡ true
+    go true h = refl
+    go false h = cc
+
+-- where no server was entered, none lacks a rule
+pub none_lacks : (m : ArgMatches) → IsNamed (subcommand_rows_of m) → (subcommand_name_of m ≡ Some (codes "serve") → ⊥) → option_map lacks_rule (subcommand_rows_of m) ≡ Some false
+none_lacks m named not_serve = ap (option_map lacks_rule) named.met ∙ go (bytes_eq named.name (codes "serve")) refl
+  where
+    go : (b : Bool) → bytes_eq named.name (codes "serve") ≡ b → Some (b && not (has_board named.rows)) ≡ Some false
+    go false same = refl
+    go true same =
+        let is : named.name ≡ codes "serve" = (bytes_eq-Decides named.name (codes "serve")).0 same in
+        absurd (not_serve (entered_name m ∙ (ap (option_map (λ (p : Text × List Row). p.0)) named.met ∙ ap (λ (t : Text). Some t) is)))

@@ -1,11 +1,13 @@
 -- The text that a getter reads.
-use Rattle.std.proofs.Common.{◌≡◌, ◌∙◌, ℕ, Bool, List, Option, Some, None, codes, refl, sym, ap}
+use Rattle.std.proofs.Common.{◌≡◌, ◌∙◌, ◌||◌, ℕ, Bool, true, false, true≢false, List, Option, Some, None, is_some, codes, refl, sym, ap}
 use Rattle.std.specs.Borrow.{Bor}
 use Rattle.std.specs.Option.{IsSome}
-use Rattle.std.specs.Prelude.{option_map}
+use Rattle.std.specs.Prelude.{if◌then◌else◌, option_and_then, option_map, Result, Ok, Err}
 use Rattle.clap.specs.Walk.{Row, Text, first_of}
 use Rattle.generations_rule.specs.Rule.{GenerationsRule}
-use Rattle.genedit_words.specs.Words.{file_asked, is_set, number_of, viewing}
+use Rattle.genedit_words.specs.Misspelt.{Misspelt}
+use Rattle.genedit_words.specs.Told.{Told}
+use Rattle.genedit_words.specs.Words.{file_asked, has_board, is_set, number_of, rule_asked, rule_if_given, serve_asked, serve_task, server_asked, some_rule, viewing}
 
 pub some_text : (o : Option (Bor (List ℕ))) (text : List ℕ) → option_map (λ s. s.now) o ≡ Some text → IsSome o
 some_text None text h = cc
@@ -20,3 +22,43 @@ pub is_viewing : (rows : List Row) (rule : Option GenerationsRule) {file at size
     → number_of (codes "gen") rows ≡ generation → is_set (codes "plain") rows ≡ is_plain → is_set (codes "svg") rows ≡ is_svg
     → viewing rows rule ≡ record { file = file; rule = rule; at = at; size = size; generation = generation; is_plain = is_plain; is_svg = is_svg }
 is_viewing rows rule generation is_plain is_svg f a s g p v = rw f (rw a (rw s (rw (sym g) (rw (sym p) (rw (sym v) refl)))))
+
+-- ---- a server
+
+-- a text is read where there is one
+pub is_there : (o : Option (Bor (List ℕ))) (text : Option Text) → option_map (λ s. s.now) o ≡ text → is_some o ≡ is_some text
+is_there None text h = ap is_some h
+is_there (Some s) text h = ap is_some h
+
+pub first_holds : (x a b : Bool) → x ≡ a → x ≡ true → x ≡ (a || b)
+first_holds x a b same holds = rw (sym same, holds) refl
+
+pub second_decides : (x y a b : Bool) → x ≡ a → x ≡ false → y ≡ b → y ≡ (a || b)
+second_decides x y a b same fails other = rw (sym same, fails) other
+
+some_ruled : (given : Result GenerationsRule Misspelt) (rule : Option GenerationsRule) → some_rule given ≡ Ok rule → is_some rule ≡ true
+some_ruled (Ok x) rule h = let same : Some x ≡ rule = cc in ap is_some (sym same)
+some_ruled (Err wrong) rule h = cc
+
+-- where no file is named, the words have a rule
+pub is_ruled : (keep : Option (Bor (List ℕ))) (rows : List Row) (rule : Option GenerationsRule) → has_board rows ≡ true
+    → option_map (λ s. s.now) keep ≡ first_of (codes "keep") rows → rule_if_given (first_of (codes "rule") rows) ≡ Ok rule → keep ≡ None → IsSome rule
+is_ruled keep rows rule board same read none =
+    go (first_of (codes "rule") rows) (is_some (first_of (codes "keep") rows)) (sym (is_there keep (first_of (codes "keep") rows) same) ∙ ap is_some none) board read
+  where
+    go : (o : Option Text) (kept : Bool) → kept ≡ false → (is_some o || kept) ≡ true → rule_if_given o ≡ Ok rule → IsSome rule
+    go None kept missing one h = absurd (true≢false (sym one ∙ missing))
+    go (Some text) kept missing one h = some_ruled (rule_asked text) rule h
+
+-- what the getters read for a server
+pub is_served : (rows : List Row) (keep : Option Text) (rule : Result (Option GenerationsRule) Misspelt) (port sessions : ℕ) → has_board rows ≡ true
+    → number_of (codes "port") rows ≡ Some port → number_of (codes "sessions") rows ≡ Some sessions → keep ≡ first_of (codes "keep") rows
+    → rule ≡ rule_if_given (first_of (codes "rule") rows) → serve_asked rows ≡ Some (serve_task keep rule port sessions)
+is_served rows keep rule port sessions board p s k r =
+    let task : ℕ → ℕ → Result Told Misspelt = serve_task (first_of (codes "keep") rows) (rule_if_given (first_of (codes "rule") rows)) in
+    let there : serve_asked rows ≡ server_asked rows = ap (λ (b : Bool). if b then server_asked rows else None) board in
+    let ported : server_asked rows ≡ option_map (task port) (number_of (codes "sessions") rows) = ap (option_and_then (λ (n : ℕ). option_map (task n) (number_of (codes "sessions") rows))) p in
+    let seated : option_map (task port) (number_of (codes "sessions") rows) ≡ Some (task port sessions) = ap (option_map (task port)) s in
+    let kept : Some (task port sessions) ≡ Some (serve_task keep (rule_if_given (first_of (codes "rule") rows)) port sessions) =
+    ap (λ (o : Option Text). Some (serve_task o (rule_if_given (first_of (codes "rule") rows)) port sessions)) (sym k) in
+    there ∙ (ported ∙ (seated ∙ (kept ∙ ap (λ (given : Result (Option GenerationsRule) Misspelt). Some (serve_task keep given port sessions)) (sym r))))

@@ -1,8 +1,10 @@
 -- What words that are no fault have.
 use Rattle.std.specs.Prelude.{◌≡◌, ◌⊎◌, ◌≤◌, ⊤, None, ℕ, Bool, true, false, List, Option, Some, codes, pos}
+use Rattle.std.specs.Option.{IsSome}
 use Rattle.std.specs.Str.{bytes_eq}
 use Rattle.clap.specs.Values.{IsSignedIn}
 use Rattle.clap.specs.Words.{Row, Text, first_of, one_of, without_minus}
+use Rattle.genedit_words.specs.declared.task.ServeTask.{ServeTask}
 use Rattle.genedit_words.specs.declared.task.Task.{Task}
 use Rattle.genedit_words.specs.declared.task.Task.TheVariants.{Join, Serve}
 
@@ -16,9 +18,8 @@ pub record HasNumber (low high : ℕ) (id : Text) (rows : List Row) : Type 0 whe
   pub read : one_of id rows ≡ Some (without_minus text)
   pub within : IsSignedIn (pos low) (pos high) text
 
--- what a server needs
+-- what a server needs, beside a rule or a file
 pub record HasServer (rows : List Row) : Type 0 where
-  pub rule : HasRule rows
   pub port : HasNumber 0 65535 (codes "port") rows
   pub sessions : HasNumber 1 64 (codes "sessions") rows
 
@@ -67,8 +68,12 @@ pub record IsNamed (entered : Option (Text × List Row)) : Type 0 where
   pub met : entered ≡ Some (name, rows)
   pub has : Has name rows
 
--- a server has 1 to 64 sessions; a client lets 1 to 60,000 milliseconds pass between two polls
+-- a server that no file is named for has a rule, and any has 1 to 64 sessions
+abbrev pub IsServable : ServeTask → Type 0
+IsServable server = (server.keep ≡ None → IsSome server.rule) × (1 ≤ server.sessions) × (server.sessions ≤ 64)
+
+-- a server can be served; a client lets 1 to 60,000 milliseconds pass between two polls
 abbrev pub IsInRange : Task → Type 0
-IsInRange (Serve server) = (1 ≤ server.sessions) × (server.sessions ≤ 64)
+IsInRange (Serve server) = IsServable server
 IsInRange (Join client) = (1 ≤ client.interval) × (client.interval ≤ 60000)
 IsInRange _ = ⊤

@@ -12,8 +12,8 @@ use Rattle.header_rules.specs.Families.{other_names, table_ends, table_fronts}
 use Rattle.header_rules.specs.Names.{rule_names}
 use Rattle.genedit_words.specs.Bound.{bound_words}
 use Rattle.genedit_words.specs.Misspelt.{misspelt_text}
-use Rattle.genedit_words.specs.Told.{Check, Join, Run, View}
-use Rattle.genedit_words.specs.Words.{Asks, genedit_app, rle_task, rule_asked, serve_task}
+use Rattle.genedit_words.specs.Told.{Check, Join, Run, Serve, View}
+use Rattle.genedit_words.specs.Words.{Asks, LacksRule, genedit_app, rle_task, rule_asked, rule_if_given, serve_task}
 
 abbrev genedit : List Text → List Text
 genedit words = codes "genedit" ∷ words
@@ -131,9 +131,23 @@ abbrev serve : List Text → List Text
 serve words = genedit (codes "serve" ∷ words)
 
 server : Asks (serve (codes "--rule" ∷ codes "23/3/2" ∷ codes "--port=7020" ∷ codes "--sessions" ∷ codes "64" ∷ []))
-    (serve_task (rule_asked (codes "23/3/2")) 7020 64)
+    (serve_task None (rule_if_given (Some (codes "23/3/2"))) 7020 64)
 unfolding clap_on_literals
 server = (refl, refl)
+
+server_of_a_file : Asks (serve (codes "--keep" ∷ codes "my.board" ∷ codes "--port=0" ∷ codes "--sessions=2" ∷ []))
+    (Ok (Serve (record { rule = None; port = 0; sessions = 2; keep = Some (codes "my.board") })))
+unfolding clap_on_literals
+server_of_a_file = (refl, refl)
+
+server_of_both : Asks (serve (codes "--rule=/2/3" ∷ codes "--port=0" ∷ codes "--sessions=2" ∷ codes "--keep=" ∷ []))
+    (serve_task (Some []) (rule_if_given (Some (codes "/2/3"))) 0 2)
+unfolding clap_on_literals
+server_of_both = (refl, refl)
+
+server_of_neither : LacksRule (serve (codes "--port=0" ∷ codes "--sessions=2" ∷ []))
+unfolding clap_on_literals
+server_of_neither = (refl, refl)
 
 mistakes : Asks (genedit (codes "check" ∷ [])) (Ok (Check None))
 unfolding clap_on_literals
@@ -219,6 +233,15 @@ no_port = refl
 refused_rule : Asks (rle (codes "--rule" ∷ codes "life?" ∷ [])) (Err (record { text = codes "life?"; why = Fault Slashes }))
 unfolding clap_on_literals rule_names other_names table_fronts table_ends
 refused_rule = (refl, refl)
+
+refused_rule_beside_a_file : Asks (serve (codes "--rule=life?" ∷ codes "--port=0" ∷ codes "--sessions=1" ∷ codes "--keep=my.board" ∷ []))
+    (Err (record { text = codes "life?"; why = Fault Slashes }))
+unfolding clap_on_literals rule_names other_names table_fronts table_ends
+refused_rule_beside_a_file = (refl, refl)
+
+no_file : fault_of genedit_app (serve (codes "--port=0" ∷ codes "--sessions=1" ∷ codes "--keep" ∷ [])) ≡ kind.InvalidValue ∷ []
+unfolding clap_on_literals
+no_file = refl
 
 no_word : fault_of genedit_app (genedit []) ≡ kind.MissingSubcommand ∷ []
 unfolding clap_on_literals

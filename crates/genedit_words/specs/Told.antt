@@ -4,7 +4,6 @@ use Rattle.generations_rule.specs.Rule.{GenerationsRule}
 use Rattle.genedit_words.specs.Misspelt.{Misspelt}
 use Rattle.genedit_words.specs.declared.misspelt.MisspeltRule.{MisspeltRule}
 use Rattle.genedit_words.specs.declared.task.JoinTask.{JoinTask}
-use Rattle.genedit_words.specs.declared.task.ServeTask.{ServeTask}
 use Rattle.genedit_words.specs.declared.task.Task.{Task}
 use Rattle.genedit_words.specs.declared.task.Task.TheVariants as task
 
@@ -18,10 +17,17 @@ pub record Viewed : Type 0 where
   pub is_plain : Bool
   pub is_svg : Bool
 
+-- what is asked of a server
+pub record Served : Type 0 where
+  pub rule : Option GenerationsRule
+  pub port : ℕ
+  pub sessions : ℕ
+  pub keep : Option (List ℕ)
+
 pub data Told : Type 0 where
   Run : (file : Option (List ℕ)) → Told
   Rle : (file : Option (List ℕ)) → (rule : GenerationsRule) → Told
-  Serve : (server : ServeTask) → Told
+  Serve : (served : Served) → Told
   Check : (file : Option (List ℕ)) → Told
   View : (viewed : Viewed) → Told
   Join : (client : JoinTask) → Told
@@ -30,7 +36,12 @@ pub data Told : Type 0 where
 abbrev pub told_of : Task → Told
 told_of (task.Run file) = Run (option_map (λ s. s.now) file)
 told_of (task.Rle form) = Rle (option_map (λ s. s.now) form.file) form.rule
-told_of (task.Serve server) = Serve server
+told_of (task.Serve server) = Serve (record {
+  rule = server.rule;
+  port = server.port;
+  sessions = server.sessions;
+  keep = option_map (λ s. s.now) server.keep;
+})
 told_of (task.Join client) = Join client
 told_of (task.Check file) = Check (option_map (λ s. s.now) file)
 told_of (task.View viewing) = View (record {

@@ -1,7 +1,7 @@
 -- What the words of the command line ask for.
 use Rattle.std.specs.Option.{option_map_or}
 use Rattle.std.specs.Prelude.{◌≡◌, ◌∷◌, [], ℕ, Bool, List, Option, Some, None, Result, Ok, Err, codes, pos}
-use Rattle.std.specs.Prelude.{true, false, if◌then◌else◌, option_map, option_and_then, unwrap_or}
+use Rattle.std.specs.Prelude.{◌&&◌, ◌||◌, true, false, not, is_some, if◌then◌else◌, option_map, option_and_then, unwrap_or}
 use Rattle.std.specs.Str.{bytes_eq}
 use Rattle.std.specs.Str.Parse.{digits_value, without_leading_plus}
 use Rattle.clap.specs.Words.{App, HasKind, Row, Rule, Shape, Text, fault_of, first_of, new_rule, one_of}
@@ -78,8 +78,12 @@ run_shape = record (new_shape (codes "run")) { rules = file_argument ∷ [] }
 abbrev pub rle_shape : Shape
 rle_shape = record (new_shape (codes "rle")) { rules = file_argument ∷ rule_option ∷ [] }
 
-abbrev pub serve_shape : Shape
-serve_shape = record (new_shape (codes "serve")) { rules = rule_option ∷ port_option ∷ sessions_option ∷ [] }
+-- the rule of a board that is served, which has to be given, or may be
+abbrev pub board_rule : Bool → Rule
+board_rule is_needed = record (optional (codes "rule")) { required = is_needed }
+
+abbrev pub serve_shape : Bool → Shape
+serve_shape needs_rule = record (new_shape (codes "serve")) { rules = board_rule needs_rule ∷ port_option ∷ sessions_option ∷ optional (codes "keep") ∷ [] }
 
 abbrev pub check_shape : Shape
 check_shape = record (new_shape (codes "check")) { rules = file_argument ∷ [] }
@@ -110,16 +114,21 @@ text_app = record {
   subs = run_shape ∷ check_shape ∷ rle_shape ∷ [];
 }
 
--- `genedit` has a version and no arguments, and one of its subcommands has to be given
-abbrev pub genedit_app : App
-genedit_app = record {
+-- `genedit` has a version and no arguments, and one of its subcommands has to be given; for a server the
+-- rule has to be given, or may be
+abbrev pub app_by : Bool → App
+app_by needs_rule = record {
   top = record (new_shape (codes "genedit")) {
     is_leaf = false;
     has_version = true;
     subcommand_required = true;
   };
-  subs = run_shape ∷ check_shape ∷ rle_shape ∷ view_shape ∷ serve_shape ∷ join_shape ∷ [];
+  subs = run_shape ∷ check_shape ∷ rle_shape ∷ view_shape ∷ serve_shape needs_rule ∷ join_shape ∷ [];
 }
+
+-- the words of `genedit` are read so: a server may lack the option, since its file may name the rule
+abbrev pub genedit_app : App
+genedit_app = app_by false
 
 -- ---- what words ask for
 
@@ -146,16 +155,6 @@ rle_task file (Err fault) = Err fault
 -- the canonical form under the rule that the option spells
 abbrev pub rle_asked : List Row → Option (Result Told Misspelt)
 rle_asked rows = option_map (λ text. rle_task (file_asked rows) (rule_asked text)) (first_of (codes "rule") rows)
-
-abbrev pub serve_task : Result GenerationsRule Misspelt → ℕ → ℕ → Result Told Misspelt
-serve_task (Ok rule) port sessions = Ok (Serve (record { rule = rule; port = port; sessions = sessions }))
-serve_task (Err fault) port sessions = Err fault
-
--- a server under the rule, at the port and of as many sessions as the options spell
-abbrev pub serve_asked : List Row → Option (Result Told Misspelt)
-serve_asked rows = option_and_then (λ text. option_and_then (λ port.
-    option_map (λ sessions. serve_task (rule_asked text) port sessions) (number_of (codes "sessions") rows))
-    (number_of (codes "port") rows)) (first_of (codes "rule") rows)
 
 -- what is wrong with a script, of a file or of standard input
 abbrev pub check_asked : List Row → Option (Result Told Misspelt)
@@ -185,6 +184,29 @@ some_rule (Err fault) = Err fault
 abbrev pub rule_if_given : Option Text → Result (Option GenerationsRule) Misspelt
 rule_if_given None = Ok None
 rule_if_given (Some text) = some_rule (rule_asked text)
+
+-- the words for a server tell a rule, or the file in which its board is kept
+abbrev pub has_board : List Row → Bool
+has_board rows = is_some (first_of (codes "rule") rows) || is_some (first_of (codes "keep") rows)
+
+-- a server with neither is asked for
+abbrev pub lacks_rule : Text × List Row → Bool
+lacks_rule subcommand = bytes_eq subcommand.0 (codes "serve") && not (has_board subcommand.1)
+
+abbrev pub serve_task : Option Text → Result (Option GenerationsRule) Misspelt → ℕ → ℕ → Result Told Misspelt
+serve_task keep (Ok rule) port sessions = Ok (Serve (record { rule = rule; port = port; sessions = sessions; keep = keep }))
+serve_task keep (Err fault) port sessions = Err fault
+
+-- a server under the rule that the option spells if it is given, at the port and of as many sessions as the
+-- options spell, of a board that is kept in the file that is named, if one is
+abbrev pub server_asked : List Row → Option (Result Told Misspelt)
+server_asked rows = option_and_then (λ port.
+    option_map (λ sessions. serve_task (first_of (codes "keep") rows) (rule_if_given (first_of (codes "rule") rows)) port sessions)
+    (number_of (codes "sessions") rows)) (number_of (codes "port") rows)
+
+-- such a server, of words that tell a rule or a file
+abbrev pub serve_asked : List Row → Option (Result Told Misspelt)
+serve_asked rows = if has_board rows then server_asked rows else None
 
 abbrev pub view_task : List Row → Result (Option GenerationsRule) Misspelt → Result Told Misspelt
 view_task rows (Ok rule) = Ok (View (viewing rows rule))
@@ -230,9 +252,14 @@ task_asked words = option_and_then task_of (subcommand_of genedit_app words)
 abbrev pub Asks : List Text → Result Told Misspelt → Type 0
 Asks words task = (fault_of genedit_app words ≡ []) × (task_asked words ≡ Some task)
 
--- why no task comes of words: they are no command line, they spell no rule, or memory is refused
+-- the words are a command line of `genedit`, and ask for a server with neither a rule nor a file
+abbrev pub LacksRule : List Text → Type 0
+LacksRule words = (fault_of genedit_app words ≡ []) × (option_map lacks_rule (subcommand_of genedit_app words) ≡ Some true)
+
+-- why no task comes of words: they are no command line, they spell no rule or lack one, or memory is refused
 abbrev pub EndsWords : List Text → Ending → Type 0
 EndsWords words (ending.Words error) = HasKind (fault_of genedit_app words) error
 EndsWords words ending.NoText = ⊥
 EndsWords words (ending.Rule rule) = Asks words (Err (record { text = rule.text.now; why = rule.why }))
+EndsWords words ending.NoRule = LacksRule words
 EndsWords words (ending.Run fault) = fault ≡ Memory

@@ -4,7 +4,7 @@ ghost use Rattle.std.specs.Prelude.{◌≡◌, IfOk, false, codes};
 ghost use Rattle.clap.specs.Simple.{new_app};
 ghost use Rattle.clap.specs.Words.{app_of, rule_of, shape_of};
 ghost use Rattle.clap.specs.declared.builder.command.Command.TheViews.{out-Command as fields_of};
-ghost use Rattle.genedit_words.specs.Words.{check_shape, every_option, file_argument, flag, gen_option, genedit_app, join_shape, option, optional, port_option, rle_shape, run_shape, serve_shape, sessions_option, text_app, top_app, view_shape};
+ghost use Rattle.genedit_words.specs.Words.{app_by, board_rule, check_shape, every_option, file_argument, flag, gen_option, join_shape, option, optional, port_option, rle_shape, run_shape, serve_shape, sessions_option, text_app, top_app, view_shape};
 
 use clap::{Arg, ArgAction, Command, value_parser};
 use std::alloc::{AllocError, Global};
@@ -93,13 +93,24 @@ seats are taken. The rule is survival/birth/states, or as Golly spells it, as B3
 It prints `listening PORT`. Once each seat was used and all have ended it prints a line for each of them,
 `session SEAT EDITS ..`, and `closed EDITS`, and ends. Seats that nobody needs any more are used up by
 connections that end at once, as by `nc -z 127.0.0.1 PORT`. Ctrl-C, SIGTERM, a logout and a terminal that
-is closed end it at once: without these lines, and with its board, so let somebody save it first.
+is closed end it at once: without these lines, and with its board where no file keeps it, so let somebody
+save it first.
+
+With --keep FILE the board is kept in FILE, made where there is none: what was answered to a client is on
+the disk. A server that is started again on FILE goes on with its board; --rule may be left out where FILE
+is there.
 
 Examples:
   genedit serve --rule B3/S23 --port 7020 --sessions 64      a class draws Life
+  genedit serve --keep my.board --port 7020 --sessions 64    the board that my.board keeps goes on
   genedit serve --rule /2/3 --port 0 --sessions 2            two programs; the port that is free is printed
 
 From another machine: ssh -L 7020:127.0.0.1:7020 HOST, and connect to port 7020 there.";
+
+/// How `serve` is used: with a rule, or with a file that names one.
+const SERVE_USAGE: &str = "\
+genedit serve --rule <TEXT> --port <P> --sessions <N> [--keep <FILE>]
+       genedit serve --keep <FILE> --port <P> --sessions <N>";
 
 /// What `genedit join --help` tells of clients: a line for each of their keywords, and what it does.
 pub const JOIN_HELP: &str = "\
@@ -152,13 +163,14 @@ Examples:
   echo 'cells 1 0 1 2 1 1 0 2 1 1 2 1 2 2 1' | genedit join --quiet --port 7020      draws a glider
   genedit join --port 7020 --follow                                        type commands, and see the others";
 
-/// The command line: a version, and the subcommands, one of which has to be given.
-pub fn command<'a>(alloc: Global) -> Result<Command<'a>, AllocError>
-    ensures { IfOk result (λ command. app_of command ≡ genedit_app) }
+/// The command line: a version, and the subcommands, one of which has to be given. `needs_rule` says whether
+/// the option `--rule` of a server has to be given.
+pub fn command<'a>(alloc: Global, needs_rule: bool) -> Result<Command<'a>, AllocError>
+    ensures { IfOk result (λ command. app_of command ≡ app_by needs_rule) }
 {
     let command = text_commands(alloc)?
         .subcommand(view_command(alloc)?)?
-        .subcommand(serve_command(alloc)?)?
+        .subcommand(serve_command(alloc, needs_rule)?)?
         .subcommand(join_command(alloc)?)?;
     Ok(command)
 }
@@ -299,25 +311,48 @@ fn generation_argument<'a>(alloc: Global) -> Arg<'a>
     generation.value_parser(value_parser!(u32).range(0..=536_870_912))
 }
 
-fn serve_command<'a>(alloc: Global) -> Result<Command<'a>, AllocError>
-    ensures shape { IfOk result (λ command. shape_of command ≡ serve_shape) }
-    ensures local { IfOk result (λ command. (fields_of command).has_globals ≡ false) }
+/// `serve` with its line, its help and how it is used.
+fn titled_serve<'a>(alloc: Global) -> Command<'a>
+    ensures app { app_of result ≡ new_app (codes "serve") }
+    ensures local { (fields_of result).has_globals ≡ false }
 {
-    let command = titled(
+    titled(
         alloc,
         "serve",
         "Serves a board on which several programs draw together",
         SERVE_HELP,
     )
-    .arg(required(
+    .override_usage(SERVE_USAGE)
+}
+
+fn serve_command<'a>(alloc: Global, needs_rule: bool) -> Result<Command<'a>, AllocError>
+    ensures shape { IfOk result (λ command. shape_of command ≡ serve_shape needs_rule) }
+    ensures local { IfOk result (λ command. (fields_of command).has_globals ≡ false) }
+{
+    let command = titled_serve(alloc)
+        .arg(board_rule(alloc, needs_rule))?
+        .arg(port_argument(alloc, "The port to listen at, 0 for any that is free"))?
+        .arg(sessions_argument(alloc))?
+        .arg(optional(
+            alloc,
+            "keep",
+            "FILE",
+            "The file in which the board is kept, made where there is none",
+        ))?;
+    Ok(command)
+}
+
+fn board_rule<'a>(alloc: Global, is_needed: bool) -> Arg<'a>
+    ensures rule { rule_of result ≡ board_rule is_needed }
+    ensures local { result.global ≡ false }
+{
+    let rule = optional(
         alloc,
         "rule",
         "TEXT",
-        "The rule of the board, as /2/3; or as Golly has it, as B3/S23",
-    ))?
-    .arg(port_argument(alloc, "The port to listen at, 0 for any that is free"))?
-    .arg(sessions_argument(alloc))?;
-    Ok(command)
+        "The rule of the board, as /2/3 or B3/S23; else the one that the file of --keep names",
+    );
+    rule.required(is_needed)
 }
 
 /// `join` with its line, its help and how it is used.

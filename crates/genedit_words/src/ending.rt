@@ -15,6 +15,10 @@ use std::alloc::{AllocError, AllocGlobal};
 /// The status of a fault of the words.
 const WORDS_STATUS: u8 = 2;
 
+/// What is said where a server has no rule, as `clap` says it of an option that has to be given.
+const NO_RULE: &str =
+    "genedit: the following required arguments were not provided: --rule <TEXT>; as --rule 23/3/2";
+
 /// Why the program ends before its work is done.
 #[derive(Drop)]
 pub enum Ending<'a> {
@@ -24,6 +28,8 @@ pub enum Ending<'a> {
     NoText,
     /// A word spells no rule.
     Rule(MisspeltRule<'a>),
+    /// A server is asked for without a rule, and without a file that names one.
+    NoRule,
     /// The work was left.
     Run(RunFault),
 }
@@ -43,18 +49,12 @@ impl Ending<'_> {
                 let _ = eprintln!(rt; "genedit: {rule}");
                 WORDS_STATUS
             }
+            Ending::NoRule => {
+                let _ = rt.eprintln(NO_RULE);
+                WORDS_STATUS
+            }
             Ending::Run(fault) => tell_fault(rt, fault),
         }
-    }
-}
-
-impl<'a> From<Error> for Ending<'a> {
-    ghost use Rattle.genedit_words.specs.declared.ending.Ending.TheVariants as ending;
-
-    ghost from_gives = { λ error given. given ≡ ending.Words error };
-
-    fn from(error: Error) -> Ending<'a> {
-        Ending::Words(error)
     }
 }
 

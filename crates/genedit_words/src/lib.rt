@@ -5,6 +5,7 @@
 mod advice;
 mod commands;
 mod ending;
+mod missing;
 mod misspelt;
 mod options;
 mod rule_words;

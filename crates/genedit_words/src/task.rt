@@ -12,12 +12,15 @@ pub struct RleTask<'a> {
 
 /// A server of a board.
 #[derive(Clone, Copy)]
-pub struct ServeTask {
-    pub rule: Rule,
+pub struct ServeTask<'a> {
+    /// The rule of the board; there wherever `keep` is none, since only a file can name it instead.
+    pub rule: Option<Rule>,
     /// 0 for any that is free.
     pub port: u16,
     /// 1 to 64.
     pub sessions: u16,
+    /// The file in which the board is kept; it is kept nowhere if none is given.
+    pub keep: Option<&'a str>,
 }
 
 /// A client of a board that is served.
@@ -62,7 +65,7 @@ pub enum Task<'a> {
     /// A picture is drawn.
     View(Viewing<'a>),
     /// A board is served.
-    Serve(ServeTask),
+    Serve(ServeTask<'a>),
     /// A board that is served is joined.
     Join(JoinTask),
 }

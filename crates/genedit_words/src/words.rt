@@ -1,13 +1,14 @@
 //! What the words ask for.
 
-ghost use Rattle.std.specs.Prelude.{◌≡◌, ◌≤◌, ℕ, List, IfErr, IfOk, Ok, Some, codes, map, option_and_then, option_map, string_bytes};
+ghost use Rattle.std.specs.Prelude.{◌≡◌, ◌≤◌, ℕ, List, IfErr, IfOk, Ok, Some, codes, false, map, option_and_then, option_map, string_bytes, true};
 ghost use Rattle.clap.specs.Words.{first_of, found_of, rows_of, subcommand_rows_of};
 ghost use Rattle.genedit_words.specs.Given.{HasClient, HasFlag, HasNumber, HasRule, HasServer, HasView, IsInRange, IsNamed, MayHaveNumber};
 ghost use Rattle.genedit_words.specs.Told.{or_misspelt, told, told_of};
-ghost use Rattle.genedit_words.specs.Words.{Asks, EndsWords, check_asked, file_asked, interval_asked, is_set, join_asked, named_file, number_of, rle_asked, rule_asked, rule_if_given, run_asked, serve_asked, task_of, view_asked};
+ghost use Rattle.genedit_words.specs.Words.{Asks, EndsWords, check_asked, file_asked, has_board, interval_asked, is_set, join_asked, lacks_rule, named_file, number_of, rle_asked, rule_asked, rule_if_given, run_asked, serve_asked, task_of, view_asked};
 
 use crate::commands::command;
 use crate::ending::Ending;
+use crate::missing::with_rule;
 use crate::misspelt::MisspeltRule;
 use crate::options::bound;
 use crate::task::{JoinTask, RleTask, ServeTask, Task, Viewing};
@@ -40,16 +41,41 @@ pub fn asked(alloc: Global, words: &[String]) -> Result<Task<'_>, Ending<'_>>
     ensures range { IfOk result IsInRange }
     ensures ends { IfErr result (EndsWords (map string_bytes words.now)) }
 {
-    let matches = command(alloc)?.try_get_matches_from(words)?;
+    let matches = match command(alloc, false)?.try_get_matches_from(words) {
+        Ok(matches) => matches,
+        Err(error) => return Err(Ending::Words(with_rule(alloc, words, error))),
+    };
+    if lacks_rule(&matches) {
+        return Err(Ending::NoRule);
+    }
     match task(&matches) {
         Ok(task) => Ok(task),
         Err(rule) => Err(Ending::Rule(rule)),
     }
 }
 
+/// Whether a server is asked for without a rule, and without a file that names one.
+fn lacks_rule(matches: &ArgMatches<'_>) -> bool
+    requires { IsNamed (subcommand_rows_of matches.now) }
+    ensures { option_map lacks_rule (subcommand_rows_of matches.now) ≡ Some result }
+{
+    match matches.subcommand_matches("serve") {
+        Some(words) => !has_board(words),
+        None => false,
+    }
+}
+
+/// Whether the words for a server tell a rule, or the file in which its board is kept.
+fn has_board(words: &ArgMatches<'_>) -> bool
+    ensures { result ≡ has_board (rows_of (found_of words.now)) }
+{
+    words.get_str("rule").is_some() || words.get_str("keep").is_some()
+}
+
 /// What the subcommand asks for.
 fn task<'a>(matches: &ArgMatches<'a>) -> Result<Task<'a>, MisspeltRule<'a>>
-    requires { IsNamed (subcommand_rows_of matches.now) }
+    requires named { IsNamed (subcommand_rows_of matches.now) }
+    requires board { option_map lacks_rule (subcommand_rows_of matches.now) ≡ Some false }
     ensures asked { option_and_then task_of (subcommand_rows_of matches.now) ≡ Some (told result) }
     ensures range { IfOk result IsInRange }
 {
@@ -113,17 +139,19 @@ fn rle<'a>(words: &ArgMatches<'a>) -> Result<Task<'a>, MisspeltRule<'a>>
 
 /// What `serve` asks for.
 fn serve<'a>(words: &ArgMatches<'a>) -> Result<Task<'a>, MisspeltRule<'a>>
-    requires { HasServer (rows_of (found_of words.now)) }
+    requires server { HasServer (rows_of (found_of words.now)) }
+    requires board { has_board (rows_of (found_of words.now)) ≡ true }
     ensures asked { serve_asked (rows_of (found_of words.now)) ≡ Some (told result) }
     ensures range { IfOk result IsInRange }
 {
-    let rule = rule(words)?;
+    let rule = rule_if_given(words)?;
     let port = number(words, "port");
     let sessions = number(words, "sessions");
     Ok(Task::Serve(ServeTask {
         rule,
         port,
         sessions,
+        keep: words.get_str("keep"),
     }))
 }
 
