@@ -38,6 +38,10 @@ abbrev pub AllFresh : GenerationsRule → ℕ → ℕ → List Seating → Type 
 AllFresh rule room n [] = Unit {0}
 AllFresh rule room n (s ∷ ss) = (s ≡ fresh n rule room) × AllFresh rule room (n + 1) ss
 
+-- the seat, of which nothing counts as handed out any more
+abbrev pub again : Seating → Seating
+again s = record s { handed = 0 }
+
 -- what a call that reads, submits or learns leaves alone
 pub record IsSame (a b : Seating) : Type 0 where
   pub place : b.place ≡ a.place

@@ -20,7 +20,7 @@ ghost use Rattle.inbox.specs.Counts.{counted};
 ghost use Rattle.inbox.specs.Hands.{entry};
 ghost use Rattle.relay_board.specs.Refusals.{BringRefuses, Lasts, looks_at, Passes, Refuses};
 ghost use Rattle.relay_board.specs.Rising.{GoesOn, has_risen, IsRising};
-ghost use Rattle.relay_board.specs.Seating.{IsSame, HasRead};
+ghost use Rattle.relay_board.specs.Seating.{again, IsSame, HasRead};
 
 use crate::door::Door;
 use crate::fault::{Gone, SubmitFault};
@@ -140,6 +140,13 @@ impl<J: Naming> Seat<J> {
         ensures rises { IsRising self.now.floor (self.now.place + 1) self.now.mine }
     {
         self.floor
+    }
+
+    /// From now on nothing counts as handed out: who is seated here next is told all.
+    pub fn again(&mut self)
+        ensures { self.new ≡ again self.old }
+    {
+        self.reader.handed = 0;
     }
 
     /// Submits an edit. It is handed back where it is refused: in this order an edit whose stamp's replica is
