@@ -48,7 +48,7 @@ impl Watch {
         Some((watch, waker))
     }
 
-    /// Watches the socket, of one connection each time. What stands there already is told too, also where it was
+    /// Watches the socket, of one connection until it is turned from. What stands there already is told too, also where it was
     /// told before: the system tells readiness once, when it comes, and by this again.
     pub fn turn_to(&mut self, socket: &TcpStream) -> io::Result<()> {
         let descriptor = socket.as_raw_fd();
@@ -60,6 +60,16 @@ impl Watch {
         registry.register(&mut source, SOCKET, Interest::READABLE)?;
         self.is_on = true;
         Ok(())
+    }
+
+    /// Watches the socket no further: another connection's can be turned to then.
+    pub fn turn_from(&mut self, socket: &TcpStream) {
+        if self.is_on {
+            let descriptor = socket.as_raw_fd();
+            // Where that fails, the system forgets the socket when its connection is closed.
+            let _ = self.poll.registry().deregister(&mut SourceFd(&descriptor));
+            self.is_on = false;
+        }
     }
 
     /// Waits for so long at most. A call that no wait has had yet ends the next at once.
