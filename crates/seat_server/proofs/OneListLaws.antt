@@ -21,7 +21,7 @@ use Rattle.board.specs.Origins.{list_of}
 use Rattle.board.proofs.Fronts.{prefix_get, prefix_length, prefix_self, prefix_trans}
 use Rattle.poll_news.specs.declared.news.News.{News}
 use Rattle.poll_news.specs.declared.news.News.TheVariants as news
-use Rattle.relay_board.specs.Seating.{BeginsWithAll, Seating}
+use Rattle.relay_board.specs.Seating.{BeginsWithAll, Seating, again}
 use Rattle.replica_sessions.specs.Answer.{AnswersAs, IsAnswered, SessionState}
 use Rattle.seat_hub.specs.SeatCalls.{IsSeatCall}
 use Rattle.session_hub.specs.declared.fault.HubFault.{HubFault}
@@ -30,7 +30,7 @@ use Rattle.session_hub.specs.HubFault.{hub_fault_number}
 use Rattle.session_hub.specs.HubCall.{AllowsAtMost, Hands, HubCall, Polls, Pushes, Shows}
 use Rattle.session_hub.specs.Request.{Await, Bye, Export, Faulty, Hello, Many, Pieces, Poll, Push, Request, Whole, request_of}
 use Rattle.session_hub.specs.Replies.{IsKeptReply, IsPiecesReply, IsPollReply, IsPushReply, IsReply, IsReplyOf, IsShownReply, IsWanting, IsWholeReply, KeepsAll, KeepsNews, Kept, RepliesOrWants, edits_frames, edits_left, edits_reply, most_edits, nothing_kept, pushed_of, refusal, with_plane}
-use Rattle.seat_server.specs.Sessions.{AreAttended, AreVisits, VisitValue, number_of, one_each, rule_of, session_at}
+use Rattle.seat_server.specs.Sessions.{AreAttended, AreVisits, VisitValue, number_of, rule_of, session_at}
 use Rattle.seat_server.specs.OneList.{AreTextsOf, AreToldBehind, AreToldSeats, AreToldVisits, BeginsWithWant, Counted, Edits, HasAccepted, HaveSeenHanded, IsAccepted, IsForNews, IsTextOf, IsToldBehind, IsToldOf, Nothing, Plane, Telling, Tells, TellsNothing, TellsOfOneList, Texts}
 
 -- ---- beginnings
@@ -614,7 +614,7 @@ visited_all r seat (v ∷ visits) a b rule number handed (mid, first, rest) =
     let service = first.visit.service in
     let one : Tellings r seat [] service.exchanges (session_at a nothing_kept) (session_at mid first.visit.kept) =
     tellings r seat service.exchanges [] _ _ rule number (begun r a handed) service.exchanged.answered in
-    let others : Visited r seat visits mid b = visited_all r seat visits mid b one.rule one.number one.handed rest in
+    let others : Visited r seat visits (again mid) b = visited_all r seat visits (again mid) b one.rule one.number (omega arith) rest in
     record {
       told = λ list begins. (
         record {
@@ -651,8 +651,8 @@ pub counts_all : (list : List Entry) → length list - 1024 + length (last_of (e
 counts_all list = omega (arith, length-drop (length (edits_of list) - 1024) (edits_of list), length-map list (λ (e : Entry). e.edit))
 
 pub tells_of_one_list : TellsOfOneList
-tells_of_one_list board seats f handed served = record {
-  long = ap (λ n. n + length f.account.published) served.whole.account.before
-      ∙ (ap (λ (es : List PlaneEdit). length (list_of f.account.front) - 1024 + length es) served.whole.account.published ∙ counts_all (list_of f.account.front));
-  told = seats_told (list_of f.account.front) seats (one_each f.visits) served.after handed served.attended served.whole.seen;
+tells_of_one_list board seats f handed s = record {
+  long = ap (λ n. n + length f.account.published) s.whole.account.before
+      ∙ (ap (λ (es : List PlaneEdit). length (list_of f.account.front) - 1024 + length es) s.whole.account.published ∙ counts_all (list_of f.account.front));
+  told = seats_told (list_of f.account.front) seats s.served.visits s.after handed s.served.attended s.whole.seen;
 }

@@ -1,5 +1,5 @@
 -- A session over a hub that has a seat is a session over the seat, and leaves it at its place.
-use Rattle.std.proofs.Common.{◌≡◌, ℕ, ◌+◌, ◌^◌, List, [], ◌∷◌, Option, Some, None, ap, subst, ◌∙◌, arith}
+use Rattle.std.proofs.Common.{◌≡◌, ℕ, ◌+◌, ◌^◌, ◌++◌, List, [], ◌∷◌, Option, Some, None, ap, refl, sym, subst, ◌∙◌, arith}
 use Rattle.std.specs.Prelude.{Result}
 use Rattle.devices.specs.Source.{KnownSource}
 use Rattle.devices.specs.Sink.{KnownSink}
@@ -9,13 +9,13 @@ use Rattle.frame_service.specs.declared.fault.ServeFault.{ServeFault}
 use Rattle.frame_service.specs.declared.reply.Reply.{Reply}
 use Rattle.frame_service.specs.declared.served.Served.{Served}
 use Rattle.frame_service.specs.Service.{IsService}
-use Rattle.relay_board.specs.Seating.{Seating}
+use Rattle.relay_board.specs.Seating.{Seating, again}
 use Rattle.replica_sessions.specs.Answer.{AnswersAs, IsAnswered, SessionState}
 use Rattle.seat_hub.specs.SeatCalls.{IsSeatCall}
 use Rattle.session_hub.specs.HubCall.{AllowsAtMost, HubCall}
 use Rattle.session_hub.specs.Replies.{Kept, nothing_kept}
 use Rattle.session_hub.specs.Request.{Request, request_of}
-use Rattle.seat_server.specs.Sessions.{AreVisits, IsVisit, VisitValue, number_of, rule_of, session_at}
+use Rattle.seat_server.specs.Sessions.{AreVisits, IsFirstVisit, IsSeated, IsVisit, SessionEnd, VisitValue, last_end_behind, number_of, rule_of, session_at}
 
 module _ {H : Type 0} (seat_of : H → Seating) where
   abbrev allows_over : H → HubCall → H → Type 0
@@ -93,4 +93,27 @@ place_stays a b v one = numbers_stay one.service.exchanges _ _ one.service.excha
 
 pub places_stay : (visits : List VisitValue) (a b : Seating) → AreVisits a visits b → b.place ≡ a.place
 places_stay [] a b same = ap (λ (s : Seating). s.place) same
-places_stay (v ∷ visits) a b (mid, first, rest) = places_stay visits mid b rest ∙ place_stays a mid v first.visit
+places_stay (v ∷ visits) a b (mid, first, rest) = places_stay visits (again mid) b rest ∙ place_stays a mid v first.visit
+
+-- ---- one session more
+
+-- behind the others
+more_visits : (visits : List VisitValue) (a b : Seating) (v : VisitValue) (mid : Seating) → AreVisits a visits b → IsFirstVisit b v mid → AreVisits a (visits ++ v ∷ []) (again mid)
+more_visits [] a b v mid same next = (mid, subst (λ (s : Seating). IsFirstVisit s v mid) same next, refl)
+more_visits (w ∷ visits) a b v mid (one, first, rest) next = (one, first, more_visits visits (again one) b v mid rest next)
+
+last_of_more : (end : Option SessionEnd) (visits : List VisitValue) (v : VisitValue) → last_end_behind end (visits ++ v ∷ []) ≡ Some v.end
+last_of_more end [] v = refl
+last_of_more end (w ∷ visits) v = last_of_more (Some w.end) visits v
+
+-- no session yet
+pub unseated : (a : Seating) → IsSeated a None a
+unseated a = record { visits = []; are = refl; last = refl }
+
+pub seated_more : (a b : Seating) (end : Option SessionEnd) (v : VisitValue) (mid c : Seating) (last : SessionEnd) → IsSeated a end b → IsFirstVisit b v mid → v.end ≡ last → c ≡ again mid
+    → IsSeated a (Some last) c
+seated_more a b end v mid c last so next ends is = record {
+  visits = so.visits ++ v ∷ [];
+  are = subst (λ (s : Seating). AreVisits a (so.visits ++ v ∷ []) s) (sym is) (more_visits so.visits a b v mid so.are next);
+  last = sym (last_of_more None so.visits v ∙ ap (λ (e : SessionEnd). Some e) ends);
+}

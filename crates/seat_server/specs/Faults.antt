@@ -8,7 +8,7 @@ use Rattle.relay_board.specs.Faults.{finish_fault_text}
 use Rattle.relay_board.specs.Closing.{IsLeft}
 use Rattle.relay_board.specs.Seating.{Seating}
 use Rattle.relay_board.specs.declared.fault.FinishFault.{FinishFault}
-use Rattle.seat_server.specs.Sessions.{AreAttended, VisitValue, one_each}
+use Rattle.seat_server.specs.Sessions.{AreAttended, VisitValue}
 use Rattle.seat_server.specs.Turning.{IsTurned}
 use Rattle.seat_server.specs.declared.fault.ServerFault.{ServerFault}
 use Rattle.seat_server.specs.declared.fault.ServerFault.TheVariants.{Read, Turn, Finish, Memory}
@@ -48,8 +48,8 @@ pub record IsServedInVain (most : ℕ) (relay : Relaying) (before : List Seating
   pub turned : Relaying
   pub turns : IsTurned most relay None turned
   pub after : List Seating
-  pub visits : List VisitValue
-  pub attended : AreAttended before (one_each visits) after
+  pub visits : List (List VisitValue)
+  pub attended : AreAttended before visits after
   pub unfinished : IsUnfinished (record turned { closed = true }) after fault
 
 -- Why the server of a relay and these seats gives no account. The fault of a turn is told only where too many failed,

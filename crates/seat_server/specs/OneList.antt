@@ -21,7 +21,7 @@ use Rattle.relay_board.specs.Seating.{Seating}
 use Rattle.session_hub.specs.Request.{Request, Await, Export, Hello, Many, Pieces, Poll, Push, Whole, request_of}
 use Rattle.session_hub.specs.Replies.{IsInPieces, done, edits_frames, export_body, hello_body, most_edits, pieces_reply, pushed_of, refusal, text_body, whole_frames}
 use Rattle.seat_server.specs.Serving.{FinishedValue, IsServed}
-use Rattle.seat_server.specs.Sessions.{VisitValue, number_of, one_each, rule_of}
+use Rattle.seat_server.specs.Sessions.{VisitValue, number_of, rule_of}
 
 -- what a reply tells of a board
 pub data Telling : Type 0 where
@@ -153,9 +153,9 @@ HaveSeenHanded (s ∷ seats) = (s.handed ≤ length s.seen) × HaveSeenHanded se
 
 -- Whatever the clients of a served board are told, on any connection, is of the beginning of one list; how long that is in
 -- the end, the account says.
-pub record IsToldOfOneList (seats : List Seating) (f : FinishedValue) : Type 0 where
+pub record IsToldOfOneList (seats : List Seating) (visits : List (List VisitValue)) (f : FinishedValue) : Type 0 where
   pub long : f.account.before + length f.account.published ≡ length (list_of f.account.front)
-  pub told : AreToldSeats (list_of f.account.front) seats (one_each f.visits)
+  pub told : AreToldSeats (list_of f.account.front) seats visits
 
 abbrev pub TellsOfOneList : Type 0
-TellsOfOneList = (board : Origin) (seats : List Seating) (f : FinishedValue) → HaveSeenHanded seats → IsServed board seats f → IsToldOfOneList seats f
+TellsOfOneList = (board : Origin) (seats : List Seating) (f : FinishedValue) → HaveSeenHanded seats → (s : IsServed board seats f) → IsToldOfOneList seats s.served.visits f

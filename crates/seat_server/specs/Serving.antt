@@ -1,5 +1,5 @@
 -- What a server of seats does.
-use Rattle.std.specs.Prelude.{ℕ, List, [], None}
+use Rattle.std.specs.Prelude.{ℕ, List, [], Option, None}
 use mathlib.Core.List.{IsPrefix}
 use Rattle.board.specs.Origins.{list_of}
 use Rattle.board.specs.Showing.{Origin}
@@ -8,20 +8,20 @@ use Rattle.relay_board.specs.Relaying.{Relaying}
 use Rattle.relay_board.specs.Closing.{IsWhole}
 use Rattle.relay_board.specs.Seating.{Seating}
 use Rattle.relay_board.specs.declared.finish.Account.{Account}
-use Rattle.seat_server.specs.Sessions.{AreAttended, VisitValue, one_each}
+use Rattle.seat_server.specs.Sessions.{AreServed, SessionEnd}
 use Rattle.seat_server.specs.Turning.{IsTurned}
 
--- what came of the sessions, in the order of their seats, and of the board
+-- how the last session of each seat ended, in the order of the seats, and what came of the board
 pub record FinishedValue : Type 0 where
-  pub visits : List VisitValue
+  pub ends : List (Option SessionEnd)
   pub account : Account
 
--- Each of these seats of a board was served over a stream of its own, which nobody had used before, and the account is that
--- of the seats as their sessions left them: the published list has of each seat exactly what was pushed at it and accepted,
--- in order, each once.
+-- Each of these seats of a board was served over streams that nobody had used before, one after another, and the account is
+-- that of the seats as their sessions left them: the published list has of each seat exactly what was pushed at it and
+-- accepted, in order, each once.
 pub record IsServed (board : Origin) (before : List Seating) (f : FinishedValue) : Type 0 where
   pub after : List Seating
-  pub attended : AreAttended before (one_each f.visits) after
+  pub served : AreServed before f.ends after
   pub whole : IsWhole board [] (list_of f.account.front) after f.account
 
 -- The relay took its turns up to an idle one, and the list goes on from what was published by then.

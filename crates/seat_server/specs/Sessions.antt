@@ -1,12 +1,12 @@
 -- What a session does to its seat.
-use Rattle.std.specs.Prelude.{◌≡◌, ⊤, ℕ, ◌+◌, ◌^◌, List, [], ◌∷◌, map, Result}
+use Rattle.std.specs.Prelude.{◌≡◌, ⊤, ℕ, ◌+◌, ◌^◌, List, [], ◌∷◌, map, Option, Some, None, Result}
 use Rattle.devices.specs.Source.{KnownSource}
 use Rattle.devices.specs.Sink.{KnownSink}
 use Rattle.generations_rule.specs.Rule.{GenerationsRule}
 use Rattle.frame_service.specs.declared.fault.ServeFault.{ServeFault}
 use Rattle.frame_service.specs.declared.served.Served.{Served}
 use Rattle.frame_service.specs.Service.{IsService}
-use Rattle.relay_board.specs.Seating.{Seating}
+use Rattle.relay_board.specs.Seating.{Seating, again}
 use Rattle.replica_sessions.specs.Answer.{AnswersAs, SessionState}
 use Rattle.seat_hub.specs.SeatCalls.{IsSeatCall}
 use Rattle.session_hub.specs.Replies.{Kept, nothing_kept}
@@ -53,10 +53,11 @@ pub record IsFirstVisit (before : Seating) (v : VisitValue) (after : Seating) : 
   pub source : IsUnusedSource v.source
   pub sink : IsUnusedSink v.from
 
--- a seat was served over these streams, one after another
+-- A seat was served over these streams, one after another: each session begins over the seat as the one before left it, of
+-- which nothing counts as handed out any more.
 abbrev pub AreVisits : Seating → List VisitValue → Seating → Type 0
 AreVisits before [] after = after ≡ before
-AreVisits before (v ∷ visits) after = (mid : Seating) × IsFirstVisit before v mid × AreVisits mid visits after
+AreVisits before (v ∷ visits) after = (mid : Seating) × IsFirstVisit before v mid × AreVisits (again mid) visits after
 
 -- each of these seats was served over the streams at its place
 abbrev pub AreAttended : List Seating → List (List VisitValue) → List Seating → Type 0
@@ -64,6 +65,28 @@ AreAttended [] [] [] = ⊤
 AreAttended (a ∷ before) (visits ∷ all) (b ∷ after) = AreVisits a visits b × AreAttended before all after
 AreAttended _ _ _ = ⊥
 
--- each over one stream
-abbrev pub one_each : List VisitValue → List (List VisitValue)
-one_each visits = map (λ v. v ∷ []) visits
+-- ---- how sessions ended
+
+abbrev pub SessionEnd : Type 0
+SessionEnd = Result Served ServeFault
+
+-- how the last of these sessions ended; where there is none, this is known of the one before
+abbrev pub last_end_behind : Option SessionEnd → List VisitValue → Option SessionEnd
+last_end_behind end [] = end
+last_end_behind end (v ∷ visits) = last_end_behind (Some v.end) visits
+
+-- how the last of these sessions ended, if there is any
+abbrev pub last_end : List VisitValue → Option SessionEnd
+last_end = last_end_behind None
+
+-- a seat was served over some streams, one after another, and so the last session ended
+pub record IsSeated (before : Seating) (end : Option SessionEnd) (after : Seating) : Type 0 where
+  pub visits : List VisitValue
+  pub are : AreVisits before visits after
+  pub last : end ≡ last_end visits
+
+-- each of these seats was served over some streams, one after another, and so the last sessions ended
+pub record AreServed (before : List Seating) (ends : List (Option SessionEnd)) (after : List Seating) : Type 0 where
+  pub visits : List (List VisitValue)
+  pub attended : AreAttended before visits after
+  pub last : ends ≡ map last_end visits

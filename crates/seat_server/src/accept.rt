@@ -14,24 +14,25 @@ pub struct Ends<S, K, E> {
     pub ears: E,
 }
 
-/// Gives the ends of one stream after another.
+/// A chair: gives a seat the ends of one stream after another.
 pub trait Accept<S: Source, K: Sink, E: Listen> {
-    /// Waits for the next stream, which nobody has used. None where that failed.
+    /// Waits for the next stream, which nobody has used. None where no further one comes. That it is asked again
+    /// says that the session over the one before has ended.
     fn accept(&mut self) -> Option<Ends<S, K, E>>
         ensures { IfSome result (λ ends. IsUnusedSource (S.known ends.source) × IsUnusedSink (K.known ends.sink)) };
 }
 
 /// What ends waits on other threads.
 pub trait Wake {
-    /// Lets an `accept` return.
+    /// Lets each `accept` return, and gives no further stream.
     fn wake(&self);
 
     /// Lets each session look that waits for news.
     fn announce(&self);
 }
 
-/// Where the streams of sessions come from, and what ends a wait for the next one, and for news.
+/// A chair for each seat, and what ends the waits at them, and for news.
 pub struct Streams<'a, A, W> {
-    pub acceptor: A,
+    pub chairs: Vec<A>,
     pub wake: &'a W,
 }

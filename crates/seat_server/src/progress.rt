@@ -2,33 +2,33 @@
 
 use crate::accept::Wake;
 use relay_board::Bell;
-use std::sync::atomic::{AtomicBool, Ordering};
+use std::sync::atomic::{AtomicBool, AtomicUsize, Ordering};
 
-/// How far a server is, for the thread that takes turns and the one that accepts. No clause speaks of it:
-/// another thread may change it at any moment.
+/// How far a server is, for the thread that takes turns, those of the seats, and whoever gives streams to these.
+/// No clause speaks of it: another thread may change it at any moment.
 #[derive(Drop)]
 pub struct Progress {
     bell: Bell,
-    /// A stream or a thread could not be had.
+    /// How many seats are served, or wait for a stream.
+    attended: AtomicUsize,
+    /// A stream could not be had.
     failed: AtomicBool,
-    /// All sessions that began have ended, and no further one begins.
-    over: AtomicBool,
     /// The relay takes no more turns.
     given_up: AtomicBool,
 }
 
 impl Progress {
-    /// That of a server which begins, with what wakes its relay.
-    pub fn new(bell: Bell) -> Progress {
+    /// That of a server of so many seats which begins, with what wakes its relay.
+    pub fn new(bell: Bell, seats: usize) -> Progress {
         Progress {
             bell,
+            attended: AtomicUsize::new(seats),
             failed: AtomicBool::new(false),
-            over: AtomicBool::new(false),
             given_up: AtomicBool::new(false),
         }
     }
 
-    /// A stream or a thread could not be had. Wakes the relay.
+    /// A stream could not be had. Wakes the relay.
     pub fn fail(&self) {
         self.failed.store(true, Ordering::SeqCst);
         self.bell.ring();
@@ -38,14 +38,17 @@ impl Progress {
         self.failed.load(Ordering::SeqCst)
     }
 
-    /// All sessions have ended. Wakes the relay.
-    pub fn end(&self) {
-        self.over.store(true, Ordering::SeqCst);
-        self.bell.ring();
+    /// One seat is served no further. Behind the last one the relay is woken.
+    pub(crate) fn leave(&self) {
+        let before = self.attended.fetch_sub(1, Ordering::SeqCst);
+        if before <= 1 {
+            self.bell.ring();
+        }
     }
 
+    /// Whether no seat is served any further.
     pub fn is_over(&self) -> bool {
-        self.over.load(Ordering::SeqCst)
+        self.attended.load(Ordering::SeqCst) == 0
     }
 
     /// The relay takes no more turns: no further session begins. Wakes who waits for a stream, or for news.

@@ -6,7 +6,7 @@ ghost use Rattle.std.specs.Arc.{arc_value};
 use devices::{ReadSource, WriteSink};
 use generations_rule::Rule;
 use relay_board::{BoardSize, Naming, Opened, TurnFault, start_within};
-use seat_server::{Accept, Ends, ServerFault, Streams, Wake, serve_seats};
+use seat_server::{Accept, Ends, Progress, ServerFault, Streams, Wake, attending, serve_seats};
 use session_service::Unheard;
 use stamped_tree::Limits;
 use std::alloc::Global;
@@ -34,20 +34,20 @@ struct Marks {
     woke: AtomicBool,
 }
 
-/// Gives one stream, and no other until it is woken.
+/// A chair that gives one stream, or none, and no other until it is woken.
 #[derive(Drop)]
 struct OneStream<R: Drop> {
     rt: R,
     alloc: Global,
-    is_given: bool,
+    is_left: bool,
     marks: Arc<Marks, Global>,
 }
 
 impl<R: Clock + Drop> Accept<ReadSource<&'static [u8]>, WriteSink<Vec<u8>>, Unheard>
     for OneStream<R> {
     fn accept(&mut self) -> Option<Ends<ReadSource<&'static [u8]>, WriteSink<Vec<u8>>, Unheard>> {
-        if !self.is_given {
-            self.is_given = true;
+        if self.is_left {
+            self.is_left = false;
             return Some(Ends {
                 source: ReadSource::new(PUSH),
                 sink: WriteSink::new(Vec::new(self.alloc)),
@@ -88,17 +88,22 @@ fn ended<
     requires inbox { (arc_value opened.drain.queue).table.shared.table_id ≡ J.inbox }
 {
     let (relay, seats) = opened.named::<J>()?;
-    let acceptor = OneStream {
-        rt,
-        alloc,
-        is_given: false,
-        marks: Arc::try_clone(marks)?,
-    };
+    let mut chairs = Vec::new(alloc);
+    for place in 0..seats.len() {
+        chairs.push(OneStream {
+            rt,
+            alloc,
+            is_left: place == 0,
+            marks: Arc::try_clone(marks)?,
+        })?;
+    }
+    let progress = Arc::new(alloc, Progress::new(relay.bell()?, seats.len()))?;
     let streams = Streams {
-        acceptor,
+        chairs,
         wake: &**marks,
     };
-    match serve_seats(rt, alloc, relay, seats, streams) {
+    let attendance = attending(rt, alloc, progress, seats, streams)?;
+    match serve_seats(&rt, alloc, relay, attendance, &**marks) {
         Ok(_) => Ok(None),
         Err(fault) => Ok(Some(fault)),
     }

@@ -1,5 +1,4 @@
-use Rattle.std.proofs.Common.{◌∙◌, map, subst, sym}
-use Rattle.seat_server.specs.Sessions.{AreAttended, one_each}
+use Rattle.std.proofs.Common.{◌∙◌, map, sym}
 use Rattle.seat_server.proofs.EndingLaws.{goes_on_from, stays}
 use Rattle.seat_server.proofs.ListLaws.{as_many, in_order, served}
 use Rattle.seat_server.proofs.TurningLaws.{closes_same}
@@ -7,19 +6,14 @@ use Rattle.seat_server.proofs.server.serve_seats.Goals as goal
 
 pub closed-requires-clause-all : goal.closed-requires-clause-all
 closed-requires-clause-all g c =
-    let after = map (λ a. a.0) c.in_ok-attended.attended.items in
-    let visits = one_each (map (λ a. a.1) c.in_ok-attended.attended.items) in
-    let seats = c.in_ok-accepting.ensures.seats in
-    let attended : AreAttended c.args.seats.items visits after = subst (λ l. AreAttended l visits after) seats c.in_ok-attended.ensures.0 in
-    (closes_same c.take_turns.new.relay c.close.new.self c.close.ensures.closed).0 ∙ (c.take_turns.ensures.same.0 ∙ (c.requires.all ∙ sym (as_many c.args.seats.items visits after attended)))
+    let are = c.in_ok-attended.ensures.served in
+    (closes_same c.take_turns.new.relay c.close.new.self c.close.ensures.closed).0
+    ∙ (c.take_turns.ensures.same.0 ∙ (c.requires.all ∙ sym (as_many c.args.attendance are.visits (map (λ a. a.0) c.in_ok-attended.attended.items) are.attended)))
 
 pub closed-requires-clause-order : goal.closed-requires-clause-order
 closed-requires-clause-order g c =
-    let after = map (λ a. a.0) c.in_ok-attended.attended.items in
-    let visits = one_each (map (λ a. a.1) c.in_ok-attended.attended.items) in
-    let seats = c.in_ok-accepting.ensures.seats in
-    let attended : AreAttended c.args.seats.items visits after = subst (λ l. AreAttended l visits after) seats c.in_ok-attended.ensures.0 in
-    in_order 0 c.args.seats.items visits after attended c.requires.order
+    let are = c.in_ok-attended.ensures.served in
+    in_order 0 c.args.attendance are.visits (map (λ a. a.0) c.in_ok-attended.attended.items) are.attended c.requires.order
 
 pub returns-clause-stays : goal.returns-clause-stays
 returns-clause-stays g c =
@@ -33,9 +27,6 @@ returns-clause-goes_on g c =
 
 pub returns-clause-served : goal.returns-clause-served
 returns-clause-served g c =
-    let after = map (λ a. a.0) c.in_ok-attended.attended.items in
-    let visits = map (λ a. a.1) c.in_ok-attended.attended.items in
-    let attended : AreAttended c.args.seats.items (one_each visits) after = subst (λ l. AreAttended l (one_each visits) after) c.in_ok-accepting.ensures.seats c.in_ok-attended.ensures.0 in
     let board = (closes_same c.take_turns.new.relay c.close.new.self c.close.ensures.closed).1 ∙ c.take_turns.ensures.same.1 in
-    served c.closed.result c.args.relay.origin c.close.new.self.origin c.args.seats.items visits after c.close.new.self.list board attended
-    c.closed.ensures.visits c.closed.ensures.whole
+    served c.closed.result c.args.relay.origin c.close.new.self.origin c.args.attendance (map (λ a. a.1) c.in_ok-attended.attended.items) (map (λ a. a.0) c.in_ok-attended.attended.items)
+    c.close.new.self.list board c.in_ok-attended.ensures.served c.closed.ensures.ends c.closed.ensures.whole

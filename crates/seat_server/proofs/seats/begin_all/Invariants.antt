@@ -1,5 +1,5 @@
 use Rattle.std.proofs.Common.{◌≡◌, ◌++◌, map, length}
-use Rattle.seat_server.proofs.sessions.begin_all.Given as goal
+use Rattle.seat_server.proofs.seats.begin_all.Given as goal
 
 -- the seats of the threads, and those that are left, are all seats
 abbrev pub invariant-loop-seat : goal.invariant-loop-seat

@@ -5,7 +5,7 @@ use Rattle.seat_hub.specs.declared.hub.SeatHub.{SeatHub}
 use Rattle.seat_server.specs.Sessions.{session_at}
 use Rattle.session_hub.specs.Replies.{nothing_kept}
 use Rattle.seat_server.proofs.SeatLaws.{visited}
-use Rattle.seat_server.proofs.sessions.serve_one.Goals as goal
+use Rattle.seat_server.proofs.sitting.serve_one.Goals as goal
 
 pub returns : goal.returns
 returns g c =
