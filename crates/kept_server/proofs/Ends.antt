@@ -1,5 +1,5 @@
 -- How a server of a kept board ends, from how its parts went.
-use Rattle.std.proofs.Common.{◌≡◌, ◌++◌, ◌∷◌, [], ℕ, suc, ◌+◌, List, length, Result, Ok, Err, refl, sym, subst, ◌∙◌, add-zero, zero-add, arith}
+use Rattle.std.proofs.Common.{◌≡◌, ◌++◌, ◌∷◌, [], ℕ, suc, ◌+◌, List, length, Option, Result, Ok, Err, refl, sym, subst, ◌∙◌, add-zero, zero-add, arith}
 use Rattle.std.specs.Prelude.{IfOk}
 use Rattle.board.specs.Origins.{list_of}
 use Rattle.board.specs.Showing.{Origin}
@@ -15,11 +15,11 @@ use Rattle.seat_server.specs.Faults.{IsAttendFault}
 use Rattle.seat_server.specs.declared.fault.ServerFault.{ServerFault}
 use Rattle.seat_server.specs.declared.fault.ServerFault.TheVariants as server
 use Rattle.seat_server.specs.Serving.{FinishedValue}
-use Rattle.seat_server.specs.Sessions.{AreAttended, VisitValue, one_each}
+use Rattle.seat_server.specs.Sessions.{AreAttended, AreServed, SessionEnd, VisitValue}
 use Rattle.kept_server.specs.declared.fault.KeptFault.{KeptFault}
 use Rattle.kept_server.specs.declared.fault.KeptFault.TheVariants.{Read, Keep, Finish, Memory}
 use Rattle.kept_server.specs.Faults.{kept_fault_of, kept_fault_of_end}
-use Rattle.kept_server.specs.Serving.{IsBegunReason, IsCloseReason, IsKeptReason, IsServedBeside, IsTurnReason}
+use Rattle.kept_server.specs.Serving.{IsCloseReason, IsKeptReason, IsServedBeside, IsTurnReason}
 
 -- two facts of a result are one
 pub both_ok : {A E : Type 0} (r : Result A E) (P Q : A → Type 0) → IfOk r P → IfOk r Q → IfOk r (λ a. P a × Q a)
@@ -28,19 +28,13 @@ both_ok (Err e) P Q p q = tt
 
 -- ---- reasons
 
-pub begun_reason : (before : List Seating) (file : Seating) (why : KeptFault) (b : Keeping) → IsBegunReason why → IsKeptReason before file why b
-begun_reason before file Read b why = tt
-begun_reason before file (Keep fault) b why = absurd why
-begun_reason before file (Finish fault) b why = absurd why
-begun_reason before file Memory b why = tt
-
 pub turn_reason : (before : List Seating) (file : Seating) (why : KeptFault) (b : Keeping) → IsTurnReason why b → IsKeptReason before file why b
 turn_reason before file Read b why = tt
 turn_reason before file (Keep fault) b why = why
 turn_reason before file (Finish fault) b why = absurd why
 turn_reason before file Memory b why = tt
 
-pub close_reason : (before after : List Seating) (file : Seating) (visits : List VisitValue) (why : KeptFault) (b : Keeping) → AreAttended before (one_each visits) after → IsCloseReason (after ++ file ∷ []) why b
+pub close_reason : (before after : List Seating) (file : Seating) (visits : List (List VisitValue)) (why : KeptFault) (b : Keeping) → AreAttended before visits after → IsCloseReason (after ++ file ∷ []) why b
     → IsKeptReason before file why b
 close_reason before after file visits Read b met why = absurd why
 close_reason before after file visits (Keep fault) b met why = why
@@ -50,11 +44,11 @@ close_reason before after file visits Memory b met why = tt
 -- ---- a good end
 
 -- the account is that of the seats that were served, and of the file's
-pub served_beside : (o p : Origin) (before after : List Seating) (file : Seating) (visits : List VisitValue) (list : List Entry) (f : FinishedValue)
-    → p ≡ o → AreAttended before (one_each visits) after → f.visits ≡ visits → IsWhole p list (list_of f.account.front) (after ++ file ∷ []) f.account → IsServedBeside o before file f
-served_beside o p before after file visits list f same met are whole = record {
+pub served_beside : (o p : Origin) (before after : List Seating) (file : Seating) (ends : List (Option SessionEnd)) (list : List Entry) (f : FinishedValue)
+    → p ≡ o → AreServed before ends after → f.ends ≡ ends → IsWhole p list (list_of f.account.front) (after ++ file ∷ []) f.account → IsServedBeside o before file f
+served_beside o p before after file ends list f same met are whole = record {
   after = after;
-  attended = subst (λ (vs : List VisitValue). AreAttended before (one_each vs) after) (sym are) met;
+  served = subst (λ (es : List (Option SessionEnd)). AreServed before es after) (sym are) met;
   whole = whole_before o p [] list (list_of f.account.front) (after ++ file ∷ []) f.account same (list, refl) whole;
 }
 

@@ -1,15 +1,12 @@
 -- What a crash leaves of a run, and what the next begins with.
-use Rattle.std.proofs.Common.{◌≡◌, List, ℕ, Option, Some, None}
+use Rattle.std.proofs.Common.{Option, Some, None}
 use Rattle.std.specs.Prelude.{IfSome}
-use mathlib.Core.List.{IsPrefix}
-use Rattle.edit_stamps.specs.Edit.{PlaneEdit}
-use Rattle.generations_rule.specs.Rule.{IsRule}
 use Rattle.board.specs.Entries.{edits_of}
 use Rattle.kept_devices.specs.Standing.{History}
-use Rattle.kept_log.specs.Kept.{Leaves, LeavesNow}
-use Rattle.document_bodies.specs.Bodies.{AreEditsUnder, bodies_of}
+use Rattle.kept_log.specs.Kept.{Leaves}
+use Rattle.document_bodies.specs.Bodies.{bodies_of}
 use Rattle.document_bodies.proofs.BodyLaws.{are_body_laws}
-use Rattle.board_keeper.specs.Keeping.{IsSafe, Keeping, bodies_in}
+use Rattle.board_keeper.specs.Keeping.{bodies_in}
 use Rattle.kept_server.specs.Restarts.{GoesOnAcross, IsLeftAs, TellsAcrossRestarts}
 use Rattle.kept_server.specs.Running.{Runs}
 use Rattle.kept_server.proofs.Runs.{run_safe}

@@ -7,7 +7,7 @@ use Rattle.relay_board.specs.Seating.{Seating}
 use Rattle.relay_board.specs.declared.fault.FinishFault.{FinishFault}
 use Rattle.seat_server.specs.OneList.{HaveSeenHanded, IsToldOfOneList}
 use Rattle.seat_server.specs.Serving.{FinishedValue}
-use Rattle.seat_server.specs.Sessions.{AreAttended, VisitValue, one_each}
+use Rattle.seat_server.specs.Sessions.{AreAttended, AreServed, VisitValue}
 use Rattle.board_keeper.specs.Ending.{IsEndFault}
 use Rattle.board_keeper.specs.Keeping.{Keeping}
 use Rattle.board_keeper.specs.Turns.{FailsBy}
@@ -15,20 +15,13 @@ use Rattle.board_keeper.specs.declared.ending.EndFault.TheVariants as ends
 use Rattle.kept_server.specs.declared.fault.KeptFault.{KeptFault}
 use Rattle.kept_server.specs.declared.fault.KeptFault.TheVariants.{Read, Keep, Finish, Memory}
 
--- Each of these seats of a board was served over a stream of its own, which nobody had used before, while the file's seat put
--- nothing more. The account is that of the seats as their sessions left them, and of the file's: the published list has of each
--- of them exactly what was put at it and accepted, in order, each once.
+-- Each of these seats of a board was served over streams that nobody had used before, one after another, while the file's seat
+-- put nothing more. The account is that of the seats as their sessions left them, and of the file's: the published list has of
+-- each of them exactly what was put at it and accepted, in order, each once.
 pub record IsServedBeside (board : Origin) (before : List Seating) (file : Seating) (f : FinishedValue) : Type 0 where
   pub after : List Seating
-  pub attended : AreAttended before (one_each f.visits) after
+  pub served : AreServed before f.ends after
   pub whole : IsWhole board [] (list_of f.account.front) (after ++ file ∷ []) f.account
-
--- why no seat was served
-abbrev pub IsBegunReason : KeptFault → Type 0
-IsBegunReason Read = ⊤
-IsBegunReason (Keep why) = ⊥
-IsBegunReason (Finish why) = ⊥
-IsBegunReason Memory = ⊤
 
 -- why the turns of a keeper came to no end at which its sessions had ended well, and how it stands then
 abbrev pub IsTurnReason : KeptFault → Keeping → Type 0
@@ -47,8 +40,8 @@ IsCloseReason seats Memory b = ⊤
 -- Each of these seats was served, and with the seats as their sessions left them, and the file's, the keeper gave no account.
 pub record IsClosedInVain (before : List Seating) (file : Seating) (why : FinishFault) (b : Keeping) : Type 0 where
   pub after : List Seating
-  pub visits : List VisitValue
-  pub attended : AreAttended before (one_each visits) after
+  pub visits : List (List VisitValue)
+  pub attended : AreAttended before visits after
   pub reason : IsEndFault (ends.Finish why) b (after ++ file ∷ [])
 
 -- Why there is no account of a keeper and these seats, and how it stands then. A fault of the keeper is told only where its
@@ -61,4 +54,4 @@ IsKeptReason before file Memory b = ⊤
 
 -- What the clients of a kept board are told on any connection is of the beginning of one list, whose length the account says.
 abbrev pub TellsOfKeptList : Type 0
-TellsOfKeptList = (board : Origin) (seats : List Seating) (file : Seating) (f : FinishedValue) → HaveSeenHanded seats → IsServedBeside board seats file f → IsToldOfOneList seats f
+TellsOfKeptList = (board : Origin) (seats : List Seating) (file : Seating) (f : FinishedValue) → HaveSeenHanded seats → (s : IsServedBeside board seats file f) → IsToldOfOneList seats s.served.visits f

@@ -1,4 +1,4 @@
-//! Serving the seats of a board that is kept in a file: each over a stream of its own, on a thread of its own,
+//! Serving the seats of a board that is kept in a file: each on a thread of its own, over one stream after another,
 //! while the keeper takes turns, up to the closing account.
 //!
 //! What a reader is told is on the disk before. Where memory is wanting the keeper waits for it; where the file
@@ -14,4 +14,4 @@ mod turns;
 pub use fault::KeptFault;
 pub use laws::{kept_list_laws, restart_laws};
 pub use outages::Outages;
-pub use server::{KeptEnd, serve_kept};
+pub use server::{KeptAttendance, KeptEnd, serve_kept};
