@@ -11,7 +11,7 @@ use crate::drawing::brain;
 use anyhow::{Context, Result};
 use client::Client;
 use devices::WriteSink;
-use genedit_serve::{ServedBoard, listen, serve_on};
+use genedit_serve::{Address, ServedBoard, listen, serve_on};
 use generations_rule::Rule;
 use keyed_hash::HashKey;
 use std::alloc::Global;
@@ -84,7 +84,11 @@ fn printed<R: Networked>(
         sessions,
         key: HashKey::fixed(),
     };
-    match serve_on(rt, alloc, listener, board, &mut sink) {
+    let address = Address {
+        listener,
+        closing: None,
+    };
+    match serve_on(rt, alloc, address, board, &mut sink) {
         Ok(()) => text,
         Err(_) => Vec::new(alloc),
     }

@@ -2,6 +2,7 @@
 #![tactic(auto)]
 
 mod clients;
+mod closing;
 mod opening;
 mod pictures;
 mod tasks;

@@ -3,12 +3,15 @@
 ghost use Rattle.std.specs.Prelude.{◌≤◌};
 ghost use Rattle.genedit_words.specs.Given.{IsServable};
 
+use crate::closing::closing_call;
 use crate::opening::{opened, tell_refused, tell_unheard, tell_unread};
 use devices::{ReadSource, Source, WriteSink};
 use genedit_io::RunFault;
 use genedit_lib::run_script;
 use genedit_rle::rle_text;
-use genedit_serve::{KeptBoard, ServedBoard, listen, open_kept, serve_kept_on, serve_on};
+use genedit_serve::{
+    Address, ClosingCall, KeptBoard, ServedBoard, listen, open_kept, serve_kept_on, serve_on,
+};
 use genedit_words::{RleTask, ServeTask};
 use generations_rule::Rule;
 use keyed_hash::{HashKey, RandomBytes};
@@ -16,10 +19,11 @@ use script_check::{CheckOutcome, check_script};
 use std::alloc::Global;
 use std::fs::File;
 use std::io;
+use std::io::StdinLock;
 use std::net::{Net, TcpListener, TcpStream};
 use std::random::RandomSource;
 use std::rt::Files;
-use std::sync::Wait;
+use std::sync::{Arc, Wait};
 use std::thread::Threads;
 use std::time::Clock;
 
@@ -114,6 +118,7 @@ fn checked<S: Source>(
 /// words name one.
 pub fn serve<
     R: Files<File = File>
+        + Input<Reader = StdinLock<'static>>
         + Print
         + Eprint
         + RandomSource
@@ -141,7 +146,7 @@ pub fn serve<
                     sessions: server.sessions,
                     key,
                 };
-                serve_board(rt, alloc, server.port, board)
+                serve_board(rt, alloc, server, board)
             }
             None => unreachable!(),
         },
@@ -150,7 +155,8 @@ pub fn serve<
 
 /// Serves a board that is kept nowhere.
 fn serve_board<
-    R: Print
+    R: Input<Reader = StdinLock<'static>>
+        + Print
         + Eprint
         + Net<Listener = TcpListener, Stream = TcpStream>
         + Clock
@@ -161,21 +167,50 @@ fn serve_board<
         + Send
         + Sync
         + 'static,
->(rt: &R, alloc: Global, port: u16, board: ServedBoard) -> Result<u8, RunFault>
+>(rt: &R, alloc: Global, server: &ServeTask<'_>, board: ServedBoard) -> Result<u8, RunFault>
     requires { (1 ≤ board.sessions) × (board.sessions ≤ 64) }
 {
-    let listener = match listen(rt, port) {
+    let listener = match listen(rt, server.port) {
         Ok(listener) => listener,
-        Err(cause) => return tell_unheard(rt, alloc, port, cause),
+        Err(cause) => return tell_unheard(rt, alloc, server.port, cause),
+    };
+    let address = Address {
+        listener,
+        closing: closing_of(rt, alloc, server)?,
     };
     let mut sink = WriteSink::new(io::writer(rt));
-    serve_on(*rt, alloc, listener, board, &mut sink)?;
+    serve_on(*rt, alloc, address, board, &mut sink)?;
     Ok(WELL)
+}
+
+/// By what a server is asked to end, where a line is to do so.
+fn closing_of<
+    R: Input<Reader = StdinLock<'static>>
+        + Clock
+        + Threads
+        + Wait
+        + Copy
+        + Drop
+        + Send
+        + Sync
+        + 'static,
+>(
+    rt: &R,
+    alloc: Global,
+    server: &ServeTask<'_>,
+) -> Result<Option<Arc<ClosingCall, Global>>, RunFault> {
+    if server.until_close {
+        let closing = closing_call(*rt, alloc)?;
+        Ok(Some(closing))
+    } else {
+        Ok(None)
+    }
 }
 
 /// Serves the board of a file.
 fn serve_file<
     R: Files<File = File>
+        + Input<Reader = StdinLock<'static>>
         + Print
         + Eprint
         + Net<Listener = TcpListener, Stream = TcpStream>
@@ -198,13 +233,17 @@ fn serve_file<
         Ok(listener) => listener,
         Err(cause) => return tell_unheard(rt, alloc, server.port, cause),
     };
+    let address = Address {
+        listener,
+        closing: closing_of(rt, alloc, server)?,
+    };
     let mut sink = WriteSink::new(io::writer(rt));
     let board = KeptBoard {
         sessions: server.sessions,
         key,
         file,
     };
-    match serve_kept_on(rt, alloc, listener, board, &mut sink) {
+    match serve_kept_on(rt, alloc, address, board, &mut sink) {
         Ok(()) => Ok(WELL),
         Err(refusal) => tell_refused(rt, alloc, path, refusal),
     }

@@ -1,9 +1,9 @@
 -- Boards that are kept: their seats, and how they end.
-use Rattle.std.proofs.Common.{◌≡◌, ◌⊎◌, ◌∙◌, ◌++◌, ◌+◌, ◌-◌, ◌<◌, ℕ, suc, List, [], ◌∷◌, length, map, ap, refl, sym, subst, inl, inr, arith, length-append}
+use Rattle.std.proofs.Common.{◌≡◌, ◌⊎◌, ◌∙◌, ◌++◌, ◌+◌, ◌-◌, ℕ, List, [], ◌∷◌, length, map, ap, refl, sym, subst, inl, inr, arith, length-append}
 use Rattle.std.proofs.lemmas.List.{length-map}
 use Rattle.board.specs.Entries.{edits_of}
 use Rattle.board.specs.declared.entry.Entry.{Entry}
-use Rattle.board_keeper.specs.Loading.{AreRaised, IsLoaded, raised}
+use Rattle.board_keeper.specs.Loading.{AreRaised, raised}
 use Rattle.devices.specs.Sink.{KnownSink}
 use Rattle.document_bodies.specs.Bodies.{edit_bodies, edit_body}
 use Rattle.document_bodies.specs.Counters.{AreNewestOf}
@@ -11,8 +11,11 @@ use Rattle.document_bodies.specs.Newest.{RiseByReplica}
 use Rattle.generations_rule.specs.Rule.{GenerationsRule}
 use Rattle.genedit_io.specs.declared.fault.RunFault.{RunFault}
 use Rattle.genedit_io.specs.declared.fault.RunFault.TheVariants.{Script, Refused, Read, Turns, Write, Memory, StoreFull}
-use Rattle.relay_board.specs.Relaying.{Relaying}
-use Rattle.relay_board.specs.Seating.{AllFresh, IsSame, Numbered, Seating}
+use Rattle.relay_board.specs.Seating.{AllFresh, Numbered, Seating}
+use Rattle.seat_server.specs.Faults.{IsAttendFault}
+use Rattle.seat_server.specs.declared.fault.ServerFault.{ServerFault}
+use Rattle.seat_server.specs.declared.fault.ServerFault.TheVariants as server
+use Rattle.genedit_serve.specs.Faults.{run_fault_of_server}
 use Rattle.genedit_serve.specs.Keeping.{AreInOrder, AreKeptSeats, IsKeptGivenUp, IsToldSoFar, IsUnopened, IsUntold, TellsKept}
 use Rattle.genedit_serve.specs.Serving.{Fails}
 use Rattle.genedit_serve.proofs.ServingLaws.{numbered}
@@ -111,3 +114,20 @@ unclosed port edits lost from between to fault told tells same (inr fails) =
 -- as many edits as bodies
 pub as_many_edits : (r : GenerationsRule) (list : List Entry) (bodies : List (List ℕ)) → edit_bodies r (edits_of list) ≡ bodies → length list ≡ length bodies
 as_many_edits r list bodies are = sym (length-map list (λ (e : Entry). e.edit)) ∙ (sym (length-map (edits_of list) (edit_body r)) ∙ ap length are)
+
+-- ---- seats that were not served
+
+-- no fault of a script comes of it
+attend_unopened : (cause : ServerFault) → IsAttendFault cause → IsUnopened (run_fault_of_server cause)
+attend_unopened server.Read attend = tt
+attend_unopened (server.Turn fault) attend = absurd attend
+attend_unopened (server.Finish fault) attend = absurd attend
+attend_unopened server.Memory attend = tt
+
+-- before any line
+pub unattended_yet : (port : ℕ) (from : KnownSink) (cause : ServerFault) (fault told : RunFault) → told ≡ fault → fault ≡ run_fault_of_server cause → IsAttendFault cause → IsKeptGivenUp port from from told
+unattended_yet port from cause fault told same is attend = untold_yet port from (run_fault_of_server cause) told (same ∙ is) (attend_unopened cause attend)
+
+-- seats that are served stand in the order of those that they were
+pub attended_order : (made : ℕ) (seats attended : List Seating) (file : Seating) → attended ≡ seats → AreInOrder made seats file → AreInOrder made attended file
+attended_order made seats attended file same order = subst (λ (ss : List Seating). AreInOrder made ss file) (sym same) order

@@ -67,8 +67,8 @@ pub record AreInOrder (made : ℕ) (seats : List Seating) (file : Seating) : Typ
   pub order : Numbered 0 seats
   pub last : file.place ≡ length seats
 
--- A board under the rule was served to its end, with what its file had: of so many seats each was served over a stream of its
--- own. The lines were pushed that tell how many edits were opened again, and the port; behind them those of the sessions and
+-- A board under the rule was served to its end, with what its file had: of so many seats each was served over streams that
+-- nobody had used before, one after another. The lines were pushed that tell how many edits were opened again, and the port; behind them those of the sessions and
 -- of the published list, in which stands what was opened.
 pub record IsServedKept (r : GenerationsRule) (sessions port : ℕ) (from to : KnownSink) : Type 0 where
   pub board : Origin

@@ -32,9 +32,9 @@ Listens port from to = Pushes from to (listening_line port)
 abbrev pub AreFreshSeats : GenerationsRule → ℕ → List Seating → Type 0
 AreFreshSeats r sessions seats = AllFresh r 64 0 seats × (length seats ≡ sessions)
 
--- A board under the rule was served to its end: of so many seats that nothing had been done with, each was served over a
--- stream of its own; the line that tells the port was pushed, and behind it the lines of the sessions and of the published
--- list.
+-- A board under the rule was served to its end: of so many seats that nothing had been done with, each was served over streams
+-- that nobody had used before; the line that tells the port was pushed, and behind it the lines of the seats and of the
+-- published list.
 pub record IsServedBoard (r : GenerationsRule) (sessions port : ℕ) (from to : KnownSink) : Type 0 where
   pub board : Origin
   pub states : board.states ≡ r.states

@@ -1,30 +1,53 @@
 //! What tells sessions that there are news.
 
 use mio::Waker;
-use std::alloc::Global;
-use std::net::{Shutdown, TcpStream};
+use socket_watch::Watch;
+use std::alloc::{AllocError, Global};
+use std::net::{Net, Shutdown, TcpStream};
 use std::sync::atomic::{AtomicBool, Ordering};
 use std::sync::{Arc, Mutex, Wait};
 
-/// What tells a session that there are news. No clause speaks of it: another thread may change it at any
-/// moment.
+/// What the sessions of one seat wait by, one after another, and what tells them that there are news. No clause
+/// speaks of it: another thread may change it at any moment.
 #[derive(Drop)]
 pub(crate) struct Alarm {
     /// Whether the session listens.
     listens: AtomicBool,
     /// What ends its wait; none where it looks again and again.
     waker: Option<Waker>,
-    /// Its connection, where that may have to be ended from outside.
+    /// What the next session waits by.
+    watch: Mutex<Option<Watch>>,
+    /// The session's connection, where that may have to be ended from outside.
     stream: Mutex<Option<TcpStream>>,
 }
 
 impl Alarm {
-    /// One to which nobody listens yet.
-    pub(crate) fn new(waker: Option<Waker>) -> Alarm {
+    /// One to which nobody listens yet. Its sessions look again and again where the system gives nothing to wait by.
+    fn new<R: Net>(rt: &R, alloc: Global) -> Alarm {
+        let (watch, waker) = match Watch::new(rt, alloc) {
+            Some((watch, waker)) => (Some(watch), Some(waker)),
+            None => (None, None),
+        };
         Alarm {
             listens: AtomicBool::new(false),
             waker,
+            watch: Mutex::new(watch),
             stream: Mutex::new(None),
+        }
+    }
+
+    /// What a session waits by that begins; none where it has to look again and again.
+    pub(crate) fn take_watch(&self) -> Option<Watch> {
+        match self.watch.try_lock() {
+            Some(mut held) => held.take(),
+            None => None,
+        }
+    }
+
+    /// A session has ended, and gives back what it waited by.
+    pub(crate) fn put_watch(&self, watch: Watch) {
+        if let Some(mut held) = self.watch.try_lock() {
+            *held = Some(watch);
         }
     }
 
@@ -34,17 +57,17 @@ impl Alarm {
     }
 
     /// The session has ended: its connection is held no longer. Where it is being ended from outside just now, it
-    /// is held until the board ends.
+    /// is held until the next one is.
     pub(crate) fn let_go(&self) {
         if let Some(mut held) = self.stream.try_lock() {
             *held = None;
         }
     }
 
-    /// Ends the session's connection, if it is held.
-    fn hang_up<R: Wait>(&self, rt: &R) {
+    /// Ends one side of the session's connection, or both, if it is held.
+    pub(crate) fn shut<R: Wait>(&self, rt: &R, side: Shutdown) {
         if let Some(stream) = &*self.stream.lock(rt) {
-            let _ = stream.shutdown(Shutdown::Both);
+            let _ = stream.shutdown(side);
         }
     }
 
@@ -63,15 +86,32 @@ impl Alarm {
     }
 }
 
-/// The alarms of all sessions.
+/// The alarms of all seats.
 #[derive(Drop)]
 pub(crate) struct Alarms {
     all: Vec<Arc<Alarm, Global>>,
 }
 
 impl Alarms {
-    pub(crate) fn of(all: Vec<Arc<Alarm, Global>>) -> Alarms {
-        Alarms { all }
+    /// Those of so many seats.
+    pub(crate) fn new<R: Net>(rt: &R, alloc: Global, count: usize) -> Result<Alarms, AllocError> {
+        let mut all = Vec::new(alloc);
+        for _seat in 0..count {
+            let Ok(alarm) = Arc::new(alloc, Alarm::new(rt, alloc)) else {
+                return Err(AllocError);
+            };
+            all.push(alarm)?;
+        }
+        Ok(Alarms { all })
+    }
+
+    /// The same alarms, in the order of the seats.
+    pub(crate) fn shared(&self, alloc: Global) -> Result<Vec<Arc<Alarm, Global>>, AllocError> {
+        let mut all = Vec::new(alloc);
+        for alarm in &self.all {
+            all.push(Arc::try_clone(alarm)?)?;
+        }
+        Ok(all)
     }
 
     /// Wakes each session that listens.
@@ -81,10 +121,10 @@ impl Alarms {
         }
     }
 
-    /// Ends each connection that is held.
-    pub(crate) fn hang_up<R: Wait>(&self, rt: &R) {
+    /// Ends one side of each connection that is held, or both.
+    pub(crate) fn shut<R: Wait>(&self, rt: &R, side: Shutdown) {
         for alarm in &self.all {
-            alarm.hang_up(rt);
+            alarm.shut(rt, side);
         }
     }
 }

@@ -3,10 +3,8 @@
 ghost use Rattle.std.specs.Prelude.{◌≡◌, ◌++◌, ◌+◌, length, OnOk, IfOk, decimal};
 ghost use Rattle.genedit_serve.specs.Closing.{kept_line, listening_line, end_word, session_line, session_lines, closed_line, closing_text};
 
-use devices::{Sink, Source};
-use frame_service::{ServeFault, Served};
 use itoa::Buffer;
-use seat_server::{Finished, Visit};
+use seat_server::{Finished, SessionEnd};
 use std::alloc::{AllocError, Global};
 
 /// That the server listens at a port.
@@ -33,18 +31,15 @@ pub fn kept_line(alloc: Global, edits: usize, lost: usize) -> Result<Vec<u8>, Al
     Ok(line)
 }
 
-/// A line for each session, and a last one for the published list.
-pub fn closing<S: Source, K: Sink>(
-    alloc: Global,
-    finished: &Finished<S, K>,
-) -> Result<Vec<u8>, AllocError>
+/// A line for each seat's sessions, and a last one for the published list.
+pub fn closing(alloc: Global, finished: &Finished) -> Result<Vec<u8>, AllocError>
     ensures { IfOk result (λ text. text.items ≡ closing_text finished.now) }
 {
     let mut text = Vec::new(alloc);
     push_sessions(
         &mut text,
         finished.account().accepted.as_slice(),
-        finished.visits(),
+        finished.ends(),
     )?;
     let before = u128::from(finished.account().before);
     let published = finished.account().published.as_slice().len() as u64;
@@ -58,25 +53,25 @@ fn push_number(out: &mut Vec<u8>, number: u64) -> Result<(), AllocError>
     out.extend_from_slice(Buffer::new().format(number).as_bytes())
 }
 
-/// The fault of a session that ended by one.
-fn push_end(out: &mut Vec<u8>, end: &Result<Served, ServeFault>) -> Result<(), AllocError>
+/// The fault of the last session of a seat, if it ended by one.
+fn push_end(out: &mut Vec<u8>, end: &Option<SessionEnd>) -> Result<(), AllocError>
     ensures { OnOk result (out.new.items ≡ out.old.items ++ end_word end.now) }
 {
     match end {
-        Ok(_) => Ok(()),
-        Err(fault) => {
+        None | Some(Ok(_)) => Ok(()),
+        Some(Err(fault)) => {
             out.extend_from_slice(b" fault ")?;
             push_number(out, u64::from(fault.number()))
         }
     }
 }
 
-/// The line of a session.
+/// The line of a seat's sessions.
 fn push_session(
     out: &mut Vec<u8>,
     number: u64,
     edits: u64,
-    end: &Result<Served, ServeFault>,
+    end: &Option<SessionEnd>,
 ) -> Result<(), AllocError>
     ensures { OnOk result (out.new.items ≡ out.old.items ++ session_line number edits end.now) }
 {
@@ -90,16 +85,16 @@ fn push_session(
 }
 
 /// The lines of all sessions, in the order of their seats.
-fn push_sessions<S: Source, K: Sink>(
+fn push_sessions(
     out: &mut Vec<u8>,
     accepted: &[u64],
-    visits: &[Visit<S, K>],
+    ends: &[Option<SessionEnd>],
 ) -> Result<(), AllocError>
-    ensures { OnOk result (out.new.items ≡ out.old.items ++ session_lines 1 accepted.now visits.now) }
+    ensures { OnOk result (out.new.items ≡ out.old.items ++ session_lines 1 accepted.now ends.now) }
 {
     let mut number: u64 = 1;
-    for (edits, visit) in accepted.iter().zip(visits.iter()) {
-        push_session(out, number, *edits, visit.end())?;
+    for (edits, end) in accepted.iter().zip(ends.iter()) {
+        push_session(out, number, *edits, end)?;
         number += 1;
     }
     Ok(())

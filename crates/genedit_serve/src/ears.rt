@@ -1,104 +1,73 @@
 //! What a session over a connection waits by.
 
-use crate::alarm::{Alarm, Alarms};
+use crate::alarm::Alarm;
 use session_service::{Came, Listen};
 use socket_watch::Watch;
-use std::alloc::{AllocError, Global};
-use std::collections::VecDeque;
+use std::alloc::Global;
 use std::io;
-use std::net::{Net, TcpStream};
+use std::net::TcpStream;
 use std::sync::Arc;
 use std::time::{Clock, Duration, Instant};
 
 /// How long a look at the socket takes at most, in milliseconds.
 const LOOK: u64 = 2;
 
-/// What a session waits by, before its connection has come.
-#[derive(Drop)]
-pub(crate) struct Hearing {
-    watch: Option<Watch>,
-    alarm: Arc<Alarm, Global>,
-}
-
-impl Hearing {
-    /// One that looks again and again where the system gives nothing to wait by.
-    fn new<R: Net>(rt: &R, alloc: Global) -> Result<Hearing, AllocError> {
-        let (watch, waker) = match Watch::new(rt, alloc) {
-            Some((watch, waker)) => (Some(watch), Some(waker)),
-            None => (None, None),
-        };
-        let alarm = Arc::new(alloc, Alarm::new(waker))?;
-        Ok(Hearing { watch, alarm })
-    }
-}
-
-impl Hearing {
-    /// The session's alarm.
-    pub(crate) fn alarm(&self) -> &Alarm {
-        &self.alarm
-    }
-}
-
-/// What each of so many sessions waits by, and their alarms.
-pub(crate) fn hearings<R: Net>(
-    rt: &R,
-    alloc: Global,
-    count: u16,
-) -> Result<(VecDeque<Hearing>, Alarms), AllocError> {
-    let mut hearings = VecDeque::new(alloc);
-    let mut alarms = Vec::new(alloc);
-    for _session in 0..count {
-        let one = Hearing::new(rt, alloc)?;
-        alarms.push(Arc::try_clone(&one.alarm)?)?;
-        hearings.push_back(one)?;
-    }
-    Ok((hearings, Alarms::of(alarms)))
-}
-
-/// What the session of a connection waits by: its socket, its alarm, and the clock.
+/// What the session of a connection waits by: its socket, its seat's alarm, and the clock.
 pub struct Ears<R> {
     rt: R,
     socket: TcpStream,
-    hearing: Hearing,
+    alarm: Arc<Alarm, Global>,
+    /// What watches the socket; none where it is looked at again and again.
+    watch: Option<Watch>,
     /// When the time is over; none where the clock, or the socket, cannot be asked.
     end: Option<Instant>,
 }
 
 impl<R> Ears<R> {
-    pub(crate) fn of(rt: R, socket: TcpStream, hearing: Hearing) -> Ears<R> {
+    /// Those of the next session over a seat whose alarm this is.
+    pub(crate) fn of(rt: R, socket: TcpStream, alarm: Arc<Alarm, Global>) -> Ears<R> {
+        let watch = alarm.take_watch();
         Ears {
             rt,
             socket,
-            hearing,
+            alarm,
+            watch,
             end: None,
         }
     }
 }
 
-/// The alarm outlives the session, and is not to keep its connection open.
+/// The alarm outlives the session, and is not to keep its connection open; what watched that connection watches the
+/// next one.
 impl<R: Drop> Drop for Ears<R> {
     fn drop(self) {
-        self.hearing.alarm.let_go();
         let Self {
             rt: _,
-            socket: _,
-            hearing: _,
+            socket,
+            alarm,
+            watch,
             end: _,
         } = self;
+        if let Some(watch) = watch {
+            let mut watch = watch;
+            watch.turn_from(&socket);
+            alarm.put_watch(watch);
+        }
+        alarm.let_go();
     }
 }
 
 impl<R: Clock> Listen for Ears<R> {
     /// The alarm is set first: what is published from here on rings it.
     fn begin(&mut self, most: Duration) {
-        self.hearing.alarm.set(true);
+        self.alarm.set(true);
         self.end = end_of(&self.rt, most);
-        let is_watched = match &mut self.hearing.watch {
+        let is_watched = match &mut self.watch {
             None => false,
             Some(watch) => watch.turn_to(&self.socket).is_ok(),
         };
         if !is_watched {
-            self.hearing.watch = None;
+            self.watch = None;
             let look = Duration::from_millis(LOOK);
             if self.socket.set_read_timeout(Some(look)).is_err() {
                 self.end = None;
@@ -111,7 +80,7 @@ impl<R: Clock> Listen for Ears<R> {
         let Some(left) = time_until(&self.rt, self.end) else {
             return Came::Nothing;
         };
-        let has_byte = match &mut self.hearing.watch {
+        let has_byte = match &mut self.watch {
             None => Ok(looked(&self.socket)),
             Some(watch) => has_byte(watch, left),
         };
@@ -123,8 +92,8 @@ impl<R: Clock> Listen for Ears<R> {
     }
 
     fn end(&mut self) {
-        self.hearing.alarm.set(false);
-        if self.hearing.watch.is_none() {
+        self.alarm.set(false);
+        if self.watch.is_none() {
             let _ = self.socket.set_read_timeout(None);
         }
     }

@@ -8,33 +8,32 @@ ghost use Rattle.generations_rule.specs.Rule.{IsRule};
 ghost use Rattle.kept_log.specs.Found.{IsReadTo, listed};
 ghost use Rattle.kept_log.specs.declared.log.LogState.TheVariants as log_state;
 ghost use Rattle.kept_server.specs.Serving.{IsServedBeside};
+ghost use Rattle.seat_server.specs.Faults.{IsAttendFault};
 ghost use Rattle.genedit_serve.specs.Closing.{closing_text};
 ghost use Rattle.genedit_serve.specs.Faults.{run_fault_of_kept};
 ghost use Rattle.genedit_serve.specs.Keeping.{AreInOrder, AreKeptSeats, IsKeptFile, IsUnopened, IsUntold, ServesKept, ServesKeptAt, TellsKept};
 ghost use Rattle.genedit_serve.specs.Serving.{Fails, Pushes};
 
-use crate::address::address;
 use crate::closing::{closing, kept_line, listening};
-use crate::connections::{Connections, Knock, Rousing};
 use crate::document::KeptFile;
-use crate::ears::hearings;
-use crate::fault::{kept_fault, start_fault};
+use crate::fault::{kept_fault, server_fault, start_fault};
 use crate::lost::save_lost;
 use crate::refusal::{FileRefusal, cause_of_file, load_refusal};
-use crate::server::{Bound, INBOX, shared_mark};
-use crate::turning::Turning;
+use crate::seated::{Address, Doorway, Reception, Seated, seated};
+use crate::server::{Bound, INBOX};
 use board_keeper::{
     Document, KeepFault, Keeper, KeptSeats, LoadedBoard, OpenFault, OpenLog, load_board, opened,
 };
-use devices::{ReadSource, Sink, WriteSink};
+use devices::Sink;
 use genedit_io::{Cause, RunFault, push_output};
 use generations_rule::Rule;
+use kept_devices::Keep;
 use kept_file::FileKeep;
 use kept_log::{Found, Log};
-use kept_server::{KeptFault, serve_kept};
+use kept_server::{KeptAttendance, KeptFault, serve_kept};
 use keyed_hash::HashKey;
-use relay_board::{BoardSize, Naming, Opened, start_within};
-use seat_server::{Finished, Streams};
+use relay_board::{BoardSize, Naming, Opened, Seat, start_within};
+use seat_server::{Finished, ServerFault};
 use square_store::Limits;
 use std::alloc::Global;
 use std::fs::File;
@@ -62,7 +61,9 @@ struct Place<'a, F: Files<File = File>> {
     bound: Bound,
 }
 
-/// Serves the board of a file, as `serve_on` does. Before `listening PORT` stands the line of the file,
+/// Serves the board of a file, as `serve_on` does, but that seats come back: where each has had a connection, the next
+/// one gets the seat that was left longest ago, once there is one within a second, and so it ends only where it is asked
+/// to. Before `listening PORT` stands the line of the file,
 /// `kept N lost B`: so many edits were opened again, and so many bytes behind the last whole record were cut off,
 /// which stand in the file beside it whose name ends with `.lost`. Each edit that a client is told as published
 /// is on the disk before; `closed L` counts those that were opened again, too.
@@ -87,7 +88,7 @@ pub fn serve_kept_on<
 >(
     rt: &'a R,
     alloc: Global,
-    listener: TcpListener,
+    address: Address,
     board: KeptBoard<'a, R>,
     sink: &mut K,
 ) -> Result<(), FileRefusal>
@@ -100,7 +101,7 @@ pub fn serve_kept_on<
         key,
         file,
     } = board;
-    let Ok(address) = listener.local_addr() else {
+    let Ok(local) = address.listener.local_addr() else {
         return Err(FileRefusal::from(RunFault::Read));
     };
     let size = BoardSize {
@@ -111,11 +112,11 @@ pub fn serve_kept_on<
     };
     match start_within(*rt, alloc, file.rule, size) {
         Ok(opened) => {
-            let port = address.port();
-            let place = Place {
-                file,
-                bound: Bound { listener, port },
+            let bound = Bound {
+                address,
+                port: local.port(),
             };
+            let place = Place { file, bound };
             serve::<Brand, R, K>(rt, alloc, opened, place, sink)
         }
         Err(fault) => Err(FileRefusal::from(start_fault(fault))),
@@ -164,17 +165,58 @@ fn serve<
         edits,
         lost,
     } = prepared;
-    match told(alloc, (edits, lost), bound.port, sink) {
+    let Bound { address, port } = bound;
+    let KeptSeats { seats, file } = seats;
+    let (attendance, doorway) = match begun(*rt, alloc, &keeper, seats, address) {
+        Ok(seated) => seated,
+        Err(fault) => return Err(FileRefusal::from(server_fault(fault))),
+    };
+    match told(alloc, (edits, lost), port, sink) {
         Ok(()) => {}
-        Err(fault) => return Err(FileRefusal::from(fault)),
+        Err(fault) => {
+            attendance.dismiss(rt, &doorway.rousing(rt));
+            return Err(FileRefusal::from(fault));
+        }
     }
-    match seats_served(rt, alloc, keeper, seats, bound) {
+    let attendance = KeptAttendance { attendance, file };
+    match seats_served(rt, alloc, keeper, attendance, doorway) {
         Err(refusal) => Err(refusal),
         Ok(finished) => match closed(alloc, &finished, sink) {
             Ok(()) => Ok(()),
             Err(fault) => Err(FileRefusal::from(fault)),
         },
     }
+}
+
+/// Has the seats of a keeper wait at their chairs, to which whoever comes again comes back.
+fn begun<
+    J: Naming + Send + 'static,
+    R: Net<Listener = TcpListener, Stream = TcpStream>
+        + Clock
+        + Threads
+        + Wait
+        + Copy
+        + Drop
+        + Send
+        + Sync
+        + 'static,
+    D: Keep,
+>(
+    rt: R,
+    alloc: Global,
+    keeper: &Keeper<J, R, D>,
+    seats: Vec<Seat<J>>,
+    address: Address,
+) -> Result<Seated<J>, ServerFault>
+    ensures seats { IfOk result (λ s. s.0 ≡ seats.items) }
+    ensures fault { IfErr result IsAttendFault }
+{
+    let bell = keeper.bell()?;
+    let reception = Reception {
+        address,
+        comes_back: true,
+    };
+    seated(rt, alloc, bell, seats, reception)
 }
 
 /// What is served: a keeper whose board has what its file had, the seats, how many edits the file had, and how
@@ -236,11 +278,7 @@ fn made_ready<'a, J: Naming, R: Files<File = File> + Eprint + Wait + Drop>(
 }
 
 /// Pushes the closing lines.
-fn closed<K: Sink>(
-    alloc: Global,
-    finished: &Finished<ReadSource<TcpStream>, WriteSink<TcpStream>>,
-    sink: &mut K,
-) -> Result<(), RunFault>
+fn closed<K: Sink>(alloc: Global, finished: &Finished, sink: &mut K) -> Result<(), RunFault>
     ensures closed { IfOk result (λ _. Pushes (K.known sink.old) (K.known sink.new) (closing_text finished.now)) }
     ensures unclosed { IfErr result (λ fault. ((fault ≡ RunFault.Memory) × (K.known sink.new ≡ K.known sink.old)) ⊎ ((fault ≡ RunFault.Write) × Fails (K.known sink.old) (K.known sink.new))) }
 {
@@ -323,78 +361,26 @@ fn seats_served<
     rt: &'a R,
     alloc: Global,
     keeper: Keeper<J, R, FileKeep<'a, R>>,
-    seats: KeptSeats<J>,
-    bound: Bound,
-) -> Result<Finished<ReadSource<TcpStream>, WriteSink<TcpStream>>, FileRefusal>
-    requires order { AreInOrder keeper.relay.made seats.seats.items seats.file }
-    ensures served { IfOk result (λ f. IsServedBeside keeper.entry.relay.origin seats.seats.items seats.file f) }
+    seats: KeptAttendance<J>,
+    doorway: Doorway,
+) -> Result<Finished, FileRefusal>
+    requires order { AreInOrder keeper.relay.made seats.attendance seats.file }
+    ensures served { IfOk result (λ f. IsServedBeside keeper.entry.relay.origin seats.attendance seats.file f) }
     ensures refused { IfErr result (λ refusal. IsUnopened refusal.fault) }
 {
-    let Bound { listener, port } = bound;
-    let count = u16::try_from(seats.seats.len()).unwrap_or(u16::MAX);
-    let Doors {
-        turning,
-        streams,
-        rousing,
-    } = match opened_doors(rt, alloc, listener, port, count) {
-        Ok(doors) => doors,
-        Err(fault) => return Err(FileRefusal::from(fault)),
+    let rousing = doorway.rousing(rt);
+    let Some(doorkeeper) = doorway.open(*rt, alloc) else {
+        let KeptAttendance {
+            attendance,
+            file: _,
+        } = seats;
+        attendance.dismiss(rt, &rousing);
+        return Err(FileRefusal::from(RunFault::Read));
     };
-    let streams = Streams {
-        acceptor: streams,
-        wake: &rousing,
-    };
-    let served = serve_kept(*rt, alloc, keeper, seats, streams);
-    turning.end(rt, &rousing.knock);
+    let served = serve_kept(rt, alloc, keeper, seats, &rousing);
+    doorway.close(rt, doorkeeper);
     match served {
         Ok((finished, _log)) => Ok(finished),
         Err((fault, log)) => Err(end_refusal(fault, &log)),
-    }
-}
-
-/// What lets connections in: who turns the late ones away, where streams come from, and what wakes who waits.
-struct Doors<'a, R> {
-    turning: Turning,
-    streams: Connections<R>,
-    rousing: Rousing<'a, R>,
-}
-
-/// The doors of a listener for so many seats.
-fn opened_doors<
-    'a,
-    R: Net<Listener = TcpListener, Stream = TcpStream>
-        + Clock
-        + Threads
-        + Wait
-        + Copy
-        + Drop
-        + Send
-        + Sync
-        + 'static,
->(
-    rt: &'a R,
-    alloc: Global,
-    listener: TcpListener,
-    port: u16,
-    count: u16,
-) -> Result<Doors<'a, R>, RunFault>
-    ensures { IfErr result IsUnopened }
-{
-    let Ok(theirs) = listener.try_clone() else {
-        return Err(RunFault::Read);
-    };
-    let (left, alarms) = hearings(rt, alloc, count)?;
-    let (is_over, mark) = shared_mark(alloc)?;
-    match Turning::start(*rt, alloc, theirs)? {
-        None => Err(RunFault::Read),
-        Some((turning, seated)) => Ok(Doors {
-            turning,
-            streams: Connections::of(*rt, listener, left, seated, mark).of_kept(),
-            rousing: Rousing {
-                knock: Knock { rt, port },
-                alarms,
-                is_over,
-            },
-        }),
     }
 }

@@ -3,18 +3,26 @@
 
 mod address;
 mod alarm;
+mod chair;
 mod closing;
+mod closing_call;
 mod connections;
+mod desk;
 mod document;
+mod door;
 mod ears;
 mod fault;
+mod house;
 mod kept;
+mod latecomers;
 mod lost;
 mod refusal;
+mod seated;
 mod server;
-mod turning;
 
+pub use closing_call::ClosingCall;
 pub use document::{KeptFile, open_kept};
 pub use kept::{KeptBoard, serve_kept_on};
 pub use refusal::FileRefusal;
+pub use seated::Address;
 pub use server::{INBOX, ServedBoard, listen, serve_on};

@@ -1,39 +1,43 @@
 //! The server.
 
-ghost use Rattle.std.specs.Prelude.{◌≡◌, ◌≤◌, IfErr, IfOk, length};
+ghost use Rattle.std.specs.Prelude.{◌≡◌, ◌⊎◌, ◌≤◌, IfErr, IfOk, length};
 ghost use mathlib.Core.List.{IsPrefix};
 ghost use Rattle.std.specs.Arc.{arc_value};
 ghost use Rattle.crossbeam_queue.specs.Passes.{ruled_capacity};
 ghost use Rattle.board.specs.Origins.{list_of};
 ghost use Rattle.relay_board.specs.Seating.{Numbered};
-ghost use Rattle.seat_server.specs.Faults.{IsReason};
+ghost use Rattle.seat_server.specs.Faults.{IsAttendFault, IsReason};
 ghost use Rattle.seat_server.specs.Serving.{GoesOnFrom, IsServed};
 ghost use Rattle.square_store.specs.Limits.{usual_room};
-ghost use Rattle.genedit_serve.specs.Serving.{Serves, ServesAt};
+ghost use Rattle.genedit_serve.specs.Serving.{Fails, Listens, Serves, ServesAt};
 
 use crate::address::address;
 use crate::closing::{closing, listening};
-use crate::connections::{Connections, Knock, Rousing};
-use crate::ears::hearings;
 use crate::fault::{server_fault, start_fault};
-use crate::turning::Turning;
-use devices::{ReadSource, Sink, WriteSink};
+use crate::seated::{Address, Doorway, Reception, Seated, seated};
+use devices::Sink;
 use genedit_io::{Cause, RunFault, cause_of, push_output};
 use generations_rule::Rule;
 use keyed_hash::HashKey;
 use relay_board::{BoardSize, Naming, Opened, Relay, Seat, start_within};
-use seat_server::{Finished, ServerFault, Streams, serve_seats};
+use seat_server::{Attendance, Finished, ServerFault, serve_seats};
 use square_store::Limits;
-use std::alloc::{AllocError, Global};
+use std::alloc::Global;
 use std::marker::Brand;
 use std::net::{Net, TcpListener, TcpStream};
-use std::sync::atomic::AtomicBool;
-use std::sync::{Arc, Wait};
+use std::sync::Wait;
 use std::thread::Threads;
 use std::time::Clock;
 
 /// How many submissions the inbox of a served board has room for. A session has one at a time.
 pub const INBOX: u16 = 64;
+
+/// Where a server listens, and the port of that.
+#[derive(Drop)]
+pub(crate) struct Bound {
+    pub(crate) address: Address,
+    pub(crate) port: u16,
+}
 
 /// The board that is served.
 #[derive(Clone, Copy)]
@@ -44,13 +48,6 @@ pub struct ServedBoard {
     /// By its hashes the planes find their squares. What a sender who does not know it can make them cost is
     /// what ordinary edits of that length cost.
     pub key: HashKey,
-}
-
-/// A listener, and the port at which it listens.
-#[derive(Drop)]
-pub(crate) struct Bound {
-    pub(crate) listener: TcpListener,
-    pub(crate) port: u16,
 }
 
 /// Listens at a port of this machine's loopback, where nobody comes in from outside; at any free one for 0; or
@@ -67,9 +64,11 @@ pub fn listen<R: Net<Listener = TcpListener, Stream = TcpStream>>(
 
 /// Serves a board to the first connections, as many as it has seats, each on a thread of its own: seat 1 to
 /// the first that is accepted, and so on. Whoever comes after the last one is answered that there is no seat,
-/// as long as a session lasts. The line `listening PORT` is pushed once there is a board; once all sessions
-/// have ended, a line for each, `session I edits K`, with the number of its fault behind it where it ended by
-/// one, and the line `closed L`, L being the length of the published list.
+/// as long as a session lasts. The line `listening PORT` is pushed once there is a board and a thread for each
+/// seat; once all sessions have ended, a line for each, `session I edits K`, with the number of its fault behind it
+/// where it ended by one, and the line `closed L`, L being the length of the published list.
+///
+/// Where it is asked to end, nobody more is seated, and each session ends behind what it is being answered.
 ///
 /// `Read` where a connection was not accepted or a thread was not started; `StoreFull` or `Memory` where
 /// 1,000 turns of the relay in a row failed so; both once the sessions that had begun have ended. What
@@ -85,17 +84,11 @@ pub fn serve_on<
         + Sync
         + 'static,
     K: Sink,
->(
-    rt: R,
-    alloc: Global,
-    listener: TcpListener,
-    board: ServedBoard,
-    sink: &mut K,
-) -> Result<(), RunFault>
+>(rt: R, alloc: Global, address: Address, board: ServedBoard, sink: &mut K) -> Result<(), RunFault>
     requires { (1 ≤ board.sessions) × (board.sessions ≤ 64) }
     ensures { Serves board.rule board.sessions (K.known sink.old) (K.known sink.new) result }
 {
-    let Ok(address) = listener.local_addr() else {
+    let Ok(local) = address.listener.local_addr() else {
         return Err(RunFault::Read);
     };
     let size = BoardSize {
@@ -106,8 +99,11 @@ pub fn serve_on<
     };
     match start_within(rt, alloc, board.rule, size) {
         Ok(opened) => {
-            let port = address.port();
-            serve::<Brand, R, K>(rt, alloc, opened, Bound { listener, port }, sink)
+            let bound = Bound {
+                address,
+                port: local.port(),
+            };
+            serve::<Brand, R, K>(rt, alloc, opened, bound, sink)
         }
         Err(fault) => Err(start_fault(fault)),
     }
@@ -137,9 +133,19 @@ fn serve<
         Ok(named) => named,
         Err(fault) => return Err(start_fault(fault)),
     };
-    let line = listening(alloc, bound.port)?;
-    push_output(sink, &line)?;
-    match seats_served(rt, alloc, relay, seats, bound) {
+    let Bound { address, port } = bound;
+    let (attendance, doorway) = match begun(rt, alloc, &relay, seats, address) {
+        Ok(seated) => seated,
+        Err(fault) => return Err(server_fault(fault)),
+    };
+    match told(alloc, port, sink) {
+        Ok(()) => {}
+        Err(fault) => {
+            attendance.dismiss(&rt, &doorway.rousing(&rt));
+            return Err(fault);
+        }
+    }
+    match seats_served(rt, alloc, relay, attendance, doorway) {
         Err(fault) => Err(server_fault(fault)),
         Ok(finished) => {
             let text = closing(alloc, &finished)?;
@@ -148,20 +154,48 @@ fn serve<
     }
 }
 
-/// A mark that is not set yet, twice.
-pub(crate) fn shared_mark(
+/// Has the seats of a relay wait at their chairs.
+fn begun<
+    J: Naming + Send + 'static,
+    R: Net<Listener = TcpListener, Stream = TcpStream>
+        + Clock
+        + Threads
+        + Wait
+        + Copy
+        + Drop
+        + Send
+        + Sync
+        + 'static,
+>(
+    rt: R,
     alloc: Global,
-) -> Result<(Arc<AtomicBool, Global>, Arc<AtomicBool, Global>), AllocError> {
-    let Ok(mark) = Arc::new(alloc, AtomicBool::new(false)) else {
-        return Err(AllocError);
+    relay: &Relay<J, R>,
+    seats: Vec<Seat<J>>,
+    address: Address,
+) -> Result<Seated<J>, ServerFault>
+    ensures seats { IfOk result (λ s. s.0 ≡ seats.items) }
+    ensures fault { IfErr result IsAttendFault }
+{
+    let bell = relay.bell()?;
+    let reception = Reception {
+        address,
+        comes_back: false,
     };
-    let other = Arc::try_clone(&mark)?;
-    Ok((mark, other))
+    seated(rt, alloc, bell, seats, reception)
+}
+
+/// Tells the port at which the server listens.
+fn told<K: Sink>(alloc: Global, port: u16, sink: &mut K) -> Result<(), RunFault>
+    ensures told { IfOk result (λ _. Listens port (K.known sink.old) (K.known sink.new)) }
+    ensures untold { IfErr result (λ fault. ((fault ≡ RunFault.Memory) × (K.known sink.new ≡ K.known sink.old)) ⊎ ((fault ≡ RunFault.Write) × Fails (K.known sink.old) (K.known sink.new))) }
+{
+    let line = listening(alloc, port)?;
+    push_output(sink, &line)
 }
 
 /// Serves the seats of a relay to the connections of a listener, and turns away whoever comes after the last;
-/// at the end how the sessions ended, and the account. `Read` also where the thread that turns away could not
-/// be started.
+/// at the end how the sessions ended, and the account. `Read` also where the thread at the door could not be
+/// started.
 fn seats_served<
     J: Naming + Send + 'static,
     R: Net<Listener = TcpListener, Stream = TcpStream>
@@ -177,40 +211,22 @@ fn seats_served<
     rt: R,
     alloc: Global,
     relay: Relay<J, R>,
-    seats: Vec<Seat<J>>,
-    bound: Bound,
-) -> Result<Finished<ReadSource<TcpStream>, WriteSink<TcpStream>>, ServerFault>
-    requires all { relay.made ≡ length seats.items }
-    requires order { Numbered 0 seats.items }
-    ensures served { IfOk result (λ f. IsServed relay.origin seats.items f) }
+    attendance: Attendance<J>,
+    doorway: Doorway,
+) -> Result<Finished, ServerFault>
+    requires all { relay.made ≡ length attendance }
+    requires order { Numbered 0 attendance }
+    ensures served { IfOk result (λ f. IsServed relay.origin attendance f) }
     ensures stays { IfOk result (λ f. IsPrefix relay.list (list_of f.account.front)) }
     ensures goes_on { IfOk result (λ f. GoesOnFrom 1000 relay (list_of f.account.front)) }
-    ensures reason { IfErr result (IsReason 1000 relay seats.items) }
+    ensures reason { IfErr result (IsReason 1000 relay attendance) }
 {
-    let Bound { listener, port } = bound;
-    let Ok(theirs) = listener.try_clone() else {
+    let rousing = doorway.rousing(&rt);
+    let Some(keeper) = doorway.open(rt, alloc) else {
+        attendance.dismiss(&rt, &rousing);
         return Err(ServerFault::Read);
     };
-    let count = u16::try_from(seats.len()).unwrap_or(u16::MAX);
-    let (left, alarms) = hearings(&rt, alloc, count)?;
-    let started = match Turning::start(rt, alloc, theirs) {
-        Ok(started) => started,
-        Err(_) => return Err(ServerFault::Memory),
-    };
-    let Some((turning, seated)) = started else {
-        return Err(ServerFault::Read);
-    };
-    let (is_over, theirs) = shared_mark(alloc)?;
-    let rousing = Rousing {
-        knock: Knock { rt: &rt, port },
-        alarms,
-        is_over,
-    };
-    let streams = Streams {
-        acceptor: Connections::of(rt, listener, left, seated, theirs),
-        wake: &rousing,
-    };
-    let finished = serve_seats(rt, alloc, relay, seats, streams);
-    turning.end(&rt, &rousing.knock);
+    let finished = serve_seats(&rt, alloc, relay, attendance, &rousing);
+    doorway.close(&rt, keeper);
     finished
 }

@@ -60,11 +60,17 @@ given_port = with_index 1 (filled port_option)
 abbrev given_sessions : Rule
 given_sessions = with_index 1 (filled sessions_option)
 
+abbrev given_until_close : Rule
+given_until_close = with_index 1 (filled (flag (codes "until-close")))
+
 board_rule_well : UsesWell ok false given_board_rule
 board_rule_well = set_well given_board_rule refl (λ rows h. cc) (λ v vs passes. refl)
 
 keep_well : UsesWell ok false given_keep
 keep_well = set_well given_keep refl (λ rows h. cc) (λ v vs passes. refl)
+
+until_close_well : UsesWell ok false given_until_close
+until_close_well = flag_well given_until_close refl refl refl refl
 
 port_well : UsesWell ok false given_port
 port_well = set_well given_port refl (λ rows h. cc) (λ v vs passes. first_passes false (vp.Signed (pos 0) (pos 65535)) v vs passes)
@@ -166,16 +172,17 @@ rle_well p = go (p given_file) (p given_form_rule) (p (filled help_rule))
     go false false false = tt
 
 serve_well : (p : Rule → Bool) → IsWellUsed ok false (find p serve_built.rules)
-serve_well p = go (p given_board_rule) (p given_port) (p given_sessions) (p given_keep) (p (filled help_rule))
+serve_well p = go (p given_board_rule) (p given_port) (p given_sessions) (p given_keep) (p given_until_close) (p (filled help_rule))
   where
-    go : (a b c d e : Bool) → IsWellUsed ok false (if a then Some given_board_rule else (if b then Some given_port else (if c then Some given_sessions
-        else (if d then Some given_keep else (if e then Some (filled help_rule) else None)))))
-    go true b c d e = board_rule_well
-    go false true c d e = port_well
-    go false false true d e = sessions_well
-    go false false false true e = keep_well
-    go false false false false true = help_well
-    go false false false false false = tt
+    go : (a b c d e f : Bool) → IsWellUsed ok false (if a then Some given_board_rule else (if b then Some given_port else (if c then Some given_sessions
+        else (if d then Some given_keep else (if e then Some given_until_close else (if f then Some (filled help_rule) else None))))))
+    go true b c d e f = board_rule_well
+    go false true c d e f = port_well
+    go false false true d e f = sessions_well
+    go false false false true e f = keep_well
+    go false false false false true f = until_close_well
+    go false false false false false true = help_well
+    go false false false false false false = tt
 
 join_well : (p : Rule → Bool) → IsWellUsed ok false (find p join_built.rules)
 join_well p = go (p given_port) (p given_every) (p given_follow) (p given_changes) (p given_quiet) (p given_no_rescue) (p (filled help_rule))
@@ -277,26 +284,6 @@ rle_has_rule words passes =
     let given = none_missing (is_given (codes "rule") rows) false (asks_argument false false (not (is_given (codes "rule") rows) || false) parts.3) in
     has_first (codes "rule") rows (given_value (codes "rule") rows fine given.0)
 
--- `serve` has a port and a number of sessions
-serve_has_all : (words : List Text) → level_fault serve_built [] nothing_held words false [] ≡ [] → HasServer (rows_after serve_built.rules [] words)
-serve_has_all words passes =
-    let rows = rows_after serve_built.rules [] words in
-    let has_port = is_given (codes "port") rows in
-    let has_sessions = is_given (codes "sessions") rows in
-    let parts = level_passes serve_built [] nothing_held words false [] passes in
-    let fine = rows_well ok serve_built serve_well (
-      plain_default given_board_rule refl,
-      (plain_default given_port refl, (plain_default given_sessions refl, (plain_default given_keep refl, (plain_default (filled help_rule) refl, tt)))),
-    ) words parts.0 parts.2 in
-    let port = none_missing has_port (not has_sessions || false) (asks_argument false false (not has_port || (not has_sessions || false)) parts.3) in
-    let sessions = none_missing has_sessions false port.1 in
-    let port_value = given_value (codes "port") rows fine port.0 in
-    let sessions_value = given_value (codes "sessions") rows fine sessions.0 in
-    record {
-      port = has_number 0 65535 (codes "port") rows port_value port_value.fit;
-      sessions = has_number 1 64 (codes "sessions") rows sessions_value sessions_value.fit;
-    }
-
 -- an argument that no row is of has no text
 no_text : (id : Text) (rows : List Row) → find (λ r. bytes_eq r.id id) rows ≡ None → one_of id rows ≡ None
 no_text id rows none = ap (option_and_then row_text) none
@@ -335,6 +322,27 @@ has_flag id rows holds fit = elim (found_value id rows holds) [
         | inr is ↦ inr (inl (read ∙ ap (λ (t : Text). Some t) is))
       ]
 ]
+
+-- `serve` has a port and a number of sessions, and what else a server may be asked with
+serve_has_all : (words : List Text) → level_fault serve_built [] nothing_held words false [] ≡ [] → HasServer (rows_after serve_built.rules [] words)
+serve_has_all words passes =
+    let rows = rows_after serve_built.rules [] words in
+    let has_port = is_given (codes "port") rows in
+    let has_sessions = is_given (codes "sessions") rows in
+    let parts = level_passes serve_built [] nothing_held words false [] passes in
+    let fine = rows_well ok serve_built serve_well (
+      plain_default given_board_rule refl,
+      (plain_default given_port refl, (plain_default given_sessions refl, (plain_default given_keep refl, ((λ rs. fit_default rs given_until_close (codes "false") refl refl), (plain_default (filled help_rule) refl, tt))))),
+    ) words parts.0 parts.2 in
+    let port = none_missing has_port (not has_sessions || false) (asks_argument false false (not has_port || (not has_sessions || false)) parts.3) in
+    let sessions = none_missing has_sessions false port.1 in
+    let port_value = given_value (codes "port") rows fine port.0 in
+    let sessions_value = given_value (codes "sessions") rows fine sessions.0 in
+    record {
+      port = has_number 0 65535 (codes "port") rows port_value port_value.fit;
+      sessions = has_number 1 64 (codes "sessions") rows sessions_value sessions_value.fit;
+      until_close = has_flag (codes "until-close") rows fine (λ how v fit. fit);
+    }
 
 -- `view` on words that are no fault has what a picture may be asked with
 view_has_all : (words : List Text) → level_fault view_built [] nothing_held words false [] ≡ [] → HasView (rows_after view_built.rules [] words)

@@ -51,14 +51,17 @@ is_ruled keep rows rule board same read none =
     go (Some text) kept missing one h = some_ruled (rule_asked text) rule h
 
 -- what the getters read for a server
-pub is_served : (rows : List Row) (keep : Option Text) (rule : Result (Option GenerationsRule) Misspelt) (port sessions : ℕ) → has_board rows ≡ true
-    → number_of (codes "port") rows ≡ Some port → number_of (codes "sessions") rows ≡ Some sessions → keep ≡ first_of (codes "keep") rows
-    → rule ≡ rule_if_given (first_of (codes "rule") rows) → serve_asked rows ≡ Some (serve_task keep rule port sessions)
-is_served rows keep rule port sessions board p s k r =
-    let task : ℕ → ℕ → Result Told Misspelt = serve_task (first_of (codes "keep") rows) (rule_if_given (first_of (codes "rule") rows)) in
+pub is_served : (rows : List Row) (keep : Option Text) (until_close : Bool) (rule : Result (Option GenerationsRule) Misspelt) (port sessions : ℕ) → has_board rows ≡ true
+    → number_of (codes "port") rows ≡ Some port → number_of (codes "sessions") rows ≡ Some sessions → keep ≡ first_of (codes "keep") rows → is_set (codes "until-close") rows ≡ until_close
+    → rule ≡ rule_if_given (first_of (codes "rule") rows) → serve_asked rows ≡ Some (serve_task keep until_close rule port sessions)
+is_served rows keep until_close rule port sessions board p s k u r =
+    let closes : Bool = is_set (codes "until-close") rows in
+    let task : ℕ → ℕ → Result Told Misspelt = serve_task (first_of (codes "keep") rows) closes (rule_if_given (first_of (codes "rule") rows)) in
     let there : serve_asked rows ≡ server_asked rows = ap (λ (b : Bool). if b then server_asked rows else None) board in
     let ported : server_asked rows ≡ option_map (task port) (number_of (codes "sessions") rows) = ap (option_and_then (λ (n : ℕ). option_map (task n) (number_of (codes "sessions") rows))) p in
     let seated : option_map (task port) (number_of (codes "sessions") rows) ≡ Some (task port sessions) = ap (option_map (task port)) s in
-    let kept : Some (task port sessions) ≡ Some (serve_task keep (rule_if_given (first_of (codes "rule") rows)) port sessions) =
-    ap (λ (o : Option Text). Some (serve_task o (rule_if_given (first_of (codes "rule") rows)) port sessions)) (sym k) in
-    there ∙ (ported ∙ (seated ∙ (kept ∙ ap (λ (given : Result (Option GenerationsRule) Misspelt). Some (serve_task keep given port sessions)) (sym r))))
+    let kept : Some (task port sessions) ≡ Some (serve_task keep closes (rule_if_given (first_of (codes "rule") rows)) port sessions) =
+    ap (λ (o : Option Text). Some (serve_task o closes (rule_if_given (first_of (codes "rule") rows)) port sessions)) (sym k) in
+    let closed : Some (serve_task keep closes (rule_if_given (first_of (codes "rule") rows)) port sessions) ≡ Some (serve_task keep until_close (rule_if_given (first_of (codes "rule") rows)) port sessions) =
+    ap (λ (b : Bool). Some (serve_task keep b (rule_if_given (first_of (codes "rule") rows)) port sessions)) u in
+    there ∙ (ported ∙ (seated ∙ (kept ∙ (closed ∙ ap (λ (given : Result (Option GenerationsRule) Misspelt). Some (serve_task keep until_close given port sessions)) (sym r)))))

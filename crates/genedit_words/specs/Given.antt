@@ -18,18 +18,19 @@ pub record HasNumber (low high : ℕ) (id : Text) (rows : List Row) : Type 0 whe
   pub read : one_of id rows ≡ Some (without_minus text)
   pub within : IsSignedIn (pos low) (pos high) text
 
--- what a server needs, beside a rule or a file
+-- a flag that was given, one that was not, or none
+abbrev pub HasFlag : Text → List Row → Type 0
+HasFlag id rows = (one_of id rows ≡ Some (codes "true")) ⊎ ((one_of id rows ≡ Some (codes "false")) ⊎ (one_of id rows ≡ None))
+
+-- what a server needs, beside a rule or a file, and may be asked with
 pub record HasServer (rows : List Row) : Type 0 where
   pub port : HasNumber 0 65535 (codes "port") rows
   pub sessions : HasNumber 1 64 (codes "sessions") rows
+  pub until_close : HasFlag (codes "until-close") rows
 
 -- a number from low to high, or none
 abbrev pub MayHaveNumber : ℕ → ℕ → Text → List Row → Type 0
 MayHaveNumber low high id rows = (one_of id rows ≡ None) ⊎ HasNumber low high id rows
-
--- a flag that was given, one that was not, or none
-abbrev pub HasFlag : Text → List Row → Type 0
-HasFlag id rows = (one_of id rows ≡ Some (codes "true")) ⊎ ((one_of id rows ≡ Some (codes "false")) ⊎ (one_of id rows ≡ None))
 
 -- what a picture may be asked with
 pub record HasView (rows : List Row) : Type 0 where

@@ -131,17 +131,17 @@ abbrev serve : List Text → List Text
 serve words = genedit (codes "serve" ∷ words)
 
 server : Asks (serve (codes "--rule" ∷ codes "23/3/2" ∷ codes "--port=7020" ∷ codes "--sessions" ∷ codes "64" ∷ []))
-    (serve_task None (rule_if_given (Some (codes "23/3/2"))) 7020 64)
+    (serve_task None false (rule_if_given (Some (codes "23/3/2"))) 7020 64)
 unfolding clap_on_literals
 server = (refl, refl)
 
 server_of_a_file : Asks (serve (codes "--keep" ∷ codes "my.board" ∷ codes "--port=0" ∷ codes "--sessions=2" ∷ []))
-    (Ok (Serve (record { rule = None; port = 0; sessions = 2; keep = Some (codes "my.board") })))
+    (Ok (Serve (record { rule = None; port = 0; sessions = 2; keep = Some (codes "my.board"); until_close = false })))
 unfolding clap_on_literals
 server_of_a_file = (refl, refl)
 
-server_of_both : Asks (serve (codes "--rule=/2/3" ∷ codes "--port=0" ∷ codes "--sessions=2" ∷ codes "--keep=" ∷ []))
-    (serve_task (Some []) (rule_if_given (Some (codes "/2/3"))) 0 2)
+server_of_both : Asks (serve (codes "--rule=/2/3" ∷ codes "--until-close" ∷ codes "--port=0" ∷ codes "--sessions=2" ∷ codes "--keep=" ∷ []))
+    (serve_task (Some []) true (rule_if_given (Some (codes "/2/3"))) 0 2)
 unfolding clap_on_literals
 server_of_both = (refl, refl)
 

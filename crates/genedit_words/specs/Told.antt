@@ -23,6 +23,7 @@ pub record Served : Type 0 where
   pub port : ℕ
   pub sessions : ℕ
   pub keep : Option (List ℕ)
+  pub until_close : Bool
 
 pub data Told : Type 0 where
   Run : (file : Option (List ℕ)) → Told
@@ -41,6 +42,7 @@ told_of (task.Serve server) = Serve (record {
   port = server.port;
   sessions = server.sessions;
   keep = option_map (λ s. s.now) server.keep;
+  until_close = server.until_close;
 })
 told_of (task.Join client) = Join client
 told_of (task.Check file) = Check (option_map (λ s. s.now) file)

@@ -83,7 +83,7 @@ abbrev pub board_rule : Bool → Rule
 board_rule is_needed = record (optional (codes "rule")) { required = is_needed }
 
 abbrev pub serve_shape : Bool → Shape
-serve_shape needs_rule = record (new_shape (codes "serve")) { rules = board_rule needs_rule ∷ port_option ∷ sessions_option ∷ optional (codes "keep") ∷ [] }
+serve_shape needs_rule = record (new_shape (codes "serve")) { rules = board_rule needs_rule ∷ port_option ∷ sessions_option ∷ optional (codes "keep") ∷ flag (codes "until-close") ∷ [] }
 
 abbrev pub check_shape : Shape
 check_shape = record (new_shape (codes "check")) { rules = file_argument ∷ [] }
@@ -193,15 +193,15 @@ has_board rows = is_some (first_of (codes "rule") rows) || is_some (first_of (co
 abbrev pub lacks_rule : Text × List Row → Bool
 lacks_rule subcommand = bytes_eq subcommand.0 (codes "serve") && not (has_board subcommand.1)
 
-abbrev pub serve_task : Option Text → Result (Option GenerationsRule) Misspelt → ℕ → ℕ → Result Told Misspelt
-serve_task keep (Ok rule) port sessions = Ok (Serve (record { rule = rule; port = port; sessions = sessions; keep = keep }))
-serve_task keep (Err fault) port sessions = Err fault
+abbrev pub serve_task : Option Text → Bool → Result (Option GenerationsRule) Misspelt → ℕ → ℕ → Result Told Misspelt
+serve_task keep until_close (Ok rule) port sessions = Ok (Serve (record { rule = rule; port = port; sessions = sessions; keep = keep; until_close = until_close }))
+serve_task keep until_close (Err fault) port sessions = Err fault
 
 -- a server under the rule that the option spells if it is given, at the port and of as many sessions as the
--- options spell, of a board that is kept in the file that is named, if one is
+-- options spell, of a board that is kept in the file that is named, if one is, which a line may end where that is asked for
 abbrev pub server_asked : List Row → Option (Result Told Misspelt)
 server_asked rows = option_and_then (λ port.
-    option_map (λ sessions. serve_task (first_of (codes "keep") rows) (rule_if_given (first_of (codes "rule") rows)) port sessions)
+    option_map (λ sessions. serve_task (first_of (codes "keep") rows) (is_set (codes "until-close") rows) (rule_if_given (first_of (codes "rule") rows)) port sessions)
     (number_of (codes "sessions") rows)) (number_of (codes "port") rows)
 
 -- such a server, of words that tell a rule or a file

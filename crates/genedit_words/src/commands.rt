@@ -85,20 +85,21 @@ Examples:
 
 const SERVE_HELP: &str = "\
 Serves one board to programs on this machine, each of which speaks the protocol of docs/FORMATS.md over
-a connection to 127.0.0.1. Every user of this machine may connect. A seat is a connection: the first one
-that comes is seat 1, and each that comes counts for ever, also one that was lost. So begin with more
-sessions than people: for a class take --sessions 64. Whoever comes after the last is answered that all
-seats are taken. The rule is survival/birth/states, or as Golly spells it, as B3/S23 or Star Wars.
+a connection to 127.0.0.1. Every user of this machine may connect. The first connection that comes is seat
+1, and so on; whoever finds each seat taken is answered that all are. Without --keep a seat is one
+connection, also one that was lost: so begin with more sessions than people, for a class with --sessions
+64. The rule is survival/birth/states, or as Golly spells it, as B3/S23 or Star Wars.
 
-It prints `listening PORT`. Once each seat was used and all have ended it prints a line for each of them,
-`session SEAT EDITS ..`, and `closed EDITS`, and ends. Seats that nobody needs any more are used up by
-connections that end at once, as by `nc -z 127.0.0.1 PORT`. Ctrl-C, SIGTERM, a logout and a terminal that
-is closed end it at once: without these lines, and with its board where no file keeps it, so let somebody
-save it first.
+It prints `listening PORT`. At its end it prints a line for each seat, `session SEAT edits EDITS ..`, and
+`closed EDITS`. Without --keep it ends once each seat was used and all have left. With --until-close a line
+`close` on standard input ends it: each client is answered what it asked, and nobody more is seated. Ctrl-C,
+SIGTERM, a logout and a terminal that is closed end it at once: without these lines, and with its board
+where no file keeps it, so let somebody save it first.
 
 With --keep FILE the board is kept in FILE, made where there is none: what was answered to a client is on
 the disk. A server that is started again on FILE goes on with its board; --rule may be left out where FILE
-is there.
+is there. Seats come back: whoever leaves makes room, N is how many sit at once, and whoever comes gets a
+seat that nobody had, else the one that was left longest ago, once there is one within a second.
 
 Examples:
   genedit serve --rule B3/S23 --port 7020 --sessions 64      a class draws Life
@@ -109,8 +110,8 @@ From another machine: ssh -L 7020:127.0.0.1:7020 HOST, and connect to port 7020 
 
 /// How `serve` is used: with a rule, or with a file that names one.
 const SERVE_USAGE: &str = "\
-genedit serve --rule <TEXT> --port <P> --sessions <N> [--keep <FILE>]
-       genedit serve --keep <FILE> --port <P> --sessions <N>";
+genedit serve --rule <TEXT> --port <P> --sessions <N> [--keep <FILE>] [--until-close]
+       genedit serve --keep <FILE> --port <P> --sessions <N> [--until-close]";
 
 /// What `genedit join --help` tells of clients: a line for each of their keywords, and what it does.
 pub const JOIN_HELP: &str = "\
@@ -338,6 +339,11 @@ fn serve_command<'a>(alloc: Global, needs_rule: bool) -> Result<Command<'a>, All
             "keep",
             "FILE",
             "The file in which the board is kept, made where there is none",
+        ))?
+        .arg(flag(
+            alloc,
+            "until-close",
+            "Ends at a line `close` on standard input",
         ))?;
     Ok(command)
 }

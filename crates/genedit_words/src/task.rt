@@ -21,6 +21,8 @@ pub struct ServeTask<'a> {
     pub sessions: u16,
     /// The file in which the board is kept; it is kept nowhere if none is given.
     pub keep: Option<&'a str>,
+    /// Whether a line `close` on standard input ends it.
+    pub until_close: bool,
 }
 
 /// A client of a board that is served.

@@ -152,6 +152,7 @@ fn serve<'a>(words: &ArgMatches<'a>) -> Result<Task<'a>, MisspeltRule<'a>>
         port,
         sessions,
         keep: words.get_str("keep"),
+        until_close: is_set(words, "until-close"),
     }))
 }
 

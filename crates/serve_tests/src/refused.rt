@@ -2,7 +2,7 @@
 
 use devices::{Failed, Sink};
 use genedit_io::{Cause, RunFault};
-use genedit_serve::{ServedBoard, listen, serve_on};
+use genedit_serve::{Address, ServedBoard, listen, serve_on};
 use generations_rule::Rule;
 use keyed_hash::HashKey;
 use std::net::TcpStream;
@@ -57,14 +57,17 @@ fn an_output_that_takes_nothing(rt: HostRuntime) -> Result<(), Fail> {
         pushes: 0,
         failures: 0,
     };
-    let listener = listen(&rt, 0)?;
+    let address = Address {
+        listener: listen(&rt, 0)?,
+        closing: None,
+    };
     let board = ServedBoard {
         rule,
         sessions: 1,
         key: HashKey::fixed(),
     };
     assert_eq!(&rt;
-        serve_on(rt, rt.alloc(), listener, board, &mut full),
+        serve_on(rt, rt.alloc(), address, board, &mut full),
         Err(RunFault::Write)
     );
     assert_eq!(&rt; full.pushes, 1);

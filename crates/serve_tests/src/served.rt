@@ -4,7 +4,7 @@ ghost use Rattle.std.specs.Prelude.{◌≤◌};
 
 use devices::WriteSink;
 use genedit_io::RunFault;
-use genedit_serve::{ServedBoard, listen, serve_on};
+use genedit_serve::{Address, ServedBoard, listen, serve_on};
 use generations_rule::Rule;
 use keyed_hash::HashKey;
 use std::alloc::Global;
@@ -87,12 +87,10 @@ fn run<
         key: HashKey::fixed(),
     };
     let mut printed = Vec::new(alloc);
-    let end = serve_on(
-        rt,
-        alloc,
+    let address = Address {
         listener,
-        board,
-        &mut WriteSink::new(&mut printed),
-    );
+        closing: None,
+    };
+    let end = serve_on(rt, alloc, address, board, &mut WriteSink::new(&mut printed));
     Outcome { end, printed }
 }

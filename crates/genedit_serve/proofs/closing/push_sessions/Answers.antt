@@ -4,11 +4,11 @@ use Rattle.genedit_serve.proofs.ServingLaws.{no_line}
 use Rattle.genedit_serve.proofs.closing.push_sessions.Goals as goal
 
 pub returns : goal.returns
-returns g c =
+returns c =
     let accepted = c.loop-edits.edits-iterator.a.rest.now in
-    let visits = c.loop-edits.edits-iterator.b.rest.now in
-    let none : (length accepted ≡ 0) ⊎ (length visits ≡ 0) = elim c.in-None.ensures.steps [
+    let ends = c.loop-edits.edits-iterator.b.rest.now in
+    let none : (length accepted ≡ 0) ⊎ (length ends ≡ 0) = elim c.in-None.ensures.steps [
       | inl empty ↦ inl empty.1.0
       | inr empty ↦ inr empty.1.0
     ] in
-    no_line c.loop-edits.out.items (c.args.out.now.items ++ session_lines 1 c.args.accepted.now c.args.visits.now) c.loop-edits.number accepted visits none c.loop-edits.invariant.0
+    no_line c.loop-edits.out.items (c.args.out.now.items ++ session_lines 1 c.args.accepted.now c.args.ends.now) c.loop-edits.number accepted ends none c.loop-edits.invariant.0

@@ -1,13 +1,23 @@
-use Rattle.std.proofs.Common.{ℕ, subst}
+use Rattle.std.proofs.Common.{ℕ, List, subst}
 use Rattle.devices.specs.Sink.{KnownSink}
 use Rattle.genedit_serve.specs.Keeping.{TellsKept}
-use Rattle.genedit_serve.proofs.KeptLaws.{told_both, unclosed, untold}
+use Rattle.kept_server.specs.Serving.{IsServedBeside}
+use Rattle.relay_board.specs.Seating.{Seating}
+use Rattle.genedit_serve.proofs.KeptLaws.{attended_order, told_both, unattended_yet, unclosed, untold}
 use Rattle.genedit_serve.proofs.kept.serve.Goals as goal
+
+pub seats_served-requires-clause-order : goal.seats_served-requires-clause-order
+seats_served-requires-clause-order g c κs within =
+    attended_order c.in-Ok.prepared.keeper.relay.made c.in-Ok.prepared.seats.seats.items c.in-Ok-begun.seated.0 c.in-Ok.prepared.seats.file c.in-Ok-begun.ensures.seats c.in-Ok.ensures.order
+
+pub returns-in-Err-begun : goal.returns-in-Err-begun
+returns-in-Err-begun g c =
+    unattended_yet c.args.place.bound.port (g.K.Sink.known c.args.sink.now) c.in-Err-begun.fault c.server_fault.result c.from.result.fault c.from.ensures c.server_fault.ensures c.in-Err-begun.ensures.fault
 
 pub returns-in-Err-told : goal.returns-in-Err-told
 returns-in-Err-told g c =
     untold c.args.place.bound.port c.in-Ok.prepared.edits c.in-Ok.prepared.lost (g.K.Sink.known c.args.sink.now) (g.K.Sink.known c.told.new.sink)
-    c.in-Err-told.fault c.from.result.fault c.from.ensures c.in-Err-told.ensures.untold
+    c.in-Err-told.fault c.from-in-Err-told.result.fault c.from-in-Err-told.ensures c.in-Err-told.ensures.untold
 
 pub returns-in-Err-seats_served : goal.returns-in-Err-seats_served
 returns-in-Err-seats_served g c =
@@ -25,7 +35,7 @@ returns-in-Ok-closed g c =
       file = c.in-Ok.prepared.seats.file;
       are = c.in-Ok.ensures.seats;
       finished = c.in-Ok-seats_served.finished;
-      served = c.in-Ok-seats_served.ensures.served;
+      served = subst (λ (ss : List Seating). IsServedBeside c.in-Ok.prepared.keeper.relay.origin ss c.in-Ok.prepared.seats.file c.in-Ok-seats_served.finished) c.in-Ok-begun.ensures.seats c.in-Ok-seats_served.ensures.served;
       lost = c.in-Ok.prepared.lost;
       between = between;
       tells = subst (λ (n : ℕ). TellsKept n c.in-Ok.prepared.lost c.args.place.bound.port from between) c.in-Ok.ensures.edits c.in-Ok-told.ensures.told;

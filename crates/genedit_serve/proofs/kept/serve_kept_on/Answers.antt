@@ -9,7 +9,7 @@ pub returns-in-Ok-start_within : goal.returns-in-Ok-start_within
 returns-in-Ok-start_within g c =
     let from : KnownSink = g.K.Sink.known c.args.sink.now in
     let to : KnownSink = g.K.Sink.known c.serve.new.sink in
-    let port : ℕ = c.port-port.result in
+    let port : ℕ = c.port.result in
     let many : c.in-Ok-start_within.opened.count ≡ c.args.board.sessions + 1 = c.in-Ok-start_within.ensures.ok.1 in (
       port,
       subst (λ (rule : GenerationsRule). ServesKeptAt rule c.args.board.sessions port from to c.serve.result) c.in-Ok-start_within.ensures.ok.2

@@ -19,8 +19,8 @@ returns-clause-asked c =
     let rows = rows_of (found_of c.args.words.now) in
     let ruled : Ok c.in_ok-rule.rule ≡ rule_if_given (first_of (codes "rule") rows) =
     sym (ap (λ (r : Result (Option GenerationsRule) MisspeltRule). or_misspelt r) c.in_ok-rule.was) ∙ c.rule_if_given.ensures in
-    is_served rows (option_map (λ s. s.now) c.get_str.result) (Ok c.in_ok-rule.rule) c.number-port.result c.number-sessions.result c.requires.board
-    c.number-port.ensures.value c.number-sessions.ensures.value (c.get_str.ensures ∙ first_value-rows (found_of c.args.words.now) (codes "keep")) ruled
+    is_served rows (option_map (λ s. s.now) c.get_str.result) c.is_set.result (Ok c.in_ok-rule.rule) c.number-port.result c.number-sessions.result c.requires.board
+    c.number-port.ensures.value c.number-sessions.ensures.value (c.get_str.ensures ∙ first_value-rows (found_of c.args.words.now) (codes "keep")) c.is_set.ensures ruled
 
 pub returns-clause-range : goal.returns-clause-range
 returns-clause-range c =
