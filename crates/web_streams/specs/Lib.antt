@@ -1,0 +1,10 @@
+pub mod Frame
+pub mod Messages
+pub mod One
+pub mod Hearing
+pub mod Session
+pub mod Telling
+pub mod Writing
+pub mod Behind
+pub mod Head
+pub mod Opening
