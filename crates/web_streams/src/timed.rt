@@ -12,6 +12,7 @@ const LAST: usize = 65_536;
 const PIECE: usize = 2048;
 
 /// A connection that is read and written until a time, from which on each call fails.
+#[derive(Drop)]
 pub struct Timed<'a, C> {
     stream: &'a TcpStream,
     clock: &'a C,

@@ -36,6 +36,13 @@ impl<S: Write> SocketWriter<S> {
             is_cut: false,
         }
     }
+
+    /// The connection that it writes to.
+    pub fn connection(&self) -> &S
+        ensures { result.now ≡ self.now.connection }
+    {
+        &self.connection
+    }
 }
 
 impl<S: Write> Write for SocketWriter<S> {
