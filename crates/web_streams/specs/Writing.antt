@@ -2,7 +2,9 @@
 use Rattle.std.specs.Prelude.{◌≡◌, ℕ, ◌⊎◌, true, List, length, Option}
 use Rattle.std.specs.Io.KnownBytes.{Appends}
 use Rattle.message_frames.specs.Frames.{frame_text}
-use Rattle.web_streams.specs.Telling.{message_of}
+use Rattle.std.specs.declared.io.ErrorKind.{ErrorKind}
+use Rattle.std.specs.declared.io.ErrorKind.TheVariants.{OutOfMemory}
+use Rattle.web_streams.specs.Telling.{message_of, IsNoFrame}
 use Rattle.web_streams.specs.declared.writer.SocketWriter.{SocketWriter}
 
 module _ {S : Type 0} where
@@ -14,6 +16,7 @@ module _ {S : Type 0} where
     pub told : Appends (contents old.connection) (contents new.connection) (message_of body)
     pub goes_on : new.is_cut ≡ old.is_cut
 
-  -- nothing was written, or a message was cut, and nothing will be written
-  abbrev pub Refuses : SocketWriter S → SocketWriter S → Type 0
-  Refuses old new = (new ≡ old) ⊎ (new.is_cut ≡ true)
+  -- Nothing was written: behind a message that was cut, for what is no frame, or for want of memory; or a message was cut now,
+  -- and nothing will be written.
+  abbrev pub Refuses : SocketWriter S → SocketWriter S → List ℕ → ErrorKind → Type 0
+  Refuses old new frame kind = ((new ≡ old) × ((old.is_cut ≡ true) ⊎ IsNoFrame frame ⊎ (kind ≡ OutOfMemory))) ⊎ (new.is_cut ≡ true)

@@ -1,6 +1,6 @@
 //! What a session reads from.
 
-ghost use Rattle.std.specs.Prelude.{◌≡◌, ◌≤◌, [], length, false, Some, IfOk, OnErr};
+ghost use Rattle.std.specs.Prelude.{◌≡◌, ◌≤◌, [], length, false, Some, IfErr, IfOk, OnErr};
 
 use crate::came::Came;
 use crate::connection::Connection;
@@ -163,6 +163,7 @@ impl<S: Connection> SocketReader<S> {
 }
 
 impl<S: Connection> Read for SocketReader<S> {
+    ghost use Rattle.std.specs.IoError.{error_kind};
     ghost use Rattle.web_streams.specs.Hearing.{Pulls, PullsNothing};
 
     /// Waits for a message where none is in hand, and gives of its frame. It gives no byte only behind a whole frame,
@@ -171,6 +172,7 @@ impl<S: Connection> Read for SocketReader<S> {
         ensures bound { IfOk result (λ count. count ≤ length piece.new) }
         ensures pulled { IfOk result (λ count. Pulls self.old self.new count piece.new) }
         ensures blocked { OnErr result (PullsNothing self.old self.new) }
+        ensures would_block { IfErr result (λ e. error_kind e ≡ ErrorKind.WouldBlock) }
     {
         if piece.is_empty() {
             return Ok(0);

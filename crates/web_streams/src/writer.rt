@@ -46,6 +46,7 @@ impl<S: Write> SocketWriter<S> {
 }
 
 impl<S: Write> Write for SocketWriter<S> {
+    ghost use Rattle.std.specs.IoError.{error_kind};
     ghost use Rattle.web_streams.specs.Writing.{Refuses, Tells};
 
     /// Sends the body of a frame as one message. It fails with `InvalidInput` for what is no frame, and with
@@ -53,7 +54,7 @@ impl<S: Write> Write for SocketWriter<S> {
     fn write(&mut self, frame: &[u8]) -> io::Result<usize>
         ensures bound { IfOk result (λ count. count ≤ length frame.now) }
         ensures told { IfOk result (λ count. Tells S.contents self.old self.new count frame.now) }
-        ensures refused { IfErr result (λ _. Refuses self.old self.new) }
+        ensures refused { IfErr result (λ e. Refuses self.old self.new frame.now (error_kind e)) }
         ensures no_frame { IsNoFrame frame.now → IsErr result }
         ensures cut { IsTrue self.old.is_cut → IsErr result }
     {
