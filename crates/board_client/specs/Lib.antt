@@ -11,3 +11,4 @@ pub mod Drawing
 pub mod Saying
 pub mod Greeting
 pub mod Laws
+pub mod Anew

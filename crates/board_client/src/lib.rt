@@ -4,6 +4,7 @@
 //! handed (Shapiro et al., INRIA RR-7506).
 #![tactic(auto)]
 
+mod anew;
 mod awaiting;
 mod fault;
 mod greeting;

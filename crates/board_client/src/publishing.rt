@@ -81,7 +81,7 @@ impl<'a, C: Clock, S: Source + Drop, K: Sink + Drop> Server<'a, C, S, K> {
     }
 
     /// Says the push of an edit.
-    fn say_push(&mut self, rule: &Rule, edit: Edit) -> Result<Saying, ClientFault>
+    pub(crate) fn say_push(&mut self, rule: &Rule, edit: Edit) -> Result<Saying, ClientFault>
         requires { IsTrue (has_states_below rule.now.states edit) }
         ensures { SaysPush rule.now (Ok edit) self.old self.new result }
     {
@@ -113,7 +113,7 @@ impl<'a, C: Clock, S: Source + Drop, K: Sink + Drop> Server<'a, C, S, K> {
     }
 
     /// Has a replica take an edit that the board has.
-    fn take_own(&mut self, replica: &mut Replica, pushed: Pushed) -> Result<Drawing, ClientFault>
+    pub(crate) fn take_own(&mut self, replica: &mut Replica, pushed: Pushed) -> Result<Drawing, ClientFault>
         requires { pushed.rule ≡ replica.old.rule }
         ensures line { self.new ≡ self.old }
         ensures taken { IsOwnTaken pushed.edit replica.old replica.new result }

@@ -51,6 +51,13 @@ impl Pushed {
         &self.edit
     }
 
+    /// Whether it was drawn under a rule.
+    pub fn is_of(&self, rule: &Rule) -> bool
+        ensures { IsTrue result ↔ (self.now.rule ≡ rule.now) }
+    {
+        self.rule.same(rule)
+    }
+
     /// The request that it be published.
     pub(crate) fn request(&self) -> &Framed
         ensures { result.now ≡ push_bytes self.now.rule self.now.edit }

@@ -9,3 +9,4 @@ pub mod LineLaws
 pub mod FollowLaws
 pub mod BehindLaws
 pub mod PollLaws
+pub mod ReturnLaws

@@ -1,5 +1,6 @@
 -- What is told of a board is what the replica holds.
 use Rattle.std.proofs.Common.{◌≡◌, ℕ, true, List, [], ◌∷◌, ◌++◌, Option, Some, None, Result, Ok, Err, length, drop, refl, sym, ap, subst, ◌∙◌, inl, inr}
+use Rattle.std.specs.Prelude.{is_some}
 use Rattle.generations_rule.specs.Rule.{GenerationsRule}
 use Rattle.edit_stamps.specs.Edit.{PlaneEdit, greatest}
 use Rattle.stamped_writes.specs.Write.{Writes, AreSame, greater, joined, unwritten}
@@ -18,18 +19,21 @@ use Rattle.board_client.specs.Polling.{IsFallenBack, IsNewsHeard, IsPoll, poll_r
 use Rattle.board_client.specs.declared.polling.Polling.TheVariants as polling
 use Rattle.board_client.specs.declared.publishing.Drawing.{Drawing}
 use Rattle.board_client.specs.declared.publishing.Drawing.TheVariants.{Drawn, Refused, Unpublished}
-use Rattle.board_client.specs.Drawing.{IsDrawing, IsPublishingBy, Pushes}
-use Rattle.board_client.specs.Pushing.{IsPush, IsPushEnd}
-use Rattle.replica_events.specs.declared.edit_spec.EditSpec.{EditSpec}
+use Rattle.board_client.specs.Anew.{IsAnewSaid}
+use Rattle.board_client.specs.Drawing.{IsPublishingBy, Pushes}
+use Rattle.board_client.specs.Pushed.{PushedEdit}
+use Rattle.board_client.specs.Pushing.{IsPushEnd}
+use Rattle.board_client.specs.Saying.{IsDrawingSaid}
 use Rattle.pattern_cells.specs.declared.cell.Cell.{Cell}
 use Rattle.pattern_cells.specs.Cells.{place_of}
 use Rattle.cell_changes.specs.Changes.{AreChanges}
+use Rattle.client_session.specs.declared.outcome.Outcome.{Outcome}
 use Rattle.client_session.specs.declared.joining.Telling.{Telling}
 use Rattle.client_session.specs.declared.joining.Telling.TheVariants.{Edits, Changes, Nothing}
 use Rattle.client_session.specs.declared.workspace.Workspace.{Workspace}
-use Rattle.client_session.specs.Drawing.{TellsDrawing}
+use Rattle.client_session.specs.Drawing.{DrawsBy, IsDrawingTold, Says, TellsDrawing, undoubted}
 use Rattle.client_session.specs.Joining.{IsBlank}
-use Rattle.client_session.specs.Lines.{drawn_line, now_line}
+use Rattle.client_session.specs.Lines.{drawn_as, now_line}
 use Rattle.client_session.specs.Moment.{Moment}
 use Rattle.client_session.specs.Telling.{ShowsAll, TellsCame}
 use Rattle.client_session.specs.Laws.{IsShown, IsShownAs, OfEach, ShowsWhatItHeard, ShowsWhatItHolds, TellsWhatChanged, TellsWhatTookItsPlace}
@@ -97,25 +101,35 @@ published_shown : (P : Pushes) (drawing : Drawing) (e : PlaneEdit) (m n : Moment
 published_shown P (Drawn counter) e m n is shown d tells =
     let takes = d.1.1 in
     record {
-      shown = shown_behind m.workspace.shown n.workspace.shown m.workspace.replica.plane n.workspace.replica.plane [] (drop (length m.workspace.replica.journal) n.workspace.replica.journal) (m.out ++ drawn_line counter n.workspace.replica.number) n.out
+      shown = shown_behind m.workspace.shown n.workspace.shown m.workspace.replica.plane n.workspace.replica.plane [] (drop (length m.workspace.replica.journal) n.workspace.replica.journal) (m.out ++ drawn_as (is_some m.workspace.doubt) counter n.workspace.replica.number) n.out
           shown.shown (joins_behind m.workspace.replica.journal n.workspace.replica.journal (map_of m.workspace.replica.plane) (map_of n.workspace.replica.plane)
           (took m.workspace.replica n.workspace.replica takes.0 (e ∷ []) is.journal.held takes.1 takes.2)) tells.told;
     }
 published_shown P (Refused fault) e m n is shown d tells = absurd d
 published_shown P (Unpublished number) e m n is shown d tells = still_shown m.workspace n.workspace (ap (λ s. s.shown) tells.kept) d.1 shown
 
--- behind a drawing
-drawn_shown : (drawing : Drawing) (after : ℕ) (spec : EditSpec) (m n : Moment) → IsReplica m.workspace.replica → IsShown m.workspace → IsDrawing after spec m.line n.line m.workspace.replica n.workspace.replica (Ok drawing)
-    → TellsDrawing drawing (length m.workspace.replica.journal) (record m.workspace { replica = n.workspace.replica }) n.workspace m.out n.out → IsShown n.workspace
-drawn_shown (Drawn counter) after spec m n is shown d tells = published_shown IsPush (Drawn counter) d.2.0 m n is shown d.2.2 tells
-drawn_shown (Refused fault) after spec m n is shown d tells = still_shown m.workspace n.workspace (ap (λ s. s.shown) tells.1) d.2.1.1 shown
-drawn_shown (Unpublished number) after spec m n is shown d tells = published_shown IsPush (Unpublished number) d.2.0 m n is shown d.2.2 tells
+-- behind a push that was said
+ended_shown : (pushed : PushedEdit) (outcome : Outcome) (m n : Moment) → IsReplica m.workspace.replica → IsShown m.workspace → IsDrawingTold pushed m n (Ok outcome) → IsShown n.workspace
+ended_shown pushed outcome m n is shown d = published_shown IsPushEnd d.drawing pushed.edit m n is shown d.drawn d.told
+
+-- behind a drawing, or where there is no such edit
+drawn_shown : (S : Says) (m base n : Moment) (outcome : Outcome) → base.workspace.shown ≡ m.workspace.shown → base.workspace.replica ≡ m.workspace.replica → IsReplica m.workspace.replica → IsShown m.workspace
+    → DrawsBy S m base n (Ok outcome) → IsShown n.workspace
+drawn_shown S m base n outcome same_shown same is shown (inl refused) =
+    still_shown m.workspace n.workspace (ap (λ (s : Workspace). s.shown) refused.told.1.workspace ∙ same_shown) (ap (λ (s : Workspace). s.replica) refused.told.1.workspace ∙ same) shown
+drawn_shown S m base n outcome same_shown same is shown (inr said) = ended_shown said.pushed outcome (record m { line = said.line }) n is (record { shown = shown.shown }) said.ends
 
 pub shows_what_it_holds : ShowsWhatItHolds
 shows_what_it_holds = record {
   joined = λ telling number rule s fresh. record { shown = blank_shown telling s.shown s.replica.plane fresh.replica.map fresh.shown };
-  drawn = λ after spec outcome m n is shown d. drawn_shown d.drawing after spec m n is shown d.drawn d.told;
-  published = λ e outcome m n is shown d. published_shown IsPushEnd d.drawing e m n is shown d.drawn d.told;
+  drawn = λ after spec outcome m n is shown d. drawn_shown (IsDrawingSaid after spec) m m n outcome refl refl is shown d;
+  published = λ pushed outcome m n is shown d. ended_shown pushed outcome m n is shown d;
+  anew = λ outcome m n is shown d. drawn_shown (IsAnewSaid d.0) m (undoubted m) n outcome refl refl is shown d.2;
+  returned = λ a before m n back.
+      let t = back.seated.told in
+      record {
+        shown = subst (λ (s : Workspace). IsShownAs s.replica.plane s.shown) (sym t.seat) (all_shown m.workspace.shown t.told.shown back.seated.r.plane t.tells.cells t.tells.shows);
+      };
 }
 
 -- texts of edits were taken, one after another

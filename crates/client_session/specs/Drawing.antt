@@ -1,7 +1,6 @@
 -- What a drawing does.
-use Rattle.std.specs.Prelude.{◌≡◌, ◌⊎◌, ℕ, Bool, true, false, ◌==◌, if◌then◌else◌, List, [], ◌++◌, length, drop, Option, Some, None, IsSome, option_map, Result, Ok, Err}
+use Rattle.std.specs.Prelude.{◌≡◌, ◌⊎◌, ℕ, Bool, true, false, ◌==◌, if◌then◌else◌, List, [], ◌++◌, length, drop, Option, Some, None, IsSome, is_some, option_map, Result, Ok, Err}
 use Rattle.pattern_cells.specs.Pattern.{RlePattern}
-use Rattle.edit_stamps.specs.Edit.{PlaneEdit}
 use Rattle.replica_events.specs.declared.edit_spec.EditSpec.{EditSpec}
 use Rattle.replica_events.specs.declared.edit_spec.EditSpec.TheVariants as spec
 use Rattle.replica_core.specs.Replica.{ReplicaState}
@@ -13,10 +12,12 @@ use Rattle.board_client.specs.declared.polling.Polling.{Polling}
 use Rattle.board_client.specs.declared.polling.Polling.TheVariants as polling
 use Rattle.board_client.specs.declared.publishing.Drawing.{Drawing}
 use Rattle.board_client.specs.declared.publishing.Drawing.TheVariants.{Drawn, Refused, Unpublished}
+use Rattle.board_client.specs.declared.publishing.Saying.{Saying}
 use Rattle.board_client.specs.declared.publishing.Saying.TheVariants as saying
+use Rattle.board_client.specs.Anew.{IsAnewSaid, doubt_behind}
 use Rattle.board_client.specs.declared.fault.ClientFault.{ClientFault}
 use Rattle.board_client.specs.Client.{LineState}
-use Rattle.board_client.specs.Drawing.{IsDrawing, IsPublishingEnd}
+use Rattle.board_client.specs.Drawing.{IsPublishingEnd}
 use Rattle.board_client.specs.Polling.{IsFallenBack}
 use Rattle.board_client.specs.Pushed.{PushedEdit}
 use Rattle.board_client.specs.Saying.{IsDrawingSaid}
@@ -30,8 +31,8 @@ use Rattle.client_session.specs.declared.pasting.PasteMode.TheVariants as mode
 use Rattle.client_session.specs.declared.polling.News.{News}
 use Rattle.client_session.specs.declared.polling.News.TheVariants as news
 use Rattle.client_session.specs.declared.workspace.Workspace.{Workspace}
-use Rattle.client_session.specs.Lines.{drawn_line, nameless_line, refusal_line}
-use Rattle.client_session.specs.Moment.{IsPrinted, KeepsRest, LacksTelling, Moment, counted_behind, taken}
+use Rattle.client_session.specs.Lines.{drawn_as, nameless_line, refusal_line}
+use Rattle.client_session.specs.Moment.{IsPrinted, LacksTelling, Moment, counted_behind, taken}
 use Rattle.client_session.specs.News.{BehindPoll, EndsPollingBy, IsPollToldBy, IsReplyHeard, Leaves, PollsBy, answered}
 use Rattle.client_session.specs.Telling.{CameFindsNoRoom, TellsCame}
 
@@ -43,15 +44,16 @@ outcome_of (Drawn counter) = outcome.Drawn
 outcome_of (Refused fault) = outcome.Refused
 outcome_of (Unpublished number) = if number == 30 then outcome.InDoubt else outcome.Refused
 
--- an edit was drawn, the one behind so many of the journal, and is none of others; where a map is told, what it changes is told behind that
+-- an edit was drawn, the one behind so many of the journal, and is none of others; where a map is told, what it changes is told behind that;
+-- where one was in doubt, it is that one, drawn anew, which is told so
 pub record TellsDrawn (counter known : ℕ) (old new : Workspace) (out out' : List ℕ) : Type 0 where
-  pub told : TellsCame [] (drop known old.replica.journal) old.shown new.shown (out ++ drawn_line counter old.replica.number) out'
-  pub kept : new ≡ record old { shown = new.shown; counted = counted_behind known old }
+  pub told : TellsCame [] (drop known old.replica.journal) old.shown new.shown (out ++ drawn_as (is_some old.doubt) counter old.replica.number) out'
+  pub kept : new ≡ record old { shown = new.shown; counted = counted_behind known old; doubt = None }
 
 -- a push was refused; where by 30, the board is closed to the client from now on
 pub record TellsRefusedPush (number : ℕ) (old new : Workspace) (out out' : List ℕ) : Type 0 where
   pub told : out' ≡ out ++ refusal_line number
-  pub kept : new ≡ record old { closed = number == 30 }
+  pub kept : new ≡ record old { closed = number == 30; doubt = None }
 
 -- what is told of a drawing, by a client whose replica took the edit, if it was drawn
 abbrev pub TellsDrawing : Drawing → ℕ → Workspace → Workspace → List ℕ → List ℕ → Type 0
@@ -61,47 +63,89 @@ TellsDrawing (Unpublished number) known old new out out' = TellsRefusedPush numb
 
 -- room is wanting for what an edit changes, behind the line that it was drawn; of a refusal none is wanted
 abbrev pub DrawingFindsNoRoom : Drawing → ℕ → Workspace → Workspace → List ℕ → List ℕ → Type 0
-DrawingFindsNoRoom (Drawn counter) known old new out out' = CameFindsNoRoom (drop known old.replica.journal) old.shown new.shown (out ++ drawn_line counter old.replica.number) out'
+DrawingFindsNoRoom (Drawn counter) known old new out out' = CameFindsNoRoom (drop known old.replica.journal) old.shown new.shown (out ++ drawn_as (is_some old.doubt) counter old.replica.number) out'
 DrawingFindsNoRoom (Refused fault) known old new out out' = ⊥
 DrawingFindsNoRoom (Unpublished number) known old new out out' = ⊥
 
 -- ---- what is done
 
--- what comes of a drawing on the line, and what a replica takes of it
-abbrev pub Draws : Type 1
-Draws = LineState → LineState → ReplicaState → ReplicaState → Result Drawing ClientFault → Type 0
+-- what comes of a push that was said on the line, and what a replica takes of it
+abbrev pub EndsPush : PushedEdit → Moment → Moment → Result Drawing ClientFault → Type 0
+EndsPush pushed m n result = IsPublishingEnd pushed.edit m.line n.line m.workspace.replica n.workspace.replica result
 
 -- it came so, and was told
-pub record DrawsAndTellsBy (P : Draws) (m n : Moment) (came : Outcome) : Type 0 where
+pub record DrawsAndTells (pushed : PushedEdit) (m n : Moment) (came : Outcome) : Type 0 where
   pub drawing : Drawing
-  pub drawn : P m.line n.line m.workspace.replica n.workspace.replica (Ok drawing)
+  pub drawn : EndsPush pushed m n (Ok drawing)
   pub told : TellsDrawing drawing (length m.workspace.replica.journal) (taken m n) n.workspace m.out n.out
   pub outcome_is : came ≡ outcome_of drawing
 
--- it failed, and nothing is told of it
-pub record FailsDrawingBy (P : Draws) (fault : ClientFault) (m n : Moment) : Type 0 where
-  pub drawn : P m.line n.line m.workspace.replica n.workspace.replica (Err fault)
-  pub kept : KeepsRest m.workspace n.workspace
+-- it failed, and nothing is told of it; where no answer came the edit is in doubt from now on
+pub record FailsDrawing (pushed : PushedEdit) (fault : ClientFault) (m n : Moment) : Type 0 where
+  pub drawn : EndsPush pushed m n (Err fault)
+  pub kept : n.workspace ≡ record m.workspace { replica = n.workspace.replica; doubt = doubt_behind pushed m.workspace.doubt (Err fault) }
   pub told : n.out ≡ m.out
 
 -- it was made, but what came of it is not all told
-abbrev pub IsDrawnUntoldBy : Draws → CommandFault → Moment → Moment → Type 0
-IsDrawnUntoldBy P fault m n = LacksTelling (λ drawing. P m.line n.line m.workspace.replica n.workspace.replica (Ok drawing))
+abbrev pub IsDrawnUntold : PushedEdit → CommandFault → Moment → Moment → Type 0
+IsDrawnUntold pushed fault m n = LacksTelling (λ drawing. EndsPush pushed m n (Ok drawing))
     (λ drawing. DrawingFindsNoRoom drawing (length m.workspace.replica.journal) (taken m n) n.workspace m.out n.out) fault m n
 
-abbrev pub IsDrawingToldBy : Draws → Moment → Moment → Result Outcome CommandFault → Type 0
-IsDrawingToldBy P m n (Ok came) = DrawsAndTellsBy P m n came
-IsDrawingToldBy P m n (Err (faults.Client fault)) = FailsDrawingBy P fault m n
-IsDrawingToldBy P m n (Err (faults.Refused number)) = ⊥
-IsDrawingToldBy P m n (Err faults.Memory) = IsDrawnUntoldBy P faults.Memory m n
-IsDrawingToldBy P m n (Err faults.StoreFull) = IsDrawnUntoldBy P faults.StoreFull m n
+abbrev pub IsDrawingTold : PushedEdit → Moment → Moment → Result Outcome CommandFault → Type 0
+IsDrawingTold pushed m n (Ok came) = DrawsAndTells pushed m n came
+IsDrawingTold pushed m n (Err (faults.Client fault)) = FailsDrawing pushed fault m n
+IsDrawingTold pushed m n (Err (faults.Refused number)) = ⊥
+IsDrawingTold pushed m n (Err faults.Memory) = IsDrawnUntold pushed faults.Memory m n
+IsDrawingTold pushed m n (Err faults.StoreFull) = IsDrawnUntold pushed faults.StoreFull m n
+
+-- ---- a push that is said and heard
+
+-- what comes of the saying of a push
+abbrev pub Says : Type 1
+Says = LineState → LineState → ReplicaState → Result Saying ClientFault → Type 0
+
+-- the push was said so, its answer is heard, and what came of it told
+pub record EndsSaid (S : Says) (m n : Moment) (result : Result Outcome CommandFault) : Type 0 where
+  pub line : LineState
+  pub pushed : PushedEdit
+  pub said : S m.line line m.workspace.replica (Ok (saying.Said pushed))
+  pub ends : IsDrawingTold pushed (record m { line = line }) n result
+
+-- there is no such edit, which is told by a client that is as this one: nothing is said
+pub record RefusesSaying (S : Says) (m base : Moment) (n : Moment) (result : Result Outcome CommandFault) : Type 0 where
+  pub fault : Fault
+  pub refused : S m.line m.line m.workspace.replica (Ok (saying.Refused fault))
+  pub told : IsPrinted outcome.Refused (reply_line (reply.Refused fault)) base n result
+
+-- the push could not be said
+abbrev pub IsUnsaidBy : Says → CommandFault → Moment → Moment → Type 0
+IsUnsaidBy S (faults.Client fault) m n = S m.line n.line m.workspace.replica (Err fault) × (n ≡ record m { line = n.line })
+IsUnsaidBy S fault m n = ⊥
+
+abbrev pub DrawsBy : Says → Moment → Moment → Moment → Result Outcome CommandFault → Type 0
+DrawsBy S m base n (Ok came) = RefusesSaying S m base n (Ok came) ⊎ EndsSaid S m n (Ok came)
+DrawsBy S m base n (Err fault) = IsUnsaidBy S fault m n ⊎ (RefusesSaying S m base n (Err fault) ⊎ EndsSaid S m n (Err fault))
+
+-- ---- edits in doubt
+
+-- nothing is in doubt any more
+abbrev pub undoubted : Moment → Moment
+undoubted m = record { line = m.line; workspace = record m.workspace { doubt = None }; out = m.out }
+
+-- an edit is in doubt from now on
+abbrev pub doubting : PushedEdit → Moment → Moment
+doubting pushed m = record { line = m.line; workspace = record m.workspace { doubt = Some pushed }; out = m.out }
+
+-- the edit in doubt is drawn anew, and told as such; where it is refused nothing is in doubt any more
+abbrev pub DrawsAnew : Moment → Moment → Result Outcome CommandFault → Type 0
+DrawsAnew m n result = (doubted : PushedEdit) × (m.workspace.doubt ≡ Some doubted) × DrawsBy (IsAnewSaid doubted) m (undoubted m) n result
 
 -- ---- behind a poll
 
 -- a drawing behind its poll, of a client to which the board is closed, or is not
 abbrev pub DrawsAs : Bool → ℕ → EditSpec → Moment → Moment → Result Outcome CommandFault → Type 0
 DrawsAs true after spec m n result = IsPrinted outcome.Refused (refusal_line 30) m n result
-DrawsAs false after spec m n result = IsDrawingToldBy (IsDrawing after spec) m n result
+DrawsAs false after spec m n result = DrawsBy (IsDrawingSaid after spec) m m n result
 
 -- the same by what the poll brought
 abbrev pub DrawsBehind : ℕ → EditSpec → News → Moment → Moment → Result Outcome CommandFault → Type 0
@@ -117,64 +161,57 @@ FetchesPlane m n (Ok done) = (heard : Polling) × IsPollToldBy IsFallenBack m n 
 FetchesPlane m n (Err fault) = EndsPollingBy IsFallenBack fault m n
 
 -- the push of an edit that was said is answered, and what came of it told; then the plane is fetched
-pub record FetchesBehind (e : PlaneEdit) (came : Outcome) (m n : Moment) (result : Result (Unit {0}) CommandFault) : Type 0 where
+pub record FetchesBehind (pushed : PushedEdit) (came : Outcome) (m n : Moment) (result : Result (Unit {0}) CommandFault) : Type 0 where
   pub mid : Moment
-  pub drawn : IsDrawingToldBy (IsPublishingEnd e) m mid (Ok came)
+  pub drawn : IsDrawingTold pushed m mid (Ok came)
   pub fetched : FetchesPlane mid n result
 
 -- or the client ends at the push
-abbrev pub EndsAndFetches : PlaneEdit → Moment → Moment → Result Outcome CommandFault → Type 0
-EndsAndFetches e m n (Ok came) = FetchesBehind e came m n (Ok tt)
-EndsAndFetches e m n (Err fault) = IsDrawingToldBy (IsPublishingEnd e) m n (Err fault) ⊎ ((came : Outcome) × FetchesBehind e came m n (Err fault))
+abbrev pub EndsAndFetches : PushedEdit → Moment → Moment → Result Outcome CommandFault → Type 0
+EndsAndFetches pushed m n (Ok came) = FetchesBehind pushed came m n (Ok tt)
+EndsAndFetches pushed m n (Err fault) = IsDrawingTold pushed m n (Err fault) ⊎ ((came : Outcome) × FetchesBehind pushed came m n (Err fault))
 
 -- the reply to the poll that waited is heard and told, if it is no refusal, and then the push is answered
-pub record EndsBehindReply (e : PlaneEdit) (m n : Moment) (result : Result Outcome CommandFault) : Type 0 where
+pub record EndsBehindReply (pushed : PushedEdit) (m n : Moment) (result : Result Outcome CommandFault) : Type 0 where
   pub heard : Polling
   pub mid : Moment
   pub reply : IsPollToldBy IsReplyHeard m mid (Ok heard)
-  pub ends : IsDrawingToldBy (IsPublishingEnd e) mid n result
+  pub ends : IsDrawingTold pushed mid n result
 
 -- that reply is refused by 21: what the board had to hand out is lost, and the plane fetched once the push is answered
-pub record EndsBehindLoss (e : PlaneEdit) (m n : Moment) (result : Result Outcome CommandFault) : Type 0 where
+pub record EndsBehindLoss (pushed : PushedEdit) (m n : Moment) (result : Result Outcome CommandFault) : Type 0 where
   pub mid : Moment
   pub lost : PollsBy IsReplyHeard (polling.Refused 21) m mid
-  pub ends : EndsAndFetches e mid n result
+  pub ends : EndsAndFetches pushed mid n result
 
-abbrev pub EndsDrawing : PlaneEdit → Moment → Moment → Result Outcome CommandFault → Type 0
-EndsDrawing e m n result = EndsBehindReply e m n result ⊎ EndsBehindLoss e m n result
+abbrev pub EndsDrawing : PushedEdit → Moment → Moment → Result Outcome CommandFault → Type 0
+EndsDrawing pushed m n result = EndsBehindReply pushed m n result ⊎ EndsBehindLoss pushed m n result
 
--- the client ends at that reply, by no refusal
-abbrev pub EndsAtReply : CommandFault → Moment → Moment → Type 0
-EndsAtReply (faults.Refused number) m n = ⊥
-EndsAtReply fault m n = EndsPollingBy IsReplyHeard fault m n
+-- the client ends at that reply, by no refusal, and the edit is in doubt
+abbrev pub EndsAtReply : PushedEdit → CommandFault → Moment → Moment → Type 0
+EndsAtReply pushed (faults.Refused number) m n = ⊥
+EndsAtReply pushed fault m n = (mid : Moment) × EndsPollingBy IsReplyHeard fault m mid × (n ≡ doubting pushed mid)
 
-abbrev pub HearsDrawing : PlaneEdit → Moment → Moment → Result Outcome CommandFault → Type 0
-HearsDrawing e m n (Ok came) = EndsDrawing e m n (Ok came)
-HearsDrawing e m n (Err fault) = EndsAtReply fault m n ⊎ EndsDrawing e m n (Err fault)
+abbrev pub HearsDrawing : PushedEdit → Moment → Moment → Result Outcome CommandFault → Type 0
+HearsDrawing pushed m n (Ok came) = EndsDrawing pushed m n (Ok came)
+HearsDrawing pushed m n (Err fault) = EndsAtReply pushed fault m n ⊎ EndsDrawing pushed m n (Err fault)
 
 -- the push of the edit that is meant was said, and no poll waits any more
 pub record SaysDrawing (after : ℕ) (spec : EditSpec) (m n : Moment) (result : Result Outcome CommandFault) : Type 0 where
   pub line : LineState
   pub pushed : PushedEdit
   pub said : IsDrawingSaid after spec m.line line m.workspace.replica (Ok (saying.Said pushed))
-  pub hears : HearsDrawing pushed.edit (answered line m) n result
+  pub hears : HearsDrawing pushed (answered line m) n result
 
 -- there is no such edit, which is told: nothing is said, and the poll waits on
-pub record RefusesDrawing (after : ℕ) (spec : EditSpec) (m n : Moment) (result : Result Outcome CommandFault) : Type 0 where
-  pub fault : Fault
-  pub refused : IsDrawingSaid after spec m.line m.line m.workspace.replica (Ok (saying.Refused fault))
-  pub told : IsPrinted outcome.Refused (reply_line (reply.Refused fault)) m n result
-
--- the push could not be said
-abbrev pub IsDrawingUnsaid : ℕ → EditSpec → CommandFault → Moment → Moment → Type 0
-IsDrawingUnsaid after spec (faults.Client fault) m n = IsDrawingSaid after spec m.line n.line m.workspace.replica (Err fault) × (n ≡ record m { line = n.line })
-IsDrawingUnsaid after spec fault m n = ⊥
+abbrev pub RefusesDrawing : ℕ → EditSpec → Moment → Moment → Result Outcome CommandFault → Type 0
+RefusesDrawing after spec m n result = RefusesSaying (IsDrawingSaid after spec) m m n result
 
 -- of a client to which the board is closed, or is not
 abbrev pub DrawsWaiting : Bool → ℕ → EditSpec → Moment → Moment → Result Outcome CommandFault → Type 0
 DrawsWaiting true after spec m n result = IsPrinted outcome.Refused (refusal_line 30) m n result
 DrawsWaiting false after spec m n (Ok came) = RefusesDrawing after spec m n (Ok came) ⊎ SaysDrawing after spec m n (Ok came)
-DrawsWaiting false after spec m n (Err fault) = IsDrawingUnsaid after spec fault m n ⊎ (RefusesDrawing after spec m n (Err fault) ⊎ SaysDrawing after spec m n (Err fault))
+DrawsWaiting false after spec m n (Err fault) = IsUnsaidBy (IsDrawingSaid after spec) fault m n ⊎ (RefusesDrawing after spec m n (Err fault) ⊎ SaysDrawing after spec m n (Err fault))
 
 -- ---- commands
 

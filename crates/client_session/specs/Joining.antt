@@ -46,6 +46,7 @@ pub record IsFresh (telling : Telling) (number : ℕ) (rule : GenerationsRule) (
   pub awaited : s.awaited ≡ None
   pub open_still : s.closed ≡ false
   pub quiet : s.quiet ≡ is_quiet telling
+  pub doubt : s.doubt ≡ None
 
 -- such a one, and its seat's line was printed
 pub record IsJoined (telling : Telling) (number : ℕ) (rule : GenerationsRule) (s : Workspace) (out out' : List ℕ) : Type 0 where

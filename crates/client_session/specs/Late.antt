@@ -1,5 +1,5 @@
 -- What a client hears of a push that it said before.
-use Rattle.std.specs.Prelude.{◌≡◌, ◌⊎◌, Bool, true, false, [], Result, Ok, Err}
+use Rattle.std.specs.Prelude.{◌≡◌, ◌⊎◌, None, Bool, true, false, [], Result, Ok, Err}
 use Rattle.board_client.specs.declared.polling.Polling.{Polling}
 use Rattle.board_client.specs.declared.pushing.Pushing.{Pushing}
 use Rattle.board_client.specs.Pushing.{IsAnswering}
@@ -8,9 +8,9 @@ use Rattle.client_session.specs.declared.fault.CommandFault.TheVariants.{Client}
 use Rattle.client_session.specs.Moment.{Moment}
 use Rattle.client_session.specs.News.{EndsPollingBy, IsPollToldBy, IsReplyHeard}
 
--- its answer is heard, and nothing else done
+-- its answer is heard, and nothing is in doubt any more; or none comes, and nothing else is done
 abbrev pub HearsAnswer : Moment → Moment → Result Pushing CommandFault → Type 0
-HearsAnswer m n (Ok answer) = IsAnswering [] m.line n.line (Ok answer) × (n ≡ record m { line = n.line })
+HearsAnswer m n (Ok answer) = IsAnswering [] m.line n.line (Ok answer) × (n ≡ record { line = n.line; workspace = record m.workspace { doubt = None }; out = m.out })
 HearsAnswer m n (Err (Client fault)) = IsAnswering [] m.line n.line (Err fault) × (n ≡ record m { line = n.line })
 HearsAnswer m n (Err fault) = ⊥
 

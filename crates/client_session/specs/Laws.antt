@@ -1,7 +1,6 @@
 -- What is told of a board is what the replica holds.
-use Rattle.std.specs.Prelude.{◌≡◌, ⊤, ℕ, List, ◌++◌, Option, Some, None}
+use Rattle.std.specs.Prelude.{◌≡◌, ⊤, ℕ, List, ◌++◌, Option, Some, None, Ok, false}
 use Rattle.generations_rule.specs.Rule.{GenerationsRule}
-use Rattle.edit_stamps.specs.Edit.{PlaneEdit}
 use Rattle.pattern_cells.specs.declared.cell.Cell.{Cell}
 use Rattle.stamped_writes.specs.Write.{AreSame}
 use Rattle.stamped_tree.specs.Plane.{StampedPlane, map_of}
@@ -12,11 +11,14 @@ use Rattle.board_client.specs.declared.polling.Polling.TheVariants as polling
 use Rattle.client_session.specs.declared.outcome.Outcome.{Outcome}
 use Rattle.client_session.specs.declared.joining.Telling.{Telling}
 use Rattle.client_session.specs.declared.workspace.Workspace.{Workspace}
-use Rattle.client_session.specs.Drawing.{DrawsAndTellsBy}
+use Rattle.board_client.specs.Pushed.{PushedEdit}
+use Rattle.client_session.specs.Drawing.{DrawsAnew, DrawsAs, IsDrawingTold}
 use Rattle.client_session.specs.Joining.{IsFresh}
+use Rattle.client_session.specs.declared.returning.Before.{Before}
+use Rattle.client_session.specs.Returning.{ComesBack}
+use Rattle.board_client.specs.Client.{LineState}
 use Rattle.client_session.specs.Lines.{now_line, replaced_lines, whole_line}
 use Rattle.client_session.specs.Moment.{Moment}
-use Rattle.board_client.specs.Drawing.{IsDrawing, IsPublishingEnd}
 use Rattle.board_client.specs.Polling.{IsFallenBack, IsPoll}
 use Rattle.client_session.specs.News.{Comes, IsAwaited, IsReplyHeard, PollsBy}
 
@@ -29,11 +31,14 @@ IsShownAs plane (Some shown) = AreSame (map_of shown) (map_of plane)
 pub record IsShown (s : Workspace) : Type 0 where
   pub shown : IsShownAs s.replica.plane s.shown
 
--- So it is of a client that joins, and so it stays behind a drawing, also one whose push was said before.
+-- So it is of a client that joins, and so it stays behind a drawing, also one whose push was said before, or one that is drawn anew; and so
+-- it is at a new seat.
 pub record ShowsWhatItHolds : Type 0 where
   pub joined : (telling : Telling) (number : ℕ) (rule : GenerationsRule) (s : Workspace) → IsFresh telling number rule s → IsShown s
-  pub drawn : (after : ℕ) (spec : EditSpec) (outcome : Outcome) (m n : Moment) → IsReplica m.workspace.replica → IsShown m.workspace → DrawsAndTellsBy (IsDrawing after spec) m n outcome → IsShown n.workspace
-  pub published : (e : PlaneEdit) (outcome : Outcome) (m n : Moment) → IsReplica m.workspace.replica → IsShown m.workspace → DrawsAndTellsBy (IsPublishingEnd e) m n outcome → IsShown n.workspace
+  pub drawn : (after : ℕ) (spec : EditSpec) (outcome : Outcome) (m n : Moment) → IsReplica m.workspace.replica → IsShown m.workspace → DrawsAs false after spec m n (Ok outcome) → IsShown n.workspace
+  pub published : (pushed : PushedEdit) (outcome : Outcome) (m n : Moment) → IsReplica m.workspace.replica → IsShown m.workspace → IsDrawingTold pushed m n (Ok outcome) → IsShown n.workspace
+  pub anew : (outcome : Outcome) (m n : Moment) → IsReplica m.workspace.replica → IsShown m.workspace → DrawsAnew m n (Ok outcome) → IsShown n.workspace
+  pub returned : (a : LineState) (before : Before) (m n : Moment) → ComesBack a m n before → IsShown n.workspace
 
 -- And so it stays behind what came of a poll, whatever it brought.
 pub record ShowsWhatItHeard (P : Comes) : Type 0 where

@@ -8,5 +8,6 @@ pub mod Waiting
 pub mod Drawing
 pub mod Exporting
 pub mod Joining
+pub mod Returning
 pub mod Laws
 pub mod Rows

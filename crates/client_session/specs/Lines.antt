@@ -1,5 +1,5 @@
 -- The lines that a client prints.
-use Rattle.std.specs.Prelude.{ℕ, zero, suc, ℤ, nat_lt, if◌then◌else◌, List, [], ◌∷◌, ◌++◌, length, take, drop, codes, decimal, flat_map, Option, Some, None}
+use Rattle.std.specs.Prelude.{Bool, true, false, ℕ, zero, suc, ℤ, nat_lt, if◌then◌else◌, List, [], ◌∷◌, ◌++◌, length, take, drop, codes, decimal, flat_map, Option, Some, None}
 use Rattle.std.specs.Fmt.{signed_decimal}
 use Rattle.generations_rule.specs.Rule.{GenerationsRule}
 use Rattle.generations_rule.specs.RuleText.{text_of}
@@ -92,6 +92,15 @@ late_line number = codes "late " ++ decimal number ++ codes "\n"
 
 abbrev pub drawn_line : ℕ → ℕ → List ℕ
 drawn_line counter number = codes "drawn " ++ decimal counter ++ codes " " ++ decimal number ++ codes "\n"
+
+-- the same of an edit that was in doubt, and that the board did not have
+abbrev pub anew_line : ℕ → ℕ → List ℕ
+anew_line counter number = codes "drawn anew " ++ decimal counter ++ codes " " ++ decimal number ++ codes "\n"
+
+-- whether an edit was drawn anew is told
+abbrev pub drawn_as : Bool → ℕ → ℕ → List ℕ
+drawn_as false counter number = drawn_line counter number
+drawn_as true counter number = anew_line counter number
 
 -- a refusal by its number, with the name that the table of faults has
 abbrev pub refusal_line : ℕ → List ℕ

@@ -1,23 +1,25 @@
 //! Drawings, and what is told of them.
 
-ghost use Rattle.std.specs.Prelude.{◌≡◌, ◌++◌, drop, false, IfErr, OnErr, OnOk};
-ghost use Rattle.client_session.specs.Drawing.{DrawingFindsNoRoom, DrawsAs, DrawsFrom, IsDrawCommand, TellsDrawing, TellsDrawn};
-ghost use Rattle.client_session.specs.Lines.{drawn_line, refusal_line};
+ghost use Rattle.std.specs.Prelude.{◌≡◌, ◌++◌, drop, false, is_some, IfErr, OnErr, OnOk};
+ghost use Rattle.client_session.specs.Drawing.{DrawingFindsNoRoom, DrawsAs, DrawsFrom, IsDrawCommand, IsDrawingTold, TellsDrawing, TellsDrawn};
+ghost use Rattle.client_session.specs.Lines.{drawn_as, refusal_line};
 ghost use Rattle.client_session.specs.declared.outcome.Outcome.TheVariants.{Refused};
+ghost use Rattle.genedit_lib.specs.Output.{reply_line};
+ghost use Rattle.replica_core.specs.declared.event.Reply.TheVariants as reply;
 ghost use Rattle.client_session.specs.Moment.{IsCutShort, IsPrinted, IsWant};
 ghost use Rattle.client_session.specs.Telling.{CameFindsNoRoom};
 
 use crate::client::Client;
 use crate::fault::CommandFault;
-use crate::lines::{push_drawn, push_refusal};
+use crate::lines::{push_drawn_as, push_refusal};
 use crate::outcome::{CLOSED, Outcome, outcome_of};
 use crate::polling::News;
 use crate::telling::tell_own;
 use crate::workspace::{Workspace, behind};
-use board_client::Drawing;
+use board_client::{Drawing, Pushed, Saying};
 use devices::{Sink, Source};
 use genedit_lib::push_line;
-use replica_core::Reply;
+use replica_core::{Fault, Reply};
 use replica_events::EditSpec;
 use std::alloc::Global;
 use std::time::Clock;
@@ -79,9 +81,38 @@ impl<'a, C: Clock, S: Source + Drop, K: Sink + Drop> Client<'a, C, S, K> {
     fn draw_open(&mut self, after: u64, spec: &EditSpec) -> Result<Outcome, CommandFault>
         ensures { DrawsAs false after spec.now self.old self.new result }
     {
+        match self
+            .server
+            .say_drawing(&self.workspace.replica, after, spec)
+        {
+            Ok(Saying::Said(pushed)) => self.end_drawn(pushed),
+            Ok(Saying::Refused(fault)) => self.tell_refused(fault),
+            Err(fault) => Err(CommandFault::Client(fault)),
+        }
+    }
+
+    /// Tells that there is no such edit.
+    pub(crate) fn tell_refused(&mut self, fault: Fault) -> Result<Outcome, CommandFault>
+        ensures { IsPrinted Refused (reply_line (reply.Refused fault)) self.old self.new result }
+    {
+        match push_line(self.server.alloc(), &mut self.out, &Reply::Refused(fault)) {
+            Ok(()) => Ok(Outcome::Refused),
+            Err(_) => Err(CommandFault::Memory),
+        }
+    }
+
+    /// Hears what comes of a drawing whose push was said, and tells it. Where no answer comes the edit is in doubt.
+    pub(crate) fn end_drawn(&mut self, pushed: Pushed) -> Result<Outcome, CommandFault>
+        requires { pushed.rule ≡ self.old.workspace.replica.rule }
+        ensures { IsDrawingTold pushed self.old self.new result }
+    {
         let alloc = self.server.alloc();
         let known = self.workspace.replica.journal().len();
-        let drawing = match self.server.draw(&mut self.workspace.replica, after, spec) {
+        let drawing = match self.server.end_or_doubt(
+            &mut self.workspace.replica,
+            &mut self.workspace.doubt,
+            pushed,
+        ) {
             Ok(drawing) => drawing,
             Err(fault) => return Err(CommandFault::Client(fault)),
         };
@@ -119,12 +150,13 @@ impl Workspace {
             Drawing::Unpublished(number) => {
                 push_refusal(alloc, out, number)?;
                 self.closed = number == CLOSED;
+                self.doubt = None;
                 Ok(())
             }
         }
     }
 
-    /// Tells that an edit was drawn, and the cells that look different by it.
+    /// Tells that an edit was drawn, and the cells that look different by it; anew, where one was in doubt.
     fn tell_drawn(
         &mut self,
         alloc: Global,
@@ -133,14 +165,15 @@ impl Workspace {
         out: &mut Vec<u8>,
     ) -> Result<(), CommandFault>
         ensures told { OnOk result (TellsDrawn counter known self.old self.new out.old.items out.new.items) }
-        ensures want { IfErr result (IsWant (CameFindsNoRoom (drop known self.old.replica.journal) self.old.shown self.new.shown (out.old.items ++ drawn_line counter self.old.replica.number) out.new.items)) }
+        ensures want { IfErr result (IsWant (CameFindsNoRoom (drop known self.old.replica.journal) self.old.shown self.new.shown (out.old.items ++ drawn_as (is_some self.old.doubt) counter self.old.replica.number) out.new.items)) }
         ensures cut { OnErr result (IsCutShort self.old self.new out.old.items out.new.items) }
         ensures replica { self.new.replica ≡ self.old.replica }
     {
-        push_drawn(out, counter, self.replica.number())?;
+        push_drawn_as(out, self.doubt.is_some(), counter, self.replica.number())?;
         let own = behind(self.replica.journal(), known);
         tell_own(alloc, &mut self.shown, out, own)?;
         self.counted = self.counted_behind(known);
+        self.doubt = None;
         Ok(())
     }
 }

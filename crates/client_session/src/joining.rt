@@ -160,6 +160,7 @@ fn fresh(
         awaited: None,
         closed: false,
         quiet: is_quiet(telling),
+        doubt: None,
     })
 }
 

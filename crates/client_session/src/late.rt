@@ -20,7 +20,7 @@ impl<'a, C: Clock, S: Source + Drop, K: Sink + Drop> Client<'a, C, S, K> {
     /// Hears the answer to a drawing's push, where the hearing was broken off before anything came. Where the push
     /// was said behind a poll that waits, `awaited`, the reply to that is heard and told first; refused by 21 it ends
     /// the client. Nothing is told of the answer, and the replica does not take the edit: where the board has it, it
-    /// comes with a poll.
+    /// comes with a poll. Nothing is in doubt any more.
     pub fn hear_late(&mut self, awaited: bool) -> Result<Pushing, CommandFault>
         ensures { HearsLate awaited self.old self.new result }
     {
@@ -40,12 +40,15 @@ impl<'a, C: Clock, S: Source + Drop, K: Sink + Drop> Client<'a, C, S, K> {
         }
     }
 
-    /// Hears the answer to a push.
+    /// Hears the answer to a push, by which nothing is in doubt any more.
     fn hear_answer(&mut self) -> Result<Pushing, CommandFault>
         ensures { HearsAnswer self.old self.new result }
     {
         match self.server.hear_answer() {
-            Ok(answer) => Ok(answer),
+            Ok(answer) => {
+                self.workspace.doubt = None;
+                Ok(answer)
+            }
             Err(fault) => Err(CommandFault::Client(fault)),
         }
     }

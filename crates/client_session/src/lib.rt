@@ -2,6 +2,7 @@
 //! replica of its own, and tells in lines what came and what was done.
 #![tactic(auto)]
 
+mod anew;
 mod client;
 mod drawn;
 mod drawn_behind;
@@ -16,6 +17,7 @@ mod naming;
 mod outcome;
 mod pasting;
 mod polling;
+mod returning;
 mod showing;
 mod telling;
 mod waiting;
@@ -28,5 +30,6 @@ pub use joining::{Telling, Unjoined};
 pub use laws::session_laws;
 pub use outcome::Outcome;
 pub use pasting::{Corner, PasteMode};
+pub use returning::{Before, Return};
 pub use waiting::{Patience, end_of, rest_within, time_until};
 pub use workspace::Workspace;

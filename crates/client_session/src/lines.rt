@@ -4,7 +4,7 @@ ghost use Rattle.std.specs.Prelude.{◌≡◌, ◌++◌, codes, decimal, OnErr, 
 ghost use mathlib.Core.List.{IsPrefix};
 ghost use Rattle.std.specs.Fmt.{signed_decimal};
 ghost use Rattle.genedit_lib.specs.Output.{stamp_text};
-ghost use Rattle.client_session.specs.Lines.{area_text, cell_text, cells_text, drawn_line, edit_line, edit_lines, edits_line, joined_line, late_line, many_line, nameless_line, now_line, now_lines, place_text, rect_text, refusal_line, replaced_lines, size_text, whole_line};
+ghost use Rattle.client_session.specs.Lines.{anew_line, area_text, cell_text, cells_text, drawn_as, drawn_line, edit_line, edit_lines, edits_line, joined_line, late_line, many_line, nameless_line, now_line, now_lines, place_text, rect_text, refusal_line, replaced_lines, size_text, whole_line};
 
 use edit_stamps::{Edit, Rect, Stamp};
 use genedit_io::RunFault;
@@ -219,6 +219,36 @@ pub(crate) fn push_drawn(out: &mut Vec<u8>, counter: u64, number: u16) -> Result
     ensures kept { OnErr result (IsPrefix out.old.items out.new.items) }
 {
     out.extend_from_slice(b"drawn ")?;
+    push_number(out, counter)?;
+    out.push(b' ')?;
+    push_number(out, u64::from(number))?;
+    out.push(b'\n')?;
+    Ok(())
+}
+
+/// The same of an edit, which was drawn anew, or not.
+pub(crate) fn push_drawn_as(
+    out: &mut Vec<u8>,
+    anew: bool,
+    counter: u64,
+    number: u16,
+) -> Result<(), AllocError>
+    ensures told { OnOk result (out.new.items ≡ out.old.items ++ drawn_as anew counter number) }
+    ensures kept { OnErr result (IsPrefix out.old.items out.new.items) }
+{
+    if anew {
+        push_anew(out, counter, number)
+    } else {
+        push_drawn(out, counter, number)
+    }
+}
+
+/// That an edit which was in doubt was drawn anew.
+fn push_anew(out: &mut Vec<u8>, counter: u64, number: u16) -> Result<(), AllocError>
+    ensures told { OnOk result (out.new.items ≡ out.old.items ++ anew_line counter number) }
+    ensures kept { OnErr result (IsPrefix out.old.items out.new.items) }
+{
+    out.extend_from_slice(b"drawn anew ")?;
     push_number(out, counter)?;
     out.push(b' ')?;
     push_number(out, u64::from(number))?;

@@ -2,6 +2,7 @@
 
 ghost use Rattle.std.specs.Prelude.{◌≡◌, drop};
 
+use board_client::Pushed;
 use edit_stamps::Edit;
 use genedit_lib::Patterns;
 use held_plane::HeldPlane;
@@ -26,6 +27,9 @@ pub struct Workspace {
     pub closed: bool,
     /// Whether edits that come are not told.
     pub quiet: bool,
+    /// The edit whose push was said, and of which no answer came before the line ended, if there is one. Whether the
+    /// board has it is told behind the first poll of the next connection; a drawing that is told then is this one anew.
+    pub doubt: Option<Pushed>,
 }
 
 impl Workspace {

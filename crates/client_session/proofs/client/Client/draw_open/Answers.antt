@@ -1,14 +1,17 @@
-use Rattle.std.proofs.Common.{ap, length}
-use Rattle.board_client.specs.Drawing.{IsDrawing}
-use Rattle.client_session.proofs.DrawnLaws.{drawn_told, drawn_untold}
+use Rattle.std.proofs.Common.{false, subst}
+use Rattle.board_client.specs.Saying.{IsDrawingSaid}
+use Rattle.client_session.specs.Drawing.{DrawsAs}
+use Rattle.client_session.specs.Moment.{Moment}
+use Rattle.client_session.proofs.BehindLaws.{ended_by, refused_alone}
 use Rattle.client_session.proofs.client.Client.draw_open.Goals as goal
 
-pub returns-in-Err-tell_drawing : goal.returns-in-Err-tell_drawing
-returns-in-Err-tell_drawing g c =
-    drawn_untold (IsDrawing c.args.after c.args.spec.now) _ (record { line = c.self.inside.server; workspace = c.self.inside.workspace; out = c.self.inside.out.items }) _ c.draw.new.replica (length c.journal-known.result.now) c.in-Ok.drawing
-    c.self.view_is c.in-Ok.ensures (ap length c.journal-known.ensures.value) c.in-Err-tell_drawing.ensures.replica c.in-Err-tell_drawing.fault c.in-Err-tell_drawing.ensures.want c.in-Err-tell_drawing.ensures.cut
+pub returns-in-Ok-Said : goal.returns-in-Ok-Said
+returns-in-Ok-Said g c =
+    subst (λ (m : Moment). DrawsAs false c.args.after c.args.spec.now m c.end_drawn.new.self c.end_drawn.result) c.self.view_is
+    (ended_by (IsDrawingSaid c.args.after c.args.spec.now) (record { line = c.self.inside.server; workspace = c.self.inside.workspace; out = c.self.inside.out.items }) (record { line = c.self.inside.server; workspace = c.self.inside.workspace; out = c.self.inside.out.items }) _ c.end_drawn.result
+    (record { line = c.say_drawing.new.self; pushed = c.in-Ok-Said.pushed; said = rw c.in-Ok-Said.field-0-is at c.in-Ok-Said.ensures; ends = c.end_drawn.ensures }))
 
-pub returns : goal.returns
-returns g c =
-    drawn_told (IsDrawing c.args.after c.args.spec.now) _ (record { line = c.self.inside.server; workspace = c.self.inside.workspace; out = c.self.inside.out.items }) _ c.draw.new.replica (length c.journal-known.result.now) c.in-Ok.drawing
-    c.self.view_is c.in-Ok.ensures (ap length c.journal-known.ensures.value) c.in-Ok-tell_drawing.ensures.replica c.outcome_of.result c.in-Ok-tell_drawing.ensures.told c.outcome_of.ensures
+pub returns-in-Ok-Refused : goal.returns-in-Ok-Refused
+returns-in-Ok-Refused g c =
+    subst (λ (m : Moment). DrawsAs false c.args.after c.args.spec.now m c.tell_refused.new.self c.tell_refused.result) c.self.view_is
+    (refused_alone c.args.after c.args.spec.now (record { line = c.self.inside.server; workspace = c.self.inside.workspace; out = c.self.inside.out.items }) _ _ c.in-Ok-Refused.fault c.tell_refused.result (rw c.in-Ok-Refused.field-0-is at c.in-Ok-Refused.ensures) c.tell_refused.ensures)

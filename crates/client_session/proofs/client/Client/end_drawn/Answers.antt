@@ -1,14 +1,13 @@
 use Rattle.std.proofs.Common.{ap, length}
-use Rattle.board_client.specs.Drawing.{IsPublishingEnd}
 use Rattle.client_session.proofs.DrawnLaws.{drawn_told, drawn_untold}
 use Rattle.client_session.proofs.client.Client.end_drawn.Goals as goal
 
 pub returns-in-Err-tell_drawing : goal.returns-in-Err-tell_drawing
 returns-in-Err-tell_drawing g c =
-    drawn_untold (IsPublishingEnd c.args.pushed.edit) _ (record { line = c.self.inside.server; workspace = c.self.inside.workspace; out = c.self.inside.out.items }) _ c.end_drawing.new.replica (length c.journal-known.result.now) c.in-Ok.drawing
-    c.self.view_is c.in-Ok.ensures (ap length c.journal-known.ensures.value) c.in-Err-tell_drawing.ensures.replica c.in-Err-tell_drawing.fault c.in-Err-tell_drawing.ensures.want c.in-Err-tell_drawing.ensures.cut
+    drawn_untold c.args.pushed _ (record { line = c.self.inside.server; workspace = c.self.inside.workspace; out = c.self.inside.out.items }) _ c.end_or_doubt.new.replica (length c.journal-known.result.now) c.in-Ok.drawing
+    c.self.view_is c.in-Ok.ensures.ends (ap length c.journal-known.ensures.value) c.in-Err-tell_drawing.ensures.replica c.end_or_doubt.new.doubt c.in-Ok.ensures.doubt c.in-Err-tell_drawing.fault c.in-Err-tell_drawing.ensures.want c.in-Err-tell_drawing.ensures.cut
 
 pub returns : goal.returns
 returns g c =
-    drawn_told (IsPublishingEnd c.args.pushed.edit) _ (record { line = c.self.inside.server; workspace = c.self.inside.workspace; out = c.self.inside.out.items }) _ c.end_drawing.new.replica (length c.journal-known.result.now) c.in-Ok.drawing
-    c.self.view_is c.in-Ok.ensures (ap length c.journal-known.ensures.value) c.in-Ok-tell_drawing.ensures.replica c.outcome_of.result c.in-Ok-tell_drawing.ensures.told c.outcome_of.ensures
+    drawn_told c.args.pushed _ (record { line = c.self.inside.server; workspace = c.self.inside.workspace; out = c.self.inside.out.items }) _ c.end_or_doubt.new.replica (length c.journal-known.result.now) c.in-Ok.drawing
+    c.self.view_is c.in-Ok.ensures.ends (ap length c.journal-known.ensures.value) c.in-Ok-tell_drawing.ensures.replica c.end_or_doubt.new.doubt c.in-Ok.ensures.doubt c.outcome_of.result c.in-Ok-tell_drawing.ensures.told c.outcome_of.ensures
