@@ -323,7 +323,8 @@ function Helper:hear_from(position)
     self:hear()
 end
 
--- Hears what came. An answer goes to who asked.
+-- Hears what came. An answer goes to who asked. Where its server went away and came back, the helper tells that it
+-- joined once more: under a new seat, at a board of the same rule; what it was asked meanwhile is answered then.
 function Helper:hear()
     for line in self:lines() do
         local word = line:match("^%S*")
@@ -333,11 +334,15 @@ function Helper:hear()
         elseif word == "process" then
             self.process = line:match("%d+")
         elseif word == "joined" then
+            local is_again = self.seat ~= nil
             self.seat, self.rule = line:match("^joined (%d+) (%S+)$")
+            if is_again then self.said = nil end
+            if is_again and self.news.joined then self.news.joined(line) end
         elseif word == "ended" then
             self.ended = true
         elseif word:find(":$") then
             self.said = line
+            if self.news.said then self.news.said(line) end
         elseif self.news[word] then
             self.news[word](line)
         end
@@ -388,10 +393,24 @@ function Helper:reason()
     return self.said or "genedit: no answer from the server"
 end
 
+-- The name of a board's layer, by the seat of now.
+local function layer_name(port, seat)
+    return "board of port " .. port .. ", seat " .. seat
+end
+
+-- Gives the board's layer the name of a new seat.
+function Helper:rename_layer()
+    local old = self.name
+    self.name = layer_name(self.port, self.seat)
+    for index = 0, g.numlayers() - 1 do
+        if g.getname(index) == old then g.setname(self.name, index) end
+    end
+end
+
 -- Opens an empty layer for a board, under its rule as it was told; a pattern that is there is left alone.
 function Helper:open_layer(port)
     if not g.empty() then g.addlayer() end
-    self.name = "board of port " .. port .. ", seat " .. self.seat
+    self.port, self.name = port, layer_name(port, self.seat)
     g.new(self.name)
     g.setrule(self.rule)
     g.setmag(3)

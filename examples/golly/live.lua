@@ -91,6 +91,23 @@ function news.whole()
     lacks_all = true
 end
 
+-- More cells look different than are told.
+function news.many()
+    lacks_all = true
+end
+
+-- The server came back, and there is a new seat. All is compared, so that what is not on the board goes.
+function news.joined()
+    helper:rename_layer()
+    lacks_all = true
+    g.show(helper.name .. HELP)
+end
+
+-- As that the server went away, and is tried again.
+function news.said(line)
+    g.show(line)
+end
+
 -- Shows what came, unless another layer is looked at; then it waits.
 local function follow()
     helper:hear()

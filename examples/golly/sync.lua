@@ -44,7 +44,7 @@ end
 -- Joins the board in the first run; why it did not, where it did not.
 local function join()
     local port = board.port()
-    helper = board.start(folder, port, "--changes", {})
+    helper = board.start(folder, port, "--follow --changes", {})
     if not helper:is_joined() then
         local reason = helper:reason()
         helper:leave()

@@ -22,6 +22,8 @@ mod plays;
 #[cfg(test)]
 mod refusals;
 #[cfg(test)]
+mod returns;
+#[cfg(test)]
 mod texts;
 #[cfg(test)]
 mod told_cells;

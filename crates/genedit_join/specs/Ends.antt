@@ -7,7 +7,7 @@ use Rattle.genedit_join.specs.declared.ends.End.{End}
 use Rattle.genedit_join.specs.declared.ends.End.TheVariants as how
 use Rattle.genedit_join.specs.declared.ends.Tally.{Tally}
 use Rattle.genedit_join.specs.declared.fault.JoinFault.{JoinFault}
-use Rattle.genedit_join.specs.declared.fault.JoinFault.TheVariants.{NoServer, NoSeat, Gone, NoReply, Script, Run}
+use Rattle.genedit_join.specs.declared.fault.JoinFault.TheVariants.{NoServer, NoSeat, Gone, NoReply, OtherRule, Script, Run}
 use Rattle.genedit_join.specs.Fault.{join_fault_text, join_status}
 
 -- by a fault, or by the one by which the server was lost before; else the board was left
@@ -49,10 +49,11 @@ refused_number text = refusal_in text >=> λ refusal. behind_all (codes "refused
 
 -- ---- a server that is lost
 
--- nothing comes from the server any more, or no replies
+-- nothing comes from the server any more, or no replies, or those of another board
 abbrev pub loses_server : JoinFault → Bool
 loses_server Gone = true
 loses_server NoReply = true
+loses_server OtherRule = true
 loses_server NoServer = false
 loses_server NoSeat = false
 loses_server Script = false

@@ -11,7 +11,7 @@ use Rattle.genedit_io.specs.RunFault.{exit_status, run_fault_text}
 use Rattle.replica_core.specs.declared.fault.Fault.{Fault}
 use Rattle.replica_core.specs.declared.fault.Fault.TheVariants as text
 use Rattle.genedit_join.specs.declared.fault.JoinFault.{JoinFault}
-use Rattle.genedit_join.specs.declared.fault.JoinFault.TheVariants.{Gone, NoReply, NoSeat, NoServer, Run, Script}
+use Rattle.genedit_join.specs.declared.fault.JoinFault.TheVariants.{Gone, NoReply, NoSeat, NoServer, OtherRule, Run, Script}
 
 -- the status of the process
 abbrev pub join_status : JoinFault → ℕ
@@ -21,6 +21,7 @@ join_status NoSeat = 2
 join_status Script = 2
 join_status Gone = 3
 join_status NoReply = 3
+join_status OtherRule = 3
 
 -- what the program says
 abbrev pub join_fault_text : JoinFault → List ℕ
@@ -30,6 +31,7 @@ join_fault_text NoSeat = codes "all seats of the board are taken"
 join_fault_text Script = codes "this is a script: run it by `genedit run`"
 join_fault_text Gone = codes "the server went away"
 join_fault_text NoReply = codes "the server sent what is no reply"
+join_fault_text OtherRule = codes "the board that answers has another rule"
 
 abbrev pub memory_wanted : JoinFault
 memory_wanted = Run Memory

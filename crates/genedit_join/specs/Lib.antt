@@ -1,4 +1,5 @@
 pub mod Fault
+pub mod Away
 pub mod Commands
 pub mod Cures
 pub mod Ends

@@ -1,75 +1,89 @@
 //! The connection to a server.
 
 use crate::ahead::{Ahead, Polls, SayingSink};
-use crate::ears::Ears;
 use crate::fault::JoinFault;
 use crate::patience::{Patience, PatientReader, SECONDS, has_waited, say_waiting};
 use devices::ReadSource;
 use frame_line::Line;
-use mio::Waker;
 use std::alloc::{AllocError, Global};
 use std::io;
 use std::net::{IpAddr, Ipv4Addr, Net, SocketAddr, TcpListener, TcpStream};
 use std::sync::Arc;
 use std::time::Duration;
 
-/// The line of frames of a connection.
-type StreamLine<R> = Line<ReadSource<PatientReader<R>>, SayingSink>;
+/// What is heard on a connection.
+pub(crate) type StreamSource<R> = ReadSource<PatientReader<R>>;
 
-/// A connection: its line, what asks ahead on it, how long its server is awaited, at first for ten seconds, and
-/// by what a client waits for news, with what calls there, where the system gives that.
+/// A connection: its line, what asks ahead on it, and the socket by which a client waits for news, where the system
+/// gave it once more.
 pub(crate) struct Connection<R: Eprint + Drop> {
-    pub(crate) line: StreamLine<R>,
+    pub(crate) line: Line<StreamSource<R>, SayingSink>,
     pub(crate) ahead: Ahead,
-    pub(crate) patience: Arc<Patience>,
-    pub(crate) ears: Option<(Ears, Arc<Waker>)>,
+    pub(crate) watched: Option<TcpStream>,
 }
 
-/// Connects to a port of this machine's loopback. `NoServer` where nobody answers there.
+/// Connects to a port of this machine's loopback; its server is awaited with this patience. `NoServer` where nobody
+/// answers there within ten seconds.
 pub(crate) fn connect<R: Net<Listener = TcpListener, Stream = TcpStream> + Eprint + Copy + Drop>(
     rt: &R,
     alloc: Global,
     port: u16,
+    patience: &Arc<Patience>,
 ) -> Result<Connection<R>, JoinFault> {
-    match streams(rt, port) {
-        Some(streams) => Ok(connection_of(rt, alloc, streams)?),
+    match stream_to(rt, port) {
+        Some(stream) => match connection_of(rt, alloc, stream, patience)? {
+            Some(connection) => Ok(connection),
+            None => Err(JoinFault::NoServer),
+        },
         None => Err(JoinFault::NoServer),
+    }
+}
+
+/// Tries to connect once more, for a second at most. None where nobody answers.
+pub(crate) fn reconnect<R: Net<Listener = TcpListener, Stream = TcpStream> + Eprint + Copy + Drop>(
+    rt: &R,
+    alloc: Global,
+    port: u16,
+    patience: &Arc<Patience>,
+) -> Result<Option<Connection<R>>, AllocError> {
+    match TcpStream::connect_timeout(rt, &address(port), Duration::from_secs(1)) {
+        Ok(stream) => connection_of(rt, alloc, stream, patience),
+        Err(_) => Ok(None),
     }
 }
 
 fn connection_of<R: Net + Eprint + Copy + Drop>(
     rt: &R,
     alloc: Global,
-    streams: (TcpStream, TcpStream, TcpStream),
-) -> Result<Connection<R>, AllocError> {
-    let (heard, said, other) = streams;
-    let ears = match other.try_clone() {
-        Ok(watched) => Ears::over(rt, alloc, watched),
-        Err(_) => None,
+    stream: TcpStream,
+    patience: &Arc<Patience>,
+) -> Result<Option<Connection<R>>, AllocError> {
+    let Some((heard, said, other)) = streams(stream) else {
+        return Ok(None);
     };
-    let patience = Arc::new(alloc, Patience::limited())?;
+    let watched = other.try_clone().ok();
     let polls = Arc::new(alloc, Polls::none())?;
     let sink = SayingSink::new(said, Arc::try_clone(&polls)?);
     let ahead = Ahead::new(other, Arc::try_clone(&polls)?);
-    let reader = PatientReader::new(*rt, heard, Arc::try_clone(&patience)?, polls);
-    Ok(Connection {
+    let reader = PatientReader::new(*rt, heard, Arc::try_clone(patience)?, polls);
+    Ok(Some(Connection {
         line: Line::new(alloc, ReadSource::new(reader), sink),
         ahead,
-        patience,
-        ears,
-    })
+        watched,
+    }))
 }
 
 /// A connection, three times: to hear, to speak and to ask ahead.
-fn streams<R: Net<Listener = TcpListener, Stream = TcpStream> + Eprint>(
-    rt: &R,
-    port: u16,
-) -> Option<(TcpStream, TcpStream, TcpStream)> {
-    let stream = stream_to(rt, port)?;
+fn streams(stream: TcpStream) -> Option<(TcpStream, TcpStream, TcpStream)> {
     prepare(&stream).ok()?;
     let said = stream.try_clone().ok()?;
     let other = stream.try_clone().ok()?;
     Some((stream, said, other))
+}
+
+/// A port of this machine's loopback.
+fn address(port: u16) -> SocketAddr {
+    SocketAddr::new(IpAddr::V4(Ipv4Addr::LOCALHOST), port)
 }
 
 /// A connection within ten seconds; after one it is said that it is awaited.
@@ -77,7 +91,7 @@ fn stream_to<R: Net<Listener = TcpListener, Stream = TcpStream> + Eprint>(
     rt: &R,
     port: u16,
 ) -> Option<TcpStream> {
-    let address = SocketAddr::new(IpAddr::V4(Ipv4Addr::LOCALHOST), port);
+    let address = address(port);
     match TcpStream::connect_timeout(rt, &address, Duration::from_secs(1)) {
         Ok(stream) => Some(stream),
         Err(error) if has_waited(error.kind()) => {

@@ -9,7 +9,6 @@ use crate::joined::Joined;
 use crate::population::cells_told;
 use crate::telling::tell_cure;
 use client_commands::{ClientCommand, FileName};
-use devices::{Sink, Source};
 use pattern_files::FileKind;
 use replica_events::EditSpec;
 use script_faults::Refused;
@@ -62,7 +61,7 @@ fn is_form(number: u8) -> bool
     matches!(number, 4..=7)
 }
 
-impl<'a, R: Clock + Files + Eprint, S: Source + Drop, K: Sink + Drop> Joined<'a, R, S, K> {
+impl<'a, R: Clock + Files + Eprint + Drop> Joined<'a, R> {
     /// Tells what would be right, where the command of a line that ends at this one was refused for what it
     /// says. Where memory is wanting for that, nothing is told: the refusal stands, and the client goes on.
     pub(crate) fn tell_cure(&self, line: u64, about: &About) {

@@ -3,6 +3,7 @@
 ghost use Rattle.std.specs.Prelude.{◌≡◌, ◌&&◌, IfOk, not, option_map};
 ghost use Rattle.text_scan.specs.Words.{words};
 ghost use Rattle.client_commands.specs.Commands.{begins_script};
+ghost use Rattle.genedit_join.specs.Away.{is_gone, tries_again};
 ghost use Rattle.genedit_join.specs.Ends.{end_behind, end_status, goes_on, is_kept, is_refusal, is_rescued, loses_server, lost_text, refusal_in, refused_number, well_status};
 
 use crate::fault::JoinFault;
@@ -130,9 +131,24 @@ pub(crate) fn loses_server(fault: JoinFault) -> bool
     ensures { result ≡ loses_server fault }
 {
     match fault {
-        JoinFault::Gone | JoinFault::NoReply => true,
+        JoinFault::Gone | JoinFault::NoReply | JoinFault::OtherRule => true,
         JoinFault::Run(_) | JoinFault::NoServer | JoinFault::NoSeat | JoinFault::Script => false,
     }
+}
+
+/// Whether a client tries its port again behind a fault: where it follows, and its server went away that it had till
+/// now.
+pub(crate) fn tries_again(fault: JoinFault, is_following: bool, has_server: bool) -> bool
+    ensures { result ≡ tries_again fault is_following has_server }
+{
+    is_following && (has_server && is_gone(fault))
+}
+
+/// Whether a fault is that the server went away.
+fn is_gone(fault: JoinFault) -> bool
+    ensures { result ≡ is_gone fault }
+{
+    fault == JoinFault::Gone
 }
 
 /// Whether a client goes on behind a fault, without its server: at a terminal, where it had one till now.

@@ -31,6 +31,8 @@ pub enum JoinFault {
     Gone,
     /// The server sent what is no reply.
     NoReply,
+    /// The board that answers at the port has another rule than before.
+    OtherRule,
 }
 
 impl JoinFault {
@@ -43,7 +45,7 @@ impl JoinFault {
     {
         match self {
             JoinFault::Run(fault) => fault.exit_status(),
-            JoinFault::NoServer | JoinFault::Gone | JoinFault::NoReply => 3,
+            JoinFault::NoServer | JoinFault::Gone | JoinFault::NoReply | JoinFault::OtherRule => 3,
             JoinFault::NoSeat | JoinFault::Script => 2,
         }
     }
@@ -64,6 +66,7 @@ impl fmt::Display for JoinFault {
             JoinFault::Script => f.write_str("this is a script: run it by `genedit run`"),
             JoinFault::Gone => f.write_str("the server went away"),
             JoinFault::NoReply => f.write_str("the server sent what is no reply"),
+            JoinFault::OtherRule => f.write_str("the board that answers has another rule"),
         }
     }
 }

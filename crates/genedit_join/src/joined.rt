@@ -5,9 +5,13 @@ ghost use Rattle.client_tasks.specs.Carrying.{behind_drawing};
 ghost use Rattle.genedit_join.specs.Commands.{asks_ahead, going_of, number_of, whole_milliseconds};
 ghost use Rattle.genedit_join.specs.Ends.{end_behind};
 
-use crate::ahead::Ahead;
-use crate::ears::Ears;
-use crate::ends::{Board, End, Tally, end_behind, goes_on, is_kept, is_rescued, refusal_in};
+use crate::ahead::{Ahead, SayingSink};
+use crate::away::{Absence, Held};
+use crate::connection::StreamSource;
+use crate::ears::{Bell, Ears};
+use crate::ends::{
+    Board, End, Tally, end_behind, goes_on, is_kept, is_rescued, refusal_in, tries_again,
+};
 use crate::fault::{JoinFault, of_client};
 use crate::files::{FileFault, read_whole, refused_text, write_whole, wrote_text};
 use crate::joining::JoinOptions;
@@ -15,16 +19,21 @@ use crate::late::{drawn_behind, drawn_text, late_outcome, refusal_text};
 use crate::own_files::OwnFiles;
 use crate::patience::{Patience, SECONDS, WaitStep, is_kept_after, say_waiting, step_after};
 use crate::rescue::{SeatPlace, has_writes, keep};
-use crate::telling::{tell_kept, tell_left_out, tell_lost, tell_unkept, warn_of_rule};
+use crate::telling::{
+    tell_kept, tell_left_out, tell_lost, tell_say_again, tell_unkept, warn_of_rule,
+};
 use board_client::Pushing;
-use client_commands::{ClientCommand, FileName, FileTarget, Wait};
+use client_commands::{ClientCommand, FileName, FileTarget};
 use client_session::{Client, Followed, Outcome, end_of, rest_within, time_until};
 use client_tasks::{Done, carry_on, carry_out, open};
-use devices::{Sink, Source};
+use devices::Sink;
 use genedit_io::{RunFault, push_output};
+use replica_core::Replica;
 use socket_watch::Came;
 use std::alloc::{AllocError, Global};
+use std::net::{Net, TcpListener, TcpStream};
 use std::rt::Files;
+use std::sync::{Arc, Wait};
 use std::thread;
 use std::time::{Clock, Duration};
 
@@ -64,43 +73,55 @@ pub(crate) enum Going {
 
 /// A client that joined a board, what it asks the system by, and what came of its lines.
 #[derive(Drop)]
-pub(crate) struct Joined<'a, R: Clock, S: Source + Drop, K: Sink + Drop> {
+pub(crate) struct Joined<'a, R: Clock + Eprint + Drop> {
     pub(crate) rt: &'a R,
-    pub(crate) client: Client<'a, R, S, K>,
+    pub(crate) client: Client<'a, R, StreamSource<R>, SayingSink>,
     pub(crate) options: JoinOptions,
     pub(crate) ahead: Ahead,
+    /// How long its server is awaited, at each connection.
+    pub(crate) patience: Arc<Patience>,
     /// By what it waits while it follows; none where it polls for that.
-    ears: Option<Ears>,
+    pub(crate) ears: Option<Ears>,
+    /// By what it is called meanwhile, at each connection; none where the system gave none.
+    pub(crate) bell: Option<Arc<Bell>>,
     pub(crate) files: OwnFiles,
     pub(crate) tally: Tally,
     /// By which fault it lost its server, if it did and goes on.
     pub(crate) lost: Option<JoinFault>,
+    /// How its server is tried that is away, where it is.
+    pub(crate) absence: Option<Absence>,
+    /// The line of a command that waits for that server, where one does.
+    pub(crate) held: Option<Held>,
     /// Whether a line said something.
     pub(crate) has_heard: bool,
 }
 
-impl<'a, R: Clock, S: Source + Drop, K: Sink + Drop> Joined<'a, R, S, K> {
+impl<'a, R: Clock + Eprint + Drop> Joined<'a, R> {
     /// A client that joined just now.
     pub(crate) fn new(
         rt: &'a R,
-        client: Client<'a, R, S, K>,
+        client: Client<'a, R, StreamSource<R>, SayingSink>,
         options: JoinOptions,
         ahead: Ahead,
-        ears: Option<Ears>,
-    ) -> Joined<'a, R, S, K> {
+        patience: Arc<Patience>,
+    ) -> Joined<'a, R> {
         let files = OwnFiles::none(client.alloc());
         Joined {
             rt,
             client,
             options,
             ahead,
-            ears,
+            patience,
+            ears: None,
+            bell: None,
             files,
             tally: Tally {
                 faulty: false,
                 refused: false,
             },
             lost: None,
+            absence: None,
+            held: None,
             has_heard: false,
         }
     }
@@ -130,11 +151,11 @@ impl<'a, R: Clock, S: Source + Drop, K: Sink + Drop> Joined<'a, R, S, K> {
 
     /// Leaves the board; the answer is not awaited for longer than ten seconds. Without a server there is
     /// nothing to leave.
-    pub(crate) fn leave(&mut self, patience: &Patience) -> Result<Going, JoinFault> {
+    pub(crate) fn leave(&mut self) -> Result<Going, JoinFault> {
         if self.lost.is_some() {
             return Ok(Going::Leaving);
         }
-        patience.limit();
+        self.patience.limit();
         match self.client.leave() {
             Ok(_) => Ok(Going::Leaving),
             Err(fault) => Err(of_client(fault)),
@@ -149,11 +170,16 @@ impl<'a, R: Clock, S: Source + Drop, K: Sink + Drop> Joined<'a, R, S, K> {
     }
 }
 
-impl<'a, R: Clock + Files + Eprint, S: Source + Drop, K: Sink + Drop> Joined<'a, R, S, K> {
-    /// Goes on behind a fault by which it lost its server, where it is at a terminal, and says so.
+impl<'a, R: Clock + Files + Eprint + Drop> Joined<'a, R> {
+    /// Goes on behind a fault by which it lost its server, and says so: where it follows it tries the server again,
+    /// and else it goes on without one at a terminal.
     pub(crate) fn survived(&mut self, went: Result<Going, JoinFault>) -> Result<Going, JoinFault> {
         match went {
             Ok(going) => Ok(going),
+            Err(fault) if tries_again(fault, self.options.is_following, self.lost.is_none()) => {
+                self.go_away(fault);
+                Ok(Going::On)
+            }
             Err(fault) if goes_on(fault, self.options.is_terminal, self.lost.is_none()) => {
                 self.lost = Some(fault);
                 tell_lost(self.rt, self.client.alloc(), fault)?;
@@ -197,25 +223,6 @@ impl<'a, R: Clock + Files + Eprint, S: Source + Drop, K: Sink + Drop> Joined<'a,
             Followed::Refused(_) => thread::sleep(self.rt, self.pace().interval()),
         }
         Ok(Going::On)
-    }
-
-    /// Does nothing for so long, or polls meanwhile.
-    fn sleep<O: Sink>(&mut self, milliseconds: u32, sink: &mut O) -> Result<(), JoinFault> {
-        self.push_printed(sink)?;
-        let whole = Duration::from_millis(u64::from(milliseconds));
-        if !self.pace().is_following {
-            thread::sleep(self.rt, whole);
-            return Ok(());
-        }
-        let end = end_of(self.rt, milliseconds);
-        for _turn in 0..TURNS {
-            let Some(left) = time_until(self.rt, end) else {
-                return Ok(());
-            };
-            self.follow_within(left)?;
-            self.push_printed(sink)?;
-        }
-        Ok(())
     }
 
     /// Follows for so long at most: up to the next news, or to the next poll.
@@ -267,36 +274,10 @@ impl<'a, R: Clock + Files + Eprint, S: Source + Drop, K: Sink + Drop> Joined<'a,
         Ok(())
     }
 
-    /// Does what a command asks for. What it prints is pushed only where it sleeps.
-    pub(crate) fn obey<O: Sink>(
-        &mut self,
-        command: ClientCommand,
-        sink: &mut O,
-    ) -> Result<Going, JoinFault> {
-        if let ClientCommand::Pattern(name, text) = &command {
-            self.warn(name.as_bytes(), text.as_slice())?;
-        }
-        let saves = matches!(&command, ClientCommand::Save(_));
-        match self.carried(command)? {
-            Done::Told => Ok(Going::On),
-            Done::InDoubt => Ok(Going::InDoubt),
-            Done::Write(target, text) => {
-                self.write(target, &text, saves)?;
-                Ok(Going::On)
-            }
-            Done::Open(file) => self.open(&file),
-            Done::Sleep(milliseconds) => {
-                self.sleep(milliseconds, sink)?;
-                Ok(Going::On)
-            }
-            Done::Leave => Ok(Going::Leaving),
-        }
-    }
-
     /// Carries a command out at the board, or at what is kept of it.
     fn carried(&mut self, command: ClientCommand) -> Result<Done, JoinFault> {
         if self.lost.is_some() {
-            return Ok(carry_on(&mut self.client, command)?);
+            return self.carried_alone(command);
         }
         if asks_ahead(&command, self.client.is_awaiting()) {
             self.await_poll();
@@ -314,6 +295,16 @@ impl<'a, R: Clock + Files + Eprint, S: Source + Drop, K: Sink + Drop> Joined<'a,
             }
         };
         self.hear_ahead()?;
+        Ok(done)
+    }
+
+    /// Carries a command out at what is kept of the board. Where the server is tried again, it is said what to do with
+    /// one that needs it.
+    fn carried_alone(&mut self, command: ClientCommand) -> Result<Done, JoinFault> {
+        let done = carry_on(&mut self.client, command)?;
+        if self.is_away() && is_without_server(self.client.printed()) {
+            tell_say_again(self.rt);
+        }
         Ok(done)
     }
 
@@ -352,7 +343,7 @@ impl<'a, R: Clock + Files + Eprint, S: Source + Drop, K: Sink + Drop> Joined<'a,
 
     /// Waits for edits of others. Where the answer to one of its polls does not begin within a second, that
     /// is awaited as the one to a poll that was asked ahead, and the wait goes on for what is left of its time.
-    fn wait(&mut self, wait: Wait) -> Result<Done, JoinFault> {
+    fn wait(&mut self, wait: client_commands::Wait) -> Result<Done, JoinFault> {
         let (end, interval) = (end_of(self.rt, wait.milliseconds), self.interval());
         let mut rest = wait;
         for _turn in 0..TURNS {
@@ -446,7 +437,7 @@ impl<'a, R: Clock + Files + Eprint, S: Source + Drop, K: Sink + Drop> Joined<'a,
     }
 
     /// Writes the board to a file while its server says nothing.
-    fn keep_in_doubt(&self) {
+    pub(crate) fn keep_in_doubt(&self) {
         if let Err(fault) = self.keep_board(self.board()) {
             tell_unkept(self.rt, fault);
         }
@@ -463,23 +454,38 @@ impl<'a, R: Clock + Files + Eprint, S: Source + Drop, K: Sink + Drop> Joined<'a,
 
     /// Writes the board to a file, where it is to be kept and the file that was saved last is not it.
     fn keep_board(&self, board: Board) -> Result<(), JoinFault> {
+        self.keep_replica(board, self.client.replica())
+    }
+
+    /// Writes what was held at a seat before to a file, likewise.
+    pub(crate) fn keep_held(&self, replica: &Replica) -> Result<(), JoinFault> {
+        let board = Board {
+            is_wanted: self.options.rescues,
+            has_edits: has_writes(replica.plane()),
+            is_saved: false,
+        };
+        self.keep_replica(board, replica)
+    }
+
+    /// Writes a replica's board to a file, likewise.
+    fn keep_replica(&self, board: Board, replica: &Replica) -> Result<(), JoinFault> {
         if !is_kept(board) {
             return Ok(());
         }
-        let text = self.client.replica().state()?;
+        let text = replica.state()?;
         let is_saved = self.is_saved(&text)?;
         if is_kept(Board { is_saved, ..board }) {
-            let kept = keep(self.rt, self.client.alloc(), self.place(), &text)?;
+            let kept = keep(self.rt, self.client.alloc(), self.place_of(replica), &text)?;
             tell_kept(self.rt, self.client.alloc(), &kept)?;
         }
         Ok(())
     }
 
-    /// Which seat of which server it had.
-    fn place(&self) -> SeatPlace {
+    /// Which seat of which server a replica is of.
+    fn place_of(&self, replica: &Replica) -> SeatPlace {
         SeatPlace {
             port: self.options.port,
-            seat: self.client.replica().number(),
+            seat: replica.number(),
         }
     }
 
@@ -492,6 +498,71 @@ impl<'a, R: Clock + Files + Eprint, S: Source + Drop, K: Sink + Drop> Joined<'a,
             Ok(bytes) => Ok(bytes.as_slice() == text),
             Err(FileFault::Refused(_)) => Ok(false),
             Err(FileFault::Memory) => Err(AllocError),
+        }
+    }
+}
+
+impl<
+    'a,
+    R: Net<Listener = TcpListener, Stream = TcpStream>
+        + Wait
+        + Clock
+        + Files
+        + Eprint
+        + Copy
+        + Drop,
+> Joined<'a, R> {
+    /// Does nothing for so long, or polls meanwhile, or tries a server that is away.
+    fn sleep<O: Sink>(&mut self, milliseconds: u32, sink: &mut O) -> Result<(), JoinFault> {
+        self.push_printed(sink)?;
+        if !self.follows() {
+            thread::sleep(self.rt, Duration::from_millis(u64::from(milliseconds)));
+            return Ok(());
+        }
+        let end = end_of(self.rt, milliseconds);
+        for _turn in 0..TURNS {
+            let Some(left) = time_until(self.rt, end) else {
+                return Ok(());
+            };
+            let went = self.rest(left);
+            self.survived(went)?;
+            self.push_printed(sink)?;
+        }
+        Ok(())
+    }
+
+    /// Follows for so long at most, or waits for a server that is away.
+    fn rest(&mut self, left: Duration) -> Result<Going, JoinFault> {
+        if self.is_away() {
+            return self.rest_away(left);
+        }
+        self.follow_within(left)?;
+        Ok(Going::On)
+    }
+
+    /// Does what a command asks for. What it prints is pushed only where it sleeps.
+    pub(crate) fn obey<O: Sink>(
+        &mut self,
+        command: ClientCommand,
+        sink: &mut O,
+    ) -> Result<Going, JoinFault> {
+        if let ClientCommand::Pattern(name, text) = &command {
+            self.warn(name.as_bytes(), text.as_slice())?;
+        }
+        let saves = matches!(&command, ClientCommand::Save(_));
+        match self.carried(command)? {
+            Done::Told => Ok(Going::On),
+            Done::InDoubt => Ok(Going::InDoubt),
+            Done::Write(target, text) => {
+                self.write(target, &text, saves)?;
+                Ok(Going::On)
+            }
+            Done::Open(file) => self.open(&file),
+            Done::Sleep(milliseconds) => {
+                self.sleep(milliseconds, sink)?;
+                Ok(Going::On)
+            }
+            Done::Leave => Ok(Going::Leaving),
         }
     }
 }
@@ -519,6 +590,11 @@ fn asks_ahead(command: &ClientCommand, awaited: bool) -> bool
         | ClientCommand::Help
         | ClientCommand::Bye => false,
     }
+}
+
+/// Whether what was printed is that there is no server.
+fn is_without_server(printed: &[u8]) -> bool {
+    printed == b"no server\n".as_slice()
 }
 
 /// How many whole milliseconds a time has, 0 where it is over.
@@ -551,7 +627,7 @@ fn done_behind(outcome: Outcome) -> Done
     }
 }
 
-fn going_of(outcome: Outcome) -> Going
+pub(crate) fn going_of(outcome: Outcome) -> Going
     ensures { result ≡ going_of outcome }
 {
     match outcome {

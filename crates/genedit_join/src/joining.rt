@@ -3,7 +3,9 @@
 ghost use Rattle.std.specs.Prelude.{◌≡◌};
 ghost use Rattle.genedit_join.specs.Fault.{fault_of_command, without_greeting};
 
-use crate::connection::{Connection, connect};
+use crate::ahead::SayingSink;
+use crate::away::{Broken, Held};
+use crate::connection::{Connection, StreamSource, connect};
 use crate::cures::About;
 use crate::ends::{end_status, is_script};
 use crate::fault::JoinFault;
@@ -12,7 +14,7 @@ use crate::patience::Patience;
 use crate::telling::{tell_doubt, tell_end, tell_fault, tell_open_block, tell_unkept};
 use crate::typed::{Typed, typed_lines};
 use board_client::Server;
-use client_commands::{Dictation, Heard};
+use client_commands::{ClientCommand, Dictation, Heard, command_in};
 use client_session::{Client, CommandFault, Telling};
 use crossbeam_channel::{Receiver, RecvTimeoutError, TryRecvError};
 use devices::{Sink, Source};
@@ -20,10 +22,11 @@ use genedit_io::{RunFault, push_output};
 use genedit_script::{says_something, without_return};
 use keyed_hash::HashKey;
 use socket_watch::Came;
-use std::alloc::Global;
+use std::alloc::{AllocError, Global};
 use std::net::{Net, TcpListener, TcpStream};
 use std::rt::Files;
-use std::sync::Wait;
+use std::sync::{Arc, Wait};
+use std::thread;
 use std::thread::Threads;
 use std::time::{Clock, Duration};
 
@@ -96,22 +99,20 @@ fn joined_to_its_end<
     O: Sink + Drop,
 >(rt: &R, alloc: Global, options: JoinOptions, terminal: Terminal<S, O>) -> Result<u8, JoinFault> {
     let Terminal { source, mut sink } = terminal;
+    let patience = shared_patience(alloc)?;
     let Connection {
         line,
         ahead,
-        patience,
-        ears,
-    } = connect(rt, alloc, options.port)?;
+        watched,
+    } = connect(rt, alloc, options.port, &patience)?;
     let client = client_at(Server::new(rt, alloc, line), options, &mut sink)?;
-    let (ears, bell) = match ears {
-        Some((ears, bell)) => (Some(ears), Some(bell)),
-        None => (None, None),
-    };
-    let mut joined = Joined::new(rt, client, options, ahead, ears);
-    patience.unlimit();
+    let mut joined = Joined::new(rt, client, options, ahead, patience);
+    joined.patience.unlimit();
     joined.push_printed(&mut sink)?;
+    joined.listen_first(watched);
+    let bell = joined.bell_copy()?;
     let typed = typed_lines(*rt, alloc, source, bell)?;
-    let obeyed = obey_all(&mut joined, &typed, &patience, &mut sink);
+    let obeyed = obey_all(&mut joined, &typed, &mut sink);
     let pushed = joined.push_printed(&mut sink);
     let last = match obeyed {
         Ok(()) => pushed,
@@ -120,14 +121,21 @@ fn joined_to_its_end<
     Ok(finish(&joined, last))
 }
 
+/// How long servers are awaited, at first for ten seconds.
+fn shared_patience(alloc: Global) -> Result<Arc<Patience>, AllocError> {
+    let patience = Arc::new(alloc, Patience::limited())?;
+    Ok(patience)
+}
+
 /// Tells why a client ended by a fault, and where its board is kept, if that is lost; its status.
-fn finish<R: Clock + Files + Eprint, S: Source + Drop, K: Sink + Drop>(
-    joined: &Joined<'_, R, S, K>,
+fn finish<R: Clock + Files + Eprint + Drop>(
+    joined: &Joined<'_, R>,
     last: Result<(), JoinFault>,
 ) -> u8 {
     if let Err(fault) = &last {
         tell_end(joined.rt, *fault);
     }
+    joined.tell_left_over();
     let end = joined.end(last);
     if let Err(fault) = joined.rescue(end) {
         tell_unkept(joined.rt, fault);
@@ -136,11 +144,11 @@ fn finish<R: Clock + Files + Eprint, S: Source + Drop, K: Sink + Drop>(
 }
 
 /// A client that was greeted. Where its first poll ends it, what was printed by then is pushed.
-fn client_at<'a, R: Clock, S: Source + Drop, K: Sink + Drop, O: Sink>(
-    server: Server<'a, R, S, K>,
+fn client_at<'a, R: Clock + Eprint + Drop, O: Sink>(
+    server: Server<'a, R, StreamSource<R>, SayingSink>,
     options: JoinOptions,
     sink: &mut O,
-) -> Result<Client<'a, R, S, K>, JoinFault> {
+) -> Result<Client<'a, R, StreamSource<R>, SayingSink>, JoinFault> {
     match Client::join(server, options.telling, options.key) {
         Ok(client) => Ok(client),
         Err(unjoined) => Err(not_joined(unjoined.fault(), unjoined.printed(), sink)),
@@ -169,10 +177,18 @@ fn unanswered(fault: CommandFault) -> JoinFault
 }
 
 /// Carries out commands to the one that leaves, or to the end of the lines, and leaves the board.
-fn obey_all<R: Wait + Clock + Files + Eprint, S: Source + Drop, K: Sink + Drop, O: Sink>(
-    joined: &mut Joined<'_, R, S, K>,
+fn obey_all<
+    R: Net<Listener = TcpListener, Stream = TcpStream>
+        + Wait
+        + Clock
+        + Files
+        + Eprint
+        + Copy
+        + Drop,
+    O: Sink,
+>(
+    joined: &mut Joined<'_, R>,
     typed: &Receiver<Typed, Global>,
-    patience: &Patience,
     sink: &mut O,
 ) -> Result<(), JoinFault> {
     let rt = joined.rt;
@@ -183,11 +199,13 @@ fn obey_all<R: Wait + Clock + Files + Eprint, S: Source + Drop, K: Sink + Drop, 
             Err(fault) => Err(fault),
             Ok(Next::Nothing) => joined.follow(),
             Ok(Next::News) => joined.hear_news(),
+            Ok(Next::Again) => joined.try_again(),
+            Ok(Next::Held(held)) => hear_held(joined, &held, sink),
             Ok(Next::Line(line)) => hear(joined, &mut dictation, &line, sink),
             Ok(Next::Failed(fault)) => Err(JoinFault::Run(fault)),
-            Ok(Next::End) => return leave_at_the_end(joined, &dictation, patience),
+            Ok(Next::End) => return leave_at_the_end(joined, &dictation),
         };
-        if joined.survived(went)? == Going::Leaving && has_left(joined, patience, sink)? {
+        if joined.survived(went)? == Going::Leaving && has_left(joined, sink)? {
             return Ok(());
         }
     }
@@ -195,28 +213,31 @@ fn obey_all<R: Wait + Clock + Files + Eprint, S: Source + Drop, K: Sink + Drop, 
 }
 
 /// Leaves the board at the end of the lines.
-fn leave_at_the_end<R: Clock + Files + Eprint, S: Source + Drop, K: Sink + Drop>(
-    joined: &mut Joined<'_, R, S, K>,
+fn leave_at_the_end<R: Clock + Files + Eprint + Drop>(
+    joined: &mut Joined<'_, R>,
     dictation: &Dictation,
-    patience: &Patience,
 ) -> Result<(), JoinFault> {
     if let Some(number) = dictation.ended() {
         joined.tally.faulty = true;
         tell_open_block(joined.rt, joined.client.alloc(), number)?;
     }
-    joined.leave(patience)?;
+    joined.leave()?;
     Ok(())
 }
 
-/// Leaves the board by `bye`. False where the server is lost just then, and the client goes on without it.
-fn has_left<R: Clock + Files + Eprint, S: Source + Drop, K: Sink + Drop, O: Sink>(
-    joined: &mut Joined<'_, R, S, K>,
-    patience: &Patience,
+/// Leaves the board by `bye`. False where the server is lost just then, and the client goes on without it, as at a
+/// terminal.
+fn has_left<R: Clock + Files + Eprint + Drop, O: Sink>(
+    joined: &mut Joined<'_, R>,
     sink: &mut O,
 ) -> Result<bool, JoinFault> {
     joined.push_printed(sink)?;
     let had_server = joined.lost.is_none();
-    let left = joined.leave(patience);
+    let left = joined.leave();
+    if !joined.options.is_terminal {
+        left?;
+        return Ok(true);
+    }
     let has_left = joined.survived(left)? == Going::Leaving;
     if has_left && !had_server {
         // whoever says so was told that the board is kept here alone
@@ -226,12 +247,16 @@ fn has_left<R: Clock + Files + Eprint, S: Source + Drop, K: Sink + Drop, O: Sink
 }
 
 /// What comes next.
-#[derive(Debug, Drop)]
+#[derive(Drop)]
 enum Next {
     /// So far no line; it is time for a poll.
     Nothing,
     /// The server says something.
     News,
+    /// The server is away; it is time for another try.
+    Again,
+    /// The server is there, for which a command waited.
+    Held(Held),
     Line(Vec<u8>),
     /// The lines cannot be read any further.
     Failed(RunFault),
@@ -241,10 +266,16 @@ enum Next {
 
 /// The next line, or something of the server to a client that follows; one that cannot await that waits for no
 /// longer than lies between two polls.
-fn next_of<R: Wait + Clock + Files + Eprint, S: Source + Drop, K: Sink + Drop>(
-    joined: &mut Joined<'_, R, S, K>,
+fn next_of<R: Wait + Clock + Files + Eprint + Drop>(
+    joined: &mut Joined<'_, R>,
     typed: &Receiver<Typed, Global>,
 ) -> Result<Next, JoinFault> {
+    if joined.is_away() {
+        return Ok(next_away(joined, typed));
+    }
+    if let Some(held) = joined.held.take() {
+        return Ok(Next::Held(held));
+    }
     if joined.awaits()? {
         Ok(next_heard(joined, typed))
     } else {
@@ -252,10 +283,28 @@ fn next_of<R: Wait + Clock + Files + Eprint, S: Source + Drop, K: Sink + Drop>(
     }
 }
 
+/// The next line while the server is away, or the time for another try. Where a command waits for the server and
+/// nobody types, no line is taken.
+fn next_away<R: Wait + Clock + Files + Eprint + Drop>(
+    joined: &Joined<'_, R>,
+    typed: &Receiver<Typed, Global>,
+) -> Next {
+    let until = joined.until_try();
+    if joined.is_blocked() {
+        thread::sleep(joined.rt, until);
+        return Next::Again;
+    }
+    match typed.recv_timeout(joined.rt, until) {
+        Ok(typed) => typed_next(typed),
+        Err(RecvTimeoutError::Timeout) => Next::Again,
+        Err(RecvTimeoutError::Disconnected) => Next::End,
+    }
+}
+
 /// The next line, or something of the server, where a poll waits there. Where its reply has not come a second
 /// behind its time, it is late, and further with each second.
-fn next_heard<R: Wait + Clock + Files + Eprint, S: Source + Drop, K: Sink + Drop>(
-    joined: &mut Joined<'_, R, S, K>,
+fn next_heard<R: Wait + Clock + Files + Eprint + Drop>(
+    joined: &mut Joined<'_, R>,
     typed: &Receiver<Typed, Global>,
 ) -> Next {
     let second = Duration::from_millis(1000);
@@ -311,8 +360,17 @@ fn typed_next(typed: Typed) -> Next {
 }
 
 /// Hears a line, and does what it asks for.
-fn hear<R: Clock + Files + Eprint, S: Source + Drop, K: Sink + Drop, O: Sink>(
-    joined: &mut Joined<'_, R, S, K>,
+fn hear<
+    R: Net<Listener = TcpListener, Stream = TcpStream>
+        + Wait
+        + Clock
+        + Files
+        + Eprint
+        + Copy
+        + Drop,
+    O: Sink,
+>(
+    joined: &mut Joined<'_, R>,
     dictation: &mut Dictation,
     line: &[u8],
     sink: &mut O,
@@ -330,13 +388,62 @@ fn hear<R: Clock + Files + Eprint, S: Source + Drop, K: Sink + Drop, O: Sink>(
             Ok(Going::On)
         }
         Heard::Command(command) => {
-            let about = About::of(joined.client.alloc(), &command);
-            let going = joined.obey(command, sink)?;
-            joined.tell_cure(dictation.lines(), &about);
-            if going == Going::InDoubt {
-                tell_doubt(joined.rt);
+            let number = dictation.lines();
+            if joined.holds_back(&command, text, number)? {
+                return Ok(Going::On);
             }
-            Ok(going)
+            obey(joined, command, text, number, sink)
         }
     }
+}
+
+/// Does what the line asks for that waited for the server.
+fn hear_held<
+    R: Net<Listener = TcpListener, Stream = TcpStream>
+        + Wait
+        + Clock
+        + Files
+        + Eprint
+        + Copy
+        + Drop,
+    O: Sink,
+>(joined: &mut Joined<'_, R>, held: &Held, sink: &mut O) -> Result<Going, JoinFault> {
+    match command_in(joined.client.alloc(), &held.line)? {
+        Some(command) => obey(joined, command, &held.line, held.number, sink),
+        None => Ok(Going::On),
+    }
+}
+
+/// Does what a command asks for, whose line ends at this number, and says what would be right where it is refused.
+/// Where the server is lost by it, it may have to wait for the next.
+fn obey<
+    R: Net<Listener = TcpListener, Stream = TcpStream>
+        + Wait
+        + Clock
+        + Files
+        + Eprint
+        + Copy
+        + Drop,
+    O: Sink,
+>(
+    joined: &mut Joined<'_, R>,
+    command: ClientCommand,
+    line: &[u8],
+    number: u64,
+    sink: &mut O,
+) -> Result<Going, JoinFault> {
+    let about = About::of(joined.client.alloc(), &command);
+    let broken = Broken::by(&command);
+    let going = match joined.obey(command, sink) {
+        Ok(going) => going,
+        Err(fault) => {
+            joined.hold_broken(broken, line, number)?;
+            return Err(fault);
+        }
+    };
+    joined.tell_cure(number, &about);
+    if going == Going::InDoubt {
+        tell_doubt(joined.rt);
+    }
+    Ok(going)
 }

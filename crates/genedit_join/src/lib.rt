@@ -3,6 +3,7 @@
 #![tactic(auto)]
 
 mod ahead;
+mod away;
 mod connection;
 mod cures;
 mod ears;

@@ -2,10 +2,10 @@
 
 ghost use denote.Param.Send.{IsSend, IsSync};
 
+use crate::ears::Bell;
 use crossbeam_channel::{Receiver, Sender, bounded};
 use devices::Source;
 use genedit_io::RunFault;
-use mio::Waker;
 use std::alloc::Global;
 use std::sync::{Arc, Wait};
 use std::thread::Threads;
@@ -38,14 +38,14 @@ enum Stop {
 #[derive(Drop)]
 struct Sent {
     sender: Sender<Typed, Global>,
-    bell: Option<Arc<Waker>>,
+    bell: Option<Arc<Bell>>,
 }
 
 impl Sent {
     /// Sends what came, and calls. `Stop::Unheard` where nobody receives any more.
     fn send<R: Wait>(&self, rt: &R, typed: Typed) -> Result<(), Stop> {
         let sent = self.sender.send(rt, typed);
-        ring(&self.bell);
+        ring(rt, &self.bell);
         match sent {
             Ok(()) => Ok(()),
             Err(_) => Err(Stop::Unheard),
@@ -53,17 +53,16 @@ impl Sent {
     }
 
     /// Sends no more, and calls, so that this is seen.
-    fn end(self) {
+    fn end<R: Wait>(self, rt: &R) {
         let Sent { sender, bell } = self;
         drop(sender);
-        ring(&bell);
+        ring(rt, &bell);
     }
 }
 
-fn ring(bell: &Option<Arc<Waker>>) {
+fn ring<R: Wait>(rt: &R, bell: &Option<Arc<Bell>>) {
     if let Some(bell) = bell {
-        // Where that fails, the line is seen once the wait is over.
-        let _ = bell.wake();
+        bell.ring(rt);
     }
 }
 
@@ -76,7 +75,7 @@ pub(crate) fn typed_lines<
     rt: R,
     alloc: Global,
     source: S,
-    bell: Option<Arc<Waker>>,
+    bell: Option<Arc<Bell>>,
 ) -> Result<Receiver<Typed, Global>, RunFault> {
     let (sender, receiver) = bounded(alloc, WAITING)?;
     let sent = Sent { sender, bell };
@@ -97,7 +96,7 @@ fn send_all<R: Wait + Drop, S: Source + Drop>(rt: R, alloc: Global, mut source: 
     if let Some(fault) = sent_lines(&rt, alloc, &mut source, &sent) {
         let _ = sent.send(&rt, Typed::Failed(fault));
     }
-    sent.end();
+    sent.end(&rt);
 }
 
 /// Sends each line of a source; why it was left before its end, where somebody still receives.
