@@ -8,7 +8,8 @@ use Rattle.text_scan.specs.Bytes.{ends_line, is_space_or_tab, past_prefix, ◌>=
 use Rattle.multistate_rle.specs.Header.{side_spelled, may_end_with, header_of}
 use Rattle.multistate_rle.specs.HeaderLine.{text_lines, may_precede, first_header, HasNoHeader}
 use Rattle.text_scan.proofs.SplitLemmas.{later_parts, split_at}
-use Rattle.header_rules.specs.HeaderRule.{PlacedLine, header_line, behind_sides, told_at}
+use Rattle.header_rules.specs.HeaderRule.{PlacedLine, header_line, behind_sides, bounds_at, told_as}
+use Rattle.header_rules.specs.declared.header.HeaderBounds.{HeaderBounds}
 use Rattle.header_rules.specs.SpelledRule.{rule_spelled}
 
 -- the first line, where it has an end
@@ -94,7 +95,12 @@ pub no_sides : (text : List ℕ) (found : PlacedLine) (rest : List ℕ) → HasN
 no_sides text found rest none finds told = has_sides found.text rest told (first_counts (text_lines text) 0 found none finds)
 
 -- a text that is not empty is told
-pub told_if_some : (place : ℕ) (text : List ℕ) → 0 < length text →
-    Some (record { place = place; length = length text; rule = rule_spelled text }) ≡ told_at place text
-told_if_some place [] some = absurd (omega arith)
-told_if_some place (byte ∷ text) some = refl
+pub told_if_some : (place : ℕ) (part : List ℕ) (bounds : Option HeaderBounds) → 0 < length part →
+    Some (record { place = place; length = length part; rule = rule_spelled part; bounds = bounds }) ≡ told_as place part bounds
+told_if_some place [] bounds some = absurd (omega arith)
+told_if_some place (byte ∷ part) bounds some = refl
+
+-- and so are bounds
+pub bounds_if_some : (place : ℕ) (bounds : List ℕ) → 0 < length bounds → Some (record { place = place; length = length bounds }) ≡ bounds_at place bounds
+bounds_if_some place [] some = absurd (omega arith)
+bounds_if_some place (byte ∷ bounds) some = refl

@@ -1,10 +1,13 @@
 -- Which rule the header of a pattern text tells, and where.
-use Rattle.std.specs.Prelude.{ℕ, ◌+◌, ◌-◌, List, [], ◌∷◌, length, codes, if◌then◌else◌, Option, Some, None}
+use Rattle.std.specs.Prelude.{ℕ, ◌+◌, ◌-◌, List, [], ◌∷◌, length, codes, drop, nat_lt, if◌then◌else◌, Option, Some, None}
 use Rattle.std.specs.List.{before_first}
+use Rattle.std.specs.Option.{is_some}
 use Rattle.text_scan.specs.Bytes.{is_space_or_tab, past_prefix, ◌>=>◌, behind_all, behind_symbol, is_comma, without_blanks_behind}
 use Rattle.multistate_rle.specs.Header.{side_spelled}
 use Rattle.multistate_rle.specs.HeaderLine.{text_lines, may_precede}
 use Rattle.header_rules.specs.declared.header.HeaderRule.{HeaderRule}
+use Rattle.header_rules.specs.declared.header.HeaderBounds.{HeaderBounds}
+use Rattle.header_rules.specs.Families.{rule_in_family, unbounded}
 use Rattle.header_rules.specs.SpelledRule.{rule_spelled}
 
 -- a line, and the place in its text where it begins
@@ -30,15 +33,37 @@ behind_rule text = behind_all (codes "rule") (past_prefix is_space_or_tab text) 
 abbrev pub rule_text : List ℕ → List ℕ
 rule_text rest = without_blanks_behind (before_first is_comma rest)
 
--- a text that is told as a rule, unless it is empty
+-- the part of a rule's text that is read: what stands in front of a bounded grid, if a rule of this family stands there
+abbrev pub part_read : List ℕ → List ℕ
+part_read text = if is_some (rule_in_family (unbounded text)) then unbounded text else text
+
+-- what stands behind so many bytes and a colon, up to the line's end
+abbrev pub bounds_behind : ℕ → List ℕ → List ℕ
+bounds_behind count rest = without_blanks_behind (drop (count + 1) rest)
+
+-- bounds at a place, unless they are empty
+abbrev pub bounds_at : ℕ → List ℕ → Option HeaderBounds
+bounds_at place [] = None
+bounds_at place (byte ∷ bounds) = Some (record { place = place; length = length (byte ∷ bounds) })
+
+-- the bounds of a rule whose text is this: there are some where less than the text is read
+abbrev pub bounds_told : ℕ → List ℕ → List ℕ → List ℕ → Option HeaderBounds
+bounds_told place text part rest =
+    if nat_lt (length part) (length text) then bounds_at (place + (length part + 1)) (bounds_behind (length part) rest) else None
+
+-- a text that is read as a rule, unless it is empty
+abbrev pub told_as : ℕ → List ℕ → Option HeaderBounds → Option HeaderRule
+told_as place [] bounds = None
+told_as place (byte ∷ part) bounds = Some (record { place = place; length = length (byte ∷ part); rule = rule_spelled (byte ∷ part); bounds = bounds })
+
+-- what the rest of a line tells, which begins at a place with a rule's text
 abbrev pub told_at : ℕ → List ℕ → Option HeaderRule
-told_at place [] = None
-told_at place (byte ∷ text) = Some (record { place = place; length = length (byte ∷ text); rule = rule_spelled (byte ∷ text) })
+told_at place rest = told_as place (part_read (rule_text rest)) (bounds_told place (rule_text rest) (part_read (rule_text rest)) rest)
 
 -- the rule that a header's line tells; its text begins where that is left of the line which stands behind `rule =`
 abbrev pub told_in_line : PlacedLine → Option HeaderRule
 told_in_line line =
-    behind_sides line.text >=> λ rest. behind_rule rest >=> λ rest. told_at (line.start + (length line.text - length rest)) (rule_text rest)
+    behind_sides line.text >=> λ rest. behind_rule rest >=> λ rest. told_at (line.start + (length line.text - length rest)) rest
 
 -- the rule that the header of a text tells, if it has one and that tells one
 abbrev pub header_rule_told : List ℕ → Option HeaderRule

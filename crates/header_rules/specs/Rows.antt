@@ -485,32 +485,50 @@ all_names_are_rules = refl
 -- ---- headers
 
 pub told : header_rule_told (codes "#C a\n\nx = 3, y = 3, rule = B3/S23\nbo$2bo$3o!")
-    ≡ Some (record { place = 27; length = 6; rule = Ok (rule_of_text (codes "23/3/2")) })
+    ≡ Some (record { place = 27; length = 6; rule = Ok (rule_of_text (codes "23/3/2")); bounds = None })
 told = refl
 
 -- blanks round each part, and a comma behind
 pub told_between_blanks : header_rule_told (codes " x=3 ,y=3\t, rule= 345/2/4 \t, z\r\n")
-    ≡ Some (record { place = 18; length = 7; rule = Ok (rule_of_text (codes "345/2/4")) })
+    ≡ Some (record { place = 18; length = 7; rule = Ok (rule_of_text (codes "345/2/4")); bounds = None })
 told_between_blanks = refl
 
 pub told_and_not_read : header_rule_told (codes "x = 1, y = 1, rule = LifeHistory\nA!")
-    ≡ Some (record { place = 21; length = 11; rule = Err (Other Table) })
+    ≡ Some (record { place = 21; length = 11; rule = Err (Other Table); bounds = None })
 unfolding rule_names other_names table_fronts table_ends
 told_and_not_read = refl
 
 -- of a text with commas the front is told, which is enough
 pub told_up_to_a_comma : header_rule_told (codes "x = 1, y = 1, rule = R5,C0,M1,S34..58,B34..45,NM\no!")
-    ≡ Some (record { place = 21; length = 2; rule = Err (Other LargerThanLife) })
+    ≡ Some (record { place = 21; length = 2; rule = Err (Other LargerThanLife); bounds = None })
 unfolding rule_names other_names table_fronts table_ends
 told_up_to_a_comma = refl
 
-pub told_on_a_grid : header_rule_told (codes "x = 1, y = 1, rule = B3/S23:T100,200\no!")
-    ≡ Some (record { place = 21; length = 11; rule = Err (Other Bounded) })
-unfolding rule_names other_names table_fronts table_ends
+-- bounds are told up to the line's end
+pub told_on_a_grid : header_rule_told (codes "x = 1, y = 1, rule = B3/S23:T100,200 \no!")
+    ≡ Some (record { place = 21; length = 6; rule = Ok (rule_of_text (codes "23/3/2")); bounds = Some (record { place = 28; length = 8 }) })
+unfolding rule_names
 told_on_a_grid = refl
 
+pub told_without_bounds : header_rule_told (codes "x = 1, y = 1, rule = 23/3/2: \no!")
+    ≡ Some (record { place = 21; length = 6; rule = Ok (rule_of_text (codes "23/3/2")); bounds = None })
+unfolding rule_names
+told_without_bounds = refl
+
+-- a colon behind a comma tells none
+pub told_in_front_of_a_comma : header_rule_told (codes "x = 1, y = 1, rule = 23/3/2, z:T1\no!")
+    ≡ Some (record { place = 21; length = 6; rule = Ok (rule_of_text (codes "23/3/2")); bounds = None })
+unfolding rule_names
+told_in_front_of_a_comma = refl
+
+-- a grid of another family
+pub told_on_a_grid_of_another : header_rule_told (codes "x = 1, y = 1, rule = B2e3/S23:T100,200\no!")
+    ≡ Some (record { place = 21; length = 13; rule = Err (Other NonTotalistic); bounds = None })
+unfolding rule_names other_names table_fronts table_ends
+told_on_a_grid_of_another = refl
+
 pub told_and_no_rule : header_rule_told (codes "x = 1, y = 1, rule = B3/S239\no!")
-    ≡ Some (record { place = 21; length = 7; rule = Err (Fault Slashes) })
+    ≡ Some (record { place = 21; length = 7; rule = Err (Fault Slashes); bounds = None })
 unfolding rule_names other_names table_fronts table_ends
 told_and_no_rule = refl
 
@@ -518,6 +536,7 @@ pub no_rule : header_rule_told (codes "x = 1, y = 1\nrule = B3/S23\no!") ≡ Non
 no_rule = refl
 
 pub no_text : header_rule_told (codes "x = 1, y = 1, rule = , 23/3/2\no!") ≡ None
+unfolding rule_names
 no_text = refl
 
 -- a pattern of dots and stars

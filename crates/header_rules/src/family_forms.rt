@@ -115,8 +115,9 @@ fn begins_with_digit(text: &[u8]) -> bool
 }
 
 /// The text in front of a colon, behind which a bounded grid is told.
-fn unbounded(text: &[u8]) -> &[u8]
-    ensures { result.now ≡ unbounded text.now }
+pub fn unbounded(text: &[u8]) -> &[u8]
+    ensures front { result.now ≡ unbounded text.now }
+    ensures within { length result.now ≤ length text.now }
 {
     &text[..colon_at(text)]
 }

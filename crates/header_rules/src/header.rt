@@ -1,12 +1,14 @@
 //! The header's line, and the rule that it tells.
 
-ghost use Rattle.std.specs.Prelude.{◌≡◌, ◌+◌, ◌∷◌, [], ◌≤◌, ◌<◌, length, option_map, MatchOption, IfSome, None};
+ghost use Rattle.std.specs.Prelude.{◌≡◌, ◌+◌, ◌^◌, ◌∷◌, [], ◌≤◌, ◌<◌, length, option_map, MatchOption, IfSome, None};
 ghost use Rattle.std.specs.List.{before_first, position_or_len};
 ghost use Rattle.text_scan.specs.Bytes.{ends_line, is_comma};
 ghost use Rattle.multistate_rle.specs.Header.{side_spelled, number_in_front};
 ghost use Rattle.multistate_rle.specs.HeaderLine.{HasNoHeader, text_lines, may_precede};
-ghost use Rattle.header_rules.specs.HeaderRule.{header_line, behind_sides, behind_rule, rule_text, header_rule_told};
+ghost use Rattle.header_rules.specs.HeaderRule.{header_line, behind_sides, behind_rule, bounds_at, bounds_behind, bounds_told, header_rule_told, part_read, rule_text, told_at};
 
+use crate::family_forms::unbounded;
+use crate::in_family::is_in_family;
 use crate::spelling::{Misspelling, spelled_rule};
 use generations_rule::Rule;
 use text_scan::{
@@ -19,32 +21,99 @@ use text_scan::{
 pub struct HeaderRule {
     /// The index, in the whole text and from 0, of the first byte of the rule's text.
     pub place: usize,
-    /// How many bytes the rule's text has: 1 at least.
+    /// How many bytes the rule's text has, the bounds of a rule that is read left out: 1 at least.
     pub length: usize,
     /// The rule that its text spells, or why it spells none.
     pub rule: Result<Rule, Misspelling>,
+    /// The bounds behind a rule that is read, as `T100,200` of `B3/S23:T100,200`.
+    pub bounds: Option<HeaderBounds>,
+}
+
+/// Where the header of a pattern text tells the bounds of a grid (Golly's help, "Bounded Grids").
+#[derive(Clone, Copy, Debug, PartialEq, Eq)]
+pub struct HeaderBounds {
+    /// The index, in the whole text and from 0, of their first byte, which stands behind a colon.
+    pub place: usize,
+    /// How many bytes they have: 1 at least.
+    pub length: usize,
 }
 
 /// The rule that the header `x = w, y = h, rule = TEXT` of a pattern text tells: TEXT stands in front
 /// of a comma or of the line's end, without the blanks round it. `None` where the text has no header,
 /// or that tells no rule. The header's line is the one that `multistate_rle::parse` takes.
 ///
-/// A text with commas, as `R5,C0,M1`, is told up to the first, and a bounded grid too, as `:T100,200`.
+/// Where a colon stands in TEXT and a rule of this family in front of it, that rule is told, and what
+/// stands behind the colon up to the line's end as its bounds. Any other text with commas, as
+/// `R5,C0,M1`, is told up to the first.
 pub fn header_rule(text: &[u8]) -> Option<HeaderRule>
     ensures told { result ≡ header_rule_told text.now }
     ensures within { IfSome result (λ told. (0 < told.length) × (told.place + told.length ≤ length text.now)) }
+    ensures bounds_within { IfSome result (λ told. IfSome told.bounds (λ bounds. (0 < bounds.length) × (bounds.place + bounds.length ≤ length text.now))) }
     ensures no_header { HasNoHeader text.now → result ≡ None }
 {
     let line = header_line(text)?;
     let rest = behind_rule(behind_sides(line.text)?)?;
-    let rule = rule_text(rest);
-    if rule.is_empty() {
+    told_at(line.start + (line.text.len() - rest.len()), rest)
+}
+
+/// What is told of a rule's text with which the rest of a line begins, at this place.
+fn told_at(place: usize, rest: &[u8]) -> Option<HeaderRule>
+    requires { place + length rest.now < 2 ^ 64 }
+    ensures told { result ≡ told_at place rest.now }
+    ensures within { IfSome result (λ told. (0 < told.length) × (told.place + told.length ≤ place + length rest.now)) }
+    ensures bounds_within { IfSome result (λ told. IfSome told.bounds (λ bounds. (0 < bounds.length) × (bounds.place + bounds.length ≤ place + length rest.now))) }
+{
+    let text = rule_text(rest);
+    let part = part_read(text);
+    if part.is_empty() {
         return None;
     }
     Some(HeaderRule {
-        place: line.start + (line.text.len() - rest.len()),
-        length: rule.len(),
-        rule: spelled_rule(rule),
+        place,
+        length: part.len(),
+        rule: spelled_rule(part),
+        bounds: bounds_told(place, text, part, rest),
+    })
+}
+
+/// The part of a rule's text that is read: what stands in front of a colon, if a rule of this family
+/// stands there.
+fn part_read(text: &[u8]) -> &[u8]
+    ensures part { result.now ≡ part_read text.now }
+    ensures within { length result.now ≤ length text.now }
+{
+    let front = unbounded(text);
+    if is_in_family(front) { front } else { text }
+}
+
+/// The bounds of a rule of whose text this part is read.
+fn bounds_told(place: usize, text: &[u8], part: &[u8], rest: &[u8]) -> Option<HeaderBounds>
+    requires room { place + length rest.now < 2 ^ 64 }
+    requires text { length text.now ≤ length rest.now }
+    ensures told { result ≡ bounds_told place text.now part.now rest.now }
+    ensures within { IfSome result (λ bounds. (0 < bounds.length) × (bounds.place + bounds.length ≤ place + length rest.now)) }
+{
+    if part.len() < text.len() {
+        bounds_behind(place, part.len(), rest)
+    } else {
+        None
+    }
+}
+
+/// The bounds behind so many bytes of the rest of a line and a colon.
+fn bounds_behind(place: usize, count: usize, rest: &[u8]) -> Option<HeaderBounds>
+    requires room { place + length rest.now < 2 ^ 64 }
+    requires colon { count < length rest.now }
+    ensures told { result ≡ bounds_at (place + (count + 1)) (bounds_behind count rest.now) }
+    ensures within { IfSome result (λ bounds. (0 < bounds.length) × (bounds.place + bounds.length ≤ place + length rest.now)) }
+{
+    let bounds = without_blanks_behind(&rest[count + 1..]);
+    if bounds.is_empty() {
+        return None;
+    }
+    Some(HeaderBounds {
+        place: place + (count + 1),
+        length: bounds.len(),
     })
 }
 

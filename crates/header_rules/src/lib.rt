@@ -15,5 +15,5 @@ mod rule_text;
 mod spelling;
 
 pub use family::OtherFamily;
-pub use header::{HeaderRule, header_rule};
+pub use header::{HeaderBounds, HeaderRule, header_rule};
 pub use spelling::{Misspelling, spelled_rule};

@@ -8,10 +8,10 @@ use Rattle.header_rules.proofs.family_forms.other_family.Goals as goal
 pub returns : goal.returns
 returns c =
     let text = unbounded c.args.text.now in
-    let none : is_some (rule_in_family text) ≡ false = ap (λ t. is_some (rule_in_family t)) (sym c.unbounded-text.ensures) ∙ sym c.is_in_family.ensures ∙ c.if-is_in_family.false in
-    let spelling = c.family_by_spelling.ensures ∙ ap family_by_spelling c.unbounded-text.ensures in
-    let front = c.family_by_front.ensures ∙ ap family_by_front c.unbounded-text.ensures in
-    let name = c.family_by_name.ensures ∙ ap family_by_name c.unbounded-text.ensures in
+    let none : is_some (rule_in_family text) ≡ false = ap (λ t. is_some (rule_in_family t)) (sym c.unbounded-text.ensures.front) ∙ sym c.is_in_family.ensures ∙ c.if-is_in_family.false in
+    let spelling = c.family_by_spelling.ensures ∙ ap family_by_spelling c.unbounded-text.ensures.front in
+    let front = c.family_by_front.ensures ∙ ap family_by_front c.unbounded-text.ensures.front in
+    let name = c.family_by_name.ensures ∙ ap family_by_name c.unbounded-text.ensures.front in
     let two = c.or.ensures ∙ (λ i. option_or (spelling i) (front i)) in
     c.or-2.ensures ∙ (λ i. option_or (two i) (name i))
     ∙ first_later (is_some (rule_in_family text)) family.Bounded (family_by_spelling text) (family_by_front text) (family_by_name text) none

@@ -1,20 +1,15 @@
-use Rattle.std.proofs.Common.{◌∙◌, ◌+◌, ◌-◌, ◌<◌, ap, sym, arith, length, Some}
-use Rattle.std.proofs.lemmas.Bool.Decides.{nat_tests}
+use Rattle.std.proofs.Common.{◌∙◌, ◌+◌, ◌-◌, ap, sym, length}
 use Rattle.text_scan.specs.Bytes.{◌>=>◌}
-use Rattle.header_rules.specs.HeaderRule.{behind_rule, rule_text, told_at, told_in_line}
-use Rattle.header_rules.proofs.LineLemmas.{no_sides, told_if_some}
+use Rattle.header_rules.specs.HeaderRule.{behind_rule, told_at, told_in_line}
+use Rattle.header_rules.proofs.LineLemmas.{no_sides}
 use Rattle.header_rules.proofs.header.header_rule.Goals as goal
 
 pub returns-clause-told : goal.returns-clause-told
 returns-clause-told c =
     let line = c.in_ok-line.line in
-    let place = line.start + (length line.text.now - length c.in_ok-rest.rest.now) in
-    let some : 0 < length c.rule_text-rule.result.now = grind (arith, nat_tests, c.is_empty.ensures, c.if-is_empty.false) in
-    ap (λ r. Some (record { place = place; length = length c.rule_text-rule.result.now; rule = r })) c.spelled_rule.ensures
-    ∙ told_if_some place c.rule_text-rule.result.now some
-    ∙ ap (told_at place) c.rule_text-rule.ensures.text
-    ∙ ap (λ o. o >=> λ rest. told_at (line.start + (length line.text.now - length rest)) (rule_text rest)) c.in_ok-rest.ensures.rest
-    ∙ ap (λ o. o >=> λ rest. behind_rule rest >=> λ rest. told_at (line.start + (length line.text.now - length rest)) (rule_text rest)) c.in_ok-behind_sides.ensures.rest
+    c.told_at.ensures.told
+    ∙ ap (λ o. o >=> λ rest. told_at (line.start + (length line.text.now - length rest)) rest) c.in_ok-rest.ensures.rest
+    ∙ ap (λ o. o >=> λ rest. behind_rule rest >=> λ rest. told_at (line.start + (length line.text.now - length rest)) rest) c.in_ok-behind_sides.ensures.rest
     ∙ ap (λ o. o >=> told_in_line) c.in_ok-line.ensures.line
 
 pub returns-clause-no_header : goal.returns-clause-no_header
