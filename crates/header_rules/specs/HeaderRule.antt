@@ -46,10 +46,10 @@ abbrev pub bounds_at : ℕ → List ℕ → Option HeaderBounds
 bounds_at place [] = None
 bounds_at place (byte ∷ bounds) = Some (record { place = place; length = length (byte ∷ bounds) })
 
--- the bounds of a rule whose text is this: there are some where less than the text is read
+-- the bounds of a rule, in whose text this stands in front of a colon, or which has none
 abbrev pub bounds_told : ℕ → List ℕ → List ℕ → List ℕ → Option HeaderBounds
-bounds_told place text part rest =
-    if nat_lt (length part) (length text) then bounds_at (place + (length part + 1)) (bounds_behind (length part) rest) else None
+bounds_told place text front rest =
+    if nat_lt (length front) (length text) then bounds_at (place + (length front + 1)) (bounds_behind (length front) rest) else None
 
 -- a text that is read as a rule, unless it is empty
 abbrev pub told_as : ℕ → List ℕ → Option HeaderBounds → Option HeaderRule
@@ -58,7 +58,7 @@ told_as place (byte ∷ part) bounds = Some (record { place = place; length = le
 
 -- what the rest of a line tells, which begins at a place with a rule's text
 abbrev pub told_at : ℕ → List ℕ → Option HeaderRule
-told_at place rest = told_as place (part_read (rule_text rest)) (bounds_told place (rule_text rest) (part_read (rule_text rest)) rest)
+told_at place rest = told_as place (part_read (rule_text rest)) (bounds_told place (rule_text rest) (unbounded (rule_text rest)) rest)
 
 -- the rule that a header's line tells; its text begins where that is left of the line which stands behind `rule =`
 abbrev pub told_in_line : PlacedLine → Option HeaderRule

@@ -523,7 +523,7 @@ told_in_front_of_a_comma = refl
 
 -- a grid of another family
 pub told_on_a_grid_of_another : header_rule_told (codes "x = 1, y = 1, rule = B2e3/S23:T100,200\no!")
-    ≡ Some (record { place = 21; length = 13; rule = Err (Other NonTotalistic); bounds = None })
+    ≡ Some (record { place = 21; length = 13; rule = Err (Other NonTotalistic); bounds = Some (record { place = 30; length = 8 }) })
 unfolding rule_names other_names table_fronts table_ends
 told_on_a_grid_of_another = refl
 

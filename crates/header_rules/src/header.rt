@@ -25,7 +25,7 @@ pub struct HeaderRule {
     pub length: usize,
     /// The rule that its text spells, or why it spells none.
     pub rule: Result<Rule, Misspelling>,
-    /// The bounds behind a rule that is read, as `T100,200` of `B3/S23:T100,200`.
+    /// The bounds behind a colon in the rule's text, as `T100,200` of `B3/S23:T100,200`.
     pub bounds: Option<HeaderBounds>,
 }
 
@@ -42,9 +42,9 @@ pub struct HeaderBounds {
 /// of a comma or of the line's end, without the blanks round it. `None` where the text has no header,
 /// or that tells no rule. The header's line is the one that `multistate_rle::parse` takes.
 ///
-/// Where a colon stands in TEXT and a rule of this family in front of it, that rule is told, and what
-/// stands behind the colon up to the line's end as its bounds. Any other text with commas, as
-/// `R5,C0,M1`, is told up to the first.
+/// What stands behind a colon in TEXT, up to the line's end, is told as bounds; and where a rule of this
+/// family stands in front of it, that rule is told. Any other text with commas, as `R5,C0,M1`, is told
+/// up to the first.
 pub fn header_rule(text: &[u8]) -> Option<HeaderRule>
     ensures told { result ≡ header_rule_told text.now }
     ensures within { IfSome result (λ told. (0 < told.length) × (told.place + told.length ≤ length text.now)) }
@@ -72,7 +72,7 @@ fn told_at(place: usize, rest: &[u8]) -> Option<HeaderRule>
         place,
         length: part.len(),
         rule: spelled_rule(part),
-        bounds: bounds_told(place, text, part, rest),
+        bounds: bounds_told(place, text, unbounded(text), rest),
     })
 }
 
@@ -86,15 +86,15 @@ fn part_read(text: &[u8]) -> &[u8]
     if is_in_family(front) { front } else { text }
 }
 
-/// The bounds of a rule of whose text this part is read.
-fn bounds_told(place: usize, text: &[u8], part: &[u8], rest: &[u8]) -> Option<HeaderBounds>
+/// The bounds of a rule, in whose text this stands in front of a colon, or which has none.
+fn bounds_told(place: usize, text: &[u8], front: &[u8], rest: &[u8]) -> Option<HeaderBounds>
     requires room { place + length rest.now < 2 ^ 64 }
     requires text { length text.now ≤ length rest.now }
-    ensures told { result ≡ bounds_told place text.now part.now rest.now }
+    ensures told { result ≡ bounds_told place text.now front.now rest.now }
     ensures within { IfSome result (λ bounds. (0 < bounds.length) × (bounds.place + bounds.length ≤ place + length rest.now)) }
 {
-    if part.len() < text.len() {
-        bounds_behind(place, part.len(), rest)
+    if front.len() < text.len() {
+        bounds_behind(place, front.len(), rest)
     } else {
         None
     }
