@@ -1,19 +1,19 @@
 //! The header's line, and the rule that it tells.
 
-ghost use Rattle.std.specs.Prelude.{◌≡◌, ◌+◌, ◌^◌, ◌∷◌, [], ◌≤◌, ◌<◌, length, option_map, MatchOption, IfSome, None};
+ghost use Rattle.std.specs.Prelude.{◌≡◌, ◌+◌, ◌^◌, ◌≤◌, ◌<◌, length, option_map, IfSome, None};
 ghost use Rattle.std.specs.List.{before_first, position_or_len};
-ghost use Rattle.text_scan.specs.Bytes.{ends_line, is_comma};
+ghost use Rattle.text_scan.specs.Bytes.{is_comma};
 ghost use Rattle.multistate_rle.specs.Header.{side_spelled, number_in_front};
 ghost use Rattle.multistate_rle.specs.HeaderLine.{HasNoHeader, text_lines, may_precede};
 ghost use Rattle.header_rules.specs.HeaderRule.{header_line, behind_sides, behind_rule, bounds_at, bounds_behind, bounds_told, header_rule_told, part_read, rule_text, told_at};
 
 use crate::family_forms::unbounded;
 use crate::in_family::is_in_family;
+use crate::lines::split_line;
 use crate::spelling::{Misspelling, spelled_rule};
 use generations_rule::Rule;
 use text_scan::{
-    behind_symbol, is_all_blank, line_len, number, split_digits, without_blanks,
-    without_blanks_behind,
+    behind_symbol, is_all_blank, number, split_digits, without_blanks, without_blanks_behind,
 };
 
 /// The rule that the header of a pattern text tells.
@@ -140,19 +140,6 @@ fn header_line(text: &[u8]) -> Option<PlacedLine<'_>>
         rest = behind;
     }
     None
-}
-
-/// The first line of a text, and what stands behind its end, if it has one.
-fn split_line(text: &[u8]) -> (&[u8], Option<&[u8]>)
-    ensures line { MatchOption result.1 (text_lines text.now ≡ result.0.now ∷ []) (λ rest. text_lines text.now ≡ result.0.now ∷ text_lines rest.now) }
-    ensures whole { MatchOption result.1 (length result.0.now ≡ length text.now) (λ rest. length result.0.now + length rest.now + 1 ≡ length text.now) }
-{
-    let end = line_len(text);
-    if end < text.len() {
-        (&text[..end], Some(&text[end + 1..]))
-    } else {
-        (text, None)
-    }
 }
 
 /// Whether a line in front of the header may say this: it is a comment or blank.

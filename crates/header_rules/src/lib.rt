@@ -9,6 +9,7 @@ mod forms;
 mod header;
 mod in_family;
 mod letters;
+mod lines;
 mod names;
 mod notation;
 mod rule_text;
@@ -16,4 +17,5 @@ mod spelling;
 
 pub use family::OtherFamily;
 pub use header::{HeaderBounds, HeaderRule, header_rule};
+pub use lines::split_line;
 pub use spelling::{Misspelling, spelled_rule};

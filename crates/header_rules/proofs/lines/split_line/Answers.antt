@@ -1,7 +1,7 @@
 use Rattle.std.proofs.Common.{◌∙◌, ◌+◌, ◌∷◌, ap, sym, take}
 use Rattle.multistate_rle.specs.HeaderLine.{text_lines}
 use Rattle.header_rules.proofs.LineLemmas.{line_ended, line_alone, rest_of}
-use Rattle.header_rules.proofs.header.split_line.Goals as goal
+use Rattle.header_rules.proofs.lines.split_line.Goals as goal
 
 pub returns-then-end-text-clause-line : goal.returns-then-end-text-clause-line
 returns-then-end-text-clause-line c =
