@@ -57,7 +57,7 @@ impl FileKind {
     }
 
     /// Whether a file begins as one of this kind.
-    fn is_begun(self, text: &[u8]) -> bool
+    pub fn is_begun(self, text: &[u8]) -> bool
         ensures { result ≡ is_begun self text.now }
     {
         match self {
@@ -86,9 +86,9 @@ impl FileKind {
             FileKind::Macrocell => "is a macrocell: open it in Golly and save it as RLE",
             FileKind::Life105 => "is of the form Life 1.05: open it in Golly and save it as RLE",
             FileKind::Life106 => "is of the form Life 1.06: open it in Golly and save it as RLE",
-            FileKind::MCell => "is of MCell: open it in Golly and save it as RLE",
+            FileKind::MCell => "is of MCell: `genedit convert` makes RLE of it",
             FileKind::WebPage => "is a page of the web: save the pattern that it links to",
-            FileKind::Plaintext => "is plaintext, as .cells: open it in Golly and save it as RLE",
+            FileKind::Plaintext => "is plaintext, as .cells: `genedit convert` makes RLE of it",
         }
     }
 }
