@@ -33,9 +33,9 @@ abbrev pub rule_told_as : CellFormat → List ℕ → Option HeaderRule
 rule_told_as formats.MCell text = (head_of text).rule
 rule_told_as formats.Plaintext text = None
 rule_told_as formats.Rle text = header_rule_told text
-rule_told_as formats.Macrocell text = header_rule_told text
-rule_told_as formats.State text = header_rule_told text
-rule_told_as formats.Document text = header_rule_told text
+rule_told_as formats.Macrocell text = None
+rule_told_as formats.State text = None
+rule_told_as formats.Document text = None
 
 abbrev pub file_rule_told : List ℕ → Option HeaderRule
 file_rule_told text = rule_told_as (format_of text) text
@@ -60,9 +60,9 @@ abbrev pub bounds_told_as : CellFormat → List ℕ → Option (List ℕ)
 bounds_told_as formats.MCell text = board_bounds (head_of text)
 bounds_told_as formats.Plaintext text = None
 bounds_told_as formats.Rle text = header_bounds text (header_rule_told text)
-bounds_told_as formats.Macrocell text = header_bounds text (header_rule_told text)
-bounds_told_as formats.State text = header_bounds text (header_rule_told text)
-bounds_told_as formats.Document text = header_bounds text (header_rule_told text)
+bounds_told_as formats.Macrocell text = None
+bounds_told_as formats.State text = None
+bounds_told_as formats.Document text = None
 
 abbrev pub file_bounds_told : List ℕ → Option (List ℕ)
 file_bounds_told text = bounds_told_as (format_of text) text

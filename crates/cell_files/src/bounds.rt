@@ -13,15 +13,17 @@ use std::alloc::{AllocError, Global};
 
 /// The bounds of the grid that a file asks for (Golly's help, "Bounded Grids"), as Golly spells them behind a rule
 /// and its colon: what stands there in the header of an RLE text; of an MCell file's board `T800,800` where its
-/// edges are joined, else `P800,800`; plaintext tells none.
+/// edges are joined, else `P800,800`; other files tell none.
 pub fn file_bounds(alloc: Global, text: &[u8]) -> Result<Option<Vec<u8>>, AllocError>
     ensures { IfOk result (λ told. option_map (λ bounds. bounds.items) told ≡ file_bounds_told text.now) }
 {
     match CellFormat::of(text) {
         CellFormat::MCell => board_bounds(alloc, &Head::of(text)),
-        CellFormat::Plaintext => Ok(None),
-        CellFormat::Rle | CellFormat::Macrocell | CellFormat::State | CellFormat::Document =>
-            header_bounds(alloc, text),
+        CellFormat::Rle => header_bounds(alloc, text),
+        CellFormat::Plaintext
+        | CellFormat::Macrocell
+        | CellFormat::State
+        | CellFormat::Document => Ok(None),
     }
 }
 

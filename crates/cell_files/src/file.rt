@@ -32,14 +32,16 @@ pub fn read_cells(alloc: Global, text: &[u8]) -> Result<Pattern, RleFault>
 }
 
 /// The rule that a file tells, and where: behind `rule =` in the header of an RLE text, behind `#RULE` in an MCell
-/// file, of which the last such line counts; plaintext tells none. It is read in each spelling that a person types.
+/// file, of which the last such line counts; other files tell none. It is read in each spelling that a person types.
 pub fn file_rule(text: &[u8]) -> Option<HeaderRule>
     ensures { result ≡ file_rule_told text.now }
 {
     match CellFormat::of(text) {
         CellFormat::MCell => Head::of(text).rule,
-        CellFormat::Plaintext => None,
-        CellFormat::Rle | CellFormat::Macrocell | CellFormat::State | CellFormat::Document =>
-            header_rule(text),
+        CellFormat::Rle => header_rule(text),
+        CellFormat::Plaintext
+        | CellFormat::Macrocell
+        | CellFormat::State
+        | CellFormat::Document => None,
     }
 }

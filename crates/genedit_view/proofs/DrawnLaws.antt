@@ -1,6 +1,6 @@
 -- What an edit of sorted cells draws.
-use Rattle.std.proofs.Common.{◌≡◌, ℕ, ◌<◌, true, List, [], ◌∷◌, refl, sym, ap, ◌∙◌, arith}
-use Rattle.std.specs.Prelude.{Option, Some, None, Result, Ok, Err, IfOk, IsTrue}
+use Rattle.std.proofs.Common.{◌≡◌, ℕ, true, List, [], ◌∷◌, refl, sym, ap, ◌∙◌, arith}
+use Rattle.std.specs.Prelude.{Option, Some, None, Ok, IsTrue}
 use Rattle.std.proofs.lemmas.Bool.{and_parts}
 use Rattle.generations_rule.specs.Refusal.{unless}
 use Rattle.generations_rule.specs.Rule.{GenerationsRule, IsRule}

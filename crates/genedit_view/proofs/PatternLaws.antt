@@ -1,9 +1,8 @@
 -- A pattern that is refused nothing has cells that can be drawn, and run.
-use Rattle.std.proofs.Common.{◌≡◌, ℕ, ◌≤◌, ◌^◌, Bool, true, false, List, [], ◌∷◌, map, length, refl, sym, ap, ◌∙◌, subst, inl, inr}
-use Rattle.std.specs.Prelude.{not, ◌||◌, ◌&&◌, None, Option}
+use Rattle.std.proofs.Common.{◌≡◌, ◌≤◌, ◌^◌, Bool, true, false, List, [], ◌∷◌, refl, sym, ◌∙◌, subst}
+use Rattle.std.specs.Prelude.{not, ◌||◌, ◌&&◌, None}
 use Rattle.std.specs.Bool.{OnTrue}
 use Rattle.std.proofs.lemmas.List.{length-map}
-use Rattle.std.proofs.lemmas.Bool.{and_parts, cases_Bool}
 use Rattle.generations_rule.specs.Refusal.{when, first_of}
 use Rattle.generations_rule.specs.Rule.{GenerationsRule, IsRule}
 use Rattle.pattern_cells.specs.declared.cell.Cell.{Cell}

@@ -1,5 +1,5 @@
 -- What is seen of a text, and why nothing is.
-use Rattle.std.proofs.Common.{◌≡◌, inl, inr, Bool, ℕ, ◌≤◌, true, false, List, refl, sym, ap, subst, ◌∙◌}
+use Rattle.std.proofs.Common.{◌≡◌, inl, inr, Bool, ℕ, true, false, List, refl, sym, ap, subst, ◌∙◌}
 use Rattle.std.specs.Prelude.{◌⊎◌, Option, Some, None, Result, Ok, Err, IfErr, IsErrAnd, IsTrue, is_some}
 use Rattle.generations_rule.specs.Place.{Place}
 use Rattle.generations_rule.specs.Refusal.{AnswersAs}
@@ -19,8 +19,8 @@ use Rattle.genedit_view.specs.declared.fault.ViewFault.TheVariants.{Run}
 use Rattle.delta_exchange.specs.declared.message.Content.{Content}
 use Rattle.delta_exchange.specs.declared.message.Content.TheVariants as content
 use Rattle.delta_exchange.specs.Fault.{IsWantOrFull}
-use Rattle.delta_exchange.specs.Message.{Shared, plane_of}
-use Rattle.delta_exchange.specs.MessageReading.{IsTextOf, MayWantRoom, StandsForTold, Told, message_of}
+use Rattle.delta_exchange.specs.Message.{plane_of}
+use Rattle.delta_exchange.specs.MessageReading.{IsTextOf, MayWantRoom, StandsForTold, message_of}
 use Rattle.generation_engine.specs.Universe.{states_in_writes}
 use Rattle.export.specs.declared.fault.ExportFault.{ExportFault}
 use Rattle.export.specs.declared.fault.ExportFault.TheVariants as exports

@@ -1,5 +1,5 @@
 -- Cells of a pattern in the plane, as they can be drawn and run.
-use Rattle.std.specs.Prelude.{◌≡◌, ℕ, ◌≤◌, ◌^◌, ℤ, pos, ◌+ℤ◌, Bool, true, ◌&&◌, List, length}
+use Rattle.std.specs.Prelude.{◌≡◌, ◌≤◌, ◌^◌, ℤ, pos, ◌+ℤ◌, Bool, true, ◌&&◌, List, length}
 use Rattle.std.specs.Bool.{OnTrue}
 use Rattle.std.specs.List.{list_all}
 use Rattle.generations_rule.specs.Rule.{GenerationsRule, IsRule}

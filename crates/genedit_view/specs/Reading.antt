@@ -1,5 +1,5 @@
 -- What is read of a text: a rule, and cells or a map.
-use Rattle.std.specs.Prelude.{◌≡◌, ℕ, Bool, true, false, not, ◌&&◌, ◌||◌, List, [], ◌∷◌, take, drop, slice_index_or, Option, Some, None, Result, Ok, Err}
+use Rattle.std.specs.Prelude.{◌≡◌, ℕ, Bool, true, false, not, ◌&&◌, ◌||◌, List, [], ◌∷◌, take, drop, slice_index_or, if◌then◌else◌, Option, Some, None, Result, Ok, Err}
 use Rattle.std.specs.Result.{result_ok}
 use Rattle.std.specs.Str.{bytes_eq}
 use Rattle.generations_rule.specs.Place.{Place}
@@ -9,7 +9,6 @@ use Rattle.generations_rule.specs.RuleText as rules
 use Rattle.pattern_cells.specs.declared.cell.Cell.{Cell}
 use Rattle.multistate_rle.specs.declared.fault.RleFault.{RleFault}
 use Rattle.pattern_cells.specs.Pattern.{RlePattern}
-use Rattle.multistate_rle.specs.Reading.{parsed}
 use Rattle.edit_stamps.specs.Making.{are_in_plane}
 use Rattle.edit_stamps.specs.Pasting.{are_placeable, have_states_below}
 use Rattle.stamped_writes.specs.Write.{Writes}
@@ -20,7 +19,7 @@ use Rattle.generation_engine.specs.Universe.{states_in_writes}
 use Rattle.genedit_rle.specs.Canonical.{cells_in_plane}
 use Rattle.header_rules.specs.declared.header.HeaderRule.{HeaderRule}
 use Rattle.header_rules.specs.declared.spelling.Misspelling.{Misspelling}
-use Rattle.header_rules.specs.HeaderRule.{header_rule_told}
+use Rattle.cell_files.specs.Files.{file_parsed, file_rule_told}
 use Rattle.cell_pictures.specs.Shown.{state_at}
 use Rattle.genedit_view.specs.declared.fault.ViewFault.{ViewFault}
 use Rattle.genedit_view.specs.declared.fault.ViewFault.TheVariants as faults
@@ -32,7 +31,7 @@ begins_as_state text = bytes_eq (take 4 text) state_magic
 
 -- ---- patterns
 
--- a rule that a header tells at a place, unless its text spells none
+-- a rule that a file tells at a place, unless its text spells none
 abbrev pub read_rule : ℕ → Result GenerationsRule Misspelling → Result GenerationsRule ViewFault
 read_rule place (Err why) = Err (faults.HeaderRule place why)
 read_rule place (Ok r) = Ok r
@@ -41,10 +40,10 @@ abbrev pub rule_told : Option HeaderRule → Result GenerationsRule ViewFault
 rule_told None = Err faults.NoRule
 rule_told (Some told) = read_rule told.place told.rule
 
--- the rule that is given, else that of the header
+-- the rule that is given, else that of the file
 abbrev pub pattern_rule : Option GenerationsRule → List ℕ → Result GenerationsRule ViewFault
 pattern_rule (Some r) text = Ok r
-pattern_rule None text = rule_told (header_rule_told text)
+pattern_rule None text = rule_told (file_rule_told text)
 
 -- a cell of a pattern has no coordinates of 32 bits; or, where the pattern is to be run, lies outside the plane of edits
 abbrev pub is_outside : Bool → RlePattern → Bool
@@ -65,10 +64,15 @@ abbrev pub read_pattern : Result RlePattern RleFault → Result RlePattern ViewF
 read_pattern (Ok p) = Ok p
 read_pattern (Err fault) = Err (fault_of_pattern fault)
 
+-- the generation that a text tells which is no state
+abbrev pub generation_of_pattern : Result RlePattern RleFault → ℕ
+generation_of_pattern (Ok p) = p.generation
+generation_of_pattern (Err fault) = 0
+
 -- the rule and the cells of a text that is no state, or its first refusal
 abbrev pub pattern_seen : Bool → Option GenerationsRule → List ℕ → Result (GenerationsRule × List Cell) ViewFault
 pattern_seen is_run given text =
-    read_pattern (parsed text) >>= λ p. pattern_rule given text >>= λ r. cells_or_fault is_run r p
+    read_pattern (file_parsed text) >>= λ p. pattern_rule given text >>= λ r. cells_or_fault is_run r p
 
 -- ---- states
 
@@ -82,6 +86,10 @@ state_rule (Some r) text = Some r
 state_rule None text = own_rule text
 
 -- ---- both
+
+-- the generation that a text tells; a state tells none
+abbrev pub generation_told : List ℕ → ℕ
+generation_told text = if begins_as_state text then 0 else generation_of_pattern (file_parsed text)
 
 -- a text is read as a rule and the state at each place
 pub data IsReadAs (is_run : Bool) (given : Option GenerationsRule) (text : List ℕ) (r : GenerationsRule) (f : Place → ℕ) : Type 0 where

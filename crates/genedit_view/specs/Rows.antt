@@ -38,6 +38,17 @@ pub family_told : view_fault_text (HeaderRule 21 (Other NonTotalistic))
 unfolding digits
 family_told = refl
 
+-- a bounded rule is read, and so is that of an MCell file
+pub bounded : pattern_rule None (codes "x = 1, y = 1, rule = B3/S23:T800,800\no!") ≡ Ok (rule_of_text (codes "23/3/2"))
+unfolding rule_names
+bounded = refl
+
+pub of_mcell : pattern_rule None (codes "#MCell\n#RULE 2/13/21\n#L A") ≡ Ok (rule_of_text (codes "2/13/21"))
+of_mcell = refl
+
+pub of_plaintext : pattern_rule None (codes "!x = 1, y = 1, rule = B3/S23\nO") ≡ Err NoRule
+of_plaintext = refl
+
 -- ---- windows
 
 pub sides_by_comma : window_asked (codes "3,4") (codes "10,20") ≡ Ok (record { x = pos 3; y = pos 4; width = 10; height = 20 })

@@ -15,5 +15,7 @@ mod words;
 pub use cell_pictures::{BufferedSink, Form, Window};
 pub use fault::ViewFault;
 pub use options::ViewOptions;
+pub use seen::SeenCells;
+pub use shown::see;
 pub use viewing::{view, view_within};
 pub use words::{WindowFault, window_of};

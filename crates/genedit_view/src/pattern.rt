@@ -1,17 +1,18 @@
-//! The rule and the cells of a pattern's text.
+//! The rule and the cells of a pattern's file: RLE, MCell's or plaintext.
 
 ghost use Rattle.std.specs.Prelude.{◌≡◌, ◌+ℤ◌, pos, IfErr, IfOk, Ok, Err, ◌⊎◌};
 ghost use Rattle.edit_stamps.specs.Plane.{is_coordinate_in_plane};
+ghost use Rattle.cell_files.specs.Files.{file_parsed};
 ghost use Rattle.genedit_view.specs.Fault.{memory_wanted};
-ghost use Rattle.genedit_view.specs.Reading.{cells_or_fault, is_outside, pattern_fault, pattern_seen};
+ghost use Rattle.genedit_view.specs.Reading.{cells_or_fault, generation_of_pattern, is_outside, pattern_fault, pattern_seen};
 ghost use Rattle.genedit_view.specs.Cells.{ArePatternCells, are_in_plane_at};
 
 use crate::fault::ViewFault;
 use crate::rule::pattern_rule;
 use crate::seen::SeenCells;
+use cell_files::read_cells;
 use edit_stamps::{Corner, are_placeable, have_states_below, placed_cells};
 use generations_rule::Rule;
-use multistate_rle::parse;
 use pattern_cells::{Pattern, PatternCell};
 use std::alloc::Global;
 
@@ -31,9 +32,10 @@ pub fn pattern_cells(
 ) -> Result<SeenCells, ViewFault>
     ensures seen { IfOk result (λ seen. pattern_seen is_run given text.now ≡ Ok (seen.rule, seen.cells.items)) }
     ensures cells { IfOk result (λ seen. ArePatternCells is_run seen.rule seen.cells.items) }
+    ensures generation { IfOk result (λ seen. seen.generation ≡ generation_of_pattern (file_parsed text.now)) }
     ensures fault { IfErr result (λ fault. (pattern_seen is_run given text.now ≡ Err fault) ⊎ (fault ≡ memory_wanted)) }
 {
-    let pattern = parse(alloc, text)?;
+    let pattern = read_cells(alloc, text)?;
     let rule = pattern_rule(given, text)?;
     placed(alloc, is_run, rule, &pattern)
 }
@@ -47,6 +49,7 @@ fn placed(
 ) -> Result<SeenCells, ViewFault>
     ensures seen { IfOk result (λ seen. cells_or_fault is_run rule pattern.now ≡ Ok (seen.rule, seen.cells.items)) }
     ensures cells { IfOk result (λ seen. ArePatternCells is_run seen.rule seen.cells.items) }
+    ensures generation { IfOk result (λ seen. seen.generation ≡ pattern.now.generation) }
     ensures fault { IfErr result (λ fault. (cells_or_fault is_run rule pattern.now ≡ Err fault) ⊎ (fault ≡ memory_wanted)) }
 {
     if let Some(fault) = fault_of(is_run, &rule, pattern) {
@@ -55,7 +58,11 @@ fn placed(
     // For the proof alone: the call tells that it is a rule.
     let _states = rule.states();
     let cells = placed_cells(alloc, pattern.cells(), position_of(pattern))?;
-    Ok(SeenCells { rule, cells })
+    Ok(SeenCells {
+        rule,
+        generation: pattern.generation(),
+        cells,
+    })
 }
 
 /// The first refusal of a pattern that was read.

@@ -4,8 +4,8 @@ ghost use Rattle.std.specs.Prelude.{◌≡◌, None, drop, slice_index_or, take}
 ghost use Rattle.genedit_view.specs.Reading.{begins_as_state, own_rule, pattern_rule, state_rule};
 
 use crate::fault::ViewFault;
+use cell_files::file_rule;
 use generations_rule::Rule;
-use header_rules::header_rule;
 
 /// What the text of a state begins with.
 const STATE_MAGIC: &[u8] = b"GLWS";
@@ -17,7 +17,7 @@ pub fn begins_as_state(text: &[u8]) -> bool
     text.starts_with(STATE_MAGIC)
 }
 
-/// The rule of a pattern's text: the one that is given, else that of its header.
+/// The rule of a pattern's file: the one that is given, else the one that it tells.
 pub fn pattern_rule(given: Option<Rule>, text: &[u8]) -> Result<Rule, ViewFault>
     ensures { result ≡ pattern_rule given text.now }
 {
@@ -27,11 +27,11 @@ pub fn pattern_rule(given: Option<Rule>, text: &[u8]) -> Result<Rule, ViewFault>
     }
 }
 
-/// The rule that a pattern's header tells.
+/// The rule that a pattern's file tells.
 fn told_rule(text: &[u8]) -> Result<Rule, ViewFault>
     ensures { result ≡ pattern_rule None text.now }
 {
-    let Some(told) = header_rule(text) else {
+    let Some(told) = file_rule(text) else {
         return Err(ViewFault::NoRule);
     };
     match told.rule {

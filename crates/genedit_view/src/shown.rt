@@ -1,13 +1,14 @@
 //! The cells that are shown of a text.
 
 ghost use Rattle.std.specs.Prelude.{◌≡◌, ◌⊎◌, IfErr, IfOk, Some, true, false};
+ghost use Rattle.pattern_cells.specs.Cells.{are_states_below};
 ghost use Rattle.edit_stamps.specs.PlaneMap.{HasStatesBelow};
 ghost use Rattle.stamped_tree.specs.Plane.{map_of};
 ghost use Rattle.generation_engine.specs.Universe.{states_in_writes};
 ghost use Rattle.cell_pictures.specs.Shown.{state_at};
 ghost use Rattle.genedit_view.specs.Cells.{ArePatternCells};
 ghost use Rattle.genedit_view.specs.Fault.{IsViewWant};
-ghost use Rattle.genedit_view.specs.Reading.{begins_as_state};
+ghost use Rattle.genedit_view.specs.Reading.{begins_as_state, generation_told};
 ghost use Rattle.genedit_io.specs.declared.fault.RunFault.TheVariants.{StoreFull};
 ghost use Rattle.genedit_view.specs.declared.fault.ViewFault.TheVariants.{Run};
 ghost use Rattle.genedit_view.specs.Seeing.{AreCellsAt, AreSeen, IsFullAt, IsLateFull, IsLateRefused, IsNotSeen, IsRefusedAt, IsWantAt};
@@ -28,6 +29,8 @@ use std::alloc::Global;
 /// The cells that are shown of a text, and the rule; or why nothing is.
 pub fn see(alloc: Global, options: &ViewOptions, text: &[u8]) -> Result<SeenCells, ViewFault>
     ensures seen { IfOk result (λ seen. AreSeen options.now text.now seen.rule seen.cells.items) }
+    ensures below { IfOk result (λ seen. are_states_below seen.rule.states seen.cells.items ≡ true) }
+    ensures generation { IfOk result (λ seen. seen.generation ≡ generation_told text.now) }
     ensures fault { IfErr result (λ fault. IsNotSeen options.now text.now fault ⊎ IsWantAt options.now text.now fault) }
 {
     if begins_as_state(text) {
@@ -40,6 +43,8 @@ pub fn see(alloc: Global, options: &ViewOptions, text: &[u8]) -> Result<SeenCell
 fn see_pattern(alloc: Global, options: &ViewOptions, text: &[u8]) -> Result<SeenCells, ViewFault>
     requires { begins_as_state text.now ≡ false }
     ensures seen { IfOk result (λ seen. AreSeen options.now text.now seen.rule seen.cells.items) }
+    ensures below { IfOk result (λ seen. are_states_below seen.rule.states seen.cells.items ≡ true) }
+    ensures generation { IfOk result (λ seen. seen.generation ≡ generation_told text.now) }
     ensures fault { IfErr result (λ fault. IsNotSeen options.now text.now fault ⊎ IsWantAt options.now text.now fault) }
 {
     let is_run = options.generation.is_some();
@@ -50,6 +55,7 @@ fn see_pattern(alloc: Global, options: &ViewOptions, text: &[u8]) -> Result<Seen
     let cells = run_cells(alloc, &seen.rule, &seen.cells, generation)?;
     Ok(SeenCells {
         rule: seen.rule,
+        generation: seen.generation,
         cells,
     })
 }
@@ -57,6 +63,8 @@ fn see_pattern(alloc: Global, options: &ViewOptions, text: &[u8]) -> Result<Seen
 fn see_state(alloc: Global, options: &ViewOptions, text: &[u8]) -> Result<SeenCells, ViewFault>
     requires { begins_as_state text.now ≡ true }
     ensures seen { IfOk result (λ seen. AreSeen options.now text.now seen.rule seen.cells.items) }
+    ensures below { IfOk result (λ seen. are_states_below seen.rule.states seen.cells.items ≡ true) }
+    ensures generation { IfOk result (λ seen. seen.generation ≡ generation_told text.now) }
     ensures fault { IfErr result (λ fault. IsNotSeen options.now text.now fault ⊎ IsWantAt options.now text.now fault) }
 {
     let Some(rule) = state_rule(options.rule, text) else {
@@ -67,7 +75,11 @@ fn see_state(alloc: Global, options: &ViewOptions, text: &[u8]) -> Result<SeenCe
         unreachable!()
     };
     let cells = plane_cells(alloc, &rule, plane, options.generation)?;
-    Ok(SeenCells { rule, cells })
+    Ok(SeenCells {
+        rule,
+        generation: 0,
+        cells,
+    })
 }
 
 /// A pattern's cells some generations later.
@@ -79,6 +91,7 @@ fn run_cells(
 ) -> Result<Vec<Cell>, ViewFault>
     requires { ArePatternCells true rule.now cells.now }
     ensures cells { IfOk result (λ later. AreCellsAt rule.now (state_at cells.now) (Some generation) later.items) }
+    ensures below { IfOk result (λ later. are_states_below rule.now.states later.items ≡ true) }
     ensures fault { IfErr result (λ fault. IsLateRefused rule.now (state_at cells.now) generation fault ⊎ IsViewWant fault) }
     ensures full { IfErr result (λ fault. fault ≡ Run StoreFull → IsLateFull rule.now (state_at cells.now) generation) }
 {
@@ -97,9 +110,12 @@ fn plane_cells(
 ) -> Result<Vec<Cell>, ViewFault>
     requires { HasStatesBelow rule.now.states (map_of plane.now) }
     ensures cells { IfOk result (λ cells. AreCellsAt rule.now (states_in_writes (map_of plane.now)) generation cells.items) }
+    ensures below { IfOk result (λ cells. are_states_below rule.now.states cells.items ≡ true) }
     ensures fault { IfErr result (λ fault. IsRefusedAt rule.now (states_in_writes (map_of plane.now)) generation fault ⊎ IsViewWant fault) }
     ensures full { IfErr result (λ fault. fault ≡ Run StoreFull → IsFullAt rule.now (states_in_writes (map_of plane.now)) generation) }
 {
+    // For the proof alone: the call tells that it is a rule.
+    let _states = rule.states();
     let Some(generation) = generation else {
         return Ok(plane.walk()?);
     };

@@ -1,6 +1,6 @@
 //! A view of a text, from a source's bytes to a sink's.
 
-ghost use Rattle.std.specs.Prelude.{◌≡◌, ◌^◌, IfErr, IsTrue, true};
+ghost use Rattle.std.specs.Prelude.{◌≡◌, ◌^◌, IfErr, IsTrue, option_map, true};
 ghost use Rattle.genedit_io.specs.declared.fault.RunFault.TheVariants.{Write};
 ghost use Rattle.pattern_cells.specs.Cells.{is_sorted};
 ghost use Rattle.cell_pictures.specs.Drawn.{IsDrawn, with_waiting};
@@ -11,6 +11,7 @@ use crate::fault::ViewFault;
 use crate::options::ViewOptions;
 use crate::seen::SeenCells;
 use crate::shown::see;
+use cell_files::file_bounds;
 use cell_pictures::{BufferedSink, draw};
 use devices::{Failed, Sink, Source};
 use genedit_io::{RunFault, pull_all};
@@ -19,11 +20,12 @@ use std::alloc::Global;
 /// How many pulls a text has, at most.
 const TURNS: u64 = 1 << 32;
 
-/// Pulls a text to its source's end, and pushes its picture: of an RLE text, each of whose cells is moved
-/// by the text's position, or of a state, which is told by its first bytes `GLWS`; as it is, or some
-/// generations later.
+/// Pulls a text to its source's end, and pushes its picture: of a file in RLE, MCell's format or plaintext,
+/// each of whose cells is moved by the file's position, or of a state, which is told by its first bytes
+/// `GLWS`; as it is, or some generations later. It tells the bounds that the file tells, which are passed
+/// over: cells live on the whole plane.
 ///
-/// Of several faults the first of these is told, before a byte is pushed. Of an RLE text: what is wrong
+/// Of several faults the first of these is told, before a byte is pushed. Of a pattern's file: what is wrong
 /// with it (4 to 8), a rule that is not told, a coordinate outside 32 bits with a sign, and outside the
 /// plane of edits where generations are asked for (10), a state that the rule does not have (11). Of a
 /// state: a rule that is not told, and what is wrong with the text (8 to 20). Then a generation that is
@@ -33,8 +35,8 @@ pub fn view<S: Source, K: Sink>(
     options: &ViewOptions,
     source: &mut S,
     sink: &mut BufferedSink<K>,
-) -> Result<(), ViewFault>
-    ensures { IsView options.now (2 ^ 32) result (S.known source.old) (S.known source.new)
+) -> Result<Option<Vec<u8>>, ViewFault>
+    ensures { IsView options.now (2 ^ 32) (option_map (λ bounds. bounds.items)) result (S.known source.old) (S.known source.new)
         (with_waiting (K.known sink.old.sink) sink.old.waiting.items sink.old.pushes) (K.known sink.new.sink) sink.old sink.new }
 {
     view_within(alloc, options, source, sink, TURNS)
@@ -47,13 +49,17 @@ pub fn view_within<S: Source, K: Sink>(
     source: &mut S,
     sink: &mut BufferedSink<K>,
     turns: u64,
-) -> Result<(), ViewFault>
-    ensures { IsView options.now turns result (S.known source.old) (S.known source.new)
+) -> Result<Option<Vec<u8>>, ViewFault>
+    ensures { IsView options.now turns (option_map (λ bounds. bounds.items)) result (S.known source.old) (S.known source.new)
         (with_waiting (K.known sink.old.sink) sink.old.waiting.items sink.old.pushes) (K.known sink.new.sink) sink.old sink.new }
 {
     let text = pull_all(alloc, source, turns)?;
     let seen = see(alloc, options, &text)?;
-    push_picture(sink, options, &seen)
+    let bounds = file_bounds(alloc, &text)?;
+    match push_picture(sink, options, &seen) {
+        Ok(()) => Ok(bounds),
+        Err(fault) => Err(fault),
+    }
 }
 
 /// Draws cells, and pushes all of it.

@@ -1,8 +1,6 @@
-use Rattle.std.proofs.Common.{◌≡◌, ◌∙◌, sym, ap, true}
-use Rattle.std.specs.Prelude.{not}
+use Rattle.std.proofs.Common.{◌≡◌, ◌∙◌, true}
 use Rattle.edit_stamps.specs.Pasting.{are_placeable}
 use Rattle.genedit_view.specs.Cells.{are_in_plane_at}
-use Rattle.genedit_view.specs.Reading.{is_outside}
 use Rattle.genedit_view.proofs.PatternLaws.{outside_is}
 use Rattle.genedit_view.proofs.pattern.is_outside.Goals as goal
 

@@ -3,7 +3,7 @@ use Rattle.std.specs.Prelude.{◌⊎◌, Some, is_some}
 use Rattle.stamped_tree.specs.Plane.{map_of}
 use Rattle.generation_engine.specs.Universe.{states_in_writes}
 use Rattle.genedit_view.specs.declared.fault.ViewFault.{ViewFault}
-use Rattle.genedit_view.specs.Reading.{IsReadAs, state_rule}
+use Rattle.genedit_view.specs.Reading.{state_rule}
 use Rattle.genedit_view.specs.Seeing.{IsNotSeen, IsWantAt}
 use Rattle.genedit_view.proofs.SeenLaws.{at_end, state_late, state_read, state_refused, state_shown}
 use Rattle.genedit_view.proofs.shown.see_state.Goals as goal

@@ -1,0 +1,4 @@
+pub mod Names
+pub mod Converted
+pub mod Runs
+pub mod Rows

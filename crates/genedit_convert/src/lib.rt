@@ -1,0 +1,12 @@
+//! A file of cells made an RLE text: from RLE, MCell's format, plaintext or a state, as it is or some
+//! generations later, with its comments.
+#![tactic(auto)]
+
+mod converting;
+mod named;
+mod options;
+mod run;
+
+pub use converting::{Converted, converted};
+pub use options::ConvertOptions;
+pub use run::{convert, convert_within};
