@@ -3,7 +3,7 @@ use Rattle.std.specs.Prelude.{◌≡◌, ◌⊎◌, ℕ, ◌+◌, ◌≤◌, ◌
 use Rattle.generations_rule.specs.Rule.{GenerationsRule}
 use Rattle.pattern_cells.specs.declared.cell.Cell.{Cell}
 use Rattle.export.specs.declared.fault.ExportFault.TheVariants.{GenRange}
-use Rattle.cell_pictures.specs.declared.form.Form.TheVariants.{Plain}
+use Rattle.cell_pictures.specs.declared.picture.Form.TheVariants.{Plain}
 use Rattle.cell_files.specs.Comments.{comment_lines}
 use Rattle.cell_files.specs.Formats.{format_of}
 use Rattle.genedit_view.specs.declared.fault.ViewFault.{ViewFault}

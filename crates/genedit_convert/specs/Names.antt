@@ -13,7 +13,7 @@ abbrev pub rule_name : GenerationsRule → List ℕ
 rule_name r = if r.states == 2 then codes "B" ++ text_of_set r.birth ++ codes "/S" ++ text_of_set r.survival else text_of r
 
 -- the text that is written of cells, sorted and nonzero, at a generation, but for the rule's name in its header
-abbrev pub text_named : List ℕ → GenerationsRule → ℕ → List Cell → List ℕ
+unfoldable pub text_named : List ℕ → GenerationsRule → ℕ → List Cell → List ℕ
 text_named name r g cells = head_lines name g (bounds_of cells) ++ body (r.states == 2) (tokens_from 0 0 (in_box (bounds_of cells) cells))
 
 -- ---- a name for another

@@ -32,7 +32,7 @@ pub struct Converted {
 ///
 /// Of several faults the first of these is told: those of a view (`genedit_view::view`), and 22 where the
 /// generation has more than 64 bits.
-pub fn converted(
+pub fn conversion_of(
     alloc: Global,
     options: &ConvertOptions,
     text: &[u8],

@@ -7,6 +7,6 @@ mod named;
 mod options;
 mod run;
 
-pub use converting::{Converted, converted};
+pub use converting::{Converted, conversion_of};
 pub use options::ConvertOptions;
 pub use run::{convert, convert_within};

@@ -31,12 +31,7 @@ pub fn push_text(
 }
 
 /// A written text with another name for its rule, which has so many bytes.
-fn push_renamed(
-    out: &mut Vec<u8>,
-    count: usize,
-    name: &[u8],
-    text: &[u8],
-) -> Result<(), AllocError>
+fn push_renamed(out: &mut Vec<u8>, count: usize, name: &[u8], text: &[u8]) -> Result<(), AllocError>
     requires { name_place text.now + count ≤ length text.now }
     ensures { OnOk result (out.new.items ≡ out.old.items ++ renamed count name.now text.now) }
 {

@@ -3,7 +3,7 @@
 ghost use Rattle.std.specs.Prelude.{◌^◌, option_map};
 ghost use Rattle.genedit_convert.specs.Runs.{IsConversion};
 
-use crate::converting::{Converted, converted};
+use crate::converting::{Converted, conversion_of};
 use crate::options::ConvertOptions;
 use devices::Source;
 use genedit_io::pull_all;
@@ -13,7 +13,7 @@ use std::alloc::Global;
 /// How many pulls a text has, at most.
 const TURNS: u64 = 1 << 32;
 
-/// Pulls a text to its source's end, and converts it, as `converted` does; `RunFault::Turns` comes after 2^32 pulls
+/// Pulls a text to its source's end, and converts it, as `conversion_of` does; `RunFault::Turns` comes after 2^32 pulls
 /// that each gave something.
 pub fn convert<S: Source>(
     alloc: Global,
@@ -35,5 +35,5 @@ pub fn convert_within<S: Source>(
     ensures { IsConversion options.now turns (λ made. made.text.items) (λ made. option_map (λ bounds. bounds.items) made.bounds) result (S.known source.old) (S.known source.new) }
 {
     let text = pull_all(alloc, source, turns)?;
-    converted(alloc, options, &text)
+    conversion_of(alloc, options, &text)
 }
