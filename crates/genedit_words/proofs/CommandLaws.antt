@@ -18,8 +18,8 @@ use Rattle.clap.specs.Faults.{check_fault, defaults_fault, entered_fault, fault_
 use Rattle.clap.specs.declared.builder.value_parser.Reading.{Reading}
 use Rattle.clap.specs.declared.builder.value_parser.Reading.TheVariants as reading
 use Rattle.clap.specs.declared.builder.value_parser.ValueParser.TheVariants as vp
-use Rattle.genedit_words.specs.Given.{HasClient, HasFlag, HasNumber, HasRule, HasServer, HasView, IsNamed, MayHaveNumber}
-use Rattle.genedit_words.specs.Words.{board_rule, check_shape, every_option, file_argument, flag, gen_option, genedit_app, join_shape, optional, port_option, rle_shape, rule_option, run_shape, serve_shape, sessions_option, view_shape}
+use Rattle.genedit_words.specs.Given.{HasClient, HasConversion, HasFlag, HasNumber, HasRule, HasServer, HasView, IsNamed, MayHaveNumber}
+use Rattle.genedit_words.specs.Words.{board_rule, check_shape, convert_shape, every_option, file_argument, flag, gen_option, genedit_app, join_shape, optional, place_argument, port_option, rle_shape, rule_option, run_shape, serve_shape, sessions_option, view_shape}
 use Rattle.genedit_words.proofs.Stops.{both_pass, stops_at_help, walk_passes}
 use Rattle.genedit_words.proofs.RowFacts.{IsWellUsed, UsesWell, all_ok, both_true, rows_well}
 use Rattle.genedit_words.proofs.RuleFacts.{HasValue, drops_minus, first_passes, fit_default, fits, flag_well, found_value, given_value, is_flag_text, keeps_all, no_default, ok, set_well}
@@ -39,6 +39,9 @@ check_built = built_leaf (inherited whole.top check_shape)
 
 abbrev view_built : Shape
 view_built = built_leaf (inherited whole.top view_shape)
+
+abbrev convert_built : Shape
+convert_built = built_leaf (inherited whole.top convert_shape)
 
 abbrev serve_built : Shape
 serve_built = built_leaf (inherited whole.top (serve_shape false))
@@ -152,6 +155,37 @@ plain_well = flag_well given_plain refl refl refl refl
 svg_well : UsesWell ok false given_svg
 svg_well = flag_well given_svg refl refl refl refl
 
+-- the arguments of `convert` as they are built: two have a place
+abbrev given_in : Rule
+given_in = with_index 1 (filled (place_argument (codes "in")))
+
+abbrev given_out : Rule
+given_out = with_index 2 (filled (place_argument (codes "out")))
+
+abbrev given_made_rule : Rule
+given_made_rule = with_index 3 (filled (optional (codes "rule")))
+
+abbrev given_made_gen : Rule
+given_made_gen = with_index 3 (filled gen_option)
+
+abbrev given_replace : Rule
+given_replace = with_index 3 (filled (flag (codes "replace")))
+
+in_well : UsesWell ok false given_in
+in_well = set_well given_in refl (λ rows h. cc) (λ v vs passes. refl)
+
+out_well : UsesWell ok false given_out
+out_well = set_well given_out refl (λ rows h. cc) (λ v vs passes. refl)
+
+made_rule_well : UsesWell ok false given_made_rule
+made_rule_well = set_well given_made_rule refl (λ rows h. cc) (λ v vs passes. refl)
+
+made_gen_well : UsesWell ok false given_made_gen
+made_gen_well = set_well given_made_gen refl (λ rows h. cc) (λ v vs passes. first_passes false (vp.Signed (pos 0) (pos 536870912)) v vs passes)
+
+replace_well : UsesWell ok false given_replace
+replace_well = flag_well given_replace refl refl refl refl
+
 help_well : UsesWell ok false (filled help_rule)
 help_well values rows passes holds = holds
 
@@ -212,6 +246,19 @@ view_well p = go (p given_file) (p given_own_rule) (p given_at) (p given_size) (
     go false false false false false false true h = svg_well
     go false false false false false false false true = help_well
     go false false false false false false false false = tt
+
+convert_well : (p : Rule → Bool) → IsWellUsed ok false (find p convert_built.rules)
+convert_well p = go (p given_in) (p given_out) (p given_made_rule) (p given_made_gen) (p given_replace) (p (filled help_rule))
+  where
+    go : (a b c d e f : Bool) → IsWellUsed ok false (if a then Some given_in else (if b then Some given_out else (if c then Some given_made_rule
+        else (if d then Some given_made_gen else (if e then Some given_replace else (if f then Some (filled help_rule) else None))))))
+    go true b c d e f = in_well
+    go false true c d e f = out_well
+    go false false true d e f = made_rule_well
+    go false false false true e f = made_gen_well
+    go false false false false true f = replace_well
+    go false false false false false true = help_well
+    go false false false false false false = tt
 
 plain_default : (a : Rule) → a.defaults ≡ [] → (rows : List Row) → all_ok ok rows ≡ true → all_ok ok (with_default rows a) ≡ true
 plain_default a none rows holds = no_default rows a none holds
@@ -374,6 +421,32 @@ view_has_all words passes =
       svg = has_flag (codes "svg") rows fine (λ how v fit. fit);
     }
 
+-- `convert` has two files, and what else a conversion may be asked with
+convert_has_all : (words : List Text) → level_fault convert_built [] nothing_held words false [] ≡ [] → HasConversion (rows_after convert_built.rules [] words)
+convert_has_all words passes =
+    let rows = rows_after convert_built.rules [] words in
+    let has_in = is_given (codes "in") rows in
+    let has_out = is_given (codes "out") rows in
+    let parts = level_passes convert_built [] nothing_held words false [] passes in
+    let fine = rows_well ok convert_built convert_well (
+      plain_default given_in refl,
+      (
+        plain_default given_out refl,
+        (
+          plain_default given_made_rule refl,
+          (plain_default given_made_gen refl, ((λ rs. fit_default rs given_replace (codes "false") refl refl), (plain_default (filled help_rule) refl, tt))),
+        ),
+      ),
+    ) words parts.0 parts.2 in
+    let input = none_missing has_in (not has_out || false) (asks_argument false false (not has_in || (not has_out || false)) parts.3) in
+    let output = none_missing has_out false input.1 in
+    record {
+      input = has_first (codes "in") rows (given_value (codes "in") rows fine input.0);
+      output = has_first (codes "out") rows (given_value (codes "out") rows fine output.0);
+      generation = may_have_number 0 536870912 (codes "gen") rows fine (λ how v fit. fit);
+      replace = has_flag (codes "replace") rows fine (λ how v fit. fit);
+    }
+
 -- `join` has a port, and what else a client may be asked with
 join_has_all : (words : List Text) → level_fault join_built [] nothing_held words false [] ≡ [] → HasClient (rows_after join_built.rules [] words)
 join_has_all words passes =
@@ -410,35 +483,37 @@ join_has_all words passes =
 -- ---- which subcommand the words name
 
 -- the subcommand of these that a word names, by what the tests of its name say
-abbrev met_by : Bool → Bool → Bool → Bool → Bool → Bool → Bool → Option Shape
-met_by is_run is_check is_rle is_view is_serve is_join is_help = if is_run || false then Some run_built
+abbrev met_by : Bool → Bool → Bool → Bool → Bool → Bool → Bool → Bool → Option Shape
+met_by is_run is_check is_rle is_view is_convert is_serve is_join is_help = if is_run || false then Some run_built
     else (if is_check || false then Some check_built
     else (if is_rle || false then Some rle_built
     else (if is_view || false then Some view_built
+    else (if is_convert || false then Some convert_built
     else (if is_serve || false then Some serve_built
     else (if is_join || false then Some join_built
-    else (if is_help || false then Some (built_leaf help_shape) else None))))))
+    else (if is_help || false then Some (built_leaf help_shape) else None)))))))
 
 entered_named : (stop : Option (Text × List Text)) → is_some (entered whole stop) ≡ true → entered_fault whole stop ≡ [] → stops_at_help stop ≡ false
     → IsNamed (entered whole stop)
 entered_named None has passes not_help = absurd (true≢false (sym has))
 entered_named (Some p) has passes not_help =
-    go (bytes_eq (codes "run") p.0) (bytes_eq (codes "check") p.0) (bytes_eq (codes "rle") p.0) (bytes_eq (codes "view") p.0) (bytes_eq (codes "serve") p.0) (bytes_eq (codes "join") p.0)
+    go (bytes_eq (codes "run") p.0) (bytes_eq (codes "check") p.0) (bytes_eq (codes "rle") p.0) (bytes_eq (codes "view") p.0) (bytes_eq (codes "convert") p.0) (bytes_eq (codes "serve") p.0) (bytes_eq (codes "join") p.0)
     (bytes_eq (codes "help") p.0) refl has passes
   where
-    go : (a b c d e f g : Bool) → bytes_eq (codes "help") p.0 ≡ g → is_some (option_map (λ s. rows_at s p.1) (met_by a b c d e f g)) ≡ true
-        → option_map_or (λ s. level_fault s [] nothing_held p.1 false []) (met_by a b c d e f g) [] ≡ [] → IsNamed (option_map (λ s. rows_at s p.1) (met_by a b c d e f g))
-    go true b c d e f g is h q = record { name = codes "run"; rows = rows_after run_built.rules [] p.1; met = refl; has = tt }
-    go false true c d e f g is h q = record { name = codes "check"; rows = rows_after check_built.rules [] p.1; met = refl; has = tt }
-    go false false true d e f g is h q = record { name = codes "rle"; rows = rows_after rle_built.rules [] p.1; met = refl; has = rle_has_rule p.1 q }
-    go false false false true e f g is h q = record { name = codes "view"; rows = rows_after view_built.rules [] p.1; met = refl; has = view_has_all p.1 q }
-    go false false false false true f g is h q = record { name = codes "serve"; rows = rows_after serve_built.rules [] p.1; met = refl; has = serve_has_all p.1 q }
-    go false false false false false true g is h q = record { name = codes "join"; rows = rows_after join_built.rules [] p.1; met = refl; has = join_has_all p.1 q }
-    go false false false false false false true is h q =
+    go : (a b c d e f g h : Bool) → bytes_eq (codes "help") p.0 ≡ h → is_some (option_map (λ s. rows_at s p.1) (met_by a b c d e f g h)) ≡ true
+        → option_map_or (λ s. level_fault s [] nothing_held p.1 false []) (met_by a b c d e f g h) [] ≡ [] → IsNamed (option_map (λ s. rows_at s p.1) (met_by a b c d e f g h))
+    go true b c d e f g h is some q = record { name = codes "run"; rows = rows_after run_built.rules [] p.1; met = refl; has = tt }
+    go false true c d e f g h is some q = record { name = codes "check"; rows = rows_after check_built.rules [] p.1; met = refl; has = tt }
+    go false false true d e f g h is some q = record { name = codes "rle"; rows = rows_after rle_built.rules [] p.1; met = refl; has = rle_has_rule p.1 q }
+    go false false false true e f g h is some q = record { name = codes "view"; rows = rows_after view_built.rules [] p.1; met = refl; has = view_has_all p.1 q }
+    go false false false false true f g h is some q = record { name = codes "convert"; rows = rows_after convert_built.rules [] p.1; met = refl; has = convert_has_all p.1 q }
+    go false false false false false true g h is some q = record { name = codes "serve"; rows = rows_after serve_built.rules [] p.1; met = refl; has = serve_has_all p.1 q }
+    go false false false false false false true h is some q = record { name = codes "join"; rows = rows_after join_built.rules [] p.1; met = refl; has = join_has_all p.1 q }
+    go false false false false false false false true is some q =
         let name : codes "help" ≡ p.0 = (bytes_eq-Decides (codes "help") p.0).0 is in
         let helps : bytes_eq p.0 (codes "help") ≡ true = (bytes_eq-Decides p.0 (codes "help")).1 (sym name) in
         absurd (true≢false (sym helps ∙ not_help))
-    go false false false false false false false is h q = absurd (true≢false (sym h))
+    go false false false false false false false false is some q = absurd (true≢false (sym some))
 
 pub words_named : (words : List Text) → fault_of genedit_app words ≡ [] → IsNamed (subcommand_of genedit_app words)
 words_named words passes =

@@ -83,24 +83,25 @@ module _ (m : ArgMatches) (rows : List Row) (named : IsNamed (subcommand_rows_of
 -- where no other subcommand was entered, `run` was
 pub run_is_entered : (m : ArgMatches) → IsNamed (subcommand_rows_of m) → (subcommand_name_of m ≡ Some (codes "rle") → ⊥) → (subcommand_name_of m ≡ Some (codes "serve") → ⊥)
     → (subcommand_name_of m ≡ Some (codes "check") → ⊥) → (subcommand_name_of m ≡ Some (codes "view") → ⊥) → (subcommand_name_of m ≡ Some (codes "join") → ⊥)
-    → subcommand_name_of m ≡ Some (codes "run")
-run_is_entered m named not_rle not_serve not_check not_view not_join =
+    → (subcommand_name_of m ≡ Some (codes "convert") → ⊥) → subcommand_name_of m ≡ Some (codes "run")
+run_is_entered m named not_rle not_serve not_check not_view not_join not_convert =
     go (bytes_eq named.name (codes "run")) (bytes_eq named.name (codes "rle")) (bytes_eq named.name (codes "serve")) (bytes_eq named.name (codes "check"))
-    (bytes_eq named.name (codes "view")) (bytes_eq named.name (codes "join")) refl refl refl refl refl refl named.has
+    (bytes_eq named.name (codes "view")) (bytes_eq named.name (codes "join")) (bytes_eq named.name (codes "convert")) refl refl refl refl refl refl refl named.has
   where
     is : (name : Text) → bytes_eq named.name name ≡ true → subcommand_name_of m ≡ Some name
     is name same = entered_name m ∙ (ap (option_map (λ (p : Text × List Row). p.0)) named.met ∙ ap (λ (t : Text). Some t) ((bytes_eq-Decides named.name name).0 same))
 
-    go : (a b c d e f : Bool) → bytes_eq named.name (codes "run") ≡ a → bytes_eq named.name (codes "rle") ≡ b → bytes_eq named.name (codes "serve") ≡ c → bytes_eq named.name (codes "check") ≡ d
-        → bytes_eq named.name (codes "view") ≡ e → bytes_eq named.name (codes "join") ≡ f → HasBy a b c d e f named.rows
+    go : (a b c d e f g : Bool) → bytes_eq named.name (codes "run") ≡ a → bytes_eq named.name (codes "rle") ≡ b → bytes_eq named.name (codes "serve") ≡ c → bytes_eq named.name (codes "check") ≡ d
+        → bytes_eq named.name (codes "view") ≡ e → bytes_eq named.name (codes "join") ≡ f → bytes_eq named.name (codes "convert") ≡ g → HasBy a b c d e f g named.rows
         → subcommand_name_of m ≡ Some (codes "run")
-    go true b c d e f same_a same_b same_c same_d same_e same_f has = is (codes "run") same_a
-    go false true c d e f same_a same_b same_c same_d same_e same_f has = absurd (not_rle (is (codes "rle") same_b))
-    go false false true d e f same_a same_b same_c same_d same_e same_f has = absurd (not_serve (is (codes "serve") same_c))
-    go false false false true e f same_a same_b same_c same_d same_e same_f has = absurd (not_check (is (codes "check") same_d))
-    go false false false false true f same_a same_b same_c same_d same_e same_f has = absurd (not_view (is (codes "view") same_e))
-    go false false false false false true same_a same_b same_c same_d same_e same_f has = absurd (not_join (is (codes "join") same_f))
-    go false false false false false false same_a same_b same_c same_d same_e same_f has = absurd has
+    go true b c d e f g same_a same_b same_c same_d same_e same_f same_g has = is (codes "run") same_a
+    go false true c d e f g same_a same_b same_c same_d same_e same_f same_g has = absurd (not_rle (is (codes "rle") same_b))
+    go false false true d e f g same_a same_b same_c same_d same_e same_f same_g has = absurd (not_serve (is (codes "serve") same_c))
+    go false false false true e f g same_a same_b same_c same_d same_e same_f same_g has = absurd (not_check (is (codes "check") same_d))
+    go false false false false true f g same_a same_b same_c same_d same_e same_f same_g has = absurd (not_view (is (codes "view") same_e))
+    go false false false false false true g same_a same_b same_c same_d same_e same_f same_g has = absurd (not_join (is (codes "join") same_f))
+    go false false false false false false true same_a same_b same_c same_d same_e same_f same_g has = absurd (not_convert (is (codes "convert") same_g))
+    go false false false false false false false same_a same_b same_c same_d same_e same_f same_g has = absurd has
 
 -- ---- whether a server has a rule or a file
 

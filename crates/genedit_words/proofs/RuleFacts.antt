@@ -51,6 +51,7 @@ fits id how v = if bytes_eq id (codes "port") then drops_minus how && accepts fa
     else if bytes_eq id (codes "quiet") then keeps_all how && is_flag_text v
     else if bytes_eq id (codes "no-rescue") then keeps_all how && is_flag_text v
     else if bytes_eq id (codes "until-close") then keeps_all how && is_flag_text v
+    else if bytes_eq id (codes "replace") then keeps_all how && is_flag_text v
     else true
 
 -- a row has a first value, which fits

@@ -38,6 +38,13 @@ pub record HasView (rows : List Row) : Type 0 where
   pub plain : HasFlag (codes "plain") rows
   pub svg : HasFlag (codes "svg") rows
 
+-- what a conversion needs, and may be asked with
+pub record HasConversion (rows : List Row) : Type 0 where
+  pub input : (text : Text) × (first_of (codes "in") rows ≡ Some text)
+  pub output : (text : Text) × (first_of (codes "out") rows ≡ Some text)
+  pub generation : MayHaveNumber 0 536870912 (codes "gen") rows
+  pub replace : HasFlag (codes "replace") rows
+
 -- what a client needs, and may be asked with
 pub record HasClient (rows : List Row) : Type 0 where
   pub port : HasNumber 0 65535 (codes "port") rows
@@ -47,20 +54,21 @@ pub record HasClient (rows : List Row) : Type 0 where
   pub quiet : HasFlag (codes "quiet") rows
   pub no_rescue : HasFlag (codes "no-rescue") rows
 
--- by the subcommand: whether it is `run`, `rle`, `serve`, `check`, `view`, `join`
-abbrev pub HasBy : Bool → Bool → Bool → Bool → Bool → Bool → List Row → Type 0
-HasBy true is_rle is_serve is_check is_view is_join rows = ⊤
-HasBy false true is_serve is_check is_view is_join rows = HasRule rows
-HasBy false false true is_check is_view is_join rows = HasServer rows
-HasBy false false false true is_view is_join rows = ⊤
-HasBy false false false false true is_join rows = HasView rows
-HasBy false false false false false true rows = HasClient rows
-HasBy false false false false false false rows = ⊥
+-- by the subcommand: whether it is `run`, `rle`, `serve`, `check`, `view`, `join`, `convert`
+abbrev pub HasBy : Bool → Bool → Bool → Bool → Bool → Bool → Bool → List Row → Type 0
+HasBy true is_rle is_serve is_check is_view is_join is_convert rows = ⊤
+HasBy false true is_serve is_check is_view is_join is_convert rows = HasRule rows
+HasBy false false true is_check is_view is_join is_convert rows = HasServer rows
+HasBy false false false true is_view is_join is_convert rows = ⊤
+HasBy false false false false true is_join is_convert rows = HasView rows
+HasBy false false false false false true is_convert rows = HasClient rows
+HasBy false false false false false false true rows = HasConversion rows
+HasBy false false false false false false false rows = ⊥
 
 -- by its name
 abbrev pub Has : Text → List Row → Type 0
 Has name = HasBy (bytes_eq name (codes "run")) (bytes_eq name (codes "rle")) (bytes_eq name (codes "serve")) (bytes_eq name (codes "check"))
-    (bytes_eq name (codes "view")) (bytes_eq name (codes "join"))
+    (bytes_eq name (codes "view")) (bytes_eq name (codes "join")) (bytes_eq name (codes "convert"))
 
 -- a subcommand is named, and has what it needs
 pub record IsNamed (entered : Option (Text × List Row)) : Type 0 where

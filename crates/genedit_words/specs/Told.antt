@@ -17,6 +17,14 @@ pub record Viewed : Type 0 where
   pub is_plain : Bool
   pub is_svg : Bool
 
+-- what is asked of a conversion
+pub record Conversion : Type 0 where
+  pub file : Option (List ℕ)
+  pub output : List ℕ
+  pub rule : Option GenerationsRule
+  pub generation : Option ℕ
+  pub replaces : Bool
+
 -- what is asked of a server
 pub record Served : Type 0 where
   pub rule : Option GenerationsRule
@@ -32,6 +40,7 @@ pub data Told : Type 0 where
   Check : (file : Option (List ℕ)) → Told
   View : (viewed : Viewed) → Told
   Join : (client : JoinTask) → Told
+  Convert : (conversion : Conversion) → Told
 
 -- what a task is, by its texts
 abbrev pub told_of : Task → Told
@@ -54,6 +63,13 @@ told_of (task.View viewing) = View (record {
   generation = viewing.generation;
   is_plain = viewing.is_plain;
   is_svg = viewing.is_svg;
+})
+told_of (task.Convert converting) = Convert (record {
+  file = option_map (λ s. s.now) converting.file;
+  output = converting.output.now;
+  rule = converting.rule;
+  generation = converting.generation;
+  replaces = converting.replaces;
 })
 
 -- what was looked for, or the word that spells no rule

@@ -17,7 +17,7 @@ use Rattle.genedit_words.specs.declared.ending.Ending.{Ending}
 use Rattle.genedit_words.specs.declared.ending.Ending.TheVariants as ending
 use Rattle.genedit_words.specs.declared.task.JoinTask.{JoinTask}
 use Rattle.genedit_words.specs.Misspelt.{Misspelt}
-use Rattle.genedit_words.specs.Told.{Told, Viewed, Check, Join, Rle, Run, Serve, View}
+use Rattle.genedit_words.specs.Told.{Told, Conversion, Viewed, Check, Convert, Join, Rle, Run, Serve, View}
 
 -- the rule, or the word that spells none
 abbrev pub rule_or_misspelt : Text → Result GenerationsRule Misspelling → Result GenerationsRule Misspelt
@@ -93,6 +93,15 @@ view_shape = record (new_shape (codes "view")) {
   rules = file_argument ∷ optional (codes "rule") ∷ optional (codes "at") ∷ optional (codes "size") ∷ gen_option ∷ flag (codes "plain") ∷ flag (codes "svg") ∷ [];
 }
 
+-- a file that has to be named, at its place among the words
+abbrev pub place_argument : Text → Rule
+place_argument name = record (new_rule name) { value_names = 1; required = true }
+
+abbrev pub convert_shape : Shape
+convert_shape = record (new_shape (codes "convert")) {
+  rules = place_argument (codes "in") ∷ place_argument (codes "out") ∷ optional (codes "rule") ∷ gen_option ∷ flag (codes "replace") ∷ [];
+}
+
 abbrev pub join_shape : Shape
 join_shape = record (new_shape (codes "join")) { rules = port_option ∷ every_option ∷ flag (codes "follow") ∷ flag (codes "changes") ∷ flag (codes "quiet") ∷ flag (codes "no-rescue") ∷ [] }
 
@@ -123,7 +132,7 @@ app_by needs_rule = record {
     has_version = true;
     subcommand_required = true;
   };
-  subs = run_shape ∷ check_shape ∷ rle_shape ∷ view_shape ∷ serve_shape needs_rule ∷ join_shape ∷ [];
+  subs = run_shape ∷ check_shape ∷ rle_shape ∷ view_shape ∷ convert_shape ∷ serve_shape needs_rule ∷ join_shape ∷ [];
 }
 
 -- the words of `genedit` are read so: a server may lack the option, since its file may name the rule
@@ -216,6 +225,25 @@ view_task rows (Err fault) = Err fault
 abbrev pub view_asked : List Row → Option (Result Told Misspelt)
 view_asked rows = Some (view_task rows (rule_if_given (first_of (codes "rule") rows)))
 
+-- a conversion of what stands in the one file to the other, under this rule, if there is one
+abbrev pub conversion : List Row → Text → Text → Option GenerationsRule → Conversion
+conversion rows input output rule = record {
+  file = named_file input;
+  output = output;
+  rule = rule;
+  generation = number_of (codes "gen") rows;
+  replaces = is_set (codes "replace") rows;
+}
+
+abbrev pub convert_task : List Row → Text → Text → Result (Option GenerationsRule) Misspelt → Result Told Misspelt
+convert_task rows input output (Ok rule) = Ok (Convert (conversion rows input output rule))
+convert_task rows input output (Err fault) = Err fault
+
+-- a conversion, of files that are named at their places, under the rule that the option spells if it is given
+abbrev pub convert_asked : List Row → Option (Result Told Misspelt)
+convert_asked rows = option_and_then (λ input. option_map (λ output. convert_task rows input output (rule_if_given (first_of (codes "rule") rows)))
+    (first_of (codes "out") rows)) (first_of (codes "in") rows)
+
 -- how many milliseconds are let pass between two polls: what the option spells, else 50
 abbrev pub interval_asked : List Row → ℕ
 interval_asked rows = unwrap_or (number_of (codes "every") rows) 50
@@ -243,6 +271,7 @@ task_of subcommand = if bytes_eq subcommand.0 (codes "run") then run_asked subco
     else if bytes_eq subcommand.0 (codes "check") then check_asked subcommand.1
     else if bytes_eq subcommand.0 (codes "view") then view_asked subcommand.1
     else if bytes_eq subcommand.0 (codes "join") then join_asked subcommand.1
+    else if bytes_eq subcommand.0 (codes "convert") then convert_asked subcommand.1
     else None
 
 abbrev pub task_asked : List Text → Option (Result Told Misspelt)

@@ -4,7 +4,7 @@ ghost use Rattle.std.specs.Prelude.{◌≡◌, IfOk, false, codes};
 ghost use Rattle.clap.specs.Simple.{new_app};
 ghost use Rattle.clap.specs.Words.{app_of, rule_of, shape_of};
 ghost use Rattle.clap.specs.declared.builder.command.Command.TheViews.{out-Command as fields_of};
-ghost use Rattle.genedit_words.specs.Words.{app_by, board_rule, check_shape, every_option, file_argument, flag, gen_option, join_shape, option, optional, port_option, rle_shape, run_shape, serve_shape, sessions_option, text_app, top_app, view_shape};
+ghost use Rattle.genedit_words.specs.Words.{app_by, board_rule, check_shape, convert_shape, every_option, file_argument, flag, gen_option, join_shape, option, optional, place_argument, port_option, rle_shape, run_shape, serve_shape, sessions_option, text_app, top_app, view_shape};
 
 use clap::{Arg, ArgAction, Command, value_parser};
 use std::alloc::{AllocError, Global};
@@ -68,9 +68,10 @@ Examples:
   genedit rle --rule 345/2/4 < ship.rle > canonical.rle";
 
 const VIEW_HELP: &str = "\
-The text is an RLE text, or a state as it is saved, which begins with GLWS. Without --rule its own rule
-is taken; an RLE text may tell it as Golly does, as B3/S23, and so may --rule. Coordinates are those of the
-text's position and its columns and rows; y grows downwards.
+The file is an RLE text, a file of MCell (.mcl), plaintext (.cells), or a state as it is saved, which begins
+with GLWS; its first bytes tell which. Without --rule its own rule is taken; a pattern's file may tell it as
+Golly does, as B3/S23, and so may --rule. Plaintext tells none. Bounds of a grid are passed over, which is
+said. Coordinates are those of the file's position and its columns and rows; y grows downwards.
 
 On a terminal it draws two cells a character, in Golly's colours; else, and with --plain, a character
 for each cell: `.` is dead, and of two states `O` is live; of more, `A` to `Z`, `a` to `z` and `0` to
@@ -82,6 +83,22 @@ Examples:
   genedit view gun.rle
   genedit view --gen 30 --svg < gun.rle > gun.svg
   genedit view gun.rle --at -3,4 --size 40x20";
+
+const CONVERT_HELP: &str = "\
+IN is an RLE text, a file of MCell (.mcl), plaintext (.cells), or a state as it is saved; what it is, its
+first bytes tell, and `-` is standard input. OUT ends with .rle. Its text has the cells where IN has them
+and at IN's generation; with --gen, G generations later. Without --rule its own rule is taken. A rule of
+two states is written as B3/S23, so that Golly takes it for Life. IN's comments stand in front of the
+header: lines #N, #O and #C of RLE, #D of MCell, ! of plaintext.
+
+OUT is written beside and then gets its name, so it is whole or as it was. A file that is there is
+replaced only with --replace. Bounds of a grid are passed over, which is said: cells live on the whole
+plane.
+
+Examples:
+  genedit convert Lava.mcl lava.rle
+  genedit convert glider.cells glider.rle --rule B3/S23
+  genedit convert gun.rle later.rle --gen 30 --replace";
 
 const SERVE_HELP: &str = "\
 Serves one board to programs on this machine, each of which speaks the protocol of docs/FORMATS.md over
@@ -171,6 +188,7 @@ pub fn command<'a>(alloc: Global, needs_rule: bool) -> Result<Command<'a>, Alloc
 {
     let command = text_commands(alloc)?
         .subcommand(view_command(alloc)?)?
+        .subcommand(convert_command(alloc)?)?
         .subcommand(serve_command(alloc, needs_rule)?)?
         .subcommand(join_command(alloc)?)?;
     Ok(command)
@@ -271,7 +289,7 @@ fn view_command<'a>(alloc: Global) -> Result<Command<'a>, AllocError>
     let command = titled(
         alloc,
         "view",
-        "Draws a picture of an RLE text or of a state",
+        "Draws a picture of a pattern's file or of a state",
         VIEW_HELP,
     )
     .arg(file_argument(alloc))?
@@ -310,6 +328,45 @@ fn generation_argument<'a>(alloc: Global) -> Arg<'a>
         "So many generations after the text's own, 0 to 2^29",
     );
     generation.value_parser(value_parser!(u32).range(0..=536_870_912))
+}
+
+fn convert_command<'a>(alloc: Global) -> Result<Command<'a>, AllocError>
+    ensures shape { IfOk result (λ command. shape_of command ≡ convert_shape) }
+    ensures local { IfOk result (λ command. (fields_of command).has_globals ≡ false) }
+{
+    let command = titled(
+        alloc,
+        "convert",
+        "Makes an RLE text of a pattern's file or of a state",
+        CONVERT_HELP,
+    )
+    .arg(place_argument(alloc, "in", "IN", "The file to read; - for standard input"))?
+    .arg(place_argument(
+        alloc,
+        "out",
+        "OUT",
+        "The file to write, which ends with .rle",
+    ))?
+    .arg(optional(
+        alloc,
+        "rule",
+        "TEXT",
+        "The rule of the cells, as 345/2/4 or B3/S23; else the one that the file tells",
+    ))?
+    .arg(generation_argument(alloc))?
+    .arg(flag(alloc, "replace", "Replaces a file that is there"))?;
+    Ok(command)
+}
+
+/// A file that has to be named, at its place among the words.
+fn place_argument<'a>(alloc: Global, name: &'a str, value: &'a str, help: &'a str) -> Arg<'a>
+    ensures rule { rule_of result ≡ place_argument name.entry.now }
+    ensures local { result.global ≡ false }
+{
+    Arg::new(alloc, name)
+        .value_name(value)
+        .help(help)
+        .required(true)
 }
 
 /// `serve` with its line, its help and how it is used.

@@ -17,5 +17,5 @@ pub use ending::Ending;
 pub use misspelt::MisspeltRule;
 pub use options::bound;
 pub use rule_words::rule_cure;
-pub use task::{JoinTask, RleTask, ServeTask, Task, Viewing};
+pub use task::{ConvertTask, JoinTask, RleTask, ServeTask, Task, Viewing};
 pub use words::{asked, given};

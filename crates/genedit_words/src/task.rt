@@ -55,6 +55,19 @@ pub struct Viewing<'a> {
     pub is_svg: bool,
 }
 
+/// An RLE text that is made of a pattern's file or of a state.
+#[derive(Clone, Copy)]
+pub struct ConvertTask<'a> {
+    /// The file to read; standard input if it is named `-`.
+    pub file: Option<&'a str>,
+    /// The file to write; not looked at yet.
+    pub output: &'a str,
+    pub rule: Option<Rule>,
+    pub generation: Option<u32>,
+    /// Whether a file that is there is replaced.
+    pub replaces: bool,
+}
+
 /// What the words ask for.
 #[derive(Clone, Copy)]
 pub enum Task<'a> {
@@ -70,4 +83,6 @@ pub enum Task<'a> {
     Serve(ServeTask<'a>),
     /// A board that is served is joined.
     Join(JoinTask),
+    /// A file is made an RLE text.
+    Convert(ConvertTask<'a>),
 }

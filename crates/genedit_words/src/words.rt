@@ -2,16 +2,16 @@
 
 ghost use Rattle.std.specs.Prelude.{◌≡◌, ◌≤◌, ℕ, List, IfErr, IfOk, Ok, Some, codes, false, map, option_and_then, option_map, string_bytes, true};
 ghost use Rattle.clap.specs.Words.{first_of, found_of, rows_of, subcommand_rows_of};
-ghost use Rattle.genedit_words.specs.Given.{HasClient, HasFlag, HasNumber, HasRule, HasServer, HasView, IsInRange, IsNamed, MayHaveNumber};
+ghost use Rattle.genedit_words.specs.Given.{HasClient, HasConversion, HasFlag, HasNumber, HasRule, HasServer, HasView, IsInRange, IsNamed, MayHaveNumber};
 ghost use Rattle.genedit_words.specs.Told.{or_misspelt, told, told_of};
-ghost use Rattle.genedit_words.specs.Words.{Asks, EndsWords, check_asked, file_asked, has_board, interval_asked, is_set, join_asked, lacks_rule, named_file, number_of, rle_asked, rule_asked, rule_if_given, run_asked, serve_asked, task_of, view_asked};
+ghost use Rattle.genedit_words.specs.Words.{Asks, EndsWords, check_asked, convert_asked, file_asked, has_board, interval_asked, is_set, join_asked, lacks_rule, named_file, number_of, rle_asked, rule_asked, rule_if_given, run_asked, serve_asked, task_of, view_asked};
 
 use crate::commands::command;
 use crate::ending::Ending;
 use crate::missing::with_rule;
 use crate::misspelt::MisspeltRule;
 use crate::options::bound;
-use crate::task::{JoinTask, RleTask, ServeTask, Task, Viewing};
+use crate::task::{ConvertTask, JoinTask, RleTask, ServeTask, Task, Viewing};
 use clap::ArgMatches;
 use genedit_io::RunFault;
 use generations_rule::Rule;
@@ -93,6 +93,9 @@ fn task<'a>(matches: &ArgMatches<'a>) -> Result<Task<'a>, MisspeltRule<'a>>
     }
     if let Some(words) = matches.subcommand_matches("join") {
         return Ok(join(words));
+    }
+    if let Some(words) = matches.subcommand_matches("convert") {
+        return convert(words);
     }
     let Some(words) = matches.subcommand_matches("run") else {
         unreachable!()
@@ -208,6 +211,32 @@ fn view<'a>(words: &ArgMatches<'a>) -> Result<Task<'a>, MisspeltRule<'a>>
         is_plain: is_set(words, "plain"),
         is_svg: is_set(words, "svg"),
     }))
+}
+
+/// What `convert` asks for.
+fn convert<'a>(words: &ArgMatches<'a>) -> Result<Task<'a>, MisspeltRule<'a>>
+    requires { HasConversion (rows_of (found_of words.now)) }
+    ensures asked { convert_asked (rows_of (found_of words.now)) ≡ Some (told result) }
+    ensures range { IfOk result IsInRange }
+{
+    let rule = rule_if_given(words)?;
+    let input = file_at(words, "in");
+    Ok(Task::Convert(ConvertTask {
+        file: named_file(input),
+        output: file_at(words, "out"),
+        rule,
+        generation: generation(words),
+        replaces: is_set(words, "replace"),
+    }))
+}
+
+/// A file that has to be named, as the words name it.
+fn file_at<'a>(words: &ArgMatches<'a>, id: &str) -> &'a str
+    requires { (text : List ℕ) × (first_of id.now (rows_of (found_of words.now)) ≡ Some text) }
+    ensures { (text : List ℕ) → first_of id.now (rows_of (found_of words.now)) ≡ Some text → result.now ≡ text }
+{
+    // the argument is required, so the words have it
+    words.get_str(id).unwrap()
 }
 
 /// The rule of the option `--rule`, if it is given.

@@ -48,3 +48,13 @@ returns-in-Some-subcommand_matches-4-clause-asked c =
     let met = is_met c.args.matches.now (rows_of (found_of c.in-Some-subcommand_matches-4.words.now)) c.requires.named (codes "join")
     (c.in-Some-subcommand_matches-4.ensures.found.0 refl) c.in-Some-subcommand_matches-4.ensures.rows in
     ap (option_and_then task_of) met.0 ∙ c.join.ensures.asked
+
+pub convert-requires : goal.convert-requires
+convert-requires c = (is_met c.args.matches.now (rows_of (found_of c.in-Some-subcommand_matches-5.words.now)) c.requires.named (codes "convert")
+    (c.in-Some-subcommand_matches-5.ensures.found.0 refl) c.in-Some-subcommand_matches-5.ensures.rows).1
+
+pub returns-in-Some-subcommand_matches-5-clause-asked : goal.returns-in-Some-subcommand_matches-5-clause-asked
+returns-in-Some-subcommand_matches-5-clause-asked c =
+    let met = is_met c.args.matches.now (rows_of (found_of c.in-Some-subcommand_matches-5.words.now)) c.requires.named (codes "convert")
+    (c.in-Some-subcommand_matches-5.ensures.found.0 refl) c.in-Some-subcommand_matches-5.ensures.rows in
+    ap (option_and_then task_of) met.0 ∙ c.convert.ensures.asked

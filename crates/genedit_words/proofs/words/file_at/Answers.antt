@@ -1,0 +1,12 @@
+use Rattle.std.proofs.Common.{◌∙◌}
+use Rattle.clap.proofs.WalkLemmas.{first_value-rows}
+use Rattle.clap.specs.Matches.{found_of}
+use Rattle.genedit_words.proofs.TextLaws.{same_text, some_text}
+use Rattle.genedit_words.proofs.words.file_at.Goals as goal
+
+pub unwrap-requires : goal.unwrap-requires
+unwrap-requires c = some_text c.get_str.result c.requires.0 (c.get_str.ensures ∙ (first_value-rows (found_of c.args.words.now) c.args.id.now ∙ c.requires.1))
+
+pub returns : goal.returns
+returns c = λ text first.
+    same_text c.get_str.result c.unwrap.result text (c.get_str.ensures ∙ (first_value-rows (found_of c.args.words.now) c.args.id.now ∙ first)) c.unwrap.ensures
