@@ -1,8 +1,10 @@
 //! `genedit`: patterns of Generations automata that many edit.
 #![tactic(auto)]
 
+mod bounds;
 mod clients;
 mod closing;
+mod converting;
 mod opening;
 mod pictures;
 mod tasks;
@@ -10,6 +12,7 @@ mod tasks;
 ghost use Rattle.genedit_words.specs.Given.{IsInRange};
 
 use crate::clients::join;
+use crate::converting::convert_file;
 use crate::pictures::view;
 use crate::tasks::{check, rle, run, serve};
 use genedit_io::RunFault;
@@ -88,5 +91,6 @@ fn perform<
         Task::View(viewing) => view(rt, alloc, viewing, to_terminal),
         Task::Serve(server) => serve(rt, alloc, server),
         Task::Join(client) => join(rt, alloc, *client),
+        Task::Convert(file) => convert_file(rt, alloc, file),
     }
 }

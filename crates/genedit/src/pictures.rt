@@ -1,5 +1,6 @@
 //! Pictures of patterns and of states.
 
+use crate::bounds::tell_bounds;
 use crate::opening::{opened, tell_unread};
 use devices::{ReadSource, Source, WriteSink};
 use genedit_io::RunFault;
@@ -49,10 +50,10 @@ pub fn view<R: Files + Input + Print + Eprint>(
         rule: viewing.rule,
     };
     match viewing.file {
-        None => drawn(rt, alloc, &options, &mut ReadSource::new(rt.reader())),
+        None => drawn(rt, alloc, &options, "-", &mut ReadSource::new(rt.reader())),
         Some(path) => match opened(rt, path) {
             Err(cause) => tell_unread(rt, alloc, path, cause),
-            Ok(file) => drawn(rt, alloc, &options, &mut ReadSource::new(file)),
+            Ok(file) => drawn(rt, alloc, &options, path, &mut ReadSource::new(file)),
         },
     }
 }
@@ -96,11 +97,12 @@ fn tell_no_window(rt: &impl Eprint, fault: NoWindow<'_>) -> u8 {
     WORDS
 }
 
-/// Draws what a source has.
+/// Draws what a source of this name has.
 fn drawn<S: Source>(
     rt: &(impl Print + Eprint),
     alloc: Global,
     options: &ViewOptions,
+    name: &str,
     source: &mut S,
 ) -> Result<u8, RunFault> {
     let sink = WriteSink::new(io::writer(rt));
@@ -108,7 +110,10 @@ fn drawn<S: Source>(
         return Err(RunFault::Memory);
     };
     match genedit_view::view(alloc, options, source, &mut sink) {
-        Ok(()) => Ok(WELL),
+        Ok(bounds) => {
+            tell_bounds(rt, alloc, name, bounds, options.generation.is_some())?;
+            Ok(WELL)
+        }
         Err(ViewFault::Run(fault)) => Err(fault),
         Err(fault) => {
             let _ = eprintln!(rt; "genedit: {fault}");

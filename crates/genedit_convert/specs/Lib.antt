@@ -1,4 +1,5 @@
 pub mod Names
 pub mod Converted
 pub mod Runs
+pub mod Outputs
 pub mod Rows

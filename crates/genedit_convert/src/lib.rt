@@ -5,8 +5,10 @@
 mod converting;
 mod named;
 mod options;
+mod output;
 mod run;
 
 pub use converting::{Converted, conversion_of};
 pub use options::ConvertOptions;
+pub use output::{OutputFault, is_rle_name, output_refusal, write_output};
 pub use run::{convert, convert_within};

@@ -1,0 +1,76 @@
+//! Files of cells made RLE texts.
+
+use crate::bounds::tell_bounds;
+use crate::opening::{opened, tell_unread};
+use devices::{ReadSource, Source};
+use genedit_convert::{
+    ConvertOptions, OutputFault, convert, is_rle_name, output_refusal, write_output,
+};
+use genedit_io::RunFault;
+use genedit_words::ConvertTask;
+use std::alloc::Global;
+use std::fs::File;
+use std::rt::Files;
+
+/// The file is written.
+const WELL: u8 = 0;
+
+/// The words are at fault.
+const WORDS: u8 = 2;
+
+/// Writes the RLE text of a file, or of standard input. What is refused leaves the file that is to be written
+/// as it was; that it may not be written is told before anything is read.
+pub fn convert_file<R: Files<File = File> + Input + Eprint>(
+    rt: &R,
+    alloc: Global,
+    task: &ConvertTask<'_>,
+) -> Result<u8, RunFault> {
+    let output = task.output;
+    if !is_rle_name(output.as_bytes()) {
+        let _ = eprintln!(rt; "genedit: {output}: the file to write ends with .rle");
+        return Ok(WORDS);
+    }
+    if let Some(fault) = output_refusal(rt, output, task.replaces) {
+        return Ok(tell_unwritten(rt, output, fault));
+    }
+    match task.file {
+        None => written(rt, alloc, task, "-", &mut ReadSource::new(rt.reader())),
+        Some(path) => match opened(rt, path) {
+            Err(cause) => tell_unread(rt, alloc, path, cause),
+            Ok(file) => written(rt, alloc, task, path, &mut ReadSource::new(file)),
+        },
+    }
+}
+
+/// Writes the RLE text of what a source has, by whose name its refusals are told.
+fn written<R: Files<File = File> + Eprint, S: Source>(
+    rt: &R,
+    alloc: Global,
+    task: &ConvertTask<'_>,
+    name: &str,
+    source: &mut S,
+) -> Result<u8, RunFault> {
+    let options = ConvertOptions {
+        generation: task.generation,
+        rule: task.rule,
+    };
+    let made = match convert(alloc, &options, source) {
+        Ok(made) => made,
+        Err(fault) => {
+            let _ = eprintln!(rt; "genedit: {name}: {fault}");
+            return Ok(fault.exit_status());
+        }
+    };
+    if let Err(fault) = write_output(rt, alloc, task.output, task.replaces, &made.text) {
+        return Ok(tell_unwritten(rt, task.output, fault));
+    }
+    tell_bounds(rt, alloc, name, made.bounds, task.generation.is_some())?;
+    Ok(WELL)
+}
+
+/// Says why a file is not written; the status of the process.
+fn tell_unwritten(rt: &impl Eprint, path: &str, fault: OutputFault) -> u8 {
+    let text = fault.text();
+    let _ = eprintln!(rt; "genedit: {path}: {text}");
+    fault.exit_status()
+}
