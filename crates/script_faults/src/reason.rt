@@ -56,4 +56,6 @@ pub enum Warning {
     OtherRule,
     /// A pattern's header tells a rule that cannot be read, for this.
     UnreadRule(Misspelling),
+    /// A pattern's header tells the bounds of a grid, and the rule of the script or of the board.
+    Bounds,
 }

@@ -44,8 +44,8 @@ pub fn reason_text(
     }
 }
 
-/// What may be wrong with a pattern's header, which tells this word as its rule; the script or the
-/// board has another. It stands behind `warning: `.
+/// What may be wrong with a pattern's header, which tells this word as its rule, and the script or the
+/// board has another, or as its bounds. It stands behind `warning: `.
 pub fn warning_text(
     alloc: Global,
     dialect: Dialect,
@@ -59,6 +59,10 @@ pub fn warning_text(
         (Warning::OtherRule, Ok(told)) => {
             let told = rule_text(alloc, &told)?;
             format!(in alloc; "this pattern is of the rule {told}, and {owner} is {rule}")
+        }
+        (Warning::Bounds, _) => {
+            let bounds = shown(alloc, word)?;
+            format!(in alloc; "the bounds {bounds} are passed over: cells live on the whole plane")
         }
         (Warning::UnreadRule(Misspelling::Other(family)), _) => {
             let family = family.words();

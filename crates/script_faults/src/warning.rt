@@ -4,26 +4,27 @@ ghost use Rattle.std.specs.Prelude.{◌≡◌, [], ◌∷◌, ◌+◌, ◌<◌, 
 ghost use Rattle.std.specs.Option.{option_to_list};
 ghost use Rattle.header_rules.specs.HeaderRule.{header_rule_told};
 ghost use Rattle.script_faults.specs.Faults.{fault_lines};
-ghost use Rattle.script_faults.specs.Warnings.{IsWarnedOf};
+ghost use Rattle.script_faults.specs.Warnings.{IsWarnedOf, bounds_warned};
 
 use crate::note::{Note, Place};
 use crate::reason::Warning;
 use genedit_script::Lines;
 use generations_rule::Rule;
-use header_rules::header_rule;
+use header_rules::{HeaderBounds, header_rule};
 
 /// Where a header's rule is warned of.
 #[derive(Clone, Copy, Debug, PartialEq, Eq)]
 pub struct RuleWarning {
     pub warning: Warning,
-    /// The index of the rule's first byte, in the whole text and from 0.
+    /// The index of the first byte of the rule, or of the bounds, in the whole text and from 0.
     pub place: usize,
-    /// How many bytes the rule has: 1 at least.
+    /// How many bytes it has: 1 at least.
     pub length: usize,
 }
 
 /// The warning that the header of an RLE text tells another rule than this one, compared as rules and
-/// with Golly's spellings read too, or one that cannot be read. `None` where it tells no rule.
+/// with Golly's spellings read too, or one that cannot be read; and where it tells this one, that it tells
+/// bounds too. `None` where it tells no rule, or this one without bounds.
 pub fn rule_warning(rule: &Rule, text: &[u8]) -> Option<RuleWarning>
     ensures warned { IsWarnedOf rule.now (header_rule_told text.now) result }
     ensures within { IfSome result (λ told. (0 < told.length) × (told.place + told.length ≤ length text.now)) }
@@ -32,12 +33,23 @@ pub fn rule_warning(rule: &Rule, text: &[u8]) -> Option<RuleWarning>
     let warning = match told.rule {
         Err(misspelling) => Warning::UnreadRule(misspelling),
         Ok(other) if !other.same(rule) => Warning::OtherRule,
-        Ok(_) => return None,
+        Ok(_) => return bounds_warning(told.bounds),
     };
     Some(RuleWarning {
         warning,
         place: told.place,
         length: told.length,
+    })
+}
+
+fn bounds_warning(bounds: Option<HeaderBounds>) -> Option<RuleWarning>
+    ensures { result ≡ bounds_warned bounds }
+{
+    let bounds = bounds?;
+    Some(RuleWarning {
+        warning: Warning::Bounds,
+        place: bounds.place,
+        length: bounds.length,
     })
 }
 
