@@ -44,7 +44,7 @@ fn failed_writes_are_told(rt: HostRuntime) -> Result<(), AllocError> {
     let mut sink = BufferedSink::new(alloc, Broken { pushes: 0 })?;
     let mut source = ReadSource::new(GLIDER.as_bytes());
     match view(alloc, &ALL, &mut source, &mut sink) {
-        Ok(()) => assert!(rt; false, "the sink takes nothing"),
+        Ok(_) => assert!(rt; false, "the sink takes nothing"),
         Err(fault) => {
             assert_eq!(rt; format!(in alloc; "{fault}")?.as_str(), "write fault");
             assert_eq!(rt; fault.exit_status(), 4);
@@ -58,7 +58,7 @@ fn failed_reads_are_told(rt: HostRuntime) -> Result<(), AllocError> {
     let alloc = rt.alloc();
     let mut sink = BufferedSink::new(alloc, Broken { pushes: 0 })?;
     match view(alloc, &ALL, &mut Dry { pulls: 0 }, &mut sink) {
-        Ok(()) => assert!(rt; false, "the source gives nothing"),
+        Ok(_) => assert!(rt; false, "the source gives nothing"),
         Err(fault) => assert_eq!(rt; fault.exit_status(), 3),
     }
     Ok(())

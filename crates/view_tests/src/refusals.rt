@@ -33,8 +33,8 @@ static REFUSED: [(&str, &str); 11] = [
         "no rule at byte 21: give one by --rule, 0 bytes",
     ),
     (
-        "x = 1, y = 1, rule = B3/S23:T9\no!",
-        "the rule at byte 21 is of another family (a bounded grid): this program has Golly's Generations on a plane without bounds alone, 0 bytes",
+        "x = 1, y = 1, rule = B2e3/S23:T9\no!",
+        "the rule at byte 21 is of another family (letters behind counts): this program has Golly's Generations without letters alone, 0 bytes",
     ),
     (
         "#CXRLE Pos=2147483647,0\nx = 2, y = 1, rule = 23/3/2\nBo!",

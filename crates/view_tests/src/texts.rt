@@ -1,6 +1,6 @@
 //! Patterns as plain text.
 
-use crate::told::{ALL, at, later, shown, under};
+use crate::told::{ALL, at, bounds_of, later, shown, under};
 use genedit_view::Form;
 use std::alloc::AllocError;
 
@@ -21,6 +21,41 @@ static PICTURES: [(&str, &str); 8] = [
     ("x = 1, y = 1, rule = 23/3/2\no2bo!", "O..O\n"),
     ("x = 1, y = 1, rule = 23/3/2\no3$o!", "O\n.\n.\nO\n"),
 ];
+
+/// Files in other formats than RLE, and their pictures.
+static FILES: [(&str, &str); 2] = [
+    (
+        "#MCell 2.0\n#RULE 2/234/5\n#BOARD 200x200\n#L .D$.AAD$.3A$DAAD\n",
+        ".D..\n.AAD\n.AAA\nDAAD\n",
+    ),
+    ("#MCell 4.0\n#RULE 23/3\n#L .A$2\n#L .A\n", ".O.\n..O\n"),
+];
+
+#[test]
+fn files_are_shown(rt: HostRuntime) -> Result<(), AllocError> {
+    for (text, want) in FILES {
+        assert_eq!(rt; shown(rt.alloc(), &ALL, text.as_bytes())?.as_str(), want);
+    }
+    let rows = b"!Name: Glider\n.O.\n..O\nOOO\n";
+    assert_eq!(rt; shown(rt.alloc(), &under("23/3/2"), rows)?.as_str(), ".O.\n..O\nOOO\n");
+    Ok(())
+}
+
+/// Files, and the bounds that they tell.
+static BOUNDED: [(&str, &str); 4] = [
+    ("x = 1, y = 1, rule = B3/S23:T800,800\no!", "T800,800"),
+    ("x = 1, y = 1, rule = B3/S23\no!", ""),
+    ("#MCell\n#RULE 23/3\n#BOARD 80x40\n#L A", "P80,40"),
+    ("#MCell\n#RULE 23/3\n#BOARD 80x40\n#WRAP 1\n#L A", "T80,40"),
+];
+
+#[test]
+fn bounds_are_told(rt: HostRuntime) -> Result<(), AllocError> {
+    for (text, want) in BOUNDED {
+        assert_eq!(rt; bounds_of(rt.alloc(), text.as_bytes())?.as_str(), want);
+    }
+    Ok(())
+}
 
 #[test]
 fn patterns_are_shown(rt: HostRuntime) -> Result<(), AllocError> {

@@ -47,7 +47,7 @@ pub fn shown(alloc: Global, options: &ViewOptions, text: &[u8]) -> Result<String
     let mut out = Vec::new(alloc);
     let end = end_of(alloc, options, text, &mut out)?;
     match end {
-        Ok(()) => String::from_utf8_lossy(alloc, &out),
+        Ok(_) => String::from_utf8_lossy(alloc, &out),
         Err(fault) => format!(in alloc; "{fault}, {} bytes", out.len()),
     }
 }
@@ -57,7 +57,16 @@ fn end_of(
     options: &ViewOptions,
     text: &[u8],
     out: &mut Vec<u8>,
-) -> Result<Result<(), ViewFault>, AllocError> {
+) -> Result<Result<Option<Vec<u8>>, ViewFault>, AllocError> {
     let mut sink = BufferedSink::new(alloc, WriteSink::new(out))?;
     Ok(view(alloc, options, &mut ReadSource::new(text), &mut sink))
+}
+
+/// The bounds that a view of a text tells; none where nothing is drawn.
+pub fn bounds_of(alloc: Global, text: &[u8]) -> Result<String, AllocError> {
+    let mut out = Vec::new(alloc);
+    match end_of(alloc, &ALL, text, &mut out)? {
+        Ok(Some(bounds)) => String::from_utf8_lossy(alloc, &bounds),
+        _ => Ok(String::new(alloc)),
+    }
 }

@@ -1,0 +1,11 @@
+//! Tests of `cell_files` and `genedit_convert`.
+#![tactic(auto)]
+
+#[cfg(test)]
+mod conversions;
+#[cfg(test)]
+mod files;
+#[cfg(test)]
+mod hostile;
+#[cfg(test)]
+mod told;
