@@ -46,11 +46,7 @@ impl<'a, C: Clock, S: Source + Drop, K: Sink + Drop> Server<'a, C, S, K> {
     /// Says the push of an edit in doubt that a board does not have, with the stamp that a drawing of the replica
     /// would have now: so no stamp stands for two edits. Nothing is heard: `end_or_doubt` hears the answer. Refused
     /// are an edit of another rule, and a full clock.
-    pub fn say_anew(
-        &mut self,
-        replica: &Replica,
-        doubted: &Pushed,
-    ) -> Result<Saying, ClientFault>
+    pub fn say_anew(&mut self, replica: &Replica, doubted: &Pushed) -> Result<Saying, ClientFault>
         ensures { IsAnewSaid doubted.now self.old self.new replica.now result }
     {
         if !doubted.is_of(&replica.rule()) {
@@ -60,11 +56,7 @@ impl<'a, C: Clock, S: Source + Drop, K: Sink + Drop> Server<'a, C, S, K> {
     }
 
     /// The same of an edit of the replica's rule.
-    fn say_restamped(
-        &mut self,
-        replica: &Replica,
-        doubted: &Pushed,
-    ) -> Result<Saying, ClientFault>
+    fn say_restamped(&mut self, replica: &Replica, doubted: &Pushed) -> Result<Saying, ClientFault>
         requires { doubted.now.rule ≡ replica.now.rule }
         ensures { SaysAnew doubted.now self.old self.new replica.now result }
     {

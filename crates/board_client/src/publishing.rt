@@ -113,7 +113,11 @@ impl<'a, C: Clock, S: Source + Drop, K: Sink + Drop> Server<'a, C, S, K> {
     }
 
     /// Has a replica take an edit that the board has.
-    pub(crate) fn take_own(&mut self, replica: &mut Replica, pushed: Pushed) -> Result<Drawing, ClientFault>
+    pub(crate) fn take_own(
+        &mut self,
+        replica: &mut Replica,
+        pushed: Pushed,
+    ) -> Result<Drawing, ClientFault>
         requires { pushed.rule ≡ replica.old.rule }
         ensures line { self.new ≡ self.old }
         ensures taken { IsOwnTaken pushed.edit replica.old replica.new result }

@@ -20,10 +20,8 @@ pub fn file_bounds(alloc: Global, text: &[u8]) -> Result<Option<Vec<u8>>, AllocE
     match CellFormat::of(text) {
         CellFormat::MCell => board_bounds(alloc, &Head::of(text)),
         CellFormat::Rle => header_bounds(alloc, text),
-        CellFormat::Plaintext
-        | CellFormat::Macrocell
-        | CellFormat::State
-        | CellFormat::Document => Ok(None),
+        CellFormat::Plaintext | CellFormat::Macrocell | CellFormat::State | CellFormat::Document =>
+            Ok(None),
     }
 }
 

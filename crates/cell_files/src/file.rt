@@ -39,9 +39,7 @@ pub fn file_rule(text: &[u8]) -> Option<HeaderRule>
     match CellFormat::of(text) {
         CellFormat::MCell => Head::of(text).rule,
         CellFormat::Rle => header_rule(text),
-        CellFormat::Plaintext
-        | CellFormat::Macrocell
-        | CellFormat::State
-        | CellFormat::Document => None,
+        CellFormat::Plaintext | CellFormat::Macrocell | CellFormat::State | CellFormat::Document =>
+            None,
     }
 }

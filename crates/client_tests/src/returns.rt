@@ -35,7 +35,10 @@ fn at_the_same_board(rt: HostRuntime) -> Result<(), Fail> {
     dot(&mut b, 1, 0, 1)?;
     obey(&mut a, "poll")?;
     dot(&mut b, 2, 0, 1)?;
-    assert_eq!(rt; told(&mut a)?.as_str(), "joined 1 /2/3\ndrawn 1 1\nedit 2 2 cells 1 0 1\nedits 1\n");
+    assert_eq!(rt;
+        told(&mut a)?.as_str(),
+        "joined 1 /2/3\ndrawn 1 1\nedit 2 2 cells 1 0 1\nedits 1\n"
+    );
     let before = return_to(&rt, &mut a, &board, 3)?;
     assert!(rt; !before.is_lost);
     assert_eq!(rt; before.replica.number(), 1);
@@ -43,7 +46,10 @@ fn at_the_same_board(rt: HostRuntime) -> Result<(), Fail> {
     assert_eq!(rt; a.replica().journal().len(), 3);
     dot(&mut a, 3, 0, 1)?;
     obey(&mut a, "poll")?;
-    assert_eq!(rt; told(&mut a)?.as_str(), "joined 3 /2/3\nedit 3 2 cells 2 0 1\ndrawn 4 3\nedits 1\n");
+    assert_eq!(rt;
+        told(&mut a)?.as_str(),
+        "joined 3 /2/3\nedit 3 2 cells 2 0 1\ndrawn 4 3\nedits 1\n"
+    );
     Ok(())
 }
 

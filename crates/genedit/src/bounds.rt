@@ -21,6 +21,8 @@ pub fn tell_bounds(
         ""
     };
     let bounds = bounds.as_str();
-    let _ = eprintln!(rt; "warning: {name}: the bounds {bounds} are passed over: cells live on the whole plane{later}");
+    let _ = eprintln!(rt;
+        "warning: {name}: the bounds {bounds} are passed over: cells live on the whole plane{later}"
+    );
     Ok(())
 }

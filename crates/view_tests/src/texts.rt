@@ -37,7 +37,10 @@ fn files_are_shown(rt: HostRuntime) -> Result<(), AllocError> {
         assert_eq!(rt; shown(rt.alloc(), &ALL, text.as_bytes())?.as_str(), want);
     }
     let rows = b"!Name: Glider\n.O.\n..O\nOOO\n";
-    assert_eq!(rt; shown(rt.alloc(), &under("23/3/2"), rows)?.as_str(), ".O.\n..O\nOOO\n");
+    assert_eq!(rt;
+        shown(rt.alloc(), &under("23/3/2"), rows)?.as_str(),
+        ".O.\n..O\nOOO\n"
+    );
     Ok(())
 }
 
