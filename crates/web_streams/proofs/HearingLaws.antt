@@ -11,11 +11,13 @@ use Rattle.websocket.proofs.EffectLemmas.{IsSoundEffect_from_read}
 use Rattle.tungstenite.specs.Socket.{Socket, Run, Runs, EndsWith, Flushed, Quiet, Reads, Replies, content_of}
 use Rattle.tungstenite.specs.Failure.{IsIo}
 use Rattle.tungstenite.specs.declared.error.Error.{Error}
+use Rattle.tungstenite.specs.declared.error.Error.TheVariants.{Io}
+use Rattle.std.specs.IoError.{error_kind}
+use Rattle.std.specs.declared.io.ErrorKind.{ErrorKind}
+use Rattle.std.specs.declared.io.ErrorKind.TheVariants.{Interrupted, WouldBlock}
 use Rattle.tungstenite.specs.declared.message.Message.{Message}
 use Rattle.tungstenite.proofs.SocketLemmas.{runs-more, sends-prefix}
-use Rattle.web_streams.specs.One.{one_in, GivesOne, MayBeError}
-use Rattle.web_streams.specs.declared.one.One.{One}
-use Rattle.web_streams.specs.declared.one.One.TheVariants.{Body, Passed, Blocked, Failed}
+use Rattle.web_streams.specs.One.{one_in, one_of_error, one_of_kind, GivesOne}
 use Rattle.web_streams.specs.Messages.{bodies_of, body_in, listed, Brings, Ends, GoesOn}
 use Rattle.web_streams.proofs.LimitLaws.{kept_run}
 
@@ -167,9 +169,12 @@ module _ {S : Type 0} where
       by_content (pong words) h = h
       by_content (close frame) h = h
 
-  -- what an error gives
-  pub given_error : (remaining : S → Option (List ℕ)) (old new : Socket S) (e : Error) (one : One) → old.conn.config.max_message_size ≡ Some most → MayBeError e one → Reads remaining old new (Err e) → GivesOne old new one
-  given_error remaining old new e (Body body) limit is r = absurd is
-  given_error remaining old new e Passed limit is r = goes_on_paused remaining old new e is r
-  given_error remaining old new e Blocked limit is r = goes_on_paused remaining old new e is r
-  given_error remaining old new e Failed limit is r = ends_read remaining old new e limit r
+  -- what an error gives: no body, and the socket goes on behind one of the connection alone
+  pub given_error : (remaining : S → Option (List ℕ)) (old new : Socket S) (e : Error) → old.conn.config.max_message_size ≡ Some most → Reads remaining old new (Err e) → GivesOne old new (one_of_error e)
+  given_error remaining old new (Io cause) limit r = by_kind (error_kind cause)
+    where
+      by_kind : (kind : ErrorKind) → GivesOne old new (one_of_kind kind)
+      by_kind Interrupted = goes_on_paused remaining old new (Io cause) tt r
+      by_kind WouldBlock = goes_on_paused remaining old new (Io cause) tt r
+      by_kind _ = ends_read remaining old new (Io cause) limit r
+  given_error remaining old new e limit r = ends_read remaining old new e limit r

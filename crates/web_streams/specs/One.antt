@@ -1,9 +1,12 @@
 -- What one read of a socket gave.
-use Rattle.std.specs.Prelude.{⊤, [], ◌∷◌}
+use Rattle.std.specs.Prelude.{[], ◌∷◌}
 use Rattle.tungstenite.specs.Content.{Content, text, binary, ping, pong, close}
-use Rattle.tungstenite.specs.Failure.{IsIo}
 use Rattle.tungstenite.specs.Socket.{Socket}
+use Rattle.std.specs.IoError.{error_kind}
+use Rattle.std.specs.declared.io.ErrorKind.{ErrorKind}
+use Rattle.std.specs.declared.io.ErrorKind.TheVariants.{Interrupted, WouldBlock}
 use Rattle.tungstenite.specs.declared.error.Error.{Error}
+use Rattle.tungstenite.specs.declared.error.Error.TheVariants.{Io}
 use Rattle.web_streams.specs.Messages.{Ends, GoesOn}
 use Rattle.web_streams.specs.declared.one.One.{One}
 use Rattle.web_streams.specs.declared.one.One.TheVariants.{Body, Passed, Blocked, Failed}
@@ -16,12 +19,16 @@ one_in (ping words) = Passed
 one_in (pong words) = Passed
 one_in (close frame) = Passed
 
--- what an error may be: the socket goes on behind one of the connection alone
-abbrev pub MayBeError : Error → One → Type 0
-MayBeError e (Body body) = ⊥
-MayBeError e Passed = IsIo e
-MayBeError e Blocked = IsIo e
-MayBeError e Failed = ⊤
+-- what an error of the connection is, by its kind: a read that was interrupted is made again
+abbrev pub one_of_kind : ErrorKind → One
+one_of_kind Interrupted = Passed
+one_of_kind WouldBlock = Blocked
+one_of_kind _ = Failed
+
+-- what an error is
+abbrev pub one_of_error : Error → One
+one_of_error (Io cause) = one_of_kind (error_kind cause)
+one_of_error _ = Failed
 
 -- one read brought a body, or none, or the socket is over
 abbrev pub GivesOne : {S : Type 0} → Socket S → Socket S → One → Type 0

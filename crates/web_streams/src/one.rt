@@ -2,7 +2,7 @@
 
 ghost use Rattle.std.specs.Prelude.{◌≡◌, Some};
 ghost use Rattle.tungstenite.specs.Socket.{content_of};
-ghost use Rattle.web_streams.specs.One.{GivesOne, MayBeError, one_in};
+ghost use Rattle.web_streams.specs.One.{GivesOne, one_in, one_of_error};
 
 use bytes::Bytes;
 use std::io::{ErrorKind, Read, Write};
@@ -44,7 +44,7 @@ fn one_of(message: Message) -> One
 
 /// An error: a read that was interrupted is made again.
 fn one_of_error(error: &Error) -> One
-    ensures { MayBeError error.now result }
+    ensures { result ≡ one_of_error error.now }
 {
     match error {
         Error::Io(cause) => match cause.kind() {

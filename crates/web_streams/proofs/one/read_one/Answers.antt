@@ -5,4 +5,4 @@ pub returns-in-Ok : goal.returns-in-Ok
 returns-in-Ok g c = rw c.one_of.ensures (given_message g.S.Read.remaining c.args.socket.now c.read.new.self c.in-Ok.message c.requires c.in-Ok.ensures)
 
 pub returns-in-Err : goal.returns-in-Err
-returns-in-Err g c = given_error g.S.Read.remaining c.args.socket.now c.read.new.self c.in-Err.error c.one_of_error.result c.requires c.one_of_error.ensures c.in-Err.ensures
+returns-in-Err g c = rw c.one_of_error.ensures (given_error g.S.Read.remaining c.args.socket.now c.read.new.self c.in-Err.error c.requires c.in-Err.ensures)
