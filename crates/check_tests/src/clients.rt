@@ -254,7 +254,7 @@ struct Header {
     told: &'static str,
 }
 
-static HEADERS: [Header; 8] = [
+static HEADERS: [Header; 10] = [
     Header {
         text: b"x = 3, y = 3, rule = B3/S23\nbo$2bo$3o!\n",
         told: "",
@@ -274,6 +274,14 @@ static HEADERS: [Header; 8] = [
     Header {
         text: b"bo$2bo$3o!\n",
         told: "",
+    },
+    Header {
+        text: b"x = 3, y = 3, rule = B3/S23:T800,800 \nbo$2bo$3o!\n",
+        told: "28+8: the bounds T800,800 are passed over: cells live on the whole plane",
+    },
+    Header {
+        text: b"x = 3, y = 3, rule = B36/S23:T8\nbo$2bo$3o!\n",
+        told: "21+7: this pattern is of the rule 23/36/2, and the board's rule is 23/3/2",
     },
     Header {
         text: b"x = 3, y = 3, rule = B36/S23\nbo$2bo$3o!\n",

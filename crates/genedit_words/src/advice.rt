@@ -4,8 +4,8 @@ use clap::Error;
 use clap::error::ErrorKind;
 use std::alloc::{AllocError, Global};
 
-/// The options with a value, as `clap` names them, and an example of each.
-const EXAMPLES: [(&str, &str); 8] = [
+/// The options with a value, and the file that `convert` writes, as `clap` names them, and an example of each.
+const EXAMPLES: [(&str, &str); 9] = [
     ("--rule <", " --rule 23/3/2"),
     ("--port <", " --port 7020"),
     ("--sessions <", " --sessions 64"),
@@ -14,6 +14,7 @@ const EXAMPLES: [(&str, &str); 8] = [
     ("--at <", " --at -3,4"),
     ("--size <", " --size 40x20"),
     ("--gen <", " --gen 30"),
+    ("<OUT>", " genedit convert Lava.mcl lava.rle"),
 ];
 
 /// An error's text as one line: its first paragraph, which tells the fault; then its first tip, if it has

@@ -10,8 +10,12 @@ use crate::refusals::Refusal;
 use crate::words::refusal_text;
 use genedit_script::Lines;
 use itoa::Buffer;
+use pattern_files::FileKind;
 use script_faults::{Dialect, Note, Notes, Place, Refused, reason_text, warning_text};
 use std::alloc::{AllocError, Global};
+
+/// The number of `Header` in the table of faults.
+const HEADER: u8 = 4;
 
 /// How many bytes of a line are shown.
 const MOST_SHOWN: usize = 100;
@@ -71,11 +75,27 @@ fn push_refusals(
 {
     let mut lines = Lines::of(text.script);
     for refusal in refusals {
+        let block = block_kind(text.script, &mut lines, refusal);
         let line = line_at(text.script, &mut lines, refusal.place.line);
-        let told = refusal_text(alloc, &refused_of(notes, refusal.number))?;
+        let told = refusal_text(alloc, &refused_of(notes, refusal.number), block)?;
         push_entry(out, text.name, refusal.place, told.as_bytes(), line)?;
     }
     Ok(())
+}
+
+/// Which kind of file a block is that has no header, if its first bytes tell; the block stands behind its
+/// command.
+fn block_kind<'a>(script: &'a [u8], lines: &mut Lines<'a>, refusal: &Refusal) -> Option<FileKind>
+    requires { IsLeftOf script.now lines.old.number lines.old.rest.now }
+    ensures { IsLeftOf script.now lines.new.number lines.new.rest.now }
+{
+    if refusal.number != HEADER {
+        return None;
+    }
+    let _command = line_at(script, lines, refusal.command);
+    let mut behind = *lines;
+    let _command = behind.next_line();
+    FileKind::of(behind.rest)
 }
 
 /// A refusal in a script whose head was noted.
