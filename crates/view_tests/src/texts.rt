@@ -28,7 +28,7 @@ static FILES: [(&str, &str); 2] = [
         "#MCell 2.0\n#RULE 2/234/5\n#BOARD 200x200\n#L .D$.AAD$.3A$DAAD\n",
         ".D..\n.AAD\n.AAA\nDAAD\n",
     ),
-    ("#MCell 4.0\n#RULE 23/3\n#L .A$2\n#L .A\n", ".O.\n..O\n"),
+    ("#MCell 4.0\n#RULE 23/3\n#L .A$2\n#L .A\n", "O.\n.O\n"),
 ];
 
 #[test]
