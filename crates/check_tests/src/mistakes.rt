@@ -147,7 +147,7 @@ static RUNS: [Mistake; 5] = [
     },
 ];
 
-static PATTERNS: [Mistake; 5] = [
+static PATTERNS: [Mistake; 7] = [
     Mistake {
         script: b"rule 23/3/2\nreplicas 1\npattern g\nx = 3, y = 3, rule = B36/S23\nbo$2bo$3o!\nend\n",
         told: "script:4:22: warning: this pattern is of the rule 23/36/2, and the script's rule is 23/3/2\n\
@@ -159,8 +159,18 @@ static PATTERNS: [Mistake; 5] = [
     },
     Mistake {
         script: b"rule 23/3/2\nreplicas 1\npattern g\n!Name: Glider\n.O.\n..O\nOOO\nend\n",
-        told: "script:4:1: will be refused 4 Header: a pattern begins with a header `x = w, y = h`, behind comments\n\
+        told: "script:4:1: will be refused 4 Header: the block is plaintext, as .cells: `genedit convert` makes RLE of it\n\
         !Name: Glider\n^^^^^^^^^^^^^\n1 refusals\n",
+    },
+    Mistake {
+        script: b"rule 23/3/2\nreplicas 1\npattern g\n#MCell 4.0\n#L .A$..A$3A\nend\n",
+        told: "script:3:1: will be refused 4 Header: the block is of MCell: `genedit convert` makes RLE of it\n\
+        pattern g\n^^^^^^^\n1 refusals\n",
+    },
+    Mistake {
+        script: b"rule 23/3/2\nreplicas 1\npattern g\nx = 3, y = 3, rule = B3/S23:T8\nbo$2bo$3o!\nend\n",
+        told: "script:4:29: warning: the bounds T8 are passed over: cells live on the whole plane\n\
+        x = 3, y = 3, rule = B3/S23:T8\n                            ^^\n0 faults\n",
     },
     Mistake {
         script: b"rule 23/3/2\nreplicas 1\npattern g\nbo$2bo$3o!\nend\ncopy 1 g 0 0\n",
