@@ -14,6 +14,17 @@ struct Waiting {
     connection: Connection,
 }
 
+/// What the desk did with a connection.
+#[derive(Drop)]
+pub(crate) enum Received {
+    /// It has a chair.
+    Seated,
+    /// It waits for one, and can be taken back by this number.
+    Waits(u64),
+    /// Nobody more is seated, or there is no memory for it.
+    Back(Connection),
+}
+
 /// Gives connections to the chairs of a board's seats: to one at which nobody has sat yet, else to the one that was left
 /// longest ago. At each chair there is one connection at a time.
 #[derive(Drop)]
@@ -65,17 +76,20 @@ impl Desk {
         sent
     }
 
-    /// Has a connection wait for a chair; the number under which it can be taken back. It comes back where there is no
-    /// memory for that, or nobody more is seated.
-    pub(crate) fn wait(&mut self, connection: Connection) -> Result<u64, Connection> {
+    /// Gives a connection a chair, or has it wait for one: at one moment, so that no chair comes free in between.
+    pub(crate) fn seat_or_wait<R: Wait>(&mut self, rt: &R, connection: Connection) -> Received {
+        let connection = match self.seat(rt, connection) {
+            Ok(()) => return Received::Seated,
+            Err(connection) => connection,
+        };
         if self.is_closed {
-            return Err(connection);
+            return Received::Back(connection);
         }
         let number = self.waited;
         self.waited = self.waited.wrapping_add(1);
         match self.waiting.push_back(Waiting { number, connection }) {
-            Ok(()) => Ok(number),
-            Err(failed) => Err(failed.value.connection),
+            Ok(()) => Received::Waits(number),
+            Err(failed) => Received::Back(failed.value.connection),
         }
     }
 

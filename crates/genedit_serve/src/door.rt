@@ -3,6 +3,7 @@
 ghost use denote.Param.Send.{IsSend, IsSync};
 
 use crate::connections::{Connection, accepted, knock, pause};
+use crate::desk::Received;
 use crate::house::{House, Manners};
 use crate::latecomers::Latecomers;
 use seat_server::Progress;
@@ -105,13 +106,18 @@ fn receive<R: Threads + Wait + Clock + Copy + Drop + Send + Sync + 'static>(
     latecomers: &mut Latecomers<R>,
     connection: Connection,
 ) {
-    let seated = entrance.house.desk.lock(rt).seat(rt, connection);
-    if let Err(connection) = seated {
-        if entrance.manners.comes_back {
-            latecomers.keep_waiting(connection);
-        } else {
+    if !entrance.manners.comes_back {
+        let seated = entrance.house.desk.lock(rt).seat(rt, connection);
+        if let Err(connection) = seated {
             latecomers.turn_away(connection);
         }
+        return;
+    }
+    let received = entrance.house.desk.lock(rt).seat_or_wait(rt, connection);
+    match received {
+        Received::Seated => {}
+        Received::Waits(number) => latecomers.see_to(number),
+        Received::Back(connection) => latecomers.turn_away(connection),
     }
 }
 

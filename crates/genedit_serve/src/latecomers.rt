@@ -69,13 +69,8 @@ impl<R: Threads + Wait + Clock + Copy + Drop + Send + Sync + 'static> Latecomers
         }
     }
 
-    /// Has a connection wait for a seat, and turns it away where none comes free within a second.
-    pub(crate) fn keep_waiting(&mut self, connection: Connection) {
-        let waits = self.desk.lock(&self.rt).wait(connection);
-        let number = match waits {
-            Ok(number) => number,
-            Err(back) => return self.turn_away(back),
-        };
+    /// Turns a connection away that waits at the desk under this number, unless it has a seat within a second.
+    pub(crate) fn see_to(&mut self, number: u64) {
         let (Ok(desk), Ok(over)) = (Arc::try_clone(&self.desk), Arc::try_clone(&self.is_over))
         else {
             return;
