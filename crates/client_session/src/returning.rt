@@ -133,6 +133,8 @@ impl<'a, C: Clock, S: Source + Drop, K: Sink + Drop> Client<'a, C, S, K> {
 /// What is told at a new seat.
 #[derive(Drop)]
 struct Told {
+    /// What the first poll brought.
+    heard: Polling,
     /// The edits that the client did not know of.
     news: Vec<Edit>,
     /// The cells that look otherwise than was told.
@@ -167,8 +169,13 @@ impl Workspace {
         let news = self.news_in(alloc, replica.journal())?;
         let found = is_found(alloc, heard, replica, &self.doubt)?;
         let cells = show_all(alloc, &mut self.shown, replica.plane())?;
-        let told = Told { news, cells, found };
-        self.push_return(alloc, heard, replica, &told, out)?;
+        let told = Told {
+            heard,
+            news,
+            cells,
+            found,
+        };
+        self.push_return(alloc, replica, &told, out)?;
         let all = replica.journal().len();
         self.counted = counted_by(heard, all, self.others(), told.news.len());
         if found {
@@ -181,16 +188,15 @@ impl Workspace {
     fn push_return(
         &self,
         alloc: Global,
-        heard: Polling,
         replica: &Replica,
         told: &Told,
         out: &mut Vec<u8>,
     ) -> Result<(), AllocError>
-        ensures told { OnOk result (out.new.items ≡ out.old.items ++ joined_line replica.now.number replica.now.rule ++ news_lines heard told.now.news.items self.now ++ replaced_lines told.now.cells.items ++ found_line told.now.found self.now.doubt) }
+        ensures told { OnOk result (out.new.items ≡ out.old.items ++ joined_line replica.now.number replica.now.rule ++ news_lines told.now.heard told.now.news.items self.now ++ replaced_lines told.now.cells.items ++ found_line told.now.found self.now.doubt) }
         ensures kept { OnErr result (IsPrefix out.old.items out.new.items) }
     {
         push_joined(alloc, out, replica.number(), &replica.rule())?;
-        self.push_news(heard, &told.news, out)?;
+        self.push_news(told.heard, &told.news, out)?;
         push_replaced(out, &told.cells)?;
         push_found(out, told.found, &self.doubt)?;
         Ok(())
