@@ -5,7 +5,7 @@ import { heldOf, textOf } from "./editor.js";
 import { Grid } from "./generations.js";
 import { around, filmOf, svgOf } from "./pictures.js";
 import { field, say } from "./panel.js";
-import { boxOf, readRLE } from "./rle.js";
+import { boxOf, forFile, readRLE } from "./rle.js";
 import { readRule } from "./rules.js";
 import { readState } from "./states.js";
 import { NOT_PROVED, refusalWords } from "./words.js";
@@ -60,13 +60,14 @@ export async function showGeneration(app, gen) {
   } catch (fault) { say(wordsOf(fault)); }
 }
 
-/** Saves the generation that is shown, of the board as it is.
+/** Saves the generation that is shown, of the board as it is; a rule of two states is spelled as `genedit convert` does.
  * @param {App} app */
 export async function save(app) {
   const { gen } = app.player, isOwn = app.board.state !== "open";
   try {
-    const text = await exported(app, gen);
-    if (text === null) return;
+    const shown = await exported(app, gen);
+    if (shown === null) return;
+    const text = forFile(shown, app.board.rule);
     give(`pazgrot-${gen}.rle`, new Blob([text]));
     say(`Saved generation ${gen}, ${text.length} bytes${isOwn ? ", " + NOT_PROVED : ", written by the server"}.`);
   } catch (fault) { say(wordsOf(fault)); }

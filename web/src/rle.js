@@ -1,6 +1,7 @@
 // @ts-check
 // Golly's multi-state RLE, read and written as docs/MODEL.md has it.
 import { Fault, MOST_CELLS } from "./formats.js";
+import { fileRule } from "./rules.js";
 
 /**
  * A pattern: its box, the position, generation and rule that its text tells, and its cells that are not dead.
@@ -176,3 +177,9 @@ export function writeRLE(cells, rule, gen, given) {
   lines.push(line);
   return `#CXRLE Pos=${box.x},${box.y} Gen=${gen}\nx = ${box.w}, y = ${box.h}, rule = ${rule.text}\n${lines.join("\n")}\n`;
 }
+
+/**
+ * An RLE text with its rule spelled as a file spells it, which is all that changes.
+ * @param {string} text @param {import("./rules.js").Rule} rule
+ */
+export const forFile = (text, rule) => text.replace(`, rule = ${rule.text}\n`, `, rule = ${fileRule(rule)}\n`);

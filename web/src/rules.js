@@ -49,6 +49,15 @@ export function readRule(spelled) {
 }
 
 /**
+ * The rule as a file spells it, so that other programs take two states for a rule of Life's kind.
+ * @param {Rule} rule
+ */
+export function fileRule(rule) {
+  const [survives, born] = rule.text.split("/");
+  return rule.states === 2 ? `B${born}/S${survives}` : rule.text;
+}
+
+/**
  * The rule with its name in front, where it has one.
  * @param {Rule} rule
  */

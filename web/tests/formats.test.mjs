@@ -5,7 +5,7 @@ import test from "node:test";
 import * as formats from "../src/formats.js";
 import { filmOf, svgOf } from "../src/pictures.js";
 import { Plane } from "../src/plane.js";
-import { boxOf, readRLE, writeRLE } from "../src/rle.js";
+import { boxOf, forFile, readRLE, writeRLE } from "../src/rle.js";
 import { readRule } from "../src/rules.js";
 import { readState } from "../src/states.js";
 import { mapOf } from "./server.mjs";
@@ -118,6 +118,15 @@ test("RLE is read and written as the program does", () => {
     } else if (refused[0] === 11) assert.ok(pattern.cells.some((s, k) => k % 3 === 2 && s >= rule.states));
     else assert.deepEqual([fault.number, fault.place ?? null], refused, source);
   }
+});
+
+test("a file of two states spells its rule as Golly's Life", () => {
+  const life = readRule("23/3"), seeds = readRule("/2/2");
+  const text = rule => `#CXRLE Pos=-1,2 Gen=7\nx = 1, y = 1, rule = ${rule}\no!\n`;
+  assert.equal(forFile(text("23/3/2"), life), text("B3/S23"));
+  assert.equal(forFile(text("/2/2"), seeds), text("B2/S"));
+  assert.equal(readRule("B2/S").text, "/2/2");
+  assert.equal(forFile(text("/2/3").replace("o!", "A!"), BRAIN), text("/2/3").replace("o!", "A!"));
 });
 
 test("rules are spelled as the program takes them", () => {

@@ -31,6 +31,8 @@ const WRONG = [
   ["a cell counts itself", "generations.js", "survives >> n - 1 & 1", "survives >> n & 1", "generations"],
   ["a tile beside is not reached", "generations.js", "for (let i = west; i <= east; i++)", "for (let i = west; i <= 0; i++)", "generations"],
   ["lines of RLE have 71 bytes", "rle.js", "const LINE = 70,", "const LINE = 71,", "formats"],
+  ["a file of two states has the board's spelling of its rule", "rle.js", "rule = ${fileRule(rule)}", "rule = ${rule.text}", "formats"],
+  ["a file's rule tells births behind survivals", "rules.js", "`B${born}/S${survives}`", "`B${survives}/S${born}`", "formats"],
   ["a text may end with another square", "states.js", "|| n && !isWalk(list)", "", "formats"],
   ["an entry may come twice", "states.js", "    if (known.has(key)) throw new Fault(19);\n", "", "formats"],
   ["a blank square may be an entry", "states.js", "  if (a.blank && quarters.every(q => q.blank && q.c === a.c && q.r === a.r)) throw new Fault(19);\n", "", "formats"],
