@@ -67,13 +67,9 @@ fn keep_door<R: Threads + Wait + Clock + Copy + Drop + Send + Sync + 'static>(
     entrance: &Entrance,
     is_over: Arc<AtomicBool, Global>,
 ) {
-    let (Ok(desk), Ok(theirs)) = (
-        Arc::try_clone(&entrance.house.desk),
-        Arc::try_clone(&is_over),
-    ) else {
+    let Some(mut latecomers) = Latecomers::new(rt, alloc, &entrance.house.desk, &is_over) else {
         return fail(&rt, entrance);
     };
-    let mut latecomers = Latecomers::new(rt, alloc, desk, theirs);
     for _ in rt.forever() {
         let came = next_connection(&rt, entrance, &is_over);
         if is_over.load(Ordering::SeqCst) {
@@ -86,7 +82,7 @@ fn keep_door<R: Threads + Wait + Clock + Copy + Drop + Send + Sync + 'static>(
                     fail(&rt, entrance);
                     return latecomers.end();
                 }
-                latecomers.join_first();
+                thread::sleep(&rt, pause());
             }
         }
     }

@@ -4,20 +4,17 @@ ghost use Rattle.std.specs.Prelude.{◌≡◌, ◌∷◌, []};
 ghost use denote.Param.Send.{IsSend, IsSync};
 ghost use Rattle.message_frames.specs.Frames.{frame_text};
 
+use crate::anteroom::Anteroom;
 use crate::connections::Connection;
 use crate::desk::Desk;
 use std::alloc::Global;
-use std::collections::VecDeque;
 use std::io::{Read, Write};
 use std::net::{Shutdown, TcpStream};
 use std::sync::atomic::{AtomicBool, Ordering};
 use std::sync::{Arc, Mutex, Wait};
 use std::thread;
-use std::thread::{JoinHandle, Threads};
-use std::time::{Clock, Duration};
-
-/// How many connections wait for a seat, or are turned away, at once, at most.
-const MOST: usize = 256;
+use std::thread::Threads;
+use std::time::{Clock, Duration, Instant};
 
 /// How many pieces of what a connection still says are read, at most: as many as the longest request has.
 const PIECES: u64 = 4200;
@@ -25,6 +22,11 @@ const PIECES: u64 = 4200;
 /// How long somebody waits for a seat: a second.
 fn patience() -> Duration {
     Duration::from_millis(1000)
+}
+
+/// How long what a connection still says is read, at most.
+fn parting() -> Duration {
+    Duration::from_secs(10)
 }
 
 /// What is said to a connection that finds no seat: the refusal 45, in its frame.
@@ -39,42 +41,76 @@ pub(crate) fn no_seat() -> &'static [u8]
 pub(crate) struct Latecomers<R> {
     rt: R,
     desk: Arc<Mutex<Desk>, Global>,
+    /// The board has ended.
     is_over: Arc<AtomicBool, Global>,
-    threads: VecDeque<JoinHandle<()>>,
+    anteroom: Arc<Anteroom, Global>,
 }
 
 impl<R: Threads + Wait + Clock + Copy + Drop + Send + Sync + 'static> Latecomers<R> {
+    /// Those of a desk. None where memory is wanting.
     pub(crate) fn new(
         rt: R,
         alloc: Global,
-        desk: Arc<Mutex<Desk>, Global>,
-        is_over: Arc<AtomicBool, Global>,
-    ) -> Latecomers<R> {
-        Latecomers {
+        desk: &Arc<Mutex<Desk>, Global>,
+        is_over: &Arc<AtomicBool, Global>,
+    ) -> Option<Latecomers<R>> {
+        Some(Latecomers {
             rt,
-            desk,
-            is_over,
-            threads: VecDeque::new(alloc),
-        }
+            desk: Arc::try_clone(desk).ok()?,
+            is_over: Arc::try_clone(is_over).ok()?,
+            anteroom: Arc::new(alloc, Anteroom::new()).ok()?,
+        })
     }
 
-    /// Turns a connection away.
+    /// Turns a connection away. Where too many are being turned away, it is answered at once, and closed.
     pub(crate) fn turn_away(&mut self, connection: Connection) {
-        let Ok(over) = Arc::try_clone(&self.is_over) else {
+        let (Ok(over), Ok(anteroom)) = (
+            Arc::try_clone(&self.is_over),
+            Arc::try_clone(&self.anteroom),
+        ) else {
             return;
         };
-        let begun = thread::spawn(&self.rt, move || turn_away(connection.read, &over));
-        if let Ok(thread) = begun {
-            self.keep(thread);
+        if !self.anteroom.enter(&self.rt) {
+            return answer(connection.read);
+        }
+        let rt = self.rt;
+        let begun = thread::spawn(
+            &self.rt,
+            move ||
+                requires { IsSend R.row × IsSync R.row }
+            {
+                turn_away(&rt, connection.read, &over);
+                anteroom.leave(&rt);
+            },
+        );
+        if begun.is_err() {
+            self.anteroom.leave(&self.rt);
         }
     }
 
-    /// Turns a connection away that waits at the desk under this number, unless it has a seat within a second.
+    /// Turns a connection away that waits at the desk under this number, unless it has a seat within a second. Where
+    /// too many are seen to, it is answered at once, and closed.
     pub(crate) fn see_to(&mut self, number: u64) {
-        let (Ok(desk), Ok(over)) = (Arc::try_clone(&self.desk), Arc::try_clone(&self.is_over))
-        else {
-            return;
+        if !self.try_see_to(number) {
+            let left = self.desk.lock(&self.rt).take_back(number);
+            if let Some(connection) = left {
+                answer(connection.read);
+            }
+        }
+    }
+
+    /// Sees to it, if a thread for that can be had.
+    fn try_see_to(&mut self, number: u64) -> bool {
+        let (Ok(desk), Ok(over), Ok(anteroom)) = (
+            Arc::try_clone(&self.desk),
+            Arc::try_clone(&self.is_over),
+            Arc::try_clone(&self.anteroom),
+        ) else {
+            return false;
         };
+        if !self.anteroom.enter(&self.rt) {
+            return false;
+        }
         let rt = self.rt;
         let begun = thread::spawn(
             &self.rt,
@@ -84,52 +120,26 @@ impl<R: Threads + Wait + Clock + Copy + Drop + Send + Sync + 'static> Latecomers
                 thread::sleep(&rt, patience());
                 let left = desk.lock(&rt).take_back(number);
                 if let Some(connection) = left {
-                    turn_away(connection.read, &over);
+                    turn_away(&rt, connection.read, &over);
                 }
+                anteroom.leave(&rt);
             },
         );
-        match begun {
-            Ok(thread) => self.keep(thread),
-            Err(_) => {
-                let _left = self.desk.lock(&self.rt).take_back(number);
-            }
+        if begun.is_err() {
+            self.anteroom.leave(&self.rt);
         }
+        begun.is_ok()
     }
 
-    /// Keeps a thread until it has ended. Where there are too many, the first of them is let end before.
-    fn keep(&mut self, thread: JoinHandle<()>) {
-        if self.threads.len() >= MOST {
-            self.join_first();
-        }
-        if let Err(full) = self.threads.push_back(thread) {
-            full.value.join(&self.rt);
-        }
-    }
-
-    /// Lets the first of them end, if there is one: then the system has a descriptor again.
-    pub(crate) fn join_first(&mut self) {
-        if let Some(first) = self.threads.pop_front() {
-            first.join(&self.rt);
-        }
-    }
-
-    /// Waits for all of them to end.
+    /// Waits until nobody is seen to any more.
     pub(crate) fn end(self) {
-        let Latecomers {
-            rt,
-            desk: _,
-            is_over: _,
-            threads,
-        } = self;
-        for thread in threads {
-            thread.join(&rt);
-        }
+        self.anteroom.wait_until_empty(&self.rt);
     }
 }
 
 /// Answers a connection that there is no seat, once its first byte is there, and closes it; one that says
 /// nothing for a second is closed without.
-fn turn_away(stream: TcpStream, is_over: &AtomicBool) {
+fn turn_away<C: Clock>(clock: &C, stream: TcpStream, is_over: &AtomicBool) {
     let _ = stream.set_read_timeout(Some(Duration::from_secs(1)));
     let mut stream = stream;
     let mut first = [0u8; 1];
@@ -137,16 +147,25 @@ fn turn_away(stream: TcpStream, is_over: &AtomicBool) {
         return;
     }
     if stream.write_all(no_seat()).is_ok() && stream.shutdown(Shutdown::Write).is_ok() {
-        read_what_stands_there(&mut stream, is_over);
+        read_what_stands_there(clock, &mut stream, is_over);
     }
 }
 
-/// Reads what a connection still says, until the board has ended: where bytes are left when it is closed, the
-/// system takes the answer away.
-fn read_what_stands_there(stream: &mut TcpStream, is_over: &AtomicBool) {
+/// Answers a connection that there is no seat, and closes it: nobody can wait for what it says.
+fn answer(stream: TcpStream) {
+    let mut stream = stream;
+    let _ = stream.write_all(no_seat());
+}
+
+/// Reads what a connection still says, until the board has ended, for ten seconds at most: where bytes are left when
+/// it is closed, the system takes the answer away.
+fn read_what_stands_there<C: Clock>(clock: &C, stream: &mut TcpStream, is_over: &AtomicBool) {
+    let Some(end) = end_of_parting(clock) else {
+        return;
+    };
     let mut piece = [0u8; 4096];
     for _piece in 0..PIECES {
-        if is_over.load(Ordering::SeqCst) {
+        if is_over.load(Ordering::SeqCst) || !matches!(Instant::now(clock), Ok(now) if now < end) {
             return;
         }
         match stream.read(&mut piece) {
@@ -154,4 +173,9 @@ fn read_what_stands_there(stream: &mut TcpStream, is_over: &AtomicBool) {
             Ok(_) => {}
         }
     }
+}
+
+/// The time until which a connection is read that begins to be now.
+fn end_of_parting<C: Clock>(clock: &C) -> Option<Instant> {
+    Instant::now(clock).ok()?.checked_add(parting())
 }

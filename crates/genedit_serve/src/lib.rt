@@ -3,6 +3,7 @@
 
 mod address;
 mod alarm;
+mod anteroom;
 mod chair;
 mod closing;
 mod closing_call;
