@@ -48,9 +48,11 @@ bench:
 memory:
 	@examples/refuse
 
-# Feeds 3,000 rounds of bytes by chance to each call that reads what others send.
-fuzz:
+# Feeds 3,000 rounds of bytes by chance to each call that reads what others send, and 3,000 files of MCell and of
+# plaintext to the program.
+fuzz: $(PROGRAM)
 	@cd crates/trial_calls && rt run -- fuzz 3000 7
+	@examples/files $(PROGRAM) 3000 7
 
 # Tries the wrong bodies that the gate leaves out: the prover must refuse each. `make trial
 # CRATES="a b"` tries those of these crates alone.

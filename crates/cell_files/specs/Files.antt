@@ -3,6 +3,7 @@ use Rattle.std.specs.Prelude.{ℕ, Bool, List, ◌++◌, codes, decimal, drop, t
 use Rattle.text_scan.specs.Bytes.{◌>=>◌}
 use Rattle.pattern_cells.specs.Pattern.{RlePattern}
 use Rattle.multistate_rle.specs.declared.fault.RleFault.{RleFault}
+use Rattle.multistate_rle.specs.HeaderLine.{HasNoHeader}
 use Rattle.multistate_rle.specs.Reading.{parsed}
 use Rattle.header_rules.specs.declared.header.HeaderRule.{HeaderRule}
 use Rattle.header_rules.specs.declared.header.HeaderBounds.{HeaderBounds}
@@ -27,6 +28,18 @@ parsed_as formats.Document text = parsed text
 
 abbrev pub file_parsed : List ℕ → Result RlePattern RleFault
 file_parsed text = parsed_as (format_of text) text
+
+-- a text of a format is read as RLE, and has no header
+abbrev pub LacksHeaderAs : CellFormat → List ℕ → Type 0
+LacksHeaderAs formats.MCell text = ⊥
+LacksHeaderAs formats.Plaintext text = ⊥
+LacksHeaderAs formats.Rle text = HasNoHeader text
+LacksHeaderAs formats.Macrocell text = HasNoHeader text
+LacksHeaderAs formats.State text = HasNoHeader text
+LacksHeaderAs formats.Document text = HasNoHeader text
+
+abbrev pub LacksHeader : List ℕ → Type 0
+LacksHeader text = LacksHeaderAs (format_of text) text
 
 -- the rule that a text of a format tells
 abbrev pub rule_told_as : CellFormat → List ℕ → Option HeaderRule

@@ -1,8 +1,8 @@
 //! What a file says: its cells and its rule.
 
-ghost use Rattle.std.specs.Prelude.{◌≡◌};
+ghost use Rattle.std.specs.Prelude.{◌≡◌, Err};
 ghost use Rattle.generations_rule.specs.Refusal.{Answers};
-ghost use Rattle.cell_files.specs.Files.{file_parsed, file_rule_told, parsed_as, rule_told_as};
+ghost use Rattle.cell_files.specs.Files.{LacksHeader, LacksHeaderAs, file_parsed, file_rule_told, parsed_as, rule_told_as};
 
 use crate::format::CellFormat;
 use crate::head::Head;
@@ -14,13 +14,14 @@ use pattern_cells::Pattern;
 use std::alloc::Global;
 
 /// The pattern of a file in RLE, MCell's format or plaintext, told by its first bytes, or the first fault from
-/// the left; the fault is `Memory` only where memory was refused. A place is the index of a byte of the file. Any
-/// other file is read as RLE.
+/// the left; the fault is `Memory` only where memory was refused, and never of a file that is read as RLE and has
+/// no header. A place is the index of a byte of the file. Any other file is read as RLE.
 ///
 /// Not proved, but so by its code: memory is taken for the bytes that stand in the file and for nonzero cells
 /// alone, whatever counts stand there.
 pub fn read_cells(alloc: Global, text: &[u8]) -> Result<Pattern, RleFault>
-    ensures { Answers (λ fault. fault ≡ RleFault.Memory) result (file_parsed text.now) }
+    ensures cells { Answers (λ fault. fault ≡ RleFault.Memory) result (file_parsed text.now) }
+    ensures no_header { LacksHeader text.now → result ≡ Err RleFault.Header }
 {
     match CellFormat::of(text) {
         CellFormat::MCell => read_mcell(alloc, text),

@@ -1,9 +1,12 @@
 -- Texts that are opened as boards.
-use Rattle.std.proofs.Common.{◌≡◌, ◌∙◌, ℕ, Bool, false, List, Some, None, Result, Ok, Err, refl, sym, ap, subst, inl, inr}
+use Rattle.std.proofs.Common.{◌≡◌, ◌∙◌, ℕ, Bool, true, false, List, Some, None, Result, Ok, Err, refl, sym, ap, subst, inl, inr}
 use Rattle.std.specs.Prelude.{◌⊎◌}
 use Rattle.square_store.specs.Limits.{usual_room}
 use Rattle.generations_rule.specs.Rule.{GenerationsRule}
 use Rattle.pattern_cells.specs.declared.cell.Cell.{Cell}
+use Rattle.multistate_rle.specs.declared.fault.RleFault.{RleFault}
+use Rattle.multistate_rle.specs.declared.fault.RleFault.TheVariants as rle
+use Rattle.cell_files.specs.Files.{LacksHeader}
 use Rattle.stamped_writes.specs.Write.{Writes}
 use Rattle.delta_exchange.specs.declared.fault.ReadFault.{ReadFault}
 use Rattle.delta_exchange.specs.declared.fault.ReadFault.TheVariants as reads
@@ -20,7 +23,7 @@ use Rattle.client_session.specs.declared.outcome.Outcome.TheVariants.{Refused}
 use Rattle.client_session.specs.declared.fault.CommandFault.{CommandFault}
 use Rattle.client_session.specs.declared.fault.CommandFault.TheVariants.{Memory, StoreFull}
 use Rattle.client_session.specs.Moment.{IsPrinted, Moment}
-use Rattle.client_tasks.specs.Opening.{IsOpened, IsSaved, OpensBoard, OpensBy, OpensSaved, want_of}
+use Rattle.client_tasks.specs.Opening.{IsOpened, IsSaved, OpensBoard, OpensBy, OpensPattern, OpensSaved, want_of}
 use Rattle.client_tasks.specs.Opening.OpensBoard.{draws, lacks_memory, lacks_room, refuses}
 
 pub opens_saved : (text : List ℕ) (r : GenerationsRule) (m n : Moment) (result : Result Outcome CommandFault) (cells : List Cell) (counter : ℕ) → r ≡ m.workspace.replica.rule
@@ -59,3 +62,18 @@ opens_wanting text r m _ want own is large long = absurd (cc)
 pub opened : (text : List ℕ) (m n : Moment) (result : Result Outcome CommandFault) (read : Result Bool ReadFault) (delta : Bool) → read ≡ begins_as_delta text → read ≡ Ok delta → delta ≡ false
     → OpensBoard text m n result → IsOpened text m n result
 opened text m n result read delta is told state opens = subst (λ r. OpensBy r text m n result) (sym (sym is ∙ told ∙ ap (λ b. Ok b) state)) opens
+
+-- memory is wanted of a file, which then has a header where one is due
+pub wants_memory : {A : Type 0} (text : List ℕ) (m : Moment) (read : Result A RleFault) → read ≡ Err rle.Memory → (LacksHeader text → read ≡ Err rle.Header) → OpensPattern text m m (Err Memory)
+wants_memory text m read is header = inl ((refl, refl), λ lacks. never is (header lacks)) where
+  never : read ≡ Err rle.Memory → read ≡ Err rle.Header → ⊥
+  never memory header = absurd (cc)
+
+-- a text that begins as a delta, or as no message, is opened as a pattern
+pub opened_as_delta : (text : List ℕ) (m n : Moment) (result : Result Outcome CommandFault) (read : Result Bool ReadFault) (delta : Bool) → read ≡ begins_as_delta text → read ≡ Ok delta → delta ≡ true
+    → OpensPattern text m n result → IsOpened text m n result
+opened_as_delta text m n result read delta is told begins opens = subst (λ r. OpensBy r text m n result) (sym (sym is ∙ told ∙ ap (λ b. Ok b) begins)) opens
+
+pub opened_as_none : (text : List ℕ) (m n : Moment) (result : Result Outcome CommandFault) (read : Result Bool ReadFault) (fault : ReadFault) → read ≡ begins_as_delta text → read ≡ Err fault
+    → OpensPattern text m n result → IsOpened text m n result
+opened_as_none text m n result read fault is told opens = subst (λ r. OpensBy r text m n result) (sym (sym is ∙ told)) opens

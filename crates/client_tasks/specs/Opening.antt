@@ -4,9 +4,8 @@ use Rattle.square_store.specs.Limits.{usual_room}
 use Rattle.generations_rule.specs.Rule.{GenerationsRule}
 use Rattle.pattern_cells.specs.declared.cell.Cell.{Cell}
 use Rattle.multistate_rle.specs.declared.fault.RleFault.{RleFault}
-use Rattle.multistate_rle.specs.HeaderLine.{HasNoHeader}
+use Rattle.cell_files.specs.Files.{LacksHeader, file_parsed}
 use Rattle.pattern_cells.specs.Pattern.{RlePattern}
-use Rattle.multistate_rle.specs.Reading.{parsed}
 use Rattle.multistate_rle.specs.RleFault.{text_fault_number, text_fault_text}
 use Rattle.stamped_writes.specs.Write.{Writes}
 use Rattle.edit_stamps.specs.Edit.{most_cells}
@@ -107,15 +106,15 @@ pub data OpensBoard (text : List ℕ) (m n : Moment) (result : Result Outcome Co
 
 -- ---- patterns
 
--- a text that is read as a pattern: its cells that are not dead are drawn at its own position; or it is none, and its first fault
+-- a file that is read as a pattern: its cells that are not dead are drawn at its own position; or it is none, and its first fault
 -- is printed
 abbrev pub OpensAs : Result RlePattern RleFault → Moment → Moment → Result Outcome CommandFault → Type 0
 OpensAs (Ok pattern) m n result = IsDrawCommand 0 (Or pattern pattern.pos.0 pattern.pos.1) m n result
 OpensAs (Err fault) m n result = IsPrinted Refused (refused_text (text_fault_number fault) (text_fault_text fault) ++ codes "\n") m n result
 
--- or memory is wanting, though not of a text without a header: that is refused for it
+-- or memory is wanting, though not of an RLE text without a header: that is refused for it
 abbrev pub OpensPattern : List ℕ → Moment → Moment → Result Outcome CommandFault → Type 0
-OpensPattern text m n result = (LacksMemory m n result × (HasNoHeader text → ⊥)) ⊎ OpensAs (parsed text) m n result
+OpensPattern text m n result = (LacksMemory m n result × (LacksHeader text → ⊥)) ⊎ OpensAs (file_parsed text) m n result
 
 -- ---- both
 

@@ -7,17 +7,18 @@ ghost use Rattle.client_tasks.specs.Opening.{IsOpened, OpensBoard, OpensPattern,
 use crate::pieces::draw_all;
 use crate::refusing::{refuse, refuse_text};
 use crate::saved::{Saved, saved_in, suffice};
+use cell_files::read_cells;
 use client_session::{Client, CommandFault, Outcome};
 use delta_exchange::{ReadFault, is_delta};
 use devices::{Sink, Source};
-use multistate_rle::{RleFault, parse};
+use multistate_rle::RleFault;
 use replica_core::Fault;
 use replica_events::EditSpec;
 use std::time::Clock;
 
 /// Draws what a text holds: where it begins as a state the cells that are not dead of the board that was
-/// saved, in edits of at most 2^20 cells whose counters are above those of the text too; else, of an RLE
-/// text, what an `or` of its pattern at its own position draws. What is refused of the text is printed, and
+/// saved, in edits of at most 2^20 cells whose counters are above those of the text too; else, of a file of
+/// RLE, of MCell's format or of plaintext, what an `or` of its pattern at its own position draws. What is refused of the text is printed, and
 /// nothing said on the line; so it is of a full clock, where counters do not suffice for all edits of a
 /// board. Behind an edit that is refused, or may be, no more is drawn.
 pub fn open<C: Clock, S: Source + Drop, K: Sink + Drop>(
@@ -28,7 +29,8 @@ pub fn open<C: Clock, S: Source + Drop, K: Sink + Drop>(
 {
     match is_delta(text) {
         Ok(false) => open_board(client, text),
-        Ok(true) | Err(_) => open_pattern(client, text),
+        Ok(true) => open_pattern(client, text),
+        Err(_) => open_pattern(client, text),
     }
 }
 
@@ -80,7 +82,7 @@ fn open_pattern<C: Clock, S: Source + Drop, K: Sink + Drop>(
 ) -> Result<Outcome, CommandFault>
     ensures { OpensPattern text.now client.old client.new result }
 {
-    match parse(client.alloc(), text) {
+    match read_cells(client.alloc(), text) {
         Ok(pattern) => {
             let (x, y) = pattern.pos();
             client.draw(0, &EditSpec::Or(pattern, x, y))

@@ -3,14 +3,13 @@
 use crate::bounds::tell_bounds;
 use crate::opening::{opened, tell_unread};
 use devices::{ReadSource, Source};
-use genedit_convert::{
-    ConvertOptions, OutputFault, convert, is_rle_name, output_refusal, write_output,
-};
+use genedit_convert::{ConvertOptions, convert, is_rle_name, output_status, output_text};
 use genedit_io::RunFault;
 use genedit_words::ConvertTask;
 use std::alloc::Global;
 use std::fs::File;
 use std::rt::Files;
+use whole_files::{WriteRefusal, write_refusal, write_whole};
 
 /// The file is written.
 const WELL: u8 = 0;
@@ -30,8 +29,8 @@ pub fn convert_file<R: Files<File = File> + Input + Eprint>(
         let _ = eprintln!(rt; "genedit: {output}: the file to write ends with .rle");
         return Ok(WORDS);
     }
-    if let Some(fault) = output_refusal(rt, output, task.replaces) {
-        return Ok(tell_unwritten(rt, output, fault));
+    if let Some(refusal) = write_refusal(rt, output, task.replaces) {
+        return Ok(tell_unwritten(rt, output, refusal));
     }
     match task.file {
         None => written(rt, alloc, task, "-", &mut ReadSource::new(rt.reader())),
@@ -61,16 +60,16 @@ fn written<R: Files<File = File> + Eprint, S: Source>(
             return Ok(fault.exit_status());
         }
     };
-    if let Err(fault) = write_output(rt, alloc, task.output, task.replaces, &made.text) {
-        return Ok(tell_unwritten(rt, task.output, fault));
+    if let Err(refusal) = write_whole(rt, alloc, task.output, task.replaces, &made.text) {
+        return Ok(tell_unwritten(rt, task.output, refusal));
     }
     tell_bounds(rt, alloc, name, made.bounds, task.generation.is_some())?;
     Ok(WELL)
 }
 
 /// Says why a file is not written; the status of the process.
-fn tell_unwritten(rt: &impl Eprint, path: &str, fault: OutputFault) -> u8 {
-    let text = fault.text();
+fn tell_unwritten(rt: &impl Eprint, path: &str, refusal: WriteRefusal) -> u8 {
+    let text = output_text(refusal);
     let _ = eprintln!(rt; "genedit: {path}: {text}");
-    fault.exit_status()
+    output_status(refusal)
 }

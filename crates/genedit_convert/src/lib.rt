@@ -10,5 +10,5 @@ mod run;
 
 pub use converting::{Converted, conversion_of};
 pub use options::ConvertOptions;
-pub use output::{OutputFault, is_rle_name, output_refusal, write_output};
+pub use output::{is_rle_name, output_status, output_text};
 pub use run::{convert, convert_within};

@@ -1,37 +1,31 @@
 -- Which files are written, and what is printed of them.
-use Rattle.std.specs.Prelude.{ℕ, Bool, true, false, List, Vec, ◌++◌, codes, decimal, Option, Some, None}
+use Rattle.std.specs.Prelude.{ℕ, Bool, List, Vec, ◌++◌, codes, decimal}
 use Rattle.std.specs.BTreeSet.{contains_by}
 use Rattle.std.specs.declared.alloc.Global.{Global}
 use Rattle.std.specs.Cmp.Lexicographic.{slice_cmp}
 use Rattle.std.specs.Ordering.{nat_cmp}
 use Rattle.std.specs.declared.io.ErrorKind.{ErrorKind}
 use Rattle.std.specs.declared.io.ErrorKind.TheVariants.{OutOfMemory}
-use Rattle.genedit_io.specs.declared.cause.Cause.TheVariants.{Folder}
 use Rattle.genedit_io.specs.declared.fault.RunFault.{RunFault}
-use Rattle.genedit_io.specs.Cause.{cause_of, cause_text, file_fault_text, of_new_file}
+use Rattle.genedit_io.specs.Cause.{cause_of, cause_text, file_fault_text}
+use Rattle.whole_files.specs.declared.refusal.WriteRefusal.{WriteRefusal}
+use Rattle.whole_files.specs.declared.refusal.WriteRefusal.TheVariants as refuses
 use Rattle.genedit_join.specs.declared.files.FileCause.{FileCause}
 use Rattle.genedit_join.specs.declared.files.FileCause.TheVariants as cause
 use Rattle.genedit_join.specs.declared.files.FileFault.{FileFault}
 use Rattle.genedit_join.specs.declared.files.FileFault.TheVariants as fault
-use Rattle.genedit_join.specs.declared.files.Standing.{Standing}
-use Rattle.genedit_join.specs.declared.files.Standing.TheVariants as standing
 use Rattle.genedit_join.specs.declared.own_files.OwnFiles.{OwnFiles}
 
--- A file is written where nothing has its name, or a file that may be replaced. Nothing else is ever replaced.
-abbrev pub refusal_of : Standing → Bool → Option FileCause
-refusal_of standing.Nothing may_replace = None
-refusal_of standing.File true = None
-refusal_of standing.File false = Some cause.Exists
-refusal_of standing.Folder may_replace = Some (cause.System Folder)
-refusal_of standing.Other may_replace = Some cause.NoFile
+-- how a file is not written, by why that is
+abbrev pub fault_of : WriteRefusal → FileFault
+fault_of refuses.Exists = fault.Refused cause.Exists
+fault_of refuses.NoFile = fault.Refused cause.NoFile
+fault_of (refuses.System system) = fault.Refused (cause.System system)
+fault_of refuses.Memory = fault.Memory
 
 -- the client wrote the file of a name
 abbrev pub is_own : OwnFiles → List ℕ → Bool
 is_own files name = contains_by (λ (own : Vec ℕ Global). slice_cmp nat_cmp name own.items) files.names
-
--- why a file is not written, by what the system says: what is not found is its folder
-abbrev pub write_cause : ErrorKind → FileCause
-write_cause kind = cause.System (of_new_file (cause_of kind))
 
 -- how a file is not read, by what the system says
 abbrev pub read_fault : ErrorKind → FileFault

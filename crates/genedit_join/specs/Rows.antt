@@ -4,19 +4,20 @@ use Rattle.std.specs.Fmt.{digits}
 use Rattle.board_client.specs.declared.fault.ClientFault.TheVariants as client
 use Rattle.client_session.specs.declared.fault.CommandFault.TheVariants as command
 use Rattle.frame_line.specs.declared.fault.LineFault.TheVariants as line
-use Rattle.genedit_io.specs.declared.cause.Cause.TheVariants.{Folder, Full, NoFolder}
+use Rattle.genedit_io.specs.declared.cause.Cause.TheVariants.{Full, NoFolder}
 use Rattle.genedit_io.specs.declared.fault.RunFault.TheVariants.{Refused, Write}
 use Rattle.genedit_join.specs.declared.ends.Board.{Board}
 use Rattle.genedit_join.specs.declared.ends.End.TheVariants as how
 use Rattle.genedit_join.specs.declared.ends.Tally.{Tally}
 use Rattle.genedit_join.specs.declared.fault.JoinFault.TheVariants as fault
+use Rattle.whole_files.specs.declared.refusal.WriteRefusal.TheVariants as refuses
 use Rattle.genedit_join.specs.declared.files.FileCause.TheVariants as cause
-use Rattle.genedit_join.specs.declared.files.Standing.TheVariants as standing
+use Rattle.genedit_join.specs.declared.files.FileFault.TheVariants as files
 use Rattle.genedit_join.specs.declared.patience.WaitStep.TheVariants.{GiveUp, Say, Wait}
 use Rattle.genedit_join.specs.declared.rescue.Kept.TheVariants.{In, Nowhere}
 use Rattle.genedit_join.specs.Ends.{end_status, is_rescued, lost_text, refusal_in, refused_number}
 use Rattle.genedit_join.specs.Fault.{fault_of_command, join_fault_text, join_status}
-use Rattle.genedit_join.specs.Files.{refusal_of, refused_line, wrote_line}
+use Rattle.genedit_join.specs.Files.{fault_of, refused_line, wrote_line}
 use Rattle.genedit_join.specs.Rescue.{kept_text, rescue_name}
 use Rattle.genedit_join.specs.Waiting.{step_after}
 
@@ -54,15 +55,12 @@ pub not_replaced : refused_line (Refused 37 None) (codes "a.rle") cause.Exists �
 unfolding digits
 not_replaced = refl
 
--- a file is replaced only where that is said; a folder never
-pub stays : refusal_of standing.File false ≡ Some cause.Exists
+-- a file that stands is told with the commands that replace it; want of memory is no refusal
+pub stays : fault_of refuses.Exists ≡ files.Refused cause.Exists
 stays = refl
 
-pub is_replaced : refusal_of standing.File true ≡ None
-is_replaced = refl
-
-pub folder_stays : refusal_of standing.Folder true ≡ Some (cause.System Folder)
-folder_stays = refl
+pub wants_memory : fault_of refuses.Memory ≡ files.Memory
+wants_memory = refl
 
 -- ---- ends
 

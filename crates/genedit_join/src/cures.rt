@@ -1,13 +1,15 @@
 //! What would be right in the place of a command that was refused.
 
 ghost use Rattle.std.specs.Prelude.{◌≡◌};
-ghost use Rattle.genedit_join.specs.Cures.{is_form, is_mistake};
+ghost use Rattle.genedit_join.specs.Cures.{is_form, is_mistake, is_read_as_rle, unread_kind};
+ghost use Rattle.cell_files.specs.Formats.{format_of};
 
 use crate::ends::refused_number;
 use crate::files::{FileFault, read_whole};
 use crate::joined::Joined;
 use crate::population::cells_told;
 use crate::telling::tell_cure;
+use cell_files::CellFormat;
 use client_commands::{ClientCommand, FileName};
 use pattern_files::FileKind;
 use replica_events::EditSpec;
@@ -22,8 +24,10 @@ const TOO_MANY: u8 = 8;
 /// What a command is about, as far as the cure of a refusal wants to know it.
 #[derive(Drop)]
 pub(crate) enum About {
-    /// So many cells are drawn, or a pattern has them.
+    /// So many cells are drawn.
     Cells(u64),
+    /// The text of a pattern that tells so many cells, and what it is where it is no RLE.
+    Block(u64, Option<FileKind>),
     /// What a file holds is drawn.
     File(FileName),
     /// How many cells there are is not known, or is at no fault.
@@ -37,7 +41,10 @@ impl About {
             ClientCommand::Draw(EditSpec::Cells(cells)) => {
                 About::Cells(cells.as_slice().len() as u64)
             }
-            ClientCommand::Pattern(_, text) => About::Cells(cells_told(text.as_slice())),
+            ClientCommand::Pattern(_, text) => {
+                let text = text.as_slice();
+                About::Block(cells_told(text), FileKind::of(text))
+            }
             ClientCommand::Open(file) => match FileName::of(alloc, file.as_bytes()) {
                 Ok(file) => About::File(file),
                 Err(_) => About::Nothing,
@@ -61,6 +68,36 @@ fn is_form(number: u8) -> bool
     matches!(number, 4..=7)
 }
 
+/// Whether a file is read as RLE, whatever it is.
+fn is_read_as_rle(text: &[u8]) -> bool
+    ensures { result ≡ is_read_as_rle (format_of text.now) }
+{
+    !matches!(
+        CellFormat::of(text),
+        CellFormat::MCell | CellFormat::Plaintext
+    )
+}
+
+/// What a file is, where it is none that `open` reads.
+fn unread_kind(text: &[u8]) -> Option<FileKind>
+    ensures { result ≡ unread_kind text.now }
+{
+    if is_read_as_rle(text) {
+        FileKind::of(text)
+    } else {
+        None
+    }
+}
+
+/// How many cells that are not dead a file tells, where that is known: where it is read as RLE.
+fn cells_of_file(text: &[u8]) -> Option<u64> {
+    if is_read_as_rle(text) {
+        Some(cells_told(text))
+    } else {
+        None
+    }
+}
+
 impl<'a, R: Clock + Files + Eprint + Drop> Joined<'a, R> {
     /// Tells what would be right, where the command of a line that ends at this one was refused for what it
     /// says. Where memory is wanting for that, nothing is told: the refusal stands, and the client goes on.
@@ -80,10 +117,8 @@ impl<'a, R: Clock + Files + Eprint + Drop> Joined<'a, R> {
         }
         let alloc = self.client.alloc();
         if is_form(number)
-            && let Some(kind) = self.kind_of(about)?
+            && let Some(cure) = self.other_kind(about)?
         {
-            let kind = kind.text();
-            let cure = format!(in alloc; "the file {kind}")?;
             return Ok(Some(cure));
         }
         let refused = Refused {
@@ -96,15 +131,22 @@ impl<'a, R: Clock + Files + Eprint + Drop> Joined<'a, R> {
         Ok(Some(cure))
     }
 
-    /// What the file is, where it is none that is read.
-    fn kind_of(&self, about: &About) -> Result<Option<FileKind>, AllocError> {
-        match about {
+    /// What the file or the pattern's text is, and what to do with it, where it is none that is read.
+    fn other_kind(&self, about: &About) -> Result<Option<String>, AllocError> {
+        let (what, kind) = match about {
             About::File(file) => match self.text_of(file)? {
-                Some(text) => Ok(FileKind::of(&text)),
-                None => Ok(None),
+                Some(text) => ("file", unread_kind(&text)),
+                None => return Ok(None),
             },
-            _ => Ok(None),
-        }
+            About::Block(_, kind) => ("block", *kind),
+            About::Cells(_) | About::Nothing => return Ok(None),
+        };
+        let Some(kind) = kind else {
+            return Ok(None);
+        };
+        let kind = kind.text();
+        let told = format!(in self.client.alloc(); "the {what} {kind}")?;
+        Ok(Some(told))
     }
 
     /// How many cells are drawn, where they are too many and their number is known.
@@ -113,9 +155,9 @@ impl<'a, R: Clock + Files + Eprint + Drop> Joined<'a, R> {
             return Ok(None);
         }
         match about {
-            About::Cells(cells) => Ok(Some(*cells)),
+            About::Cells(cells) | About::Block(cells, _) => Ok(Some(*cells)),
             About::File(file) => match self.text_of(file)? {
-                Some(text) => Ok(Some(cells_told(&text))),
+                Some(text) => Ok(cells_of_file(&text)),
                 None => Ok(None),
             },
             About::Nothing => Ok(None),

@@ -1,19 +1,17 @@
 //! Files that commands name.
 
 ghost use Rattle.std.specs.Prelude.{◌≡◌, IfOk};
-ghost use Rattle.genedit_join.specs.Files.{read_fault, refusal_of, refused_line, write_cause, wrote_line};
+ghost use Rattle.genedit_join.specs.Files.{fault_of, read_fault, refused_line, wrote_line};
 
 use client_commands::{FileName, FileTarget};
 use genedit_io::{Cause, RunFault, cause_of, file_fault_text};
 use itoa::Buffer;
 use std::alloc::{AllocError, Global};
-use std::io::{ErrorKind, Read, Write};
+use std::io::{ErrorKind, Read};
 use std::rt::Files;
 use std::str::from_utf8;
 use std::{fs, io};
-
-/// How many names are tried for a new file beside one.
-const NEW_NAMES: u32 = 1000;
+use whole_files::{Standing, WriteRefusal, write_whole};
 
 /// Why a file is not written or read.
 #[derive(Clone, Copy, Debug, PartialEq, Eq)]
@@ -52,33 +50,21 @@ pub(crate) enum FileFault {
     Memory,
 }
 
-/// What has the name of a file that is to be written.
-#[derive(Clone, Copy, Debug, PartialEq, Eq)]
-pub(crate) enum Standing {
-    Nothing,
-    File,
-    Folder,
-    /// A device, or what else is no file.
-    Other,
-}
-
-/// Why a file is not written, by what has its name, and whether a file may be replaced.
-pub(crate) fn refusal_of(standing: Standing, may_replace: bool) -> Option<FileCause>
-    ensures { result ≡ refusal_of standing may_replace }
+/// How a file is not written, by why that is.
+fn fault_of(refusal: WriteRefusal) -> FileFault
+    ensures { result ≡ fault_of refusal }
 {
-    match standing {
-        Standing::Nothing => None,
-        Standing::File if may_replace => None,
-        Standing::File => Some(FileCause::Exists),
-        Standing::Folder => Some(FileCause::System(Cause::Folder)),
-        Standing::Other => Some(FileCause::NoFile),
+    match refusal {
+        WriteRefusal::Exists => FileFault::Refused(FileCause::Exists),
+        WriteRefusal::NoFile => FileFault::Refused(FileCause::NoFile),
+        WriteRefusal::System(cause) => FileFault::Refused(FileCause::System(cause)),
+        WriteRefusal::Memory => FileFault::Memory,
     }
 }
 
-/// Writes a file whole: its bytes are written to a new file beside it, which then takes its name. Where
-/// that fails the file is as it was, and there is no new one. A file that is there is replaced only where
-/// the target says so, and what has the name but is no file, as a folder or a device, never.
-pub(crate) fn write_whole<R: Files>(
+/// Writes the file of a command, whole or not at all. A file that is there is replaced only where the target
+/// says so, and what has the name but is no file never.
+pub(crate) fn write_target<R: Files>(
     rt: &R,
     alloc: Global,
     target: &FileTarget,
@@ -87,98 +73,18 @@ pub(crate) fn write_whole<R: Files>(
     let Ok(path) = from_utf8(target.name.as_bytes()) else {
         return Err(FileFault::Refused(FileCause::NoText));
     };
-    if let Some(cause) = refusal_of(standing_at(rt, path), target.replaces) {
-        return Err(FileFault::Refused(cause));
-    }
-    let (new, file) = new_file(rt, alloc, path)?;
-    let named = match write_new(file, text) {
-        Ok(()) => name_new(rt, new.as_str(), path, target.replaces),
-        Err(cause) => Err(cause),
-    };
-    match named {
+    match write_whole(rt, alloc, path, target.replaces, text) {
         Ok(()) => Ok(()),
-        Err(cause) => {
-            let _ = fs::remove_file(rt, new.as_str());
-            Err(FileFault::Refused(cause))
-        }
+        Err(refusal) => Err(fault_of(refusal)),
     }
 }
 
 /// What has the name of a file. Nothing has one that is not UTF-8.
 pub(crate) fn standing_of<R: Files>(rt: &R, name: &FileName) -> Standing {
     match from_utf8(name.as_bytes()) {
-        Ok(path) => standing_at(rt, path),
+        Ok(path) => Standing::of(rt, path),
         Err(_) => Standing::Nothing,
     }
-}
-
-/// What has a name.
-fn standing_at<R: Files>(rt: &R, path: &str) -> Standing {
-    match fs::metadata(rt, path) {
-        Ok(known) if known.is_file() => Standing::File,
-        Ok(known) if known.is_dir() => Standing::Folder,
-        Ok(_) => Standing::Other,
-        Err(_) => Standing::Nothing,
-    }
-}
-
-/// A file that was not there, beside one, and its name: clients that write one file at the same time each
-/// have a new file of their own.
-fn new_file<R: Files>(rt: &R, alloc: Global, path: &str) -> Result<(String, R::File), FileFault> {
-    for number in 0..NEW_NAMES {
-        let Ok(name) = new_name(alloc, path, number) else {
-            return Err(FileFault::Memory);
-        };
-        match fs::File::create_new(rt, name.as_str()) {
-            Ok(file) => return Ok((name, file)),
-            Err(error) if error.kind() == ErrorKind::AlreadyExists => {}
-            Err(error) => return Err(FileFault::Refused(write_cause(error.kind()))),
-        }
-    }
-    Err(FileFault::Refused(FileCause::System(Cause::Other)))
-}
-
-/// Why a file is not written, by what the system says.
-fn write_cause(kind: ErrorKind) -> FileCause
-    ensures { result ≡ write_cause kind }
-{
-    FileCause::System(cause_of(kind).of_new_file())
-}
-
-fn write_new<F: Write + Drop>(mut file: F, text: &[u8]) -> Result<(), FileCause> {
-    match file.write_all(text) {
-        Ok(()) => Ok(()),
-        Err(error) => Err(write_cause(error.kind())),
-    }
-}
-
-/// Gives a new file its name. One that may not replace another is linked there, which the system refuses
-/// where the name was taken meanwhile; where there are no links it is renamed.
-fn name_new<R: Files>(rt: &R, new: &str, path: &str, replaces: bool) -> Result<(), FileCause> {
-    if !replaces {
-        match fs::hard_link(rt, new, path) {
-            Ok(()) => {
-                let _ = fs::remove_file(rt, new);
-                return Ok(());
-            }
-            Err(error) if error.kind() == ErrorKind::AlreadyExists => return Err(FileCause::Exists),
-            Err(_) => {}
-        }
-    }
-    match fs::rename(rt, new, path) {
-        Ok(()) => Ok(()),
-        Err(error) => Err(write_cause(error.kind())),
-    }
-}
-
-/// The name of a new file beside one, by its number.
-fn new_name(alloc: Global, path: &str, number: u32) -> Result<String, AllocError> {
-    let mut new = String::from_str(alloc, path)?;
-    new.push_str(".new")?;
-    if number > 0 {
-        new.push_str(Buffer::new().format(number))?;
-    }
-    Ok(new)
 }
 
 /// All bytes of a file.

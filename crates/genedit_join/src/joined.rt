@@ -13,7 +13,7 @@ use crate::ends::{
     Board, End, Tally, end_behind, goes_on, is_kept, is_rescued, refusal_in, tries_again,
 };
 use crate::fault::{JoinFault, of_client};
-use crate::files::{FileFault, read_whole, refused_text, write_whole, wrote_text};
+use crate::files::{FileFault, read_whole, refused_text, write_target, wrote_text};
 use crate::joining::JoinOptions;
 use crate::late::{drawn_behind, drawn_text, late_outcome, refusal_text};
 use crate::own_files::OwnFiles;
@@ -380,7 +380,7 @@ impl<'a, R: Clock + Files + Eprint + Drop> Joined<'a, R> {
             name: target.name,
             replaces: target.replaces || is_own,
         };
-        match write_whole(self.rt, alloc, &allowed, text) {
+        match write_target(self.rt, alloc, &allowed, text) {
             Ok(()) => {
                 let told = wrote_text(alloc, text.len() as u64, &allowed.name)?;
                 self.client.print(&told)?;

@@ -5,13 +5,14 @@ ghost use Rattle.edit_stamps.specs.PlaneMap.{IsGreatestStamp};
 ghost use Rattle.stamped_tree.specs.Plane.{map_of};
 ghost use Rattle.genedit_join.specs.Rescue.{has_writes, holding_of, in_file_text, kept_text, nowhere_text, rescue_name};
 
-use crate::files::{FileCause, FileFault, Standing, read_whole, standing_of, write_whole};
+use crate::files::{FileCause, FileFault, read_whole, standing_of, write_target};
 use client_commands::{FileName, FileTarget};
 use genedit_io::{RunFault, file_fault_text};
 use itoa::Buffer;
 use stamped_tree::Plane;
 use std::alloc::{AllocError, Global};
 use std::rt::Files;
+use whole_files::Standing;
 
 /// How many names are tried, at most.
 const MOST: u32 = 100_000;
@@ -99,7 +100,7 @@ pub(crate) fn keep<R: Files>(
         match holding_at(rt, alloc, &target.name, text)? {
             Holding::Same => return Ok(Kept::In(target.name)),
             Holding::Other => {}
-            Holding::Nothing => match write_whole(rt, alloc, &target, text) {
+            Holding::Nothing => match write_target(rt, alloc, &target, text) {
                 Ok(()) => return Ok(Kept::In(target.name)),
                 // another client of the folder took the name meanwhile
                 Err(FileFault::Refused(FileCause::Exists)) => {}

@@ -3,11 +3,12 @@
 use crate::ends::lost_text;
 use crate::fault::JoinFault;
 use crate::rescue::{Kept, kept_text};
+use cell_files::{file_bounds, file_rule};
 use delta_exchange::is_delta;
 use genedit_script::without_return;
 use generations_rule::Rule;
 use script_faults::{
-    Dialect, Finding, Reason, client_finding, reason_text, rule_warning, warning_text,
+    Dialect, Finding, Reason, Warning, client_finding, other_rule, reason_text, warning_text,
 };
 use std::alloc::{AllocError, Global};
 
@@ -134,7 +135,8 @@ pub(crate) fn tell_open_block<R: Eprint>(
     Ok(())
 }
 
-/// Warns where the header of a pattern's text, which is told by this name, has another rule than the board.
+/// Warns where a pattern's text, which is told by this name, has another rule than the board, or else where it
+/// tells bounds.
 pub(crate) fn warn_of_rule<R: Eprint>(
     rt: &R,
     alloc: Global,
@@ -145,14 +147,32 @@ pub(crate) fn warn_of_rule<R: Eprint>(
     if is_delta(text) == Ok(false) {
         return Ok(());
     }
-    let Some(told) = rule_warning(rule, text) else {
-        return Ok(());
-    };
-    let word = &text[told.place..told.place + told.length];
-    let warning = warning_text(alloc, Dialect::Client, told.warning, word, rule)?;
-    let name = String::from_utf8_lossy(alloc, name)?;
-    let _ = eprintln!(rt; "genedit: warning: {}: {warning}", name.as_str());
+    if let Some(warning) = file_warning(alloc, rule, text)? {
+        let name = String::from_utf8_lossy(alloc, name)?;
+        let _ = eprintln!(rt; "genedit: warning: {}: {}", name.as_str(), warning.as_str());
+    }
     Ok(())
+}
+
+/// What is warned of a file of cells on a board of this rule.
+fn file_warning(alloc: Global, rule: &Rule, text: &[u8]) -> Result<Option<String>, AllocError> {
+    if let Some(told) = file_rule(text)
+        && let Some(warning) = other_rule(rule, &told.rule)
+    {
+        let end = told.place.saturating_add(told.length);
+        let word = text.get(told.place..end).unwrap_or_default();
+        return Ok(Some(warning_text(alloc, Dialect::Client, warning, word, rule)?));
+    }
+    match file_bounds(alloc, text)? {
+        None => Ok(None),
+        Some(bounds) => Ok(Some(warning_text(
+            alloc,
+            Dialect::Client,
+            Warning::Bounds,
+            &bounds,
+            rule,
+        )?)),
+    }
 }
 
 /// The bytes of a line that a finding is of.

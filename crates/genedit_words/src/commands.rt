@@ -146,7 +146,7 @@ polls, so that the drawing goes over all that others drew by then.
   save FILE              writes the board to a file as a state, with its stamps
   export! G FILE         as export, and replaces a file that is there
   save! FILE             as save, and replaces a file that is there
-  open FILE              draws the live and dying cells of a state or of an RLE text, in its place
+  open FILE              draws the live and dying cells of a state, of RLE, .mcl or .cells, in place
   poll                   prints what others drew, and `edits K`
   wait N [MS]            polls until others drew N edits, or until MS milliseconds, 10000 if none are
                          given, are over: `edits K` or `late K`

@@ -17,6 +17,11 @@ abbrev pub bounds_warned : Option HeaderBounds → Option RuleWarning
 bounds_warned None = None
 bounds_warned (Some bounds) = Some (warning_at Bounds bounds.place bounds.length)
 
+-- a text that is no rule is warned of, and one that is another rule
+abbrev pub IsOtherRule : GenerationsRule → Result GenerationsRule Misspelling → Option Warning → Type 0
+IsOtherRule rule (Err misspelling) warned = warned ≡ Some (UnreadRule misspelling)
+IsOtherRule rule (Ok other) warned = (other ≡ rule → warned ≡ None) × (other ≢ rule → warned ≡ Some OtherRule)
+
 -- a text there that is no rule is warned of, and one that is another rule; of one that is this rule its bounds are
 abbrev pub IsWarnedAt : GenerationsRule → ℕ → ℕ → Result GenerationsRule Misspelling → Option HeaderBounds → Option RuleWarning → Type 0
 IsWarnedAt rule place length (Err misspelling) bounds warned = warned ≡ Some (warning_at (UnreadRule misspelling) place length)

@@ -25,4 +25,4 @@ pub use places::command_places;
 pub use reason::{Reason, Warning};
 pub use refused::Refused;
 pub use texts::{reason_text, warning_text};
-pub use warning::{RuleWarning, rule_warning};
+pub use warning::{RuleWarning, other_rule, rule_warning};

@@ -4,13 +4,13 @@ ghost use Rattle.std.specs.Prelude.{◌≡◌, [], ◌∷◌, ◌+◌, ◌<◌, 
 ghost use Rattle.std.specs.Option.{option_to_list};
 ghost use Rattle.header_rules.specs.HeaderRule.{header_rule_told};
 ghost use Rattle.script_faults.specs.Faults.{fault_lines};
-ghost use Rattle.script_faults.specs.Warnings.{IsWarnedOf, bounds_warned};
+ghost use Rattle.script_faults.specs.Warnings.{IsOtherRule, IsWarnedOf, bounds_warned};
 
 use crate::note::{Note, Place};
 use crate::reason::Warning;
 use genedit_script::Lines;
 use generations_rule::Rule;
-use header_rules::{HeaderBounds, header_rule};
+use header_rules::{HeaderBounds, Misspelling, header_rule};
 
 /// Where a header's rule is warned of.
 #[derive(Clone, Copy, Debug, PartialEq, Eq)]
@@ -30,16 +30,25 @@ pub fn rule_warning(rule: &Rule, text: &[u8]) -> Option<RuleWarning>
     ensures within { IfSome result (λ told. (0 < told.length) × (told.place + told.length ≤ length text.now)) }
 {
     let told = header_rule(text)?;
-    let warning = match told.rule {
-        Err(misspelling) => Warning::UnreadRule(misspelling),
-        Ok(other) if !other.same(rule) => Warning::OtherRule,
-        Ok(_) => return bounds_warning(told.bounds),
-    };
-    Some(RuleWarning {
-        warning,
-        place: told.place,
-        length: told.length,
-    })
+    match other_rule(rule, &told.rule) {
+        Some(warning) => Some(RuleWarning {
+            warning,
+            place: told.place,
+            length: told.length,
+        }),
+        None => bounds_warning(told.bounds),
+    }
+}
+
+/// The warning that a pattern tells another rule than this one, compared as rules, or one that cannot be read.
+pub fn other_rule(rule: &Rule, told: &Result<Rule, Misspelling>) -> Option<Warning>
+    ensures { IsOtherRule rule.now told.now result }
+{
+    match told {
+        Err(misspelling) => Some(Warning::UnreadRule(*misspelling)),
+        Ok(other) if !other.same(rule) => Some(Warning::OtherRule),
+        Ok(_) => None,
+    }
 }
 
 fn bounds_warning(bounds: Option<HeaderBounds>) -> Option<RuleWarning>
