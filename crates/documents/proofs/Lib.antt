@@ -1,0 +1,12 @@
+pub mod SetLaws
+pub mod Unions
+pub mod TextLaws
+pub mod Walks
+pub mod Counts
+pub mod Under
+pub mod Distinct
+pub mod Places
+pub mod Made
+pub mod Bodies
+pub mod ReadLaws
+pub mod DocumentLaws

@@ -1,0 +1,18 @@
+//! Documents: sets of edits under one rule, each stamp once. A document is a grow-only set (Shapiro et
+//! al., INRIA RR-7506), whose map of the plane is made of the greatest writes of its edits.
+#![tactic(auto)]
+
+mod count;
+mod document;
+mod fault;
+mod laws;
+mod put;
+mod reading;
+mod set;
+mod union;
+mod walk;
+
+pub use document::Document;
+pub use fault::DocumentFault;
+pub use laws::document_laws;
+pub use reading::{ReadDocument, read_document};

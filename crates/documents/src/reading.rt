@@ -1,0 +1,80 @@
+//! Documents, read.
+
+ghost use Rattle.std.specs.Prelude.{◌≡◌, ◌+◌, ◌<◌, ◌^◌, [], ◌∷◌, map, Ok, IfOk, MatchResult};
+ghost use Rattle.document_bodies.specs.Bodies.{AreEditsUnder};
+ghost use Rattle.document_bodies.specs.Reading.{edit_of};
+ghost use Rattle.delta_exchange.specs.Delta.{AreTellable};
+ghost use Rattle.documents.specs.Reading.{AreEditsOf, IsBodyRefused, IsDocumentRead, IsFirstRefused};
+
+use crate::document::Document;
+use crate::fault::DocumentFault;
+use crate::set;
+use delta_exchange::ReadFault;
+use document_bodies::{BodyFault, edit_in, rule_in};
+use edit_stamps::Edit;
+use generations_rule::Rule;
+use kept_records::read_records;
+use std::alloc::Global;
+
+/// What bytes are read as.
+#[derive(Debug, Drop)]
+pub struct ReadDocument {
+    pub document: Document,
+    /// How many bytes the records have that were read; behind them is the lost end, where no record
+    /// begins.
+    pub whole: usize,
+    /// How many records of edits were read: as many as the document has edits, or more, where one stands
+    /// twice.
+    pub count: usize,
+}
+
+/// The document that bytes tell, whose records may stand in any order behind the first, and more than
+/// once. They are read up to where no record begins. Refused are, in this order: bytes whose first record
+/// names no rule, and those without one (`NoDocument`); the first record behind it that tells no edit under
+/// the rule (`Body`); and two different edits of one stamp (`SameStamp`, with the least such stamp).
+pub fn read_document(alloc: Global, bytes: &[u8]) -> Result<ReadDocument, DocumentFault>
+    ensures { IsDocumentRead bytes.now result }
+{
+    let (bodies, whole) = read_records(alloc, bytes)?;
+    let Some((head, behind)) = bodies.split_first() else {
+        return Err(DocumentFault::NoDocument);
+    };
+    let Some(rule) = rule_in(alloc, head)? else {
+        return Err(DocumentFault::NoDocument);
+    };
+    let edits = edits_in(alloc, &rule, behind)?;
+    let count = edits.len();
+    let set = set::set_of(alloc, edits)?;
+    let document = Document::of_parts(rule, set);
+    Ok(ReadDocument {
+        document,
+        whole,
+        count,
+    })
+}
+
+/// The edits that bodies tell under a rule, or the first body that tells none.
+fn edits_in(alloc: Global, rule: &Rule, bodies: &[Vec<u8>]) -> Result<Vec<Edit>, DocumentFault>
+    ensures under { IfOk result (λ edits. AreEditsUnder rule.now edits.items) }
+    ensures told { MatchResult result (λ edits. AreEditsOf rule.now (map (λ b. b.items) bodies.now) edits.items) (λ fault. IsFirstRefused rule.now (map (λ b. b.items) bodies.now) fault) }
+{
+    let mut edits = Vec::new(alloc);
+    for (place, body) in bodies.iter().enumerate() {
+        let edit = edit_at(alloc, rule, body, place)?;
+        edits.push(edit)?;
+    }
+    Ok(edits)
+}
+
+/// The edit of a body with so many before it.
+fn edit_at(alloc: Global, rule: &Rule, body: &[u8], before: usize) -> Result<Edit, DocumentFault>
+    requires { before < 2 ^ 63 }
+    ensures under { IfOk result (λ edit. AreTellable rule.now.states (edit ∷ [])) }
+    ensures told { MatchResult result (λ edit. edit_of rule.now body.now ≡ Ok edit) (λ fault. IsBodyRefused rule.now body.now (before + 1) fault) }
+{
+    match edit_in(alloc, rule, body) {
+        Ok(edit) => Ok(edit),
+        Err(BodyFault::Read(ReadFault::Memory)) => Err(DocumentFault::Memory),
+        Err(fault) => Err(DocumentFault::Body(fault, before + 1)),
+    }
+}
