@@ -1,5 +1,5 @@
 -- What makes and changes documents leaves documents.
-use Rattle.std.proofs.Common.{◌≡◌, inl, inr, Bool, true, false, List, [], ◌∷◌, refl, sym, ap, subst}
+use Rattle.std.proofs.Common.{◌≡◌, inl, inr, ℕ, Bool, true, false, List, [], ◌∷◌, refl, sym, ap, subst}
 use Rattle.std.specs.Prelude.{Result, Ok, Err}
 use Rattle.generations_rule.specs.Rule.{GenerationsRule, IsRule}
 use Rattle.edit_stamps.specs.Edit.{PlaneEdit}
@@ -8,7 +8,8 @@ use Rattle.document_bodies.specs.Bodies.{AreEditsUnder}
 use Rattle.documents.specs.declared.fault.DocumentFault.{DocumentFault}
 use Rattle.documents.specs.declared.fault.DocumentFault.TheVariants.{StateRange, OtherRule, SameStamp, NoDocument, Body, Memory}
 use Rattle.documents.specs.Documents.{DocumentState, IsDocument}
-use Rattle.documents.specs.Results.{IsInserted, IsMade, IsMadeOf, IsNoSet, IsPut, IsSetOf}
+use Rattle.documents.specs.Sets.{ClashesWithin}
+use Rattle.documents.specs.Results.{IsInserted, IsMade, IsMadeOf, IsPut, IsSetOf}
 use Rattle.documents.proofs.Under.{under_each, under_held}
 use Rattle.documents.proofs.Unions.{held_by_either}
 
@@ -20,13 +21,8 @@ made_is r edits set is under of = record { is_rule = is; under = under_each r se
 pub made : (r : GenerationsRule) (edits set : List PlaneEdit) → IsRule r → AreEditsUnder r edits → IsSetOf edits set → IsMadeOf r edits (record { rule = r; edits = set })
 made r edits set is under of = record { is = made_is r edits set is under of; rule = refl; set = of }
 
-pub not_made : (r : GenerationsRule) (edits : List PlaneEdit) (fault : DocumentFault) → AreEditsUnder r edits → IsNoSet edits fault → IsMade r edits (Err fault)
-not_made r edits (SameStamp stamp) under clash = ((λ e has. (under_held r edits e under has).below.0), clash)
-not_made r edits Memory under none = tt
-not_made r edits StateRange under none = absurd none
-not_made r edits OtherRule under none = absurd none
-not_made r edits NoDocument under none = absurd none
-not_made r edits (Body fault place) under none = absurd none
+pub not_made : (r : GenerationsRule) (edits : List PlaneEdit) (stamp : ℕ) → AreEditsUnder r edits → ClashesWithin edits stamp → IsMade r edits (Err (SameStamp stamp))
+not_made r edits stamp under clash = ((λ e has. (under_held r edits e under has).below.0), clash)
 
 -- ---- with one edit more
 
@@ -47,7 +43,7 @@ put_is a e new (Ok true) is told put = record {
 }
 put_is a e new (Ok false) is told put = kept_is a new is put.1
 put_is a e new (Err (SameStamp stamp)) is told put = kept_is a new is put.2
-put_is a e new (Err Memory) is told put = kept_is a new is put
+put_is a e new (Err Memory) is told put = kept_is a new is put.1
 put_is a e new (Err StateRange) is told put = absurd put
 put_is a e new (Err OtherRule) is told put = absurd put
 put_is a e new (Err NoDocument) is told put = absurd put
@@ -58,7 +54,7 @@ inserted_here : (a : DocumentState) (e : PlaneEdit) (new : List PlaneEdit) (resu
 inserted_here a e new (Ok true) is told put = record { is = put_is a e new (Ok true) is told put; rule = refl; none = put.1; union = put.2 }
 inserted_here a e new (Ok false) is told put = (put.0, changed_none a new put.1)
 inserted_here a e new (Err (SameStamp stamp)) is told put = (told.below.0, put.0, put.1, changed_none a new put.2)
-inserted_here a e new (Err Memory) is told put = changed_none a new put
+inserted_here a e new (Err Memory) is told put = (told.below.0, put.0, changed_none a new put.1)
 inserted_here a e new (Err StateRange) is told put = absurd put
 inserted_here a e new (Err OtherRule) is told put = absurd put
 inserted_here a e new (Err NoDocument) is told put = absurd put

@@ -2,7 +2,7 @@
 use Rattle.std.specs.Prelude.{⊤, ◌≡◌, ◌≤◌, ◌+◌, ℕ, List, [], ◌∷◌, ◌++◌, length, drop, take, map, Result, Ok, Err}
 use Rattle.generations_rule.specs.Rule.{GenerationsRule, IsRule}
 use Rattle.edit_stamps.specs.Edit.{PlaneEdit}
-use Rattle.kept_records.specs.Records.{AreRead, records_text}
+use Rattle.kept_records.specs.Records.{AreBodies, AreRead, Begins, BeginsNone, IsBody, record_text, records_text}
 use Rattle.document_bodies.specs.Bodies.{IsHead, head_body}
 use Rattle.document_bodies.specs.Reading.{edit_of}
 use Rattle.document_bodies.specs.declared.fault.BodyFault.{BodyFault}
@@ -27,38 +27,39 @@ IsBodyRefused r body place OtherRule = ⊥
 IsBodyRefused r body place (SameStamp stamp) = ⊥
 IsBodyRefused r body place NoDocument = ⊥
 
--- the first body of a list that tells no edit stands at a place, counted from 1
-pub record IsFirstAt (r : GenerationsRule) (bodies : List (List ℕ)) (fault : BodyFault) (place : ℕ) : Type 0 where
+-- ---- the records of edits
+
+-- bytes are read as records, up to where none begins, and each tells an edit
+pub record AreToldIn (r : GenerationsRule) (bytes : List ℕ) (edits : List PlaneEdit) (rest : List ℕ) : Type 0 where
+  pub bodies : List (List ℕ)
+  pub read : AreRead bytes bodies rest
+  pub told : AreEditsOf r bodies edits
+
+-- the first record that tells no edit stands at a place, counted from 1
+pub record IsFirstAt (r : GenerationsRule) (bytes : List ℕ) (fault : BodyFault) (place : ℕ) : Type 0 where
   pub before : List (List ℕ)
   pub body : List ℕ
-  pub behind : List (List ℕ)
+  pub behind : List ℕ
   pub edits : List PlaneEdit
-  pub spelt : bodies ≡ before ++ body ∷ behind
+  pub are : AreBodies (before ++ body ∷ [])
+  pub spelt : bytes ≡ records_text (before ++ body ∷ []) ++ behind
   pub told : AreEditsOf r before edits
   pub refused : edit_of r body ≡ Err fault
   pub counted : place ≡ length before + 1
 
-abbrev pub IsFirstRefused : GenerationsRule → List (List ℕ) → DocumentFault → Type 0
-IsFirstRefused r bodies (Body fault place) = IsFirstAt r bodies fault place
-IsFirstRefused r bodies Memory = ⊤
-IsFirstRefused r bodies StateRange = ⊥
-IsFirstRefused r bodies OtherRule = ⊥
-IsFirstRefused r bodies (SameStamp stamp) = ⊥
-IsFirstRefused r bodies NoDocument = ⊥
+abbrev pub IsFirstRefused : GenerationsRule → List ℕ → DocumentFault → Type 0
+IsFirstRefused r bytes (Body fault place) = IsFirstAt r bytes fault place
+IsFirstRefused r bytes Memory = ⊤
+IsFirstRefused r bytes StateRange = ⊥
+IsFirstRefused r bytes OtherRule = ⊥
+IsFirstRefused r bytes (SameStamp stamp) = ⊥
+IsFirstRefused r bytes NoDocument = ⊥
 
 -- ---- bytes
 
--- the first of some bodies is no head, or there is none
-abbrev pub HaveNoHead : List (List ℕ) → Type 0
-HaveNoHead [] = ⊤
-HaveNoHead (body ∷ bodies) = IsHead body → ⊥
-
--- no head stands in front of the bytes
-pub record HasNoDocument (bytes : List ℕ) : Type 0 where
-  pub bodies : List (List ℕ)
-  pub rest : List ℕ
-  pub read : AreRead bytes bodies rest
-  pub none : HaveNoHead bodies
+-- no record stands in front that names a rule
+abbrev pub HasNoDocument : List ℕ → Type 0
+HasNoDocument bytes = (body : List ℕ) → Begins bytes body → IsHead body → ⊥
 
 -- records are read whose first names a rule; the bodies of the others, and how many bytes all have
 pub record HasRecords (bytes : List ℕ) (r : GenerationsRule) (bodies : List (List ℕ)) (whole : ℕ) : Type 0 where
@@ -76,13 +77,14 @@ pub record IsReadAs (bytes : List ℕ) (d : ReadDocument) : Type 0 where
   pub count : d.count ≡ length edits
   pub made : IsMadeOf d.document.rule edits d.document
 
--- a record tells no edit, and those before it do
+-- a record in front names a rule, one behind it tells no edit, and those between do
 pub record HasBodyRefused (bytes : List ℕ) (fault : BodyFault) (place : ℕ) : Type 0 where
   pub rule : GenerationsRule
-  pub bodies : List (List ℕ)
-  pub whole : ℕ
-  pub has : HasRecords bytes rule bodies whole
-  pub first : IsFirstAt rule bodies fault place
+  pub behind : List ℕ
+  pub is_rule : IsRule rule
+  pub head : IsBody (head_body rule)
+  pub spelt : bytes ≡ record_text (head_body rule) ++ behind
+  pub first : IsFirstAt rule behind fault place
 
 -- each record tells an edit, and two of these clash
 pub record HasClash (bytes : List ℕ) (stamp : ℕ) : Type 0 where
@@ -99,6 +101,6 @@ IsDocumentRead bytes (Ok d) = IsReadAs bytes d
 IsDocumentRead bytes (Err NoDocument) = HasNoDocument bytes
 IsDocumentRead bytes (Err (Body fault place)) = HasBodyRefused bytes fault place
 IsDocumentRead bytes (Err (SameStamp stamp)) = HasClash bytes stamp
-IsDocumentRead bytes (Err Memory) = ⊤
+IsDocumentRead bytes (Err Memory) = BeginsNone bytes → ⊥
 IsDocumentRead bytes (Err StateRange) = ⊥
 IsDocumentRead bytes (Err OtherRule) = ⊥

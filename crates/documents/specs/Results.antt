@@ -1,5 +1,5 @@
 -- What the calls that make documents answer.
-use Rattle.std.specs.Prelude.{⊤, ◌≡◌, ◌≢◌, Bool, true, false, ℕ, List, [], ◌∷◌, Some, None, Result, Ok, Err, Contains, IsTrue, slice_get, length, ◌-◌, ◌<◌, ◌≤◌, HoldsAt}
+use Rattle.std.specs.Prelude.{◌≡◌, ◌≢◌, Bool, true, false, ℕ, List, [], ◌∷◌, None, Some, Result, Ok, Err, Contains, IsTrue, length, ◌<◌, ◌≤◌, HoldsAt}
 use Rattle.std.specs.List.{AllWithin}
 use Rattle.generations_rule.specs.Rule.{GenerationsRule}
 use Rattle.edit_stamps.specs.Edit.{PlaneEdit, has_states_below}
@@ -25,35 +25,10 @@ pub record IsSetOf (edits set : List PlaneEdit) : Type 0 where
   pub ascending : IsAscending set
   pub same : HaveSameEdits set edits
 
--- why there is no set of some edits
-abbrev pub IsNoSet : List PlaneEdit → DocumentFault → Type 0
-IsNoSet edits (SameStamp stamp) = ClashesWithin edits stamp
-IsNoSet edits Memory = ⊤
-IsNoSet edits StateRange = ⊥
-IsNoSet edits OtherRule = ⊥
-IsNoSet edits NoDocument = ⊥
-IsNoSet edits (Body fault place) = ⊥
-
--- whether an edit stands last in a list; where it does not, an edit that does has another stamp
-abbrev pub IsLast : List PlaneEdit → PlaneEdit → Bool → Type 0
-IsLast edits e true = slice_get edits (length edits - 1) ≡ Some e
-IsLast edits e false = (last : PlaneEdit) → slice_get edits (length edits - 1) ≡ Some last → last.stamp ≢ e.stamp
-
--- another edit of its stamp does
-pub record IsOther (edits : List PlaneEdit) (e : PlaneEdit) (stamp : ℕ) : Type 0 where
-  pub other : PlaneEdit
-  pub last : slice_get edits (length edits - 1) ≡ Some other
-  pub stamp_of_other : other.stamp ≡ stamp
-  pub stamp_of_edit : e.stamp ≡ stamp
-  pub differ : other ≢ e
-
-abbrev pub IsOtherLast : List PlaneEdit → PlaneEdit → DocumentFault → Type 0
-IsOtherLast edits e (SameStamp stamp) = IsOther edits e stamp
-IsOtherLast edits e Memory = ⊥
-IsOtherLast edits e StateRange = ⊥
-IsOtherLast edits e OtherRule = ⊥
-IsOtherLast edits e NoDocument = ⊥
-IsOtherLast edits e (Body fault place) = ⊥
+-- another edit with the stamp of one stands next behind it
+abbrev pub IsAnotherNext : PlaneEdit → List PlaneEdit → Type 0
+IsAnotherNext e [] = ⊥
+IsAnotherNext e (next ∷ behind) = (next.stamp ≡ e.stamp) × (next ≢ e)
 
 pub record IsMadeOf (r : GenerationsRule) (edits : List PlaneEdit) (d : DocumentState) : Type 0 where
   pub is : IsDocument d
@@ -68,7 +43,7 @@ IsMade r edits (Err (SameStamp stamp)) = HasAllBelow r.states edits × ClashesWi
 IsMade r edits (Err OtherRule) = ⊥
 IsMade r edits (Err NoDocument) = ⊥
 IsMade r edits (Err (Body fault place)) = ⊥
-IsMade r edits (Err Memory) = ⊤
+IsMade r edits (Err Memory) = ⊥
 
 -- ---- two documents
 
@@ -77,15 +52,6 @@ pub record IsUnited (a b all : List PlaneEdit) : Type 0 where
   pub agree : Agree a b
   pub ascending : IsAscending all
   pub union : IsUnion a b all
-
--- why two sets are not united
-abbrev pub IsNotUnited : List PlaneEdit → List PlaneEdit → DocumentFault → Type 0
-IsNotUnited a b (SameStamp stamp) = Clashes a b stamp
-IsNotUnited a b Memory = ⊤
-IsNotUnited a b StateRange = ⊥
-IsNotUnited a b OtherRule = ⊥
-IsNotUnited a b NoDocument = ⊥
-IsNotUnited a b (Body fault place) = ⊥
 
 pub record IsUnionOf (a b d : DocumentState) : Type 0 where
   pub is : IsDocument d
@@ -98,7 +64,7 @@ abbrev pub IsMerged : DocumentState → DocumentState → Result DocumentState D
 IsMerged a b (Ok d) = IsUnionOf a b d
 IsMerged a b (Err OtherRule) = a.rule ≢ b.rule
 IsMerged a b (Err (SameStamp stamp)) = (a.rule ≡ b.rule) × Clashes a.edits b.edits stamp
-IsMerged a b (Err Memory) = ⊤
+IsMerged a b (Err Memory) = (a.rule ≡ b.rule) × Agree a.edits b.edits
 IsMerged a b (Err StateRange) = ⊥
 IsMerged a b (Err NoDocument) = ⊥
 IsMerged a b (Err (Body fault place)) = ⊥
@@ -117,7 +83,7 @@ abbrev pub IsPut : List PlaneEdit → PlaneEdit → List PlaneEdit → Result Bo
 IsPut old e new (Ok true) = IsAscending new × (edit_at old e.stamp ≡ None) × IsUnion old (e ∷ []) new
 IsPut old e new (Ok false) = (edit_at old e.stamp ≡ Some e) × (new ≡ old)
 IsPut old e new (Err (SameStamp stamp)) = (stamp ≡ e.stamp) × DifferAt old (e ∷ []) stamp × (new ≡ old)
-IsPut old e new (Err Memory) = new ≡ old
+IsPut old e new (Err Memory) = (edit_at old e.stamp ≡ None) × (new ≡ old)
 IsPut old e new (Err StateRange) = ⊥
 IsPut old e new (Err OtherRule) = ⊥
 IsPut old e new (Err NoDocument) = ⊥
@@ -140,4 +106,4 @@ IsInserted old e new (Err (SameStamp stamp)) = IsTrue (has_states_below old.rule
 IsInserted old e new (Err OtherRule) = ⊥
 IsInserted old e new (Err NoDocument) = ⊥
 IsInserted old e new (Err (Body fault place)) = ⊥
-IsInserted old e new (Err Memory) = new ≡ old
+IsInserted old e new (Err Memory) = IsTrue (has_states_below old.rule.states e) × (edit_at old.edits e.stamp ≡ None) × (new ≡ old)

@@ -70,3 +70,7 @@ pub record HasTwoAt (edits : List PlaneEdit) (stamp : ℕ) : Type 0 where
 pub record ClashesWithin (edits : List PlaneEdit) (stamp : ℕ) : Type 0 where
   pub here : HasTwoAt edits stamp
   pub least : (less : ℕ) → less < stamp → HasTwoAt edits less → ⊥
+
+-- at no stamp does a list have two edits
+abbrev pub HasNoTwo : List PlaneEdit → Type 0
+HasNoTwo edits = (stamp : ℕ) → HasTwoAt edits stamp → ⊥

@@ -1,8 +1,6 @@
 -- Two lists of edits, walked over together in the order of stamps.
 use Rattle.std.specs.Prelude.{⊤, ◌≡◌, ◌≢◌, ◌<◌, ℕ, Bool, true, false, not, List, [], ◌∷◌}
 use Rattle.edit_stamps.specs.Edit.{PlaneEdit, is_edit}
-use Rattle.documents.specs.declared.fault.DocumentFault.{DocumentFault}
-use Rattle.documents.specs.declared.fault.DocumentFault.TheVariants.{StateRange, OtherRule, SameStamp, NoDocument, Body, Memory}
 use Rattle.documents.specs.declared.walk.Next.{Next}
 use Rattle.documents.specs.declared.walk.Next.TheVariants.{Left, Right, Both}
 
@@ -17,26 +15,23 @@ IsNext left right (Left e) l r = (left ≡ e.now ∷ l) × (right ≡ r) × IsBe
 IsNext left right (Right e) l r = (left ≡ l) × (right ≡ e.now ∷ r) × IsBeforeFirst e.now.stamp l
 IsNext left right (Both e f) l r = (left ≡ e.now ∷ l) × (right ≡ f.now ∷ r) × (e.now.stamp ≡ f.now.stamp)
 
--- the edit that a union has of what stands first
-abbrev pub IsKept : Next → PlaneEdit → Type 0
-IsKept (Left e) kept = kept ≡ e.now
-IsKept (Right e) kept = kept ≡ e.now
-IsKept (Both e f) kept = (kept ≡ e.now) × (e.now ≡ f.now)
+-- the edit that stands first, and of two that of the left list
+abbrev pub IsFirstEdit : Next → PlaneEdit → Type 0
+IsFirstEdit (Left e) first = first ≡ e.now
+IsFirstEdit (Right e) first = first ≡ e.now
+IsFirstEdit (Both e f) first = first ≡ e.now
+
+-- what stands first is one edit
+abbrev pub IsOneEdit : Next → Type 0
+IsOneEdit (Left e) = ⊤
+IsOneEdit (Right e) = ⊤
+IsOneEdit (Both e f) = e.now ≡ f.now
 
 -- two different edits stand first, with this stamp
 abbrev pub AreTwo : Next → ℕ → Type 0
 AreTwo (Left e) stamp = ⊥
 AreTwo (Right e) stamp = ⊥
 AreTwo (Both e f) stamp = (stamp ≡ e.now.stamp) × (e.now ≢ f.now)
-
--- why a union has no edit of what stands first
-abbrev pub IsNotKept : Next → DocumentFault → Type 0
-IsNotKept next (SameStamp stamp) = AreTwo next stamp
-IsNotKept next Memory = ⊤
-IsNotKept next StateRange = ⊥
-IsNotKept next OtherRule = ⊥
-IsNotKept next NoDocument = ⊥
-IsNotKept next (Body fault place) = ⊥
 
 -- whether what stands first is an edit of the right list that the left one has not
 abbrev pub is_new_next : Next → Bool

@@ -3,7 +3,7 @@
 ghost use Rattle.std.specs.Prelude.{◌≡◌, ◌↔◌, [], IfOk, IsTrue};
 
 use crate::fault::DocumentFault;
-use crate::{count, put, set, union};
+use crate::{clash, count, put, set, union};
 use document_bodies::{edit_body, head_body};
 use edit_stamps::Edit;
 use generations_rule::Rule;
@@ -48,8 +48,8 @@ impl Document {
 
     /// The document that has these edits, which may stand in any order, and the same one more than once.
     /// Refused are, in this order: an edit with a state that the rule does not have (`StateRange`), and
-    /// two different edits of one stamp (`SameStamp`, with the least such stamp).
-    pub fn of_edits(alloc: Global, rule: &Rule, edits: Vec<Edit>) -> Result<Document, DocumentFault>
+    /// two different edits of one stamp (`SameStamp`, with the least such stamp). It takes no memory.
+    pub fn of_edits(rule: &Rule, edits: Vec<Edit>) -> Result<Document, DocumentFault>
         ensures { IsMade rule.now edits.items result }
     {
         if !set::are_under(rule, &edits) {
@@ -57,8 +57,10 @@ impl Document {
         }
         // What is known of a rule is known of the document: the call tells that it is one.
         let _states = rule.states();
-        let edits = set::set_of(alloc, edits)?;
-        Ok(Document { rule: *rule, edits })
+        match set::set_of(edits) {
+            Ok(edits) => Ok(Document { rule: *rule, edits }),
+            Err(stamp) => Err(DocumentFault::SameStamp(stamp)),
+        }
     }
 
     /// The document of a rule and edits that are those of one.
@@ -85,13 +87,16 @@ impl Document {
     }
 
     /// The document that has the edits of both (RR-7506 merges two grow-only sets so). `OtherRule` where
-    /// the rules differ; `SameStamp` with the least stamp at which both have an edit, and not the same.
-    /// It takes time by how many edits the two have.
+    /// the rules differ; `SameStamp` with the least stamp at which both have an edit, and not the same;
+    /// `Memory` only where they have a union. It takes time by how many edits the two have.
     pub fn merge(&self, alloc: Global, other: &Document) -> Result<Document, DocumentFault>
         ensures { IsMerged self.now other.now result }
     {
         if !self.rule.same(&other.rule) {
             return Err(DocumentFault::OtherRule);
+        }
+        if let Some(stamp) = clash::clash_of(&self.edits, &other.edits) {
+            return Err(DocumentFault::SameStamp(stamp));
         }
         let edits = union::union_of(alloc, &self.edits, &other.edits)?;
         Ok(Document {
@@ -102,7 +107,8 @@ impl Document {
 
     /// Adds an edit: whether it was new. Refused are, in this order: an edit with a state that the rule
     /// does not have (`StateRange`), and one whose stamp another edit has (`SameStamp`); then nothing
-    /// changes, nor where memory is refused. Behind all others it is added without a search.
+    /// changes, nor where memory is refused to one that is new (`Memory`). Behind all others it is added
+    /// without a search.
     pub fn insert(&mut self, edit: Edit) -> Result<bool, DocumentFault>
         ensures { IsInserted self.old edit self.new result }
     {

@@ -2,6 +2,7 @@
 //! al., INRIA RR-7506), whose map of the plane is made of the greatest writes of its edits.
 #![tactic(auto)]
 
+mod clash;
 mod count;
 mod document;
 mod fault;

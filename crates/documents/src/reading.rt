@@ -1,10 +1,10 @@
 //! Documents, read.
 
-ghost use Rattle.std.specs.Prelude.{◌≡◌, ◌+◌, ◌<◌, ◌^◌, [], ◌∷◌, map, Ok, IfOk, MatchResult};
+ghost use Rattle.std.specs.Prelude.{◌≡◌, ◌+◌, ◌<◌, ◌^◌, [], ◌∷◌, Ok, IfOk, MatchResult};
 ghost use Rattle.document_bodies.specs.Bodies.{AreEditsUnder};
 ghost use Rattle.document_bodies.specs.Reading.{edit_of};
 ghost use Rattle.delta_exchange.specs.Delta.{AreTellable};
-ghost use Rattle.documents.specs.Reading.{AreEditsOf, IsBodyRefused, IsDocumentRead, IsFirstRefused};
+ghost use Rattle.documents.specs.Reading.{AreToldIn, IsBodyRefused, IsDocumentRead, IsFirstRefused};
 
 use crate::document::Document;
 use crate::fault::DocumentFault;
@@ -13,7 +13,7 @@ use delta_exchange::ReadFault;
 use document_bodies::{BodyFault, edit_in, rule_in};
 use edit_stamps::Edit;
 use generations_rule::Rule;
-use kept_records::read_records;
+use kept_records::next_record;
 use std::alloc::Global;
 
 /// What bytes are read as.
@@ -32,38 +32,47 @@ pub struct ReadDocument {
 /// once. They are read up to where no record begins. Refused are, in this order: bytes whose first record
 /// names no rule, and those without one (`NoDocument`); the first record behind it that tells no edit under
 /// the rule (`Body`); and two different edits of one stamp (`SameStamp`, with the least such stamp).
+/// `Memory` is told only of bytes that begin with a record. Bodies are read where they stand: it takes
+/// memory by the edits alone.
 pub fn read_document(alloc: Global, bytes: &[u8]) -> Result<ReadDocument, DocumentFault>
     ensures { IsDocumentRead bytes.now result }
 {
-    let (bodies, whole) = read_records(alloc, bytes)?;
-    let Some((head, behind)) = bodies.split_first() else {
+    let Some((head, behind)) = next_record(bytes) else {
         return Err(DocumentFault::NoDocument);
     };
     let Some(rule) = rule_in(alloc, head)? else {
         return Err(DocumentFault::NoDocument);
     };
-    let edits = edits_in(alloc, &rule, behind)?;
+    let (edits, rest) = edits_in(alloc, &rule, behind)?;
     let count = edits.len();
-    let set = set::set_of(alloc, edits)?;
-    let document = Document::of_parts(rule, set);
-    Ok(ReadDocument {
-        document,
-        whole,
-        count,
-    })
+    match set::set_of(edits) {
+        Ok(set) => Ok(ReadDocument {
+            document: Document::of_parts(rule, set),
+            whole: bytes.len() - rest.len(),
+            count,
+        }),
+        Err(stamp) => Err(DocumentFault::SameStamp(stamp)),
+    }
 }
 
-/// The edits that bodies tell under a rule, or the first body that tells none.
-fn edits_in(alloc: Global, rule: &Rule, bodies: &[Vec<u8>]) -> Result<Vec<Edit>, DocumentFault>
-    ensures under { IfOk result (λ edits. AreEditsUnder rule.now edits.items) }
-    ensures told { MatchResult result (λ edits. AreEditsOf rule.now (map (λ b. b.items) bodies.now) edits.items) (λ fault. IsFirstRefused rule.now (map (λ b. b.items) bodies.now) fault) }
+/// The edits that records tell under a rule, up to where none begins, and what stands there; or the first
+/// record that tells none.
+fn edits_in<'a>(
+    alloc: Global,
+    rule: &Rule,
+    bytes: &'a [u8],
+) -> Result<(Vec<Edit>, &'a [u8]), DocumentFault>
+    ensures under { IfOk result (λ r. AreEditsUnder rule.now r.0.items) }
+    ensures told { MatchResult result (λ r. AreToldIn rule.now bytes.now r.0.items r.1.now) (λ fault. IsFirstRefused rule.now bytes.now fault) }
 {
     let mut edits = Vec::new(alloc);
-    for (place, body) in bodies.iter().enumerate() {
-        let edit = edit_at(alloc, rule, body, place)?;
+    let mut rest = bytes;
+    while let Some((body, behind)) = next_record(rest) {
+        let edit = edit_at(alloc, rule, body, edits.len())?;
         edits.push(edit)?;
+        rest = behind;
     }
-    Ok(edits)
+    Ok((edits, rest))
 }
 
 /// The edit of a body with so many before it.

@@ -1,55 +1,57 @@
 //! Edits in any order, as a set.
 
-ghost use Rattle.std.specs.Prelude.{◌≡◌, true, false, [], ◌∷◌, MatchResult};
+ghost use Rattle.std.specs.Prelude.{◌≡◌, true, false, [], ◌∷◌, None, IfSome, MatchResult};
 ghost use Rattle.std.specs.List.Sorted.{IsNonDecreasingBy};
 ghost use Rattle.document_bodies.specs.Bodies.{AreEditsUnder};
 ghost use Rattle.edit_stamps.specs.Edit.{has_states_below};
 ghost use Rattle.delta_exchange.specs.Delta.{AreTellable};
-ghost use Rattle.documents.specs.Results.{HasStateAbove, IsLast, IsNoSet, IsOtherLast, IsSetOf};
+ghost use Rattle.documents.specs.Results.{HasStateAbove, IsAnotherNext, IsSetOf};
+ghost use Rattle.documents.specs.Sets.{ClashesWithin, HasNoTwo};
 
-use crate::fault::DocumentFault;
-use edit_stamps::Edit;
+use edit_stamps::{Edit, Stamp};
 use generations_rule::Rule;
 use pattern_cells::are_below;
-use std::alloc::Global;
 
 /// The edits in the order of their stamps, each once; or the least stamp that two different ones have.
-pub(crate) fn set_of(alloc: Global, edits: Vec<Edit>) -> Result<Vec<Edit>, DocumentFault>
-    ensures { MatchResult result (λ set. IsSetOf edits.items set.items) (λ fault. IsNoSet edits.items fault) }
+pub(crate) fn set_of(edits: Vec<Edit>) -> Result<Vec<Edit>, Stamp>
+    ensures { MatchResult result (λ set. IsSetOf edits.items set.items) (ClashesWithin edits.items) }
 {
     let mut sorted = edits;
     sorted.sort_unstable_by_key(|edit| edit.stamp());
-    distinct(alloc, sorted)
-}
-
-/// Sorted edits, each once.
-fn distinct(alloc: Global, sorted: Vec<Edit>) -> Result<Vec<Edit>, DocumentFault>
-    requires { IsNonDecreasingBy (λ e. e.stamp) sorted.items }
-    ensures { MatchResult result (λ set. IsSetOf sorted.items set.items) (λ fault. IsNoSet sorted.items fault) }
-{
-    let mut kept: Vec<Edit> = Vec::new(alloc);
-    for edit in sorted {
-        if !stands_last(&kept, &edit)? {
-            kept.push(edit)?;
+    match clash_within(&sorted) {
+        Some(stamp) => Err(stamp),
+        None => {
+            sorted.dedup_by_key(|edit| edit.stamp());
+            Ok(sorted)
         }
     }
-    Ok(kept)
 }
 
-/// Whether an edit stands last in a list; refused where another of its stamp does.
-fn stands_last(edits: &[Edit], edit: &Edit) -> Result<bool, DocumentFault>
-    ensures { MatchResult result (λ is. IsLast edits.now edit.now is) (λ fault. IsOtherLast edits.now edit.now fault) }
+/// The least stamp that two different edits of sorted ones have.
+fn clash_within(sorted: &[Edit]) -> Option<Stamp>
+    requires { IsNonDecreasingBy (λ e. e.stamp) sorted.now }
+    ensures some { IfSome result (ClashesWithin sorted.now) }
+    ensures none { result ≡ None → HasNoTwo sorted.now }
 {
-    let Some(last) = edits.last() else {
-        return Ok(false);
-    };
-    if last.stamp() != edit.stamp() {
-        return Ok(false);
+    let mut left = sorted;
+    while let Some((edit, behind)) = left.split_first() {
+        if is_another_next(edit, behind) {
+            return Some(edit.stamp());
+        }
+        left = behind;
     }
-    if !last.same(edit) {
-        return Err(DocumentFault::SameStamp(edit.stamp()));
+    None
+}
+
+/// Whether another edit with the stamp of an edit stands next behind it.
+fn is_another_next(edit: &Edit, behind: &[Edit]) -> bool
+    ensures is { result ≡ true → IsAnotherNext edit.now behind.now }
+    ensures none { result ≡ false → ¬ IsAnotherNext edit.now behind.now }
+{
+    match behind.first() {
+        Some(next) => next.stamp() == edit.stamp() && !next.same(edit),
+        None => false,
     }
-    Ok(true)
 }
 
 /// Whether the states of each edit are below the rule's number of states.

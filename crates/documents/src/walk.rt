@@ -17,6 +17,21 @@ pub(crate) enum Next<'a> {
     Both(&'a Edit, &'a Edit),
 }
 
+impl<'a> Next<'a> {
+    ghost use Rattle.documents.specs.Walk.{IsFirstEdit};
+
+    /// The edit, and of two that of the left list.
+    pub(crate) fn edit(self) -> &'a Edit
+        ensures { IsFirstEdit self.entry result.now }
+    {
+        match self {
+            Next::Left(edit) => edit,
+            Next::Right(edit) => edit,
+            Next::Both(edit, _) => edit,
+        }
+    }
+}
+
 /// What stands first in two lists, and what is left of them behind it.
 #[derive(Clone, Copy)]
 pub(crate) struct Step<'a> {

@@ -1,8 +1,9 @@
 use Rattle.std.proofs.Common.{arith, ◌≡◌, true, false, ℕ, List, [], ◌∷◌, Some, refl, sym, ap, subst, ◌∙◌}
+use Rattle.std.proofs.lemmas.Result.{err_from_is_err_and}
 use Rattle.edit_stamps.specs.Edit.{PlaneEdit, is_edit}
 use Rattle.documents.specs.Results.{IsAt, IsPlaceFor}
 use Rattle.documents.specs.Sets.{DifferAt}
-use Rattle.documents.proofs.Places.{another_there, found_at, put_in_place}
+use Rattle.documents.proofs.Places.{another_there, found_at, none_at_place, put_in_place}
 use Rattle.documents.proofs.Walks.{one_edit, two_edits}
 use Rattle.documents.proofs.put.put_edit.Goals as goal
 
@@ -31,3 +32,10 @@ returns-in_ok-insert-in-Err c =
     let is : IsPlaceFor c.args.edits.now.items c.args.edit.stamp c.in-Err.place =
     subst (λ (n : ℕ). IsPlaceFor c.args.edits.now.items n c.in-Err.place) c.stamp.ensures (subst (λ (l : List PlaneEdit). IsPlaceFor l c.stamp.result c.in-Err.place) c.deref.ensures.value c.in-Err.ensures) in
     put_in_place c.args.edits.now.items c.insert.new.self.items c.args.edit c.in-Err.place c.requires is c.in_ok-insert-in-Err.ensures.items
+
+pub returns-in_err-insert-in-Err : goal.returns-in_err-insert-in-Err
+returns-in_err-insert-in-Err c =
+    let p = err_from_is_err_and c.from_residual.result c.from_residual.ensures.1 in
+    let is : IsPlaceFor c.args.edits.now.items c.args.edit.stamp c.in-Err.place =
+    subst (λ (n : ℕ). IsPlaceFor c.args.edits.now.items n c.in-Err.place) c.stamp.ensures (subst (λ (l : List PlaneEdit). IsPlaceFor l c.stamp.result c.in-Err.place) c.deref.ensures.value c.in-Err.ensures) in
+    rw (p.1, p.2) (none_at_place c.args.edits.now.items c.args.edit.stamp c.in-Err.place is, c.in_err-insert-in-Err.ensures.items)

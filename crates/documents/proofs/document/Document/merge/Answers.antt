@@ -8,12 +8,12 @@ invariant_of-result c =
     let a : DocumentState = record { rule = c.self.inside.rule; edits = c.self.inside.edits.items } in
     let b : DocumentState = record { rule = c.other.inside.rule; edits = c.other.inside.edits.items } in
     let same : c.self.inside.rule ≡ c.other.inside.rule = c.same.ensures.0 (grind arith) in
-    merged_is a b c.deref.result.now c.deref-2.result.now c.in_ok-edits.edits.items c.self.invariant c.other.invariant same c.deref.ensures.value c.deref-2.ensures.value c.in_ok-edits.ensures
+    merged_is a b c.deref-3.result.now c.deref-4.result.now c.in_ok-edits.edits.items c.self.invariant c.other.invariant same c.deref-3.ensures.value c.deref-4.ensures.value c.in_ok-edits.ensures
 
 pub returns : goal.returns
 returns c =
     let a : DocumentState = record { rule = c.self.inside.rule; edits = c.self.inside.edits.items } in
     let b : DocumentState = record { rule = c.other.inside.rule; edits = c.other.inside.edits.items } in
     let same : c.self.inside.rule ≡ c.other.inside.rule = c.same.ensures.0 (grind arith) in
-    merged a b c.args.self.now c.args.other.now c.deref.result.now c.deref-2.result.now c.in_ok-edits.edits.items c.self.invariant c.other.invariant c.self.view_is c.other.view_is
-    same c.deref.ensures.value c.deref-2.ensures.value c.in_ok-edits.ensures
+    merged a b c.args.self.now c.args.other.now c.deref-3.result.now c.deref-4.result.now c.in_ok-edits.edits.items c.self.invariant c.other.invariant c.self.view_is c.other.view_is
+    same c.deref-3.ensures.value c.deref-4.ensures.value c.in_ok-edits.ensures
