@@ -10,5 +10,5 @@ mod opening;
 pub use ending::{EndFault, Ended, Unended};
 pub use fault::KeepFault;
 pub use keeper::{Keeper, KeeperTurn};
-pub use loading::{Document, KeptSeats, LoadFault, LoadedBoard, load, load_board, raise_all};
+pub use loading::{KeptBodies, KeptSeats, LoadFault, LoadedBoard, load, load_board, raise_all};
 pub use opening::{HeadFault, OpenFault, OpenLog, opened, rule_of};

@@ -20,7 +20,7 @@ use std::sync::Wait;
 
 /// What a file has: the rule that its head names, and the bodies behind the head.
 #[derive(Clone, Copy)]
-pub struct Document<'a> {
+pub struct KeptBodies<'a> {
     pub rule: &'a Rule,
     pub bodies: &'a [Vec<u8>],
 }
@@ -129,7 +129,7 @@ pub fn load<J: Naming, R: Wait + Drop, H: Wait>(
     alloc: Global,
     relay: &mut Relay<J, R>,
     file: &mut FileSeat<J>,
-    document: Document<'_>,
+    document: KeptBodies<'_>,
 ) -> Result<Newest, LoadFault>
     requires list { relay.old.list ≡ [] }
     requires kept { relay.old.kept ≡ [] }
@@ -187,7 +187,7 @@ pub fn load_board<J: Naming, R: Wait + Drop, H: Wait>(
     alloc: Global,
     relay: Relay<J, R>,
     seats: Vec<Seat<J>>,
-    document: Document<'_>,
+    document: KeptBodies<'_>,
 ) -> Result<LoadedBoard<J, R>, LoadFault>
     requires empty { (relay.list ≡ []) × (relay.kept ≡ []) }
     requires some { 0 < length seats.items }

@@ -297,7 +297,7 @@ static HEADERS: [Header; 10] = [
     },
 ];
 
-/// What is said of a text's header to a client.
+/// What is said of a text's header behind its pattern in a script.
 fn warned(alloc: Global, rule: &Rule, text: &[u8]) -> Result<String, AllocError> {
     let Some(found) = rule_warning(rule, text) else {
         return Ok(String::new(alloc));

@@ -18,9 +18,9 @@ use std::time::Clock;
 
 /// Draws what a text holds: where it begins as a state the cells that are not dead of the board that was
 /// saved, in edits of at most 2^20 cells whose counters are above those of the text too; else, of a file of
-/// RLE, of MCell's format or of plaintext, what an `or` of its pattern at its own position draws. What is refused of the text is printed, and
-/// nothing said on the line; so it is of a full clock, where counters do not suffice for all edits of a
-/// board. Behind an edit that is refused, or may be, no more is drawn.
+/// RLE, of MCell's format or of plaintext, what an `or` of its pattern at its own position draws. What is
+/// refused of the text is printed, and nothing said on the line; so it is of a full clock, where counters do
+/// not suffice for all edits of a board. Behind an edit that is refused, or may be, no more is drawn.
 pub fn open<C: Clock, S: Source + Drop, K: Sink + Drop>(
     client: &mut Client<'_, C, S, K>,
     text: &[u8],

@@ -1,12 +1,14 @@
 //! The door: takes each connection that comes, and gives it a seat.
 
 ghost use denote.Param.Send.{IsSend, IsSync};
+ghost use Rattle.std.specs.Prelude.{IfErr};
+ghost use Rattle.seat_server.specs.Faults.{IsAttendFault};
 
 use crate::connections::{Connection, accepted, knock, pause};
 use crate::desk::Received;
 use crate::house::{House, Manners};
 use crate::latecomers::Latecomers;
-use seat_server::Progress;
+use seat_server::{Progress, ServerFault};
 use std::alloc::Global;
 use std::net::{Net, TcpListener, TcpStream};
 use std::sync::atomic::{AtomicBool, Ordering};
@@ -32,22 +34,26 @@ pub(crate) struct Doorkeeper {
 }
 
 impl Doorkeeper {
-    /// Starts it. None where that cannot be.
+    /// Starts it. `Read` where the system refuses the thread.
     pub(crate) fn start<R: Net + Threads + Wait + Clock + Copy + Drop + Send + Sync + 'static>(
         rt: R,
         alloc: Global,
         entrance: Entrance,
-    ) -> Option<Doorkeeper> {
-        let is_over = Arc::new(alloc, AtomicBool::new(false)).ok()?;
-        let theirs = Arc::try_clone(&is_over).ok()?;
+    ) -> Result<Doorkeeper, ServerFault>
+        ensures { IfErr result IsAttendFault }
+    {
+        let is_over = Arc::new(alloc, AtomicBool::new(false))?;
+        let theirs = Arc::try_clone(&is_over)?;
         let begun = thread::spawn(
             &rt,
             move ||
                 requires { IsSend R.row × IsSync R.row }
             { keep_door(rt, alloc, &entrance, theirs) },
         );
-        let thread = begun.ok()?;
-        Some(Doorkeeper { is_over, thread })
+        match begun {
+            Ok(thread) => Ok(Doorkeeper { is_over, thread }),
+            Err(_) => Err(ServerFault::Read),
+        }
     }
 
     /// Ends it: a last connection lets it look up.

@@ -22,7 +22,7 @@ use crate::refusal::{FileRefusal, cause_of_file, load_refusal};
 use crate::seated::{Address, Doorway, Reception, Seated, seated};
 use crate::server::{Bound, INBOX};
 use board_keeper::{
-    Document, KeepFault, Keeper, KeptSeats, LoadedBoard, OpenFault, OpenLog, load_board, opened,
+    KeepFault, Keeper, KeptBodies, KeptSeats, LoadedBoard, OpenFault, OpenLog, load_board, opened,
 };
 use devices::Sink;
 use genedit_io::{Cause, RunFault, push_output};
@@ -253,7 +253,7 @@ fn made_ready<'a, J: Naming, R: Files<File = File> + Eprint + Wait + Drop>(
         Ok(named) => named,
         Err(fault) => return Err(FileRefusal::from(start_fault(fault))),
     };
-    let document = Document {
+    let document = KeptBodies {
         rule: &rule,
         bodies: &found.parts.bodies,
     };
@@ -369,13 +369,16 @@ fn seats_served<
     ensures refused { IfErr result (λ refusal. IsUnopened refusal.fault) }
 {
     let rousing = doorway.rousing(rt);
-    let Some(doorkeeper) = doorway.open(*rt, alloc) else {
-        let KeptAttendance {
-            attendance,
-            file: _,
-        } = seats;
-        attendance.dismiss(rt, &rousing);
-        return Err(FileRefusal::from(RunFault::Read));
+    let doorkeeper = match doorway.open(*rt, alloc) {
+        Ok(doorkeeper) => doorkeeper,
+        Err(fault) => {
+            let KeptAttendance {
+                attendance,
+                file: _,
+            } = seats;
+            attendance.dismiss(rt, &rousing);
+            return Err(FileRefusal::from(server_fault(fault)));
+        }
     };
     let served = serve_kept(rt, alloc, keeper, seats, &rousing);
     doorway.close(rt, doorkeeper);

@@ -46,20 +46,26 @@ impl Doorway {
         }
     }
 
-    /// Lets connections in, and lets the server be asked to end. None where the system refuses a thread, or memory.
+    /// Lets connections in, and lets the server be asked to end. `Read` where the system refuses a thread, or the
+    /// listener a second descriptor.
     pub(crate) fn open<R: Net + Threads + Wait + Clock + Copy + Drop + Send + Sync + 'static>(
         &self,
         rt: R,
         alloc: Global,
-    ) -> Option<Doorkeeper> {
+    ) -> Result<Doorkeeper, ServerFault>
+        ensures { IfErr result IsAttendFault }
+    {
+        let Ok(listener) = self.address.listener.try_clone() else {
+            return Err(ServerFault::Read);
+        };
         let entrance = Entrance {
-            listener: self.address.listener.try_clone().ok()?,
-            house: self.house.shared().ok()?,
-            progress: Arc::try_clone(&self.progress).ok()?,
+            listener,
+            house: self.house.shared()?,
+            progress: Arc::try_clone(&self.progress)?,
             manners: self.manners,
         };
         if let Some(closing) = &self.address.closing {
-            closing.begin(&rt, self.house.shared().ok()?);
+            closing.begin(&rt, self.house.shared()?);
         }
         Doorkeeper::start(rt, alloc, entrance)
     }

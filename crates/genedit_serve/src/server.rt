@@ -222,9 +222,12 @@ fn seats_served<
     ensures reason { IfErr result (IsReason 1000 relay attendance) }
 {
     let rousing = doorway.rousing(&rt);
-    let Some(keeper) = doorway.open(rt, alloc) else {
-        attendance.dismiss(&rt, &rousing);
-        return Err(ServerFault::Read);
+    let keeper = match doorway.open(rt, alloc) {
+        Ok(keeper) => keeper,
+        Err(fault) => {
+            attendance.dismiss(&rt, &rousing);
+            return Err(fault);
+        }
     };
     let finished = serve_seats(&rt, alloc, relay, attendance, &rousing);
     doorway.close(&rt, keeper);

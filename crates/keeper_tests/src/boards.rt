@@ -4,8 +4,8 @@ ghost use Rattle.std.specs.Prelude.{◌≡◌, ◌<◌, IfOk};
 ghost use Rattle.std.specs.Arc.{arc_value};
 
 use board_keeper::{
-    Document, HeadFault, Keeper, KeptSeats, LoadFault, LoadedBoard, OpenFault, load_board, opened,
-    rule_of,
+    HeadFault, Keeper, KeptBodies, KeptSeats, LoadFault, LoadedBoard, OpenFault, load_board,
+    opened, rule_of,
 };
 use document_bodies::{edit_body, head_body};
 use edit_stamps::{Cell, Edit, Stamp};
@@ -126,7 +126,7 @@ pub fn taken_up<J: Naming, R: Wait + Drop, H: Wait>(
         Ok(named) => named,
         Err(fault) => return Err(Unkept::Start(fault)),
     };
-    let document = Document {
+    let document = KeptBodies {
         rule: &rule,
         bodies: &found.parts.bodies,
     };
