@@ -1,4 +1,4 @@
-.PHONY: test run look build bench memory fuzz trial
+.PHONY: test run look build bench memory fuzz browser trial
 
 # How many checks of the gate run at a time: one a processor, or fewer, so that each can have 4 GB. Most take
 # less than that; `trial_calls` takes 6.
@@ -55,6 +55,10 @@ memory: $(PROGRAM)
 fuzz: $(PROGRAM)
 	@cd crates/trial_calls && rt run -- fuzz 3000 7
 	@examples/files $(PROGRAM) 3000 7
+
+# Tries the page in headless Chromium, and tells where its pictures are. Needs Node.js 20 and Debian's chromium.
+browser: $(PROGRAM)
+	@examples/page $(PROGRAM) browser
 
 # Tries the wrong bodies that the gate leaves out: the prover must refuse each. `make trial
 # CRATES="a b"` tries those of these crates alone.
