@@ -23,7 +23,8 @@ use Rattle.client_session.specs.declared.returning.Before.{Before}
 use Rattle.client_session.specs.declared.returning.Return.{Return}
 use Rattle.client_session.specs.declared.returning.Return.TheVariants as come
 use Rattle.client_session.specs.declared.workspace.Workspace.{Workspace}
-use Rattle.client_session.specs.Lines.{drawn_line, edit_lines, joined_line, replaced_lines, whole_line}
+use Rattle.genedit_lib.specs.EditLines.{edit_lines}
+use Rattle.client_session.specs.Lines.{drawn_line, joined_line, replaced_lines, whole_line}
 use Rattle.client_session.specs.Moment.{IsCutShort, IsWant, Moment, others}
 use Rattle.client_session.specs.Telling.{AllFindsNoRoom, ShowsAll}
 

@@ -5,30 +5,11 @@ use Rattle.generations_rule.specs.RuleText.{rule_of_text, text_of_set}
 use Rattle.edit_stamps.specs.Edit.{PlaneEdit}
 use Rattle.edit_stamps.specs.Stamp.{stamp_of}
 use Rattle.pattern_cells.specs.declared.cell.Cell.{Cell}
-use Rattle.client_session.specs.Lines.{edit_line, edit_lines, edits_line, joined_line, lines_within, now_line, refusal_line, replaced_lines}
-
--- seat 2 drew a cell, and seat 1 cleared an area
-abbrev stroke : PlaneEdit
-stroke = record { stamp = stamp_of 3 2; area = None; cells = record { x = pos 3; y = negsuc 3; state = 1 } ∷ [] }
-
-abbrev clear : PlaneEdit
-clear = record { stamp = stamp_of 2 1; area = Some (record { x = pos 0; y = pos 0; width = 2; height = 1 }); cells = [] }
+use Rattle.client_session.specs.Lines.{edits_line, joined_line, lines_within, now_line, refusal_line, replaced_lines}
 
 pub joined_at_a_board : joined_line 1 (rule_of_text (codes "/2/3")) ≡ codes "joined 1 /2/3\n"
 unfolding digits text_of_set
 joined_at_a_board = refl
-
-pub drawn_cells : edit_line stroke ≡ codes "edit 3 2 cells 3 -4 1\n"
-unfolding digits
-drawn_cells = refl
-
-pub cleared_area : edit_line clear ≡ codes "edit 2 1 area 0 0 2 1 cells\n"
-unfolding digits
-cleared_area = refl
-
-pub each_edit_in_a_line : edit_lines (stroke ∷ clear ∷ []) ≡ codes "edit 3 2 cells 3 -4 1\nedit 2 1 area 0 0 2 1 cells\n"
-unfolding digits
-each_edit_in_a_line = refl
 
 pub two_cells_look_different : now_line (record { x = pos 1; y = pos 0; state = 2 } ∷ record { x = pos 0; y = pos 7; state = 0 } ∷ []) ≡ codes "now 1 0 2 0 7 0\n"
 unfolding digits

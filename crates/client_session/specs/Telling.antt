@@ -12,7 +12,8 @@ use Rattle.held_plane.specs.declared.added.Added.TheVariants as added
 use Rattle.held_plane.specs.Held.{IsAsBefore}
 use Rattle.held_plane.specs.Wanted.{IsFullOfNeeds}
 use Rattle.cell_changes.specs.Changes.{AreChanges}
-use Rattle.client_session.specs.Lines.{edit_lines, now_line, replaced_lines, whole_line}
+use Rattle.genedit_lib.specs.EditLines.{edit_lines}
+use Rattle.client_session.specs.Lines.{now_line, replaced_lines, whole_line}
 use Rattle.client_session.specs.declared.fault.CommandFault.{CommandFault}
 use Rattle.client_session.specs.declared.fault.CommandFault.TheVariants as faults
 use Rattle.client_session.specs.declared.workspace.Workspace.{Workspace}

@@ -2,13 +2,10 @@
 
 ghost use Rattle.std.specs.Prelude.{◌≡◌, ◌++◌, codes, decimal, OnErr, OnOk};
 ghost use mathlib.Core.List.{IsPrefix};
-ghost use Rattle.std.specs.Fmt.{signed_decimal};
-ghost use Rattle.genedit_lib.specs.Output.{stamp_text};
-ghost use Rattle.client_session.specs.Lines.{anew_line, area_text, cell_text, cells_text, drawn_as, drawn_line, edit_line, edit_lines, edits_line, joined_line, late_line, many_line, nameless_line, now_line, now_lines, place_text, rect_text, refusal_line, replaced_lines, size_text, whole_line};
+ghost use Rattle.client_session.specs.Lines.{anew_line, drawn_as, drawn_line, edits_line, joined_line, late_line, many_line, nameless_line, now_line, now_lines, refusal_line, replaced_lines, whole_line};
 
-use edit_stamps::{Edit, Rect, Stamp};
 use genedit_io::RunFault;
-use genedit_lib::{no_pattern_text, push_text};
+use genedit_lib::{no_pattern_text, push_cells, push_text};
 use generations_rule::Rule;
 use itoa::Buffer;
 use pattern_cells::Cell;
@@ -37,101 +34,6 @@ pub(crate) fn push_joined(
     out.extend_from_slice(&rule)?;
     out.push(b'\n')?;
     Ok(())
-}
-
-/// A line for each edit.
-pub(crate) fn push_edits(out: &mut Vec<u8>, edits: &[Edit]) -> Result<(), AllocError>
-    ensures told { OnOk result (out.new.items ≡ out.old.items ++ edit_lines edits.now) }
-    ensures kept { OnErr result (IsPrefix out.old.items out.new.items) }
-{
-    for edit in edits {
-        push_edit(out, edit)?;
-    }
-    Ok(())
-}
-
-fn push_edit(out: &mut Vec<u8>, edit: &Edit) -> Result<(), AllocError>
-    ensures told { OnOk result (out.new.items ≡ out.old.items ++ edit_line edit.now) }
-    ensures kept { OnErr result (IsPrefix out.old.items out.new.items) }
-{
-    out.extend_from_slice(b"edit ")?;
-    push_stamp(out, edit.stamp())?;
-    push_area(out, edit.area())?;
-    out.extend_from_slice(b" cells")?;
-    push_cells(out, edit.listed_cells())?;
-    out.push(b'\n')?;
-    Ok(())
-}
-
-/// Counter and replica.
-fn push_stamp(out: &mut Vec<u8>, stamp: Stamp) -> Result<(), AllocError>
-    ensures told { OnOk result (out.new.items ≡ out.old.items ++ stamp_text stamp) }
-    ensures kept { OnErr result (IsPrefix out.old.items out.new.items) }
-{
-    push_number(out, stamp.counter())?;
-    out.push(b' ')?;
-    push_number(out, u64::from(stamp.replica()))
-}
-
-/// The area of an edit, where it has one.
-fn push_area(out: &mut Vec<u8>, area: Option<Rect>) -> Result<(), AllocError>
-    ensures told { OnOk result (out.new.items ≡ out.old.items ++ area_text area) }
-    ensures kept { OnErr result (IsPrefix out.old.items out.new.items) }
-{
-    match area {
-        Some(area) => push_rect(out, area),
-        None => Ok(()),
-    }
-}
-
-fn push_rect(out: &mut Vec<u8>, area: Rect) -> Result<(), AllocError>
-    ensures told { OnOk result (out.new.items ≡ out.old.items ++ rect_text area) }
-    ensures kept { OnErr result (IsPrefix out.old.items out.new.items) }
-{
-    out.extend_from_slice(b" area")?;
-    push_place(out, area.x, area.y)?;
-    push_size(out, area)
-}
-
-/// Width and height, each behind a blank.
-fn push_size(out: &mut Vec<u8>, area: Rect) -> Result<(), AllocError>
-    ensures told { OnOk result (out.new.items ≡ out.old.items ++ size_text area) }
-    ensures kept { OnErr result (IsPrefix out.old.items out.new.items) }
-{
-    out.push(b' ')?;
-    push_number(out, u64::from(area.width))?;
-    out.push(b' ')?;
-    push_number(out, u64::from(area.height))
-}
-
-fn push_cells(out: &mut Vec<u8>, cells: &[Cell]) -> Result<(), AllocError>
-    ensures told { OnOk result (out.new.items ≡ out.old.items ++ cells_text cells.now) }
-    ensures kept { OnErr result (IsPrefix out.old.items out.new.items) }
-{
-    for cell in cells {
-        push_cell(out, *cell)?;
-    }
-    Ok(())
-}
-
-fn push_cell(out: &mut Vec<u8>, cell: Cell) -> Result<(), AllocError>
-    ensures told { OnOk result (out.new.items ≡ out.old.items ++ cell_text cell) }
-    ensures kept { OnErr result (IsPrefix out.old.items out.new.items) }
-{
-    push_place(out, cell.x, cell.y)?;
-    out.push(b' ')?;
-    push_number(out, u64::from(cell.state))
-}
-
-/// A column and a row, each behind a blank.
-fn push_place(out: &mut Vec<u8>, x: i32, y: i32) -> Result<(), AllocError>
-    ensures told { OnOk result (out.new.items ≡ out.old.items ++ place_text x y) }
-    ensures kept { OnErr result (IsPrefix out.old.items out.new.items) }
-{
-    out.push(b' ')?;
-    push_coordinate(out, x)?;
-    out.push(b' ')?;
-    push_coordinate(out, y)
 }
 
 /// The cells that look different, as they are now. No line where there is none.
@@ -281,11 +183,4 @@ fn push_number(out: &mut Vec<u8>, number: u64) -> Result<(), AllocError>
     ensures kept { OnErr result (IsPrefix out.old.items out.new.items) }
 {
     out.extend_from_slice(Buffer::new().format(number).as_bytes())
-}
-
-fn push_coordinate(out: &mut Vec<u8>, coordinate: i32) -> Result<(), AllocError>
-    ensures told { OnOk result (out.new.items ≡ out.old.items ++ signed_decimal coordinate) }
-    ensures kept { OnErr result (IsPrefix out.old.items out.new.items) }
-{
-    out.extend_from_slice(Buffer::new().format(coordinate).as_bytes())
 }

@@ -9,10 +9,9 @@ ghost use Rattle.client_session.specs.Moment.{KeepsAllButNames};
 
 use crate::client::Client;
 use devices::{Sink, Source};
-use genedit_lib::{Patterns, pattern_text, push_text, text_refusal};
+use genedit_lib::give_name;
 use genedit_script::{PatternName, PatternText};
-use multistate_rle::{RleFault, parse};
-use std::alloc::{AllocError, Global};
+use std::alloc::AllocError;
 use std::time::Clock;
 
 impl<'a, C: Clock, S: Source + Drop, K: Sink + Drop> Client<'a, C, S, K> {
@@ -33,31 +32,5 @@ impl<'a, C: Clock, S: Source + Drop, K: Sink + Drop> Client<'a, C, S, K> {
             name,
             text,
         )
-    }
-}
-
-fn give_name(
-    alloc: Global,
-    patterns: &mut Patterns,
-    out: &mut Vec<u8>,
-    name: PatternName,
-    text: &PatternText,
-) -> Result<(), AllocError>
-    ensures told { OnOk result (out.new.items ≡ out.old.items ++ (naming_text name (parsed text.now) ++ codes "\n")) }
-    ensures named { OnOk result ((other : List ℕ) → pattern_in patterns.new other ≡ with_text (pattern_in patterns.old) name (parsed text.now) other) }
-    ensures err { OnErr result ((other : List ℕ) → pattern_in patterns.new other ≡ pattern_in patterns.old other) }
-    ensures printed { OnErr result (IsPrefix out.old.items out.new.items) }
-{
-    match parse(alloc, text.as_slice()) {
-        Ok(pattern) => {
-            let line = pattern_text(alloc, name.as_bytes(), &pattern)?;
-            push_text(out, &line)?;
-            patterns.insert(name, pattern)
-        }
-        Err(RleFault::Memory) => Err(AllocError),
-        Err(fault) => {
-            let line = text_refusal(alloc, fault)?;
-            push_text(out, &line)
-        }
     }
 }

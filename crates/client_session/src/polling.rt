@@ -10,13 +10,12 @@ ghost use Rattle.client_session.specs.Telling.{CameFindsNoRoom, IsPollingTold, T
 
 use crate::client::Client;
 use crate::fault::CommandFault;
-use crate::lines::{
-    push_edits, push_edits_line, push_late_line, push_refusal, push_replaced, push_whole,
-};
+use crate::lines::{push_edits_line, push_late_line, push_refusal, push_replaced, push_whole};
 use crate::telling::{show_all, tell_changes};
 use crate::workspace::{Workspace, behind};
 use board_client::Polling;
 use devices::{Sink, Source};
+use genedit_lib::push_edits;
 use std::alloc::Global;
 use std::time::Clock;
 

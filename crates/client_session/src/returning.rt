@@ -12,7 +12,7 @@ ghost use Rattle.client_session.specs.Returning.{GivesBack, IsFound, IsReturnTol
 
 use crate::client::Client;
 use crate::fault::CommandFault;
-use crate::lines::{push_drawn, push_edits, push_joined, push_replaced, push_whole};
+use crate::lines::{push_drawn, push_joined, push_replaced, push_whole};
 use crate::telling::show_all;
 use crate::workspace::Workspace;
 use board_client::{ClientFault, Polling, Pushed, Server};
@@ -20,6 +20,7 @@ use client_protocol::Greeting;
 use devices::{Sink, Source};
 use edit_journal::Journal;
 use edit_stamps::Edit;
+use genedit_lib::push_edits;
 use pattern_cells::Cell;
 use replica_core::Replica;
 use stamped_tree::{Limits, Plane};

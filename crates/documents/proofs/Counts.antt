@@ -78,14 +78,14 @@ all_counted a b n l r w none also = (let ends : IsCounted a b n [] [] = moved a 
 
 -- ---- none is new where one set is part of the other
 
-has_is_held : (xs : List PlaneEdit) (e : PlaneEdit) → has_edit xs e ≡ true → Contains xs e
+pub has_is_held : (xs : List PlaneEdit) (e : PlaneEdit) → has_edit xs e ≡ true → Contains xs e
 has_is_held [] e has = absurd (cc)
 has_is_held (x ∷ xs) e has = elim (cases_Bool (is_edit x e)) [
   | inl same ↦ subst (λ (f : PlaneEdit). Contains (x ∷ xs) f) (one_edit x e same) (has_first x xs)
   | inr other ↦ has_behind x xs e (has_is_held xs e (sym (rw other refl) ∙ has))
 ]
 
-held_is_had : (xs : List PlaneEdit) (e : PlaneEdit) → Contains xs e → has_edit xs e ≡ true
+pub held_is_had : (xs : List PlaneEdit) (e : PlaneEdit) → Contains xs e → has_edit xs e ≡ true
 held_is_had [] e has = absurd (none_held e has)
 held_is_had (x ∷ xs) e has = elim (held_cases x xs e has) [
   | inl is ↦ (let same : is_edit x e ≡ true = (tells_edits x e).1 is in rw same refl)

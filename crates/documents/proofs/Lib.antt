@@ -10,3 +10,5 @@ pub mod Made
 pub mod Bodies
 pub mod ReadLaws
 pub mod DocumentLaws
+pub mod Gathers
+pub mod Having

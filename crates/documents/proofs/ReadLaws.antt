@@ -9,7 +9,8 @@ use Rattle.documents.specs.declared.fault.DocumentFault.{DocumentFault}
 use Rattle.documents.specs.declared.fault.DocumentFault.TheVariants.{StateRange, OtherRule, SameStamp, NoDocument, Body, Memory}
 use Rattle.documents.specs.Sets.{ClashesWithin}
 use Rattle.documents.specs.Results.{IsSetOf}
-use Rattle.documents.specs.Reading.{AreToldIn, HasClash, IsDocumentRead, IsFirstRefused, IsReadAs}
+use Rattle.documents.specs.declared.reading.ListedEdits.{ListedEdits}
+use Rattle.documents.specs.Reading.{AreToldIn, HasClash, IsDocumentRead, IsFirstRefused, IsListRead, IsListedAs, IsReadAs}
 use Rattle.documents.proofs.Bodies.{has_records, some_record}
 use Rattle.documents.proofs.Made.{made}
 
@@ -24,7 +25,7 @@ pub record IsHeaded (r : GenerationsRule) (bytes head behind : List ℕ) : Type 
   pub is : IsBody head
   pub spelt : bytes ≡ record_text head ++ behind
 
-pub refused : (r : GenerationsRule) (bytes head behind : List ℕ) (fault : DocumentFault) → IsHeaded r bytes head behind → IsFirstRefused r behind fault → IsDocumentRead bytes (Err fault)
+pub refused : (r : GenerationsRule) (bytes head behind : List ℕ) (fault : DocumentFault) → IsHeaded r bytes head behind → IsFirstRefused r behind fault → IsListRead bytes (Err fault)
 refused r bytes head behind (Body fault place) h first = record {
   rule = r;
   behind = behind;
@@ -39,24 +40,34 @@ refused r bytes head behind OtherRule h first = absurd first
 refused r bytes head behind (SameStamp stamp) h first = absurd first
 refused r bytes head behind NoDocument h first = absurd first
 
-pub clashes : (r : GenerationsRule) (bytes head behind rest : List ℕ) (edits : List PlaneEdit) (stamp : ℕ) → IsHeaded r bytes head behind → AreToldIn r behind edits rest → ClashesWithin edits stamp → HasClash bytes stamp
-clashes r bytes head behind rest edits stamp h t clash = record {
-  rule = r;
+-- ---- lists
+
+pub listed_as : (bytes head behind rest : List ℕ) (l : ListedEdits) → IsHeaded l.rule bytes head behind → AreToldIn l.rule behind l.edits.items rest → l.whole ≡ length bytes - length rest → IsListedAs bytes l
+listed_as bytes head behind rest l h t counted = record {
   bodies = t.bodies;
-  whole = length bytes - length rest;
-  edits = edits;
-  has = has_records r bytes head behind rest t.bodies (length bytes - length rest) h.is_rule h.is_head h.is h.spelt t.read refl;
+  has = has_records l.rule bytes head behind rest t.bodies l.whole h.is_rule h.is_head h.is h.spelt t.read counted;
   told = t.told;
-  clash = clash;
 }
 
-pub read_as : (r : GenerationsRule) (bytes head behind rest : List ℕ) (edits set : List PlaneEdit) (whole count : ℕ) → IsHeaded r bytes head behind → AreToldIn r behind edits rest → AreEditsUnder r edits → IsSetOf edits set
-    → whole ≡ length bytes - length rest → count ≡ length edits → IsReadAs bytes (record { document = record { rule = r; edits = set }; whole = whole; count = count })
-read_as r bytes head behind rest edits set whole count h t under is counted all = record {
-  bodies = t.bodies;
-  edits = edits;
-  has = has_records r bytes head behind rest t.bodies whole h.is_rule h.is_head h.is h.spelt t.read counted;
-  told = t.told;
+-- what refuses the list refuses the document
+pub list_refused : (bytes : List ℕ) (fault : DocumentFault) → IsListRead bytes (Err fault) → IsDocumentRead bytes (Err fault)
+list_refused bytes NoDocument none = none
+list_refused bytes (Body fault place) first = first
+list_refused bytes Memory some = some
+list_refused bytes StateRange never = absurd never
+list_refused bytes OtherRule never = absurd never
+list_refused bytes (SameStamp stamp) never = absurd never
+
+pub clashes : (bytes : List ℕ) (l : ListedEdits) (stamp : ℕ) → IsListedAs bytes l → ClashesWithin l.edits.items stamp → HasClash bytes stamp
+clashes bytes l stamp is clash = record { rule = l.rule; bodies = is.bodies; whole = l.whole; edits = l.edits.items; has = is.has; told = is.told; clash = clash }
+
+pub read_as : (bytes : List ℕ) (l : ListedEdits) (set : List PlaneEdit) (count : ℕ) → IsListedAs bytes l → AreEditsUnder l.rule l.edits.items → IsSetOf l.edits.items set → count ≡ length l.edits.items
+    → IsReadAs bytes (record { document = record { rule = l.rule; edits = set }; whole = l.whole; count = count })
+read_as bytes l set count is under set_of all = record {
+  bodies = is.bodies;
+  edits = l.edits.items;
+  has = is.has;
+  told = is.told;
   count = all;
-  made = made r edits set h.is_rule under is;
+  made = made l.rule l.edits.items set is.has.is_rule under set_of;
 }

@@ -5,4 +5,5 @@ pub mod Walk
 pub mod Results
 pub mod Laws
 pub mod Reading
+pub mod Gathering
 pub mod Rows

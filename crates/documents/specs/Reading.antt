@@ -8,6 +8,7 @@ use Rattle.document_bodies.specs.Reading.{edit_of}
 use Rattle.document_bodies.specs.declared.fault.BodyFault.{BodyFault}
 use Rattle.documents.specs.declared.fault.DocumentFault.{DocumentFault}
 use Rattle.documents.specs.declared.fault.DocumentFault.TheVariants.{StateRange, OtherRule, SameStamp, NoDocument, Body, Memory}
+use Rattle.documents.specs.declared.reading.ListedEdits.{ListedEdits}
 use Rattle.documents.specs.declared.reading.ReadDocument.{ReadDocument}
 use Rattle.documents.specs.Sets.{ClashesWithin}
 use Rattle.documents.specs.Results.{IsMadeOf}
@@ -68,6 +69,12 @@ pub record HasRecords (bytes : List ℕ) (r : GenerationsRule) (bodies : List (L
   pub within : whole ≤ length bytes
   pub spelt : records_text (head_body r ∷ bodies) ≡ take whole bytes
 
+-- each record behind the first tells an edit, in order
+pub record IsListedAs (bytes : List ℕ) (l : ListedEdits) : Type 0 where
+  pub bodies : List (List ℕ)
+  pub has : HasRecords bytes l.rule bodies l.whole
+  pub told : AreEditsOf l.rule bodies l.edits.items
+
 -- the document is made of the edits of all records
 pub record IsReadAs (bytes : List ℕ) (d : ReadDocument) : Type 0 where
   pub bodies : List (List ℕ)
@@ -95,6 +102,15 @@ pub record HasClash (bytes : List ℕ) (stamp : ℕ) : Type 0 where
   pub has : HasRecords bytes rule bodies whole
   pub told : AreEditsOf rule bodies edits
   pub clash : ClashesWithin edits stamp
+
+abbrev pub IsListRead : List ℕ → Result ListedEdits DocumentFault → Type 0
+IsListRead bytes (Ok l) = IsListedAs bytes l
+IsListRead bytes (Err NoDocument) = HasNoDocument bytes
+IsListRead bytes (Err (Body fault place)) = HasBodyRefused bytes fault place
+IsListRead bytes (Err Memory) = BeginsNone bytes → ⊥
+IsListRead bytes (Err (SameStamp stamp)) = ⊥
+IsListRead bytes (Err StateRange) = ⊥
+IsListRead bytes (Err OtherRule) = ⊥
 
 abbrev pub IsDocumentRead : List ℕ → Result ReadDocument DocumentFault → Type 0
 IsDocumentRead bytes (Ok d) = IsReadAs bytes d

@@ -30,7 +30,7 @@ impl Model for Document {
 }
 
 impl Document {
-    ghost use Rattle.documents.specs.Documents.{IsDocument, count_of_new, document_text};
+    ghost use Rattle.documents.specs.Documents.{IsDocument, count_of_new, document_text, has_edit};
     ghost use Rattle.documents.specs.Results.{IsInserted, IsMade, IsMerged};
     ghost use Rattle.documents.specs.Sets.{IsPartOf};
 
@@ -124,6 +124,13 @@ impl Document {
         ensures { result ≡ count_of_new self.now.edits other.now.edits }
     {
         count::count_new(&self.edits, &other.edits)
+    }
+
+    /// Whether it has an edit, found in as many steps as its number of edits has bits.
+    pub fn has(&self, edit: &Edit) -> bool
+        ensures { result ≡ has_edit self.now.edits edit.now }
+    {
+        put::has_edit(&self.edits, edit)
     }
 
     /// Whether all of another document's edits are in this one.

@@ -19,8 +19,8 @@ pub enum DocumentFault {
     SameStamp(Stamp),
     /// The bytes do not begin with a record that names a rule.
     NoDocument,
-    /// A record tells no edit under the rule: why, and its place among the records behind the first,
-    /// counted from 1.
+    /// A record tells no edit under the rule: why, and its place, counted from 1, among the records behind
+    /// the first, or among all that were found where they are gathered.
     Body(BodyFault, usize),
     /// The system refused memory.
     Memory,

@@ -6,6 +6,7 @@ mod clash;
 mod count;
 mod document;
 mod fault;
+mod gathering;
 mod laws;
 mod put;
 mod reading;
@@ -15,5 +16,6 @@ mod walk;
 
 pub use document::Document;
 pub use fault::DocumentFault;
+pub use gathering::{Gathered, gather};
 pub use laws::document_laws;
-pub use reading::{ReadDocument, read_document};
+pub use reading::{ListedEdits, ReadDocument, read_document, read_edits};

@@ -1,6 +1,7 @@
 //! One edit, put into a set.
 
 ghost use Rattle.std.specs.Prelude.{◌≡◌, ◌-◌, ◌<◌, true, false, Some, length, slice_get, MatchResult};
+ghost use Rattle.documents.specs.Documents.{has_edit};
 ghost use Rattle.documents.specs.Results.{IsAt, IsPlaceFor, IsPut};
 ghost use Rattle.documents.specs.Sets.{IsAscending};
 
@@ -23,6 +24,17 @@ pub(crate) fn put_edit(edits: &mut Vec<Edit>, edit: Edit) -> Result<bool, Docume
             edits.insert(place, edit)?;
             Ok(true)
         }
+    }
+}
+
+/// Whether an edit is in a set.
+pub(crate) fn has_edit(edits: &[Edit], edit: &Edit) -> bool
+    requires { IsAscending edits.now }
+    ensures { result ≡ has_edit edits.now edit.now }
+{
+    match place_of(edits, edit.stamp()) {
+        Ok(place) => edits[place].same(edit),
+        Err(_) => false,
     }
 }
 

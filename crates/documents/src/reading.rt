@@ -4,7 +4,7 @@ ghost use Rattle.std.specs.Prelude.{◌≡◌, ◌+◌, ◌<◌, ◌^◌, [], �
 ghost use Rattle.document_bodies.specs.Bodies.{AreEditsUnder};
 ghost use Rattle.document_bodies.specs.Reading.{edit_of};
 ghost use Rattle.delta_exchange.specs.Delta.{AreTellable};
-ghost use Rattle.documents.specs.Reading.{AreToldIn, IsBodyRefused, IsDocumentRead, IsFirstRefused};
+ghost use Rattle.documents.specs.Reading.{AreToldIn, IsBodyRefused, IsDocumentRead, IsFirstRefused, IsListRead};
 
 use crate::document::Document;
 use crate::fault::DocumentFault;
@@ -15,6 +15,17 @@ use edit_stamps::Edit;
 use generations_rule::Rule;
 use kept_records::next_record;
 use std::alloc::Global;
+
+/// The edits that bytes tell, as they stand.
+#[derive(Debug, Drop)]
+pub struct ListedEdits {
+    pub rule: Rule,
+    /// One for each record behind the first, in the order of the records.
+    pub edits: Vec<Edit>,
+    /// How many bytes the records have that were read; behind them is the lost end, where no record
+    /// begins.
+    pub whole: usize,
+}
 
 /// What bytes are read as.
 #[derive(Debug, Drop)]
@@ -28,14 +39,13 @@ pub struct ReadDocument {
     pub count: usize,
 }
 
-/// The document that bytes tell, whose records may stand in any order behind the first, and more than
-/// once. They are read up to where no record begins. Refused are, in this order: bytes whose first record
-/// names no rule, and those without one (`NoDocument`); the first record behind it that tells no edit under
-/// the rule (`Body`); and two different edits of one stamp (`SameStamp`, with the least such stamp).
-/// `Memory` is told only of bytes that begin with a record. Bodies are read where they stand: it takes
-/// memory by the edits alone.
-pub fn read_document(alloc: Global, bytes: &[u8]) -> Result<ReadDocument, DocumentFault>
-    ensures { IsDocumentRead bytes.now result }
+/// The edits that bytes tell, in the order of their records. They are read up to where no record begins.
+/// Refused are, in this order: bytes whose first record names no rule, and those without one (`NoDocument`);
+/// and the first record behind it that tells no edit under the rule (`Body`). `Memory` is told only of bytes
+/// that begin with a record. Bodies are read where they stand: it takes memory by the edits alone.
+pub fn read_edits(alloc: Global, bytes: &[u8]) -> Result<ListedEdits, DocumentFault>
+    ensures told { IsListRead bytes.now result }
+    ensures under { IfOk result (λ l. AreEditsUnder l.rule l.edits.items) }
 {
     let Some((head, behind)) = next_record(bytes) else {
         return Err(DocumentFault::NoDocument);
@@ -44,11 +54,25 @@ pub fn read_document(alloc: Global, bytes: &[u8]) -> Result<ReadDocument, Docume
         return Err(DocumentFault::NoDocument);
     };
     let (edits, rest) = edits_in(alloc, &rule, behind)?;
-    let count = edits.len();
-    match set::set_of(edits) {
+    Ok(ListedEdits {
+        rule,
+        edits,
+        whole: bytes.len() - rest.len(),
+    })
+}
+
+/// The document that bytes tell, whose records may stand in any order behind the first, and more than
+/// once. Refused are what `read_edits` refuses, and then two different edits of one stamp (`SameStamp`,
+/// with the least such stamp).
+pub fn read_document(alloc: Global, bytes: &[u8]) -> Result<ReadDocument, DocumentFault>
+    ensures { IsDocumentRead bytes.now result }
+{
+    let listed = read_edits(alloc, bytes)?;
+    let count = listed.edits.len();
+    match set::set_of(listed.edits) {
         Ok(set) => Ok(ReadDocument {
-            document: Document::of_parts(rule, set),
-            whole: bytes.len() - rest.len(),
+            document: Document::of_parts(listed.rule, set),
+            whole: listed.whole,
             count,
         }),
         Err(stamp) => Err(DocumentFault::SameStamp(stamp)),

@@ -53,6 +53,12 @@ use Rattle.session_hub.specs.HubFault.{hub_fault_number, hub_fault_text}
 use Rattle.frame_service.specs.declared.fault.ServeFault.{ServeFault}
 use Rattle.frame_service.specs.declared.fault.ServeFault.TheVariants as services
 use Rattle.frame_service.specs.ServeFault.{serve_fault_number, serve_fault_text}
+use Rattle.document_bodies.specs.declared.fault.BodyFault.{BodyFault}
+use Rattle.document_bodies.specs.declared.fault.BodyFault.TheVariants as bodies
+use Rattle.document_bodies.specs.Faults.{body_fault_number, body_fault_text}
+use Rattle.documents.specs.declared.fault.DocumentFault.{DocumentFault}
+use Rattle.documents.specs.declared.fault.DocumentFault.TheVariants as documents
+use Rattle.documents.specs.Faults.{document_fault_number, document_fault_text}
 use Rattle.fault_laws.specs.Names.{IsNamed, NamesAgree, NamesAreDistinct}
 use Rattle.genedit_io.specs.RunFault.{names}
 
@@ -169,6 +175,18 @@ service_names services.Read refused = refl
 service_names services.Write refused = refl
 service_names services.Memory refused = absurd (refused refl)
 
+body_names : (fault : BodyFault) → IsNamed (body_fault_number fault) None (body_fault_text fault)
+body_names bodies.NoDocument refused = refl
+body_names (bodies.Read fault) refused = read_names fault refused
+
+document_names : (fault : DocumentFault) → IsNamed (document_fault_number fault) None (document_fault_text fault)
+document_names documents.StateRange refused = refl
+document_names documents.OtherRule refused = refl
+document_names (documents.SameStamp stamp) refused = refl
+document_names documents.NoDocument refused = refl
+document_names (documents.Body fault place) refused = body_names fault refused
+document_names documents.Memory refused = absurd (refused refl)
+
 pub names_agree : NamesAgree
 names_agree = record {
   rules = rule_names;
@@ -188,6 +206,8 @@ names_agree = record {
   finishes = finish_names;
   hubs = hub_names;
   services = service_names;
+  bodies = body_names;
+  documents = document_names;
   seats = λ refused. refl;
 }
 

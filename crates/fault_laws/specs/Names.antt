@@ -33,6 +33,10 @@ use Rattle.session_hub.specs.declared.fault.HubFault.{HubFault}
 use Rattle.session_hub.specs.HubFault.{hub_fault_number, hub_fault_text}
 use Rattle.frame_service.specs.declared.fault.ServeFault.{ServeFault}
 use Rattle.frame_service.specs.ServeFault.{serve_fault_number, serve_fault_text}
+use Rattle.document_bodies.specs.declared.fault.BodyFault.{BodyFault}
+use Rattle.document_bodies.specs.Faults.{body_fault_number, body_fault_text}
+use Rattle.documents.specs.declared.fault.DocumentFault.{DocumentFault}
+use Rattle.documents.specs.Faults.{document_fault_number, document_fault_text}
 use Rattle.genedit_io.specs.RunFault.{names, refusal_text}
 
 -- a refusal's own text is what the program says behind its number; 255 is want of memory, and no refusal
@@ -58,6 +62,8 @@ pub record NamesAgree : Type 0 where
   pub finishes : (fault : FinishFault) → IsNamed (finish_fault_number fault) None (finish_fault_text fault)
   pub hubs : (fault : HubFault) → IsNamed (hub_fault_number fault) None (hub_fault_text fault)
   pub services : (fault : ServeFault) → IsNamed (serve_fault_number fault) None (serve_fault_text fault)
+  pub bodies : (fault : BodyFault) → IsNamed (body_fault_number fault) None (body_fault_text fault)
+  pub documents : (fault : DocumentFault) → IsNamed (document_fault_number fault) None (document_fault_text fault)
   -- a board without a seat left tells its number alone
   pub seats : IsNamed 45 None (codes "NoSeat")
 

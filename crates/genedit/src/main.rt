@@ -5,6 +5,7 @@ mod bounds;
 mod clients;
 mod closing;
 mod converting;
+mod document_tasks;
 mod opening;
 mod pictures;
 mod tasks;
@@ -13,6 +14,7 @@ ghost use Rattle.genedit_words.specs.Given.{IsInRange};
 
 use crate::clients::join;
 use crate::converting::convert_file;
+use crate::document_tasks::{diff, export, log, merge, new_document};
 use crate::pictures::view;
 use crate::tasks::{check, rle, run, serve};
 use genedit_io::RunFault;
@@ -92,5 +94,10 @@ fn perform<
         Task::Serve(server) => serve(rt, alloc, server),
         Task::Join(client) => join(rt, alloc, *client),
         Task::Convert(file) => convert_file(rt, alloc, file),
+        Task::New(document) => new_document(rt, alloc, document),
+        Task::Merge(documents) => merge(rt, alloc, documents),
+        Task::Diff(documents) => diff(rt, alloc, documents),
+        Task::Log(document) => log(rt, alloc, document),
+        Task::Export(document) => export(rt, alloc, document),
     }
 }

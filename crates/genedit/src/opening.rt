@@ -1,7 +1,7 @@
 //! Files and ports that the words name, and what is said of those that the system refuses.
 
+use document_files::FileRefusal;
 use genedit_io::{Cause, RunFault, cause_of, file_fault_text, port_fault_text};
-use genedit_serve::FileRefusal;
 use std::alloc::{AllocError, Global};
 use std::fs;
 use std::rt::Files;
@@ -67,7 +67,8 @@ pub fn tell_refused(
     Ok(refusal.fault.exit_status())
 }
 
-fn tell(rt: &impl Eprint, alloc: Global, text: &[u8]) -> Result<(), AllocError> {
+/// Says a text.
+pub fn tell(rt: &impl Eprint, alloc: Global, text: &[u8]) -> Result<(), AllocError> {
     let text = String::from_utf8_lossy(alloc, text)?;
     let _ = eprintln!(rt; "genedit: {}", text.as_str());
     Ok(())

@@ -1,11 +1,12 @@
 -- Worked values of the definitions.
-use Rattle.std.specs.Prelude.{◌≡◌, ℕ, List, [], ◌∷◌, codes, refl, pos, negsuc}
+use Rattle.std.specs.Prelude.{◌≡◌, ℕ, List, [], ◌∷◌, Some, None, codes, refl, pos, negsuc}
 use Rattle.std.specs.Fmt.{digits}
 use Rattle.generations_rule.specs.RuleText.{rule_of_text}
 use Rattle.replica_events.specs.declared.event.Event.TheVariants.{Draw, SendState, Deliver, Show}
 use Rattle.replica_events.specs.declared.edit_spec.EditSpec.TheVariants.{Cells, Clear}
 use Rattle.edit_stamps.specs.declared.fault.EditFault.TheVariants.{OutOfPlane}
 use Rattle.stamped_writes.specs.Write.{unwritten}
+use Rattle.edit_stamps.specs.Edit.{PlaneEdit}
 use Rattle.edit_stamps.specs.Stamp.{stamp_of}
 use Rattle.replica_events.specs.declared.edit_spec.EditSpec.{EditSpec}
 use Rattle.replica_core.specs.declared.event.Reply.{Reply}
@@ -14,6 +15,7 @@ use Rattle.genedit_script.specs.declared.command.Command.TheVariants.{Does, Name
 use Rattle.genedit_script.specs.declared.command.Paste.{Paste}
 use Rattle.genedit_lib.specs.Run.{PrintsAs}
 use Rattle.replica_core.specs.declared.fault.Fault.TheVariants.{Edit}
+use Rattle.genedit_lib.specs.EditLines.{edit_line, edit_lines}
 use Rattle.genedit_lib.specs.Output.{no_pattern_line, pattern_line, reply_line}
 
 -- ---- replies
@@ -52,6 +54,27 @@ far_pattern = refl
 pub no_such_pattern : no_pattern_line ≡ codes "refused 38 NoPattern"
 unfolding digits
 no_such_pattern = refl
+
+-- ---- the lines of edits
+
+-- replica 2 drew a cell, and replica 1 cleared an area
+abbrev stroke : PlaneEdit
+stroke = record { stamp = stamp_of 3 2; area = None; cells = record { x = pos 3; y = negsuc 3; state = 1 } ∷ [] }
+
+abbrev clear : PlaneEdit
+clear = record { stamp = stamp_of 2 1; area = Some (record { x = pos 0; y = pos 0; width = 2; height = 1 }); cells = [] }
+
+pub drawn_cells : edit_line stroke ≡ codes "edit 3 2 cells 3 -4 1\n"
+unfolding digits
+drawn_cells = refl
+
+pub cleared_area : edit_line clear ≡ codes "edit 2 1 area 0 0 2 1 cells\n"
+unfolding digits
+cleared_area = refl
+
+pub each_edit_in_a_line : edit_lines (stroke ∷ clear ∷ []) ≡ codes "edit 3 2 cells 3 -4 1\nedit 2 1 area 0 0 2 1 cells\n"
+unfolding digits
+each_edit_in_a_line = refl
 
 -- ---- the output of whole scripts
 

@@ -169,7 +169,7 @@ fn push_refusal(out: &mut Vec<u8>, number: u8, name: &[u8]) -> Result<(), AllocE
 }
 
 /// Counter and replica of a stamp's number; 0 and 0 of 0.
-fn push_stamp(out: &mut Vec<u8>, stamp: u64) -> Result<(), AllocError>
+pub(crate) fn push_stamp(out: &mut Vec<u8>, stamp: u64) -> Result<(), AllocError>
     ensures told { OnOk result (out.new.items ≡ out.old.items ++ stamp_text stamp) }
     ensures kept { OnErr result (IsPrefix out.old.items out.new.items) }
 {
@@ -186,16 +186,18 @@ fn push_number(out: &mut Vec<u8>, number: u64) -> Result<(), AllocError>
 }
 
 /// A blank, and a number.
-fn push_apart(out: &mut Vec<u8>, number: u64) -> Result<(), AllocError>
-    ensures { OnOk result (out.new.items ≡ out.old.items ++ (codes " " ++ decimal number)) }
+pub(crate) fn push_apart(out: &mut Vec<u8>, number: u64) -> Result<(), AllocError>
+    ensures told { OnOk result (out.new.items ≡ out.old.items ++ (codes " " ++ decimal number)) }
+    ensures kept { OnErr result (IsPrefix out.old.items out.new.items) }
 {
     out.push(b' ')?;
     push_number(out, number)
 }
 
 /// A blank, and a coordinate.
-fn push_coordinate(out: &mut Vec<u8>, coordinate: i32) -> Result<(), AllocError>
-    ensures { OnOk result (out.new.items ≡ out.old.items ++ (codes " " ++ signed_decimal coordinate)) }
+pub(crate) fn push_coordinate(out: &mut Vec<u8>, coordinate: i32) -> Result<(), AllocError>
+    ensures told { OnOk result (out.new.items ≡ out.old.items ++ (codes " " ++ signed_decimal coordinate)) }
+    ensures kept { OnErr result (IsPrefix out.old.items out.new.items) }
 {
     out.push(b' ')?;
     out.extend_from_slice(Buffer::new().format(coordinate).as_bytes())

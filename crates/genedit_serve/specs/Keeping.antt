@@ -17,7 +17,7 @@ use Rattle.relay_board.specs.Seating.{Numbered, Seating}
 use Rattle.seat_server.specs.Serving.{FinishedValue}
 use Rattle.genedit_serve.specs.Closing.{closing_text, kept_line, listening_line}
 use Rattle.genedit_serve.specs.Serving.{AreFreshSeats, Fails, Pushes}
-use Rattle.genedit_serve.specs.declared.refusal.FileRefusal.{FileRefusal}
+use Rattle.document_files.specs.declared.refusal.FileRefusal.{FileRefusal}
 
 -- the line of the file was pushed, and then that of the port
 pub record TellsKept (edits lost port : ℕ) (from to : KnownSink) : Type 0 where

@@ -3,15 +3,14 @@
 ghost use Rattle.std.specs.Prelude.{IfOk};
 ghost use Rattle.genedit_serve.specs.Keeping.{IsKeptFile};
 
-use crate::refusal::{FileRefusal, cause_of_file};
 use board_keeper::{HeadFault, rule_of};
-use genedit_io::{Cause, RunFault};
+use document_files::{FileRefusal, is_missing, open_found};
+use genedit_io::RunFault;
 use generations_rule::Rule;
-use kept_file::{FileKeep, OpenFault, open};
-use kept_log::{FindFault, Found, find};
+use kept_file::FileKeep;
+use kept_log::Found;
 use std::alloc::Global;
-use std::fs::{self, File};
-use std::io::ErrorKind;
+use std::fs::File;
 use std::rt::Files;
 
 /// A file in which a board is kept: it was read, for this process alone, and is not changed yet.
@@ -34,13 +33,9 @@ pub fn open_kept<'a, F: Files<File = File>>(
     if rule.is_none() && is_missing(rt, path) {
         return Err(no_rule());
     }
-    let keep = match open(rt, alloc, path) {
-        Ok(keep) => keep,
-        Err(fault) => return Err(open_refusal(fault)),
-    };
-    let found = match find(alloc, keep) {
+    let found = match open_found(rt, alloc, path) {
         Ok(found) => found,
-        Err((fault, keep)) => return Err(find_refusal(fault, &keep)),
+        Err(refusal) => return Err(refusal),
     };
     if let Some(rule) = &rule {
         // For the proof alone: the call tells that what is given is a rule.
@@ -52,47 +47,12 @@ pub fn open_kept<'a, F: Files<File = File>>(
     }
 }
 
-/// Whether there is no such file.
-fn is_missing<F: Files>(rt: &F, path: &str) -> bool {
-    match fs::metadata(rt, path) {
-        Ok(_) => false,
-        Err(error) => error.kind() == ErrorKind::NotFound,
-    }
-}
-
 /// That a file names no rule, and none is given.
 fn no_rule() -> FileRefusal {
     FileRefusal::of(
         RunFault::Refused(42, None),
         "there is no board in it yet: give the rule by --rule",
     )
-}
-
-/// Why a file could not be opened.
-fn open_refusal(fault: OpenFault) -> FileRefusal {
-    match fault {
-        OpenFault::Busy => FileRefusal::of(RunFault::Refused(43, None), "another process has it"),
-        OpenFault::NoFile => FileRefusal::of(RunFault::Refused(42, None), "it is no file"),
-        OpenFault::Refused(kind) => {
-            let cause = cause_of_file(kind).of_new_file();
-            FileRefusal::of(RunFault::Read, cause.text())
-        }
-        OpenFault::Memory => FileRefusal::memory(),
-    }
-}
-
-/// Why a file could not be read.
-fn find_refusal<F: Files<File = File>>(fault: FindFault, keep: &FileKeep<'_, F>) -> FileRefusal {
-    match fault {
-        FindFault::Memory => FileRefusal::memory(),
-        FindFault::NoRecord => {
-            FileRefusal::of(RunFault::Refused(42, None), "it holds no record of a board")
-        }
-        FindFault::Failed => {
-            let cause = keep.failure().map_or(Cause::Other, cause_of_file);
-            FileRefusal::of(RunFault::Read, cause.text())
-        }
-    }
 }
 
 /// Why a file names no rule for its board.

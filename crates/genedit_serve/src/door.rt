@@ -44,11 +44,12 @@ impl Doorkeeper {
     {
         let is_over = Arc::new(alloc, AtomicBool::new(false))?;
         let theirs = Arc::try_clone(&is_over)?;
+        let latecomers = Latecomers::new(rt, alloc, &entrance.house.desk, &is_over)?;
         let begun = thread::spawn(
             &rt,
             move ||
                 requires { IsSend R.row × IsSync R.row }
-            { keep_door(rt, alloc, &entrance, theirs) },
+            { keep_door(rt, &entrance, latecomers, &theirs) },
         );
         match begun {
             Ok(thread) => Ok(Doorkeeper { is_over, thread }),
@@ -69,15 +70,13 @@ impl Doorkeeper {
 /// back, or each seat has had one; else nobody more is seated, and the server is told.
 fn keep_door<R: Threads + Wait + Clock + Copy + Drop + Send + Sync + 'static>(
     rt: R,
-    alloc: Global,
     entrance: &Entrance,
-    is_over: Arc<AtomicBool, Global>,
+    latecomers: Latecomers<R>,
+    is_over: &AtomicBool,
 ) {
-    let Some(mut latecomers) = Latecomers::new(rt, alloc, &entrance.house.desk, &is_over) else {
-        return fail(&rt, entrance);
-    };
+    let mut latecomers = latecomers;
     for _ in rt.forever() {
-        let came = next_connection(&rt, entrance, &is_over);
+        let came = next_connection(&rt, entrance, is_over);
         if is_over.load(Ordering::SeqCst) {
             return latecomers.end();
         }

@@ -17,15 +17,15 @@ ghost use Rattle.genedit_serve.specs.Serving.{Fails, Pushes};
 use crate::closing::{closing, kept_line, listening};
 use crate::document::KeptFile;
 use crate::fault::{kept_fault, server_fault, start_fault};
-use crate::lost::save_lost;
-use crate::refusal::{FileRefusal, cause_of_file, load_refusal};
+use crate::refusal::load_refusal;
 use crate::seated::{Address, Doorway, Reception, Seated, seated};
 use crate::server::{Bound, INBOX};
 use board_keeper::{
     KeepFault, Keeper, KeptBodies, KeptSeats, LoadedBoard, OpenFault, OpenLog, load_board, opened,
 };
 use devices::Sink;
-use genedit_io::{Cause, RunFault, push_output};
+use document_files::{FileRefusal, save_lost, write_refusal};
+use genedit_io::{RunFault, push_output};
 use generations_rule::Rule;
 use kept_devices::Keep;
 use kept_file::FileKeep;
@@ -321,14 +321,6 @@ fn opened_log<'a, R: Files<File = File> + Eprint>(
         Err((OpenFault::Memory, _)) => Err(FileRefusal::memory()),
         Err((OpenFault::Write, keep)) => Err(write_refusal(&keep)),
     }
-}
-
-/// That a file failed, and why.
-fn write_refusal<F: Files<File = File>>(keep: &FileKeep<'_, F>) -> FileRefusal
-    ensures { result.fault ≡ RunFault.Write }
-{
-    let cause = keep.failure().map_or(Cause::Other, cause_of_file);
-    FileRefusal::of(RunFault::Write, cause.text())
 }
 
 /// Why there is no account.

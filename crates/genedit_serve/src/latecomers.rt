@@ -7,7 +7,7 @@ ghost use Rattle.message_frames.specs.Frames.{frame_text};
 use crate::anteroom::Anteroom;
 use crate::connections::Connection;
 use crate::desk::Desk;
-use std::alloc::Global;
+use std::alloc::{AllocError, Global};
 use std::io::{Read, Write};
 use std::net::{Shutdown, TcpStream};
 use std::sync::atomic::{AtomicBool, Ordering};
@@ -47,18 +47,18 @@ pub(crate) struct Latecomers<R> {
 }
 
 impl<R: Threads + Wait + Clock + Copy + Drop + Send + Sync + 'static> Latecomers<R> {
-    /// Those of a desk. None where memory is wanting.
+    /// Those of a desk.
     pub(crate) fn new(
         rt: R,
         alloc: Global,
         desk: &Arc<Mutex<Desk>, Global>,
         is_over: &Arc<AtomicBool, Global>,
-    ) -> Option<Latecomers<R>> {
-        Some(Latecomers {
+    ) -> Result<Latecomers<R>, AllocError> {
+        Ok(Latecomers {
             rt,
-            desk: Arc::try_clone(desk).ok()?,
-            is_over: Arc::try_clone(is_over).ok()?,
-            anteroom: Arc::new(alloc, Anteroom::new()).ok()?,
+            desk: Arc::try_clone(desk)?,
+            is_over: Arc::try_clone(is_over)?,
+            anteroom: Arc::new(alloc, Anteroom::new())?,
         })
     }
 

@@ -47,7 +47,7 @@ impl Doorway {
     }
 
     /// Lets connections in, and lets the server be asked to end. `Read` where the system refuses a thread, or the
-    /// listener a second descriptor.
+    /// listener a second descriptor; then, and without memory, nobody comes in, and nothing is asked.
     pub(crate) fn open<R: Net + Threads + Wait + Clock + Copy + Drop + Send + Sync + 'static>(
         &self,
         rt: R,
@@ -67,14 +67,23 @@ impl Doorway {
         if let Some(closing) = &self.address.closing {
             closing.begin(&rt, self.house.shared()?);
         }
-        Doorkeeper::start(rt, alloc, entrance)
+        let begun = Doorkeeper::start(rt, alloc, entrance);
+        if begun.is_err() {
+            self.ask_no_more(&rt);
+        }
+        begun
+    }
+
+    /// Lets the server be asked to end no more.
+    fn ask_no_more<R: Wait>(&self, rt: &R) {
+        if let Some(closing) = &self.address.closing {
+            closing.end(rt);
+        }
     }
 
     /// Lets nobody in any more.
     pub(crate) fn close<R: Net + Threads + Wait + Clock>(self, rt: &R, keeper: Doorkeeper) {
-        if let Some(closing) = &self.address.closing {
-            closing.end(rt);
-        }
+        self.ask_no_more(rt);
         if let Ok(local) = self.address.listener.local_addr() {
             keeper.end(rt, local.port());
         }

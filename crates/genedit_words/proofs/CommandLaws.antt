@@ -1,5 +1,5 @@
 -- Words that are no fault name a subcommand, and have what it needs.
-use Rattle.std.proofs.Common.{◌≡◌, ◌∙◌, ◌&&◌, ◌||◌, ◌⊎◌, inl, inr, ℕ, Bool, codes, true, false, not, refl, sym, ap, List, [], Option, Some, None, is_some, true≢false, slice_get}
+use Rattle.std.proofs.Common.{subst, ◌∷◌, ◌≡◌, ◌∙◌, ◌&&◌, ◌||◌, ◌⊎◌, inl, inr, ℕ, Bool, codes, true, false, not, refl, sym, ap, List, [], Option, Some, None, is_some, true≢false, slice_get}
 use Rattle.std.specs.Prelude.{if◌then◌else◌, find, option_and_then, option_map, pos}
 use Rattle.std.specs.List.{list_any}
 use Rattle.std.specs.Option.{option_map_or}
@@ -11,257 +11,148 @@ use Rattle.clap.specs.Lexer.{without_minus}
 use Rattle.clap.specs.Takes.{is_given}
 use Rattle.clap.specs.Values.{read_as}
 use Rattle.clap.specs.ValueTests.{accepts}
-use Rattle.clap.specs.Walk.{Held, Names, Row, Rule, Text, finished, first_of, nothing_held, one_of, row_text, rows_after, settled, walk, walk_from, with_default}
-use Rattle.clap.specs.Simple.{App, Shape, argument_words, built, built_leaf, entered, filled, help_rule, help_shape, inherited, names_of, rows_at, subcommand_of, with_index}
+use Rattle.clap.specs.Walk.{answers_to, Held, Names, Row, Rule, Text, finished, first_of, nothing_held, one_of, row_text, rows_after, settled, walk, walk_from, with_default}
+use Rattle.clap.specs.Simple.{App, Shape, label_of, argument_words, built, built_leaf, entered, filled, help_rule, help_shape, inherited, names_of, rows_at, subcommand_of, with_index}
 use Rattle.clap.specs.Kinds.{Kinds, check_kinds, or_else}
 use Rattle.clap.specs.Faults.{check_fault, defaults_fault, entered_fault, fault_of, level_fault, settle_fault, walk_fault}
 use Rattle.clap.specs.declared.builder.value_parser.Reading.{Reading}
 use Rattle.clap.specs.declared.builder.value_parser.Reading.TheVariants as reading
 use Rattle.clap.specs.declared.builder.value_parser.ValueParser.TheVariants as vp
-use Rattle.genedit_words.specs.Given.{HasClient, HasConversion, HasFlag, HasNumber, HasRule, HasServer, HasView, IsNamed, MayHaveNumber}
-use Rattle.genedit_words.specs.Words.{board_rule, check_shape, convert_shape, every_option, file_argument, flag, gen_option, genedit_app, join_shape, optional, place_argument, port_option, rle_shape, rule_option, run_shape, serve_shape, sessions_option, view_shape}
+use Rattle.genedit_words.specs.Given.{Has, HasClient, HasConversion, HasDiff, HasExport, HasFlag, HasLog, HasMerge, HasNew, HasNumber, HasRule, HasServer, HasText, HasTexts, HasView, IsNamed, MayHaveNumber}
+use Rattle.genedit_words.specs.Words.{board_rule, check_shape, convert_shape, diff_shape, edits_option, every_option, export_shape, file_argument, flag, gen_option, generation_place, genedit_app, join_shape, log_shape, merge_shape, new_document_shape, optional, others_argument, place_argument, port_option, rle_shape, rule_option, run_shape, serve_shape, sessions_option, view_shape}
 use Rattle.genedit_words.proofs.Stops.{both_pass, stops_at_help, walk_passes}
-use Rattle.genedit_words.proofs.RowFacts.{IsWellUsed, UsesWell, all_ok, both_true, rows_well}
-use Rattle.genedit_words.proofs.RuleFacts.{HasValue, drops_minus, first_passes, fit_default, fits, flag_well, found_value, given_value, is_flag_text, keeps_all, no_default, ok, set_well}
+use Rattle.genedit_words.proofs.RowFacts.{IsWellUsed, all_ok, both_true, rows_well}
+use Rattle.genedit_words.proofs.RuleFacts.{AreOrderly, HasValue, IsOrderly, append_orderly, defaults_orderly, drops_minus, first_passes, fits, flag_orderly, found_value, given_value, is_flag_text, keeps_all, no_default, ok, option_orderly, uses_found}
 
 abbrev whole : App
 whole = built genedit_app
 
--- subcommands as they are built, each with the flag for help
-abbrev run_built : Shape
-run_built = built_leaf (inherited whole.top run_shape)
+-- a subcommand as it is built, with the flag for help
+abbrev leaf : Shape → Shape
+leaf s = built_leaf (inherited whole.top s)
 
-abbrev rle_built : Shape
-rle_built = built_leaf (inherited whole.top rle_shape)
+-- ---- each use of an argument adds a row that is in order
 
-abbrev check_built : Shape
-check_built = built_leaf (inherited whole.top check_shape)
+-- an argument as it is built, at a place
+abbrev given : ℕ → Rule → Rule
+given place a = with_index place (filled a)
 
-abbrev view_built : Shape
-view_built = built_leaf (inherited whole.top view_shape)
+file_orderly : (place : ℕ) → IsOrderly (given place file_argument)
+file_orderly place = option_orderly (given place file_argument) refl refl (λ rows h. cc) (λ v vs passes. refl)
 
-abbrev convert_built : Shape
-convert_built = built_leaf (inherited whole.top convert_shape)
+document_orderly : (place : ℕ) → IsOrderly (given place (place_argument (codes "file")))
+document_orderly place = option_orderly (given place (place_argument (codes "file"))) refl refl (λ rows h. cc) (λ v vs passes. refl)
 
-abbrev serve_built : Shape
-serve_built = built_leaf (inherited whole.top (serve_shape false))
+in_orderly : (place : ℕ) → IsOrderly (given place (place_argument (codes "in")))
+in_orderly place = option_orderly (given place (place_argument (codes "in"))) refl refl (λ rows h. cc) (λ v vs passes. refl)
 
-abbrev join_built : Shape
-join_built = built_leaf (inherited whole.top join_shape)
+out_orderly : (place : ℕ) → IsOrderly (given place (place_argument (codes "out")))
+out_orderly place = option_orderly (given place (place_argument (codes "out"))) refl refl (λ rows h. cc) (λ v vs passes. refl)
 
--- ---- each use of an option adds a row that is in order
+other_orderly : (place : ℕ) → IsOrderly (given place (place_argument (codes "other")))
+other_orderly place = option_orderly (given place (place_argument (codes "other"))) refl refl (λ rows h. cc) (λ v vs passes. refl)
 
-abbrev given_board_rule : Rule
-given_board_rule = with_index 1 (filled (board_rule false))
+others_orderly : (place : ℕ) → IsOrderly (given place others_argument)
+others_orderly place = append_orderly (given place others_argument) refl refl (λ rows h. cc) (λ v vs passes. refl)
 
-abbrev given_keep : Rule
-given_keep = with_index 1 (filled (optional (codes "keep")))
+rule_orderly : (place : ℕ) → IsOrderly (given place rule_option)
+rule_orderly place = option_orderly (given place rule_option) refl refl (λ rows h. cc) (λ v vs passes. refl)
 
-abbrev given_port : Rule
-given_port = with_index 1 (filled port_option)
+own_rule_orderly : (place : ℕ) → IsOrderly (given place (optional (codes "rule")))
+own_rule_orderly place = option_orderly (given place (optional (codes "rule"))) refl refl (λ rows h. cc) (λ v vs passes. refl)
 
-abbrev given_sessions : Rule
-given_sessions = with_index 1 (filled sessions_option)
+board_rule_orderly : (place : ℕ) → IsOrderly (given place (board_rule false))
+board_rule_orderly place = option_orderly (given place (board_rule false)) refl refl (λ rows h. cc) (λ v vs passes. refl)
 
-abbrev given_until_close : Rule
-given_until_close = with_index 1 (filled (flag (codes "until-close")))
+at_orderly : (place : ℕ) → IsOrderly (given place (optional (codes "at")))
+at_orderly place = option_orderly (given place (optional (codes "at"))) refl refl (λ rows h. cc) (λ v vs passes. refl)
 
-board_rule_well : UsesWell ok false given_board_rule
-board_rule_well = set_well given_board_rule refl (λ rows h. cc) (λ v vs passes. refl)
+size_orderly : (place : ℕ) → IsOrderly (given place (optional (codes "size")))
+size_orderly place = option_orderly (given place (optional (codes "size"))) refl refl (λ rows h. cc) (λ v vs passes. refl)
 
-keep_well : UsesWell ok false given_keep
-keep_well = set_well given_keep refl (λ rows h. cc) (λ v vs passes. refl)
+keep_orderly : (place : ℕ) → IsOrderly (given place (optional (codes "keep")))
+keep_orderly place = option_orderly (given place (optional (codes "keep"))) refl refl (λ rows h. cc) (λ v vs passes. refl)
 
-until_close_well : UsesWell ok false given_until_close
-until_close_well = flag_well given_until_close refl refl refl refl
+port_orderly : (place : ℕ) → IsOrderly (given place port_option)
+port_orderly place = option_orderly (given place port_option) refl refl (λ rows h. cc) (λ v vs passes. first_passes false (vp.Signed (pos 0) (pos 65535)) v vs passes)
 
-port_well : UsesWell ok false given_port
-port_well = set_well given_port refl (λ rows h. cc) (λ v vs passes. first_passes false (vp.Signed (pos 0) (pos 65535)) v vs passes)
+sessions_orderly : (place : ℕ) → IsOrderly (given place sessions_option)
+sessions_orderly place = option_orderly (given place sessions_option) refl refl (λ rows h. cc) (λ v vs passes. first_passes false (vp.Signed (pos 1) (pos 64)) v vs passes)
 
-sessions_well : UsesWell ok false given_sessions
-sessions_well = set_well given_sessions refl (λ rows h. cc) (λ v vs passes. first_passes false (vp.Signed (pos 1) (pos 64)) v vs passes)
+every_orderly : (place : ℕ) → IsOrderly (given place every_option)
+every_orderly place = option_orderly (given place every_option) refl refl (λ rows h. cc) (λ v vs passes. first_passes false (vp.Signed (pos 1) (pos 60000)) v vs passes)
 
--- the arguments of `join` beside its port
-abbrev given_every : Rule
-given_every = with_index 1 (filled every_option)
+gen_orderly : (place : ℕ) → IsOrderly (given place gen_option)
+gen_orderly place = option_orderly (given place gen_option) refl refl (λ rows h. cc) (λ v vs passes. first_passes false (vp.Signed (pos 0) (pos 536870912)) v vs passes)
 
-abbrev given_follow : Rule
-given_follow = with_index 1 (filled (flag (codes "follow")))
+edits_orderly : (place : ℕ) → IsOrderly (given place edits_option)
+edits_orderly place = option_orderly (given place edits_option) refl refl (λ rows h. cc) (λ v vs passes. first_passes false (vp.Signed (pos 0) (pos 4294967295)) v vs passes)
 
-abbrev given_changes : Rule
-given_changes = with_index 1 (filled (flag (codes "changes")))
+generation_orderly : (place : ℕ) → IsOrderly (given place generation_place)
+generation_orderly place = option_orderly (given place generation_place) refl refl (λ rows h. cc) (λ v vs passes. first_passes false (vp.Signed (pos 0) (pos 4294967295)) v vs passes)
 
-abbrev given_quiet : Rule
-given_quiet = with_index 1 (filled (flag (codes "quiet")))
+plain_orderly : (place : ℕ) → IsOrderly (given place (flag (codes "plain")))
+plain_orderly place = flag_orderly (given place (flag (codes "plain"))) refl refl refl refl refl refl
 
-abbrev given_no_rescue : Rule
-given_no_rescue = with_index 1 (filled (flag (codes "no-rescue")))
+svg_orderly : (place : ℕ) → IsOrderly (given place (flag (codes "svg")))
+svg_orderly place = flag_orderly (given place (flag (codes "svg"))) refl refl refl refl refl refl
 
-every_well : UsesWell ok false given_every
-every_well = set_well given_every refl (λ rows h. cc) (λ v vs passes. first_passes false (vp.Signed (pos 1) (pos 60000)) v vs passes)
+replace_orderly : (place : ℕ) → IsOrderly (given place (flag (codes "replace")))
+replace_orderly place = flag_orderly (given place (flag (codes "replace"))) refl refl refl refl refl refl
 
-follow_well : UsesWell ok false given_follow
-follow_well = flag_well given_follow refl refl refl refl
+until_close_orderly : (place : ℕ) → IsOrderly (given place (flag (codes "until-close")))
+until_close_orderly place = flag_orderly (given place (flag (codes "until-close"))) refl refl refl refl refl refl
 
-changes_well : UsesWell ok false given_changes
-changes_well = flag_well given_changes refl refl refl refl
+follow_orderly : (place : ℕ) → IsOrderly (given place (flag (codes "follow")))
+follow_orderly place = flag_orderly (given place (flag (codes "follow"))) refl refl refl refl refl refl
 
-quiet_well : UsesWell ok false given_quiet
-quiet_well = flag_well given_quiet refl refl refl refl
+changes_orderly : (place : ℕ) → IsOrderly (given place (flag (codes "changes")))
+changes_orderly place = flag_orderly (given place (flag (codes "changes"))) refl refl refl refl refl refl
 
-no_rescue_well : UsesWell ok false given_no_rescue
-no_rescue_well = flag_well given_no_rescue refl refl refl refl
+quiet_orderly : (place : ℕ) → IsOrderly (given place (flag (codes "quiet")))
+quiet_orderly place = flag_orderly (given place (flag (codes "quiet"))) refl refl refl refl refl refl
 
--- the arguments of `view` as they are built: the file is the only one with a place
-abbrev given_file : Rule
-given_file = with_index 1 (filled file_argument)
+no_rescue_orderly : (place : ℕ) → IsOrderly (given place (flag (codes "no-rescue")))
+no_rescue_orderly place = flag_orderly (given place (flag (codes "no-rescue"))) refl refl refl refl refl refl
 
-abbrev given_at : Rule
-given_at = with_index 2 (filled (optional (codes "at")))
+help_orderly : IsOrderly (filled help_rule)
+help_orderly = record { uses = λ values rows passes holds. holds; default = λ rows holds. no_default rows (filled help_rule) refl holds }
 
-abbrev given_size : Rule
-given_size = with_index 2 (filled (optional (codes "size")))
+run_rules : AreOrderly (leaf run_shape).rules
+run_rules = (file_orderly 1, (help_orderly, tt))
 
-abbrev given_own_rule : Rule
-given_own_rule = with_index 2 (filled (optional (codes "rule")))
+check_rules : AreOrderly (leaf check_shape).rules
+check_rules = (file_orderly 1, (help_orderly, tt))
 
-abbrev given_gen : Rule
-given_gen = with_index 2 (filled gen_option)
+rle_rules : AreOrderly (leaf rle_shape).rules
+rle_rules = (file_orderly 1, (rule_orderly 2, (help_orderly, tt)))
 
-abbrev given_plain : Rule
-given_plain = with_index 2 (filled (flag (codes "plain")))
+view_rules : AreOrderly (leaf view_shape).rules
+view_rules = (file_orderly 1, (own_rule_orderly 2, (at_orderly 2, (size_orderly 2, (gen_orderly 2, (plain_orderly 2, (svg_orderly 2, (help_orderly, tt))))))))
 
-abbrev given_svg : Rule
-given_svg = with_index 2 (filled (flag (codes "svg")))
+convert_rules : AreOrderly (leaf convert_shape).rules
+convert_rules = (in_orderly 1, (out_orderly 2, (own_rule_orderly 3, (gen_orderly 3, (replace_orderly 3, (help_orderly, tt))))))
 
-file_well : UsesWell ok false given_file
-file_well = set_well given_file refl (λ rows h. cc) (λ v vs passes. refl)
+serve_rules : AreOrderly (leaf (serve_shape false)).rules
+serve_rules = (board_rule_orderly 1, (port_orderly 1, (sessions_orderly 1, (keep_orderly 1, (until_close_orderly 1, (help_orderly, tt))))))
 
-at_well : UsesWell ok false given_at
-at_well = set_well given_at refl (λ rows h. cc) (λ v vs passes. refl)
+join_rules : AreOrderly (leaf join_shape).rules
+join_rules = (port_orderly 1, (every_orderly 1, (follow_orderly 1, (changes_orderly 1, (quiet_orderly 1, (no_rescue_orderly 1, (help_orderly, tt)))))))
 
-size_well : UsesWell ok false given_size
-size_well = set_well given_size refl (λ rows h. cc) (λ v vs passes. refl)
+new_rules : AreOrderly (leaf new_document_shape).rules
+new_rules = (document_orderly 1, (rule_orderly 2, (help_orderly, tt)))
 
-own_rule_well : UsesWell ok false given_own_rule
-own_rule_well = set_well given_own_rule refl (λ rows h. cc) (λ v vs passes. refl)
+merge_rules : AreOrderly (leaf merge_shape).rules
+merge_rules = (document_orderly 1, (others_orderly 2, (help_orderly, tt)))
 
-gen_well : UsesWell ok false given_gen
-gen_well = set_well given_gen refl (λ rows h. cc) (λ v vs passes. first_passes false (vp.Signed (pos 0) (pos 536870912)) v vs passes)
+diff_rules : AreOrderly (leaf diff_shape).rules
+diff_rules = (document_orderly 1, (other_orderly 2, (help_orderly, tt)))
 
-plain_well : UsesWell ok false given_plain
-plain_well = flag_well given_plain refl refl refl refl
+log_rules : AreOrderly (leaf log_shape).rules
+log_rules = (document_orderly 1, (edits_orderly 2, (help_orderly, tt)))
 
-svg_well : UsesWell ok false given_svg
-svg_well = flag_well given_svg refl refl refl refl
-
--- the arguments of `convert` as they are built: two have a place
-abbrev given_in : Rule
-given_in = with_index 1 (filled (place_argument (codes "in")))
-
-abbrev given_out : Rule
-given_out = with_index 2 (filled (place_argument (codes "out")))
-
-abbrev given_made_rule : Rule
-given_made_rule = with_index 3 (filled (optional (codes "rule")))
-
-abbrev given_made_gen : Rule
-given_made_gen = with_index 3 (filled gen_option)
-
-abbrev given_replace : Rule
-given_replace = with_index 3 (filled (flag (codes "replace")))
-
-in_well : UsesWell ok false given_in
-in_well = set_well given_in refl (λ rows h. cc) (λ v vs passes. refl)
-
-out_well : UsesWell ok false given_out
-out_well = set_well given_out refl (λ rows h. cc) (λ v vs passes. refl)
-
-made_rule_well : UsesWell ok false given_made_rule
-made_rule_well = set_well given_made_rule refl (λ rows h. cc) (λ v vs passes. refl)
-
-made_gen_well : UsesWell ok false given_made_gen
-made_gen_well = set_well given_made_gen refl (λ rows h. cc) (λ v vs passes. first_passes false (vp.Signed (pos 0) (pos 536870912)) v vs passes)
-
-replace_well : UsesWell ok false given_replace
-replace_well = flag_well given_replace refl refl refl refl
-
-help_well : UsesWell ok false (filled help_rule)
-help_well values rows passes holds = holds
-
--- the rule of `rle`, beside which a file has a place
-abbrev given_form_rule : Rule
-given_form_rule = with_index 2 (filled rule_option)
-
-form_rule_well : UsesWell ok false given_form_rule
-form_rule_well = set_well given_form_rule refl (λ rows h. cc) (λ v vs passes. refl)
-
-rle_well : (p : Rule → Bool) → IsWellUsed ok false (find p rle_built.rules)
-rle_well p = go (p given_file) (p given_form_rule) (p (filled help_rule))
-  where
-    go : (a b c : Bool) → IsWellUsed ok false (if a then Some given_file else (if b then Some given_form_rule else (if c then Some (filled help_rule) else None)))
-    go true b c = file_well
-    go false true c = form_rule_well
-    go false false true = help_well
-    go false false false = tt
-
-serve_well : (p : Rule → Bool) → IsWellUsed ok false (find p serve_built.rules)
-serve_well p = go (p given_board_rule) (p given_port) (p given_sessions) (p given_keep) (p given_until_close) (p (filled help_rule))
-  where
-    go : (a b c d e f : Bool) → IsWellUsed ok false (if a then Some given_board_rule else (if b then Some given_port else (if c then Some given_sessions
-        else (if d then Some given_keep else (if e then Some given_until_close else (if f then Some (filled help_rule) else None))))))
-    go true b c d e f = board_rule_well
-    go false true c d e f = port_well
-    go false false true d e f = sessions_well
-    go false false false true e f = keep_well
-    go false false false false true f = until_close_well
-    go false false false false false true = help_well
-    go false false false false false false = tt
-
-join_well : (p : Rule → Bool) → IsWellUsed ok false (find p join_built.rules)
-join_well p = go (p given_port) (p given_every) (p given_follow) (p given_changes) (p given_quiet) (p given_no_rescue) (p (filled help_rule))
-  where
-    go : (a b c d e f g : Bool) → IsWellUsed ok false (if a then Some given_port else (if b then Some given_every else (if c then Some given_follow
-        else (if d then Some given_changes else (if e then Some given_quiet else (if f then Some given_no_rescue else (if g then Some (filled help_rule) else None)))))))
-    go true b c d e f g = port_well
-    go false true c d e f g = every_well
-    go false false true d e f g = follow_well
-    go false false false true e f g = changes_well
-    go false false false false true f g = quiet_well
-    go false false false false false true g = no_rescue_well
-    go false false false false false false true = help_well
-    go false false false false false false false = tt
-
-view_well : (p : Rule → Bool) → IsWellUsed ok false (find p view_built.rules)
-view_well p = go (p given_file) (p given_own_rule) (p given_at) (p given_size) (p given_gen) (p given_plain) (p given_svg) (p (filled help_rule))
-  where
-    go : (a b c d e f g h : Bool) → IsWellUsed ok false (if a then Some given_file else (if b then Some given_own_rule else (if c then Some given_at
-        else (if d then Some given_size else (if e then Some given_gen else (if f then Some given_plain else (if g then Some given_svg else (if h then Some (filled help_rule) else None))))))))
-    go true b c d e f g h = file_well
-    go false true c d e f g h = own_rule_well
-    go false false true d e f g h = at_well
-    go false false false true e f g h = size_well
-    go false false false false true f g h = gen_well
-    go false false false false false true g h = plain_well
-    go false false false false false false true h = svg_well
-    go false false false false false false false true = help_well
-    go false false false false false false false false = tt
-
-convert_well : (p : Rule → Bool) → IsWellUsed ok false (find p convert_built.rules)
-convert_well p = go (p given_in) (p given_out) (p given_made_rule) (p given_made_gen) (p given_replace) (p (filled help_rule))
-  where
-    go : (a b c d e f : Bool) → IsWellUsed ok false (if a then Some given_in else (if b then Some given_out else (if c then Some given_made_rule
-        else (if d then Some given_made_gen else (if e then Some given_replace else (if f then Some (filled help_rule) else None))))))
-    go true b c d e f = in_well
-    go false true c d e f = out_well
-    go false false true d e f = made_rule_well
-    go false false false true e f = made_gen_well
-    go false false false false true f = replace_well
-    go false false false false false true = help_well
-    go false false false false false false = tt
-
-plain_default : (a : Rule) → a.defaults ≡ [] → (rows : List Row) → all_ok ok rows ≡ true → all_ok ok (with_default rows a) ≡ true
-plain_default a none rows holds = no_default rows a none holds
+export_rules : AreOrderly (leaf export_shape).rules
+export_rules = (document_orderly 1, (generation_orderly 2, (edits_orderly 3, (help_orderly, tt))))
 
 -- ---- what the last checks say
 
@@ -291,11 +182,6 @@ level_passes s names h words has below passes =
     let third = both_pass settles (or_else defaults checks) second.1 in
     (first.0, second.0, third.0, (both_pass defaults checks third.1).1)
 
--- of arguments that have to be given, none of which is missing, the first is given, and the others too
-none_missing : (given rest : Bool) → (not given || rest) ≡ false → (given ≡ true) × (rest ≡ false)
-none_missing true rest h = (refl, h)
-none_missing false rest h = absurd (true≢false h)
-
 -- ---- what is given
 
 has_first : (id : Text) (rows : List Row) → HasValue id rows → (text : Text) × (first_of id rows ≡ Some text)
@@ -321,15 +207,6 @@ has_number low high id rows has fit =
       read = ap (option_and_then row_text) has.found ∙ (text ∙ ap (λ (t : Text). Some t) (reads_minus has.row.reading has.first both.0));
       within = accepts-Accepts false (vp.Signed (pos low) (pos high)) has.first both.1;
     }
-
--- `rle` on words that are no fault has a rule
-rle_has_rule : (words : List Text) → level_fault rle_built [] nothing_held words false [] ≡ [] → HasRule (rows_after rle_built.rules [] words)
-rle_has_rule words passes =
-    let rows = rows_after rle_built.rules [] words in
-    let parts = level_passes rle_built [] nothing_held words false [] passes in
-    let fine = rows_well ok rle_built rle_well (plain_default given_file refl, (plain_default given_form_rule refl, (plain_default (filled help_rule) refl, tt))) words parts.0 parts.2 in
-    let given = none_missing (is_given (codes "rule") rows) false (asks_argument false false (not (is_given (codes "rule") rows) || false) parts.3) in
-    has_first (codes "rule") rows (given_value (codes "rule") rows fine given.0)
 
 -- an argument that no row is of has no text
 no_text : (id : Text) (rows : List Row) → find (λ r. bytes_eq r.id id) rows ≡ None → one_of id rows ≡ None
@@ -370,150 +247,215 @@ has_flag id rows holds fit = elim (found_value id rows holds) [
       ]
 ]
 
--- `serve` has a port and a number of sessions, and what else a server may be asked with
-serve_has_all : (words : List Text) → level_fault serve_built [] nothing_held words false [] ≡ [] → HasServer (rows_after serve_built.rules [] words)
-serve_has_all words passes =
-    let rows = rows_after serve_built.rules [] words in
-    let has_port = is_given (codes "port") rows in
-    let has_sessions = is_given (codes "sessions") rows in
-    let parts = level_passes serve_built [] nothing_held words false [] passes in
-    let fine = rows_well ok serve_built serve_well (
-      plain_default given_board_rule refl,
-      (plain_default given_port refl, (plain_default given_sessions refl, (plain_default given_keep refl, ((λ rs. fit_default rs given_until_close (codes "false") refl refl), (plain_default (filled help_rule) refl, tt))))),
-    ) words parts.0 parts.2 in
-    let port = none_missing has_port (not has_sessions || false) (asks_argument false false (not has_port || (not has_sessions || false)) parts.3) in
-    let sessions = none_missing has_sessions false port.1 in
-    let port_value = given_value (codes "port") rows fine port.0 in
-    let sessions_value = given_value (codes "sessions") rows fine sessions.0 in
+-- ---- a subcommand's words that are no fault
+
+-- arguments that have to be given are
+abbrev pub AreGiven : List Rule → List Row → Type 0
+AreGiven [] rows = Unit {0}
+AreGiven (a ∷ rest) rows = (a.required ≡ true → is_given a.id rows ≡ true) × AreGiven rest rows
+
+all_given : (rules : List Rule) (rows : List Row) → list_any (λ (a : Rule). a.required && not (is_given a.id rows)) rules ≡ false → AreGiven rules rows
+all_given [] rows h = tt
+all_given (a ∷ rest) rows h =
+    let both = neither (a.required && not (is_given a.id rows)) (list_any (λ (b : Rule). b.required && not (is_given b.id rows)) rest) h in
+    ((λ required. one a.required (is_given a.id rows) required both.0), all_given rest rows both.1)
+  where
+    neither : (x y : Bool) → (x || y) ≡ false → (x ≡ false) × (y ≡ false)
+    neither true y h = absurd (true≢false h)
+    neither false y h = (refl, h)
+
+    one : (required given : Bool) → required ≡ true → (required && not given) ≡ false → given ≡ true
+    one required true is h = refl
+    one true false is h = absurd (true≢false h)
+    one false false is h = absurd (true≢false (sym is))
+
+-- each row is in order, and what has to be given is
+pub record IsFine (s : Shape) (rows : List Row) : Type 0 where
+  pub fine : all_ok ok rows ≡ true
+  pub given : AreGiven s.rules rows
+
+not_both : (a : Bool) → (a && false) ≡ false
+not_both true = refl
+not_both false = refl
+
+leaf_fine : (s : Shape) (words : List Text) → AreOrderly s.rules → s.args_override_self ≡ false → level_fault s [] nothing_held words false [] ≡ [] → IsFine s (rows_after s.rules [] words)
+leaf_fine s words all once passes =
+    let rows = rows_after s.rules [] words in
+    let parts = level_passes s [] nothing_held words false [] passes in
+    let missing = list_any (λ (a : Rule). a.required && not (is_given a.id rows)) s.rules in
+    let none = asks_argument (true && (s.arg_required_else_help && not (list_any (λ (r : Row). explicit_source r.source) rows))) (true && s.subcommand_required) (not (s.subcommand_negates_reqs && false) && missing) parts.3 in
     record {
-      port = has_number 0 65535 (codes "port") rows port_value port_value.fit;
-      sessions = has_number 1 64 (codes "sessions") rows sessions_value sessions_value.fit;
-      until_close = has_flag (codes "until-close") rows fine (λ how v fit. fit);
+      fine = rows_well ok s (subst (λ (again : Bool). (p : Rule → Bool) → IsWellUsed ok again (find p s.rules)) (sym once) (uses_found s.rules all)) (defaults_orderly s.rules all) words parts.0 parts.2;
+      given = all_given s.rules rows (subst (λ (b : Bool). (not b && missing) ≡ false) (not_both s.subcommand_negates_reqs) none);
     }
 
--- `view` on words that are no fault has what a picture may be asked with
-view_has_all : (words : List Text) → level_fault view_built [] nothing_held words false [] ≡ [] → HasView (rows_after view_built.rules [] words)
-view_has_all words passes =
-    let rows = rows_after view_built.rules [] words in
-    let parts = level_passes view_built [] nothing_held words false [] passes in
-    let fine = rows_well ok view_built view_well (
-      plain_default given_file refl,
-      (
-        plain_default given_own_rule refl,
-        (
-          plain_default given_at refl,
-          (
-            plain_default given_size refl,
-            (
-              plain_default given_gen refl,
-              (
-                (λ rs. fit_default rs given_plain (codes "false") refl refl),
-                ((λ rs. fit_default rs given_svg (codes "false") refl refl), (plain_default (filled help_rule) refl, tt)),
-              ),
-            ),
-          ),
-        ),
-      ),
-    ) words parts.0 parts.2 in
+-- so is one that has to be, by its id
+given_by : (id : Text) (rules : List Rule) (rows : List Row) → AreGiven rules rows → list_any (λ (a : Rule). bytes_eq a.id id && a.required) rules ≡ true → is_given id rows ≡ true
+given_by id [] rows given h = absurd (true≢false (sym h))
+given_by id (a ∷ rest) rows given h = go (bytes_eq a.id id) a.required refl refl h (given_by id rest rows given.1)
+  where
+    go : (is required : Bool) → bytes_eq a.id id ≡ is → a.required ≡ required → ((is && required) || list_any (λ (b : Rule). bytes_eq b.id id && b.required) rest) ≡ true
+        → (list_any (λ (b : Rule). bytes_eq b.id id && b.required) rest ≡ true → is_given id rows ≡ true) → is_given id rows ≡ true
+    go true true same has h more = subst (λ (i : Text). is_given i rows ≡ true) ((bytes_eq-Decides a.id id).0 same) (given.0 has)
+    go true false same has h more = more h
+    go false required same has h more = more h
+
+-- a value that has to be given
+value_at : (id : Text) (rows : List Row) → all_ok ok rows ≡ true → is_given id rows ≡ true → HasText id rows
+value_at id rows fine given = has_first id rows (given_value id rows fine given)
+
+number_at : (low high : ℕ) (id : Text) (rows : List Row) → all_ok ok rows ≡ true → is_given id rows ≡ true
+    → ((how : Reading) (v : Text) → fits id how v ≡ true → (drops_minus how && accepts false (vp.Signed (pos low) (pos high)) v) ≡ true) → HasNumber low high id rows
+number_at low high id rows fine given fit =
+    let has = given_value id rows fine given in
+    has_number low high id rows has (fit has.row.reading has.first has.fit)
+
+values_at : (id : Text) (rows : List Row) → all_ok ok rows ≡ true → is_given id rows ≡ true → HasTexts id rows
+values_at id rows fine given =
+    let has = given_value id rows fine given in
+    (has.row.values, ap (option_map (λ (r : Row). r.values)) has.found)
+
+-- ---- what each has
+
+rle_has : (words : List Text) → level_fault (leaf rle_shape) [] nothing_held words false [] ≡ [] → HasRule (rows_after (leaf rle_shape).rules [] words)
+rle_has words passes =
+    let rows = rows_after (leaf rle_shape).rules [] words in
+    let read = leaf_fine (leaf rle_shape) words rle_rules refl passes in
+    value_at (codes "rule") rows read.fine (given_by (codes "rule") (leaf rle_shape).rules rows read.given refl)
+
+view_has : (words : List Text) → level_fault (leaf view_shape) [] nothing_held words false [] ≡ [] → HasView (rows_after (leaf view_shape).rules [] words)
+view_has words passes =
+    let rows = rows_after (leaf view_shape).rules [] words in
+    let read = leaf_fine (leaf view_shape) words view_rules refl passes in
     record {
-      generation = may_have_number 0 536870912 (codes "gen") rows fine (λ how v fit. fit);
-      plain = has_flag (codes "plain") rows fine (λ how v fit. fit);
-      svg = has_flag (codes "svg") rows fine (λ how v fit. fit);
+      generation = may_have_number 0 536870912 (codes "gen") rows read.fine (λ how v fit. fit);
+      plain = has_flag (codes "plain") rows read.fine (λ how v fit. fit);
+      svg = has_flag (codes "svg") rows read.fine (λ how v fit. fit);
     }
 
--- `convert` has two files, and what else a conversion may be asked with
-convert_has_all : (words : List Text) → level_fault convert_built [] nothing_held words false [] ≡ [] → HasConversion (rows_after convert_built.rules [] words)
-convert_has_all words passes =
-    let rows = rows_after convert_built.rules [] words in
-    let has_in = is_given (codes "in") rows in
-    let has_out = is_given (codes "out") rows in
-    let parts = level_passes convert_built [] nothing_held words false [] passes in
-    let fine = rows_well ok convert_built convert_well (
-      plain_default given_in refl,
-      (
-        plain_default given_out refl,
-        (
-          plain_default given_made_rule refl,
-          (plain_default given_made_gen refl, ((λ rs. fit_default rs given_replace (codes "false") refl refl), (plain_default (filled help_rule) refl, tt))),
-        ),
-      ),
-    ) words parts.0 parts.2 in
-    let input = none_missing has_in (not has_out || false) (asks_argument false false (not has_in || (not has_out || false)) parts.3) in
-    let output = none_missing has_out false input.1 in
+convert_has : (words : List Text) → level_fault (leaf convert_shape) [] nothing_held words false [] ≡ [] → HasConversion (rows_after (leaf convert_shape).rules [] words)
+convert_has words passes =
+    let rows = rows_after (leaf convert_shape).rules [] words in
+    let read = leaf_fine (leaf convert_shape) words convert_rules refl passes in
     record {
-      input = has_first (codes "in") rows (given_value (codes "in") rows fine input.0);
-      output = has_first (codes "out") rows (given_value (codes "out") rows fine output.0);
-      generation = may_have_number 0 536870912 (codes "gen") rows fine (λ how v fit. fit);
-      replace = has_flag (codes "replace") rows fine (λ how v fit. fit);
+      input = value_at (codes "in") rows read.fine (given_by (codes "in") (leaf convert_shape).rules rows read.given refl);
+      output = value_at (codes "out") rows read.fine (given_by (codes "out") (leaf convert_shape).rules rows read.given refl);
+      generation = may_have_number 0 536870912 (codes "gen") rows read.fine (λ how v fit. fit);
+      replace = has_flag (codes "replace") rows read.fine (λ how v fit. fit);
     }
 
--- `join` has a port, and what else a client may be asked with
-join_has_all : (words : List Text) → level_fault join_built [] nothing_held words false [] ≡ [] → HasClient (rows_after join_built.rules [] words)
-join_has_all words passes =
-    let rows = rows_after join_built.rules [] words in
-    let has_port = is_given (codes "port") rows in
-    let parts = level_passes join_built [] nothing_held words false [] passes in
-    let fine = rows_well ok join_built join_well (
-      plain_default given_port refl,
-      (
-        plain_default given_every refl,
-        (
-          (λ rs. fit_default rs given_follow (codes "false") refl refl),
-          (
-            (λ rs. fit_default rs given_changes (codes "false") refl refl),
-            (
-              (λ rs. fit_default rs given_quiet (codes "false") refl refl),
-              ((λ rs. fit_default rs given_no_rescue (codes "false") refl refl), (plain_default (filled help_rule) refl, tt)),
-            ),
-          ),
-        ),
-      ),
-    ) words parts.0 parts.2 in
-    let port = none_missing has_port false (asks_argument false false (not has_port || false) parts.3) in
-    let port_value = given_value (codes "port") rows fine port.0 in
+serve_has : (words : List Text) → level_fault (leaf (serve_shape false)) [] nothing_held words false [] ≡ [] → HasServer (rows_after (leaf (serve_shape false)).rules [] words)
+serve_has words passes =
+    let rows = rows_after (leaf (serve_shape false)).rules [] words in
+    let read = leaf_fine (leaf (serve_shape false)) words serve_rules refl passes in
     record {
-      port = has_number 0 65535 (codes "port") rows port_value port_value.fit;
-      interval = may_have_number 1 60000 (codes "every") rows fine (λ how v fit. fit);
-      follow = has_flag (codes "follow") rows fine (λ how v fit. fit);
-      changes = has_flag (codes "changes") rows fine (λ how v fit. fit);
-      quiet = has_flag (codes "quiet") rows fine (λ how v fit. fit);
-      no_rescue = has_flag (codes "no-rescue") rows fine (λ how v fit. fit);
+      port = number_at 0 65535 (codes "port") rows read.fine (given_by (codes "port") (leaf (serve_shape false)).rules rows read.given refl) (λ how v fit. fit);
+      sessions = number_at 1 64 (codes "sessions") rows read.fine (given_by (codes "sessions") (leaf (serve_shape false)).rules rows read.given refl) (λ how v fit. fit);
+      until_close = has_flag (codes "until-close") rows read.fine (λ how v fit. fit);
+    }
+
+join_has : (words : List Text) → level_fault (leaf join_shape) [] nothing_held words false [] ≡ [] → HasClient (rows_after (leaf join_shape).rules [] words)
+join_has words passes =
+    let rows = rows_after (leaf join_shape).rules [] words in
+    let read = leaf_fine (leaf join_shape) words join_rules refl passes in
+    record {
+      port = number_at 0 65535 (codes "port") rows read.fine (given_by (codes "port") (leaf join_shape).rules rows read.given refl) (λ how v fit. fit);
+      interval = may_have_number 1 60000 (codes "every") rows read.fine (λ how v fit. fit);
+      follow = has_flag (codes "follow") rows read.fine (λ how v fit. fit);
+      changes = has_flag (codes "changes") rows read.fine (λ how v fit. fit);
+      quiet = has_flag (codes "quiet") rows read.fine (λ how v fit. fit);
+      no_rescue = has_flag (codes "no-rescue") rows read.fine (λ how v fit. fit);
+    }
+
+new_has : (words : List Text) → level_fault (leaf new_document_shape) [] nothing_held words false [] ≡ [] → HasNew (rows_after (leaf new_document_shape).rules [] words)
+new_has words passes =
+    let rows = rows_after (leaf new_document_shape).rules [] words in
+    let read = leaf_fine (leaf new_document_shape) words new_rules refl passes in
+    record {
+      file = value_at (codes "file") rows read.fine (given_by (codes "file") (leaf new_document_shape).rules rows read.given refl);
+      rule = value_at (codes "rule") rows read.fine (given_by (codes "rule") (leaf new_document_shape).rules rows read.given refl);
+    }
+
+merge_has : (words : List Text) → level_fault (leaf merge_shape) [] nothing_held words false [] ≡ [] → HasMerge (rows_after (leaf merge_shape).rules [] words)
+merge_has words passes =
+    let rows = rows_after (leaf merge_shape).rules [] words in
+    let read = leaf_fine (leaf merge_shape) words merge_rules refl passes in
+    record {
+      file = value_at (codes "file") rows read.fine (given_by (codes "file") (leaf merge_shape).rules rows read.given refl);
+      others = values_at (codes "other") rows read.fine (given_by (codes "other") (leaf merge_shape).rules rows read.given refl);
+    }
+
+diff_has : (words : List Text) → level_fault (leaf diff_shape) [] nothing_held words false [] ≡ [] → HasDiff (rows_after (leaf diff_shape).rules [] words)
+diff_has words passes =
+    let rows = rows_after (leaf diff_shape).rules [] words in
+    let read = leaf_fine (leaf diff_shape) words diff_rules refl passes in
+    record {
+      file = value_at (codes "file") rows read.fine (given_by (codes "file") (leaf diff_shape).rules rows read.given refl);
+      other = value_at (codes "other") rows read.fine (given_by (codes "other") (leaf diff_shape).rules rows read.given refl);
+    }
+
+log_has : (words : List Text) → level_fault (leaf log_shape) [] nothing_held words false [] ≡ [] → HasLog (rows_after (leaf log_shape).rules [] words)
+log_has words passes =
+    let rows = rows_after (leaf log_shape).rules [] words in
+    let read = leaf_fine (leaf log_shape) words log_rules refl passes in
+    record {
+      file = value_at (codes "file") rows read.fine (given_by (codes "file") (leaf log_shape).rules rows read.given refl);
+      edits = may_have_number 0 4294967295 (codes "edits") rows read.fine (λ how v fit. fit);
+    }
+
+export_has : (words : List Text) → level_fault (leaf export_shape) [] nothing_held words false [] ≡ [] → HasExport (rows_after (leaf export_shape).rules [] words)
+export_has words passes =
+    let rows = rows_after (leaf export_shape).rules [] words in
+    let read = leaf_fine (leaf export_shape) words export_rules refl passes in
+    record {
+      file = value_at (codes "file") rows read.fine (given_by (codes "file") (leaf export_shape).rules rows read.given refl);
+      generation = number_at 0 4294967295 (codes "generation") rows read.fine (given_by (codes "generation") (leaf export_shape).rules rows read.given refl) (λ how v fit. fit);
+      edits = may_have_number 0 4294967295 (codes "edits") rows read.fine (λ how v fit. fit);
     }
 
 -- ---- which subcommand the words name
 
--- the subcommand of these that a word names, by what the tests of its name say
-abbrev met_by : Bool → Bool → Bool → Bool → Bool → Bool → Bool → Bool → Option Shape
-met_by is_run is_check is_rle is_view is_convert is_serve is_join is_help = if is_run || false then Some run_built
-    else (if is_check || false then Some check_built
-    else (if is_rle || false then Some rle_built
-    else (if is_view || false then Some view_built
-    else (if is_convert || false then Some convert_built
-    else (if is_serve || false then Some serve_built
-    else (if is_join || false then Some join_built
-    else (if is_help || false then Some (built_leaf help_shape) else None)))))))
+-- each of these has what it needs, where the words behind its name are no fault; but for the one of a name
+abbrev HaveAll : Text → List Shape → Type 0
+HaveAll name [] = Unit {0}
+HaveAll name (s ∷ rest) = (answers_to name (label_of s) ≡ true → (words : List Text) → level_fault s [] nothing_held words false [] ≡ [] → Has s.name (rows_after s.rules [] words)) × HaveAll name rest
+
+found_named : (subs : List Shape) (stop : Text × List Text) → HaveAll stop.0 subs
+    → is_some (option_map (λ s. rows_at s stop.1) (find (λ s. answers_to stop.0 (label_of s)) subs)) ≡ true
+    → option_map_or (λ s. level_fault s [] nothing_held stop.1 false []) (find (λ s. answers_to stop.0 (label_of s)) subs) [] ≡ []
+    → IsNamed (option_map (λ s. rows_at s stop.1) (find (λ s. answers_to stop.0 (label_of s)) subs))
+found_named [] stop all some passes = absurd (true≢false (sym some))
+found_named (s ∷ rest) stop all some passes = go (answers_to stop.0 (label_of s)) refl some passes (found_named rest stop all.1)
+  where
+    go : (b : Bool) → answers_to stop.0 (label_of s) ≡ b
+        → is_some (option_map (λ s. rows_at s stop.1) (if b then Some s else find (λ s. answers_to stop.0 (label_of s)) rest)) ≡ true
+        → option_map_or (λ s. level_fault s [] nothing_held stop.1 false []) (if b then Some s else find (λ s. answers_to stop.0 (label_of s)) rest) [] ≡ []
+        → (is_some (option_map (λ s. rows_at s stop.1) (find (λ s. answers_to stop.0 (label_of s)) rest)) ≡ true
+        → option_map_or (λ s. level_fault s [] nothing_held stop.1 false []) (find (λ s. answers_to stop.0 (label_of s)) rest) [] ≡ []
+        → IsNamed (option_map (λ s. rows_at s stop.1) (find (λ s. answers_to stop.0 (label_of s)) rest)))
+        → IsNamed (option_map (λ s. rows_at s stop.1) (if b then Some s else find (λ s. answers_to stop.0 (label_of s)) rest))
+    go true is some passes more = record { name = s.name; rows = rows_after s.rules [] stop.1; met = refl; has = all.0 is stop.1 passes }
+    go false is some passes more = more some passes
+
+-- `help` is none where a walk stops elsewhere
+not_help : (name : Text) (rows : List Row) → bytes_eq name (codes "help") ≡ false → answers_to name (label_of (built_leaf help_shape)) ≡ true → Has (codes "help") rows
+not_help name rows other is = go (bytes_eq (codes "help") name) refl is
+  where
+    go : (b : Bool) → bytes_eq (codes "help") name ≡ b → (b || false) ≡ true → Has (codes "help") rows
+    go true same h = (
+        let name_is : codes "help" ≡ name = (bytes_eq-Decides (codes "help") name).0 same in
+        let helps : bytes_eq name (codes "help") ≡ true = (bytes_eq-Decides name (codes "help")).1 (sym name_is) in
+        absurd (true≢false (sym helps ∙ other))
+        )
+    go false same h = absurd (true≢false (sym h))
+
+all_have : (name : Text) → bytes_eq name (codes "help") ≡ false → HaveAll name whole.subs
+all_have name other = ((λ is words passes. tt), ((λ is words passes. tt), ((λ is words passes. rle_has words passes), ((λ is words passes. view_has words passes), ((λ is words passes. convert_has words passes), ((λ is words passes. serve_has words passes), ((λ is words passes. join_has words passes), ((λ is words passes. new_has words passes), ((λ is words passes. merge_has words passes), ((λ is words passes. diff_has words passes), ((λ is words passes. log_has words passes), ((λ is words passes. export_has words passes), ((λ is words passes. not_help name (rows_after (built_leaf help_shape).rules [] words) other is), tt)))))))))))))
 
 entered_named : (stop : Option (Text × List Text)) → is_some (entered whole stop) ≡ true → entered_fault whole stop ≡ [] → stops_at_help stop ≡ false
     → IsNamed (entered whole stop)
 entered_named None has passes not_help = absurd (true≢false (sym has))
-entered_named (Some p) has passes not_help =
-    go (bytes_eq (codes "run") p.0) (bytes_eq (codes "check") p.0) (bytes_eq (codes "rle") p.0) (bytes_eq (codes "view") p.0) (bytes_eq (codes "convert") p.0) (bytes_eq (codes "serve") p.0) (bytes_eq (codes "join") p.0)
-    (bytes_eq (codes "help") p.0) refl has passes
-  where
-    go : (a b c d e f g h : Bool) → bytes_eq (codes "help") p.0 ≡ h → is_some (option_map (λ s. rows_at s p.1) (met_by a b c d e f g h)) ≡ true
-        → option_map_or (λ s. level_fault s [] nothing_held p.1 false []) (met_by a b c d e f g h) [] ≡ [] → IsNamed (option_map (λ s. rows_at s p.1) (met_by a b c d e f g h))
-    go true b c d e f g h is some q = record { name = codes "run"; rows = rows_after run_built.rules [] p.1; met = refl; has = tt }
-    go false true c d e f g h is some q = record { name = codes "check"; rows = rows_after check_built.rules [] p.1; met = refl; has = tt }
-    go false false true d e f g h is some q = record { name = codes "rle"; rows = rows_after rle_built.rules [] p.1; met = refl; has = rle_has_rule p.1 q }
-    go false false false true e f g h is some q = record { name = codes "view"; rows = rows_after view_built.rules [] p.1; met = refl; has = view_has_all p.1 q }
-    go false false false false true f g h is some q = record { name = codes "convert"; rows = rows_after convert_built.rules [] p.1; met = refl; has = convert_has_all p.1 q }
-    go false false false false false true g h is some q = record { name = codes "serve"; rows = rows_after serve_built.rules [] p.1; met = refl; has = serve_has_all p.1 q }
-    go false false false false false false true h is some q = record { name = codes "join"; rows = rows_after join_built.rules [] p.1; met = refl; has = join_has_all p.1 q }
-    go false false false false false false false true is some q =
-        let name : codes "help" ≡ p.0 = (bytes_eq-Decides (codes "help") p.0).0 is in
-        let helps : bytes_eq p.0 (codes "help") ≡ true = (bytes_eq-Decides p.0 (codes "help")).1 (sym name) in
-        absurd (true≢false (sym helps ∙ not_help))
-    go false false false false false false false false is some q = absurd (true≢false (sym some))
+entered_named (Some stop) has passes not_help = found_named whole.subs stop (all_have stop.0 not_help) has passes
 
 pub words_named : (words : List Text) → fault_of genedit_app words ≡ [] → IsNamed (subcommand_of genedit_app words)
 words_named words passes =

@@ -1,6 +1,6 @@
 -- What a parse of the words gives, and what the words ask for by it.
 use Rattle.std.proofs.Common.{◌≡◌, ◌∙◌, ◌&&◌, ◌⊎◌, Bool, not, codes, true, false, refl, sym, ap, subst, List, [], Option, Some, None}
-use Rattle.std.specs.Prelude.{option_and_then, option_map, Result, Box}
+use Rattle.std.specs.Prelude.{IsSomeAnd, option_and_then, option_map, Result, Box}
 use Rattle.std.specs.Box.{box_value}
 use Rattle.std.specs.Str.{bytes_eq}
 use Rattle.std.proofs.lemmas.Slice.Eq.{bytes_eq-Decides}
@@ -16,10 +16,12 @@ use Rattle.clap.specs.Matches.{subcommand_name_of}
 use Rattle.clap.specs.declared.parser.matches.ArgMatches.{ArgMatches}
 use Rattle.clap.specs.declared.parser.matches.ArgMatches.TheViews.{out-ArgMatches, out-SubCommand}
 use Rattle.clap.specs.declared.parser.matches.SubCommand.{SubCommand}
-use Rattle.genedit_words.specs.Given.{Has, HasBy, IsNamed}
+use Rattle.genedit_words.specs.Given.{Has, HasFor, IsNamed}
 use Rattle.genedit_words.specs.declared.ending.Ending.TheVariants as ending
 use Rattle.genedit_words.specs.Misspelt.{Misspelt}
-use Rattle.genedit_words.specs.Words.{Asks, EndsWords, LacksRule, genedit_app, has_board, lacks_rule, task_of}
+use Rattle.genedit_words.specs.Words.{Asks, EndsWords, LacksRule, asked_by, genedit_app, has_board, lacks_rule, task_of}
+use Rattle.genedit_words.specs.Subcommands.{subcommand_named}
+use Rattle.genedit_words.specs.declared.subcommand.Subcommand.{Subcommand}
 use Rattle.genedit_words.specs.Told.{Told}
 use Rattle.genedit_words.proofs.CommandLaws.{words_named}
 
@@ -80,28 +82,19 @@ module _ (m : ArgMatches) (rows : List Row) (named : IsNamed (subcommand_rows_of
         subst (λ (rs : List Row). Has name rs) r has,
       )
 
--- where no other subcommand was entered, `run` was
-pub run_is_entered : (m : ArgMatches) → IsNamed (subcommand_rows_of m) → (subcommand_name_of m ≡ Some (codes "rle") → ⊥) → (subcommand_name_of m ≡ Some (codes "serve") → ⊥)
-    → (subcommand_name_of m ≡ Some (codes "check") → ⊥) → (subcommand_name_of m ≡ Some (codes "view") → ⊥) → (subcommand_name_of m ≡ Some (codes "join") → ⊥)
-    → (subcommand_name_of m ≡ Some (codes "convert") → ⊥) → subcommand_name_of m ≡ Some (codes "run")
-run_is_entered m named not_rle not_serve not_check not_view not_join not_convert =
-    go (bytes_eq named.name (codes "run")) (bytes_eq named.name (codes "rle")) (bytes_eq named.name (codes "serve")) (bytes_eq named.name (codes "check"))
-    (bytes_eq named.name (codes "view")) (bytes_eq named.name (codes "join")) (bytes_eq named.name (codes "convert")) refl refl refl refl refl refl refl named.has
-  where
-    is : (name : Text) → bytes_eq named.name name ≡ true → subcommand_name_of m ≡ Some name
-    is name same = entered_name m ∙ (ap (option_map (λ (p : Text × List Row). p.0)) named.met ∙ ap (λ (t : Text). Some t) ((bytes_eq-Decides named.name name).0 same))
+-- the subcommand of the name has what it needs, and what it asks for is what is asked for
+pub has_for : (name : Text) (rows : List Row) (s : Subcommand) → Has name rows → subcommand_named name ≡ Some s → HasFor s rows
+has_for name rows s has is = subst (λ (o : Option Subcommand). IsSomeAnd o (λ t. HasFor t rows)) is has
 
-    go : (a b c d e f g : Bool) → bytes_eq named.name (codes "run") ≡ a → bytes_eq named.name (codes "rle") ≡ b → bytes_eq named.name (codes "serve") ≡ c → bytes_eq named.name (codes "check") ≡ d
-        → bytes_eq named.name (codes "view") ≡ e → bytes_eq named.name (codes "join") ≡ f → bytes_eq named.name (codes "convert") ≡ g → HasBy a b c d e f g named.rows
-        → subcommand_name_of m ≡ Some (codes "run")
-    go true b c d e f g same_a same_b same_c same_d same_e same_f same_g has = is (codes "run") same_a
-    go false true c d e f g same_a same_b same_c same_d same_e same_f same_g has = absurd (not_rle (is (codes "rle") same_b))
-    go false false true d e f g same_a same_b same_c same_d same_e same_f same_g has = absurd (not_serve (is (codes "serve") same_c))
-    go false false false true e f g same_a same_b same_c same_d same_e same_f same_g has = absurd (not_check (is (codes "check") same_d))
-    go false false false false true f g same_a same_b same_c same_d same_e same_f same_g has = absurd (not_view (is (codes "view") same_e))
-    go false false false false false true g same_a same_b same_c same_d same_e same_f same_g has = absurd (not_join (is (codes "join") same_f))
-    go false false false false false false true same_a same_b same_c same_d same_e same_f same_g has = absurd (not_convert (is (codes "convert") same_g))
-    go false false false false false false false same_a same_b same_c same_d same_e same_f same_g has = absurd has
+pub none_has : (name : Text) (rows : List Row) → Has name rows → subcommand_named name ≡ None → ⊥
+none_has name rows has is = subst (λ (o : Option Subcommand). IsSomeAnd o (λ t. HasFor t rows)) is has
+
+pub asked_for : (entered : Option (Text × List Row)) (name : Text) (rows : List Row) (s : Subcommand) → entered ≡ Some (name, rows) → subcommand_named name ≡ Some s → option_and_then task_of entered ≡ asked_by s rows
+asked_for entered name rows s met is = ap (option_and_then task_of) met ∙ ap (option_and_then (λ (t : Subcommand). asked_by t rows)) is
+
+-- nothing is asked for without a subcommand
+pub none_entered : (m : ArgMatches) → IsNamed (subcommand_rows_of m) → subcommand_name_of m ≡ None → ⊥
+none_entered m named none = let both : Some named.name ≡ None = sym (entered_name m ∙ ap (option_map (λ (p : Text × List Row). p.0)) named.met) ∙ none in absurd (cc)
 
 -- ---- whether a server has a rule or a file
 

@@ -53,6 +53,11 @@ module _ (ok : Row → Bool) where
   IsWellUsed again None = Unit {0}
   IsWellUsed again (Some a) = UsesWell again a
 
+  -- a default that is given leaves each row so
+  abbrev pub DefaultsWell : List Rule → Type 0
+  DefaultsWell [] = Unit {0}
+  DefaultsWell (a ∷ rest) = ((rows : List Row) → all_ok rows ≡ true → all_ok (with_default rows a) ≡ true) × DefaultsWell rest
+
   module _ (c : List Rule) (again : Bool) (well : (p : Rule → Bool) → IsWellUsed again (find p c)) where
     abbrev Holds : Held → Type 0
     Holds h = all_ok h.rows ≡ true
@@ -213,11 +218,6 @@ module _ (ok : Row → Bool) where
     walk_well w (word ∷ rest) passes holds =
         let p = both_pass (turn_fault s [] w word) (walk_fault s [] (walked s.rules [] w word) rest) passes in
         walk_well (walked s.rules [] w word) rest p.1 (turn_well w word p.0 holds)
-
-    -- a default that is given leaves each row so
-    abbrev DefaultsWell : List Rule → Type 0
-    DefaultsWell [] = Unit {0}
-    DefaultsWell (a ∷ rest) = ((rows : List Row) → all_ok rows ≡ true → all_ok (with_default rows a) ≡ true) × DefaultsWell rest
 
     defaulted_well : (c : List Rule) (rows : List Row) → DefaultsWell c → all_ok rows ≡ true → all_ok (fold with_default rows c) ≡ true
     defaulted_well [] rows wells holds = holds

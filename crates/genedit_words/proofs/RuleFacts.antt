@@ -17,14 +17,14 @@ use Rattle.clap.specs.declared.builder.action.ArgAction.{ArgAction}
 use Rattle.clap.specs.declared.builder.range.ValueRange.{ValueRange}
 use Rattle.clap.specs.declared.error.kind.ErrorKind.{ErrorKind}
 use Rattle.clap.specs.declared.error.kind.ErrorKind.TheVariants.{WrongNumberOfValues}
-use Rattle.clap.specs.declared.builder.action.ArgAction.TheVariants.{Set, SetTrue}
+use Rattle.clap.specs.declared.builder.action.ArgAction.TheVariants.{Append, Set, SetTrue}
 use Rattle.clap.specs.declared.builder.value_parser.Reading.{Reading}
 use Rattle.clap.specs.declared.builder.value_parser.Reading.TheVariants as reading
 use Rattle.clap.specs.declared.builder.value_parser.ValueParser.{ValueParser}
 use Rattle.clap.specs.declared.builder.value_parser.ValueParser.TheVariants as vp
 use Rattle.clap.specs.declared.parser.matches.ValueSource.{ValueSource}
 use Rattle.clap.specs.declared.parser.matches.ValueSource.TheVariants.{CommandLine, DefaultValue}
-use Rattle.genedit_words.proofs.RowFacts.{UsesWell, all_ok, both_true, changed_values}
+use Rattle.genedit_words.proofs.RowFacts.{DefaultsWell, IsWellUsed, UsesWell, all_ok, both_true, changed_values}
 use Rattle.genedit_words.proofs.Stops.{both_pass}
 
 abbrev pub drops_minus : Reading → Bool
@@ -52,6 +52,8 @@ fits id how v = if bytes_eq id (codes "port") then drops_minus how && accepts fa
     else if bytes_eq id (codes "no-rescue") then keeps_all how && is_flag_text v
     else if bytes_eq id (codes "until-close") then keeps_all how && is_flag_text v
     else if bytes_eq id (codes "replace") then keeps_all how && is_flag_text v
+    else if bytes_eq id (codes "edits") then drops_minus how && accepts false (vp.Signed (pos 0) (pos 4294967295)) v
+    else if bytes_eq id (codes "generation") then drops_minus how && accepts false (vp.Signed (pos 0) (pos 4294967295)) v
     else true
 
 -- a row has a first value, which fits
@@ -86,7 +88,7 @@ replaced_well a v vs rows fit holds =
     with_well a CommandLine v vs (without a.id rows) fit (changed_values ok a.id (λ _. []) [] rows (λ r h. refl) refl holds)
 
 -- an option with one value, whose values fit
-pub set_well : (a : Rule) → action_of a ≡ Set → ((rows : List Row) → use_fault false a [] rows ≡ [] → ⊥)
+set_well : (a : Rule) → action_of a ≡ Set → ((rows : List Row) → use_fault false a [] rows ≡ [] → ⊥)
     → ((v : Text) (vs : List Text) → values_fault a (v ∷ vs) ≡ [] → fits a.id (reading_by a) v ≡ true) → UsesWell ok false a
 set_well a is_set needs fit [] rows passes holds = absurd (needs rows passes)
 set_well a is_set needs fit (v ∷ vs) rows passes holds =
@@ -95,8 +97,17 @@ set_well a is_set needs fit (v ∷ vs) rows passes holds =
     let values = both_pass (repeat_fault false a.id rows) (values_fault a (v ∷ vs)) set in
     subst (λ (act : ArgAction). all_ok ok (used_as act a.id (reading_by a) (v ∷ vs) rows) ≡ true) (sym is_set) (replaced_well a v vs rows (fit v vs values.1) holds)
 
+-- one that may be given more than once, a value each time
+append_well : (a : Rule) → action_of a ≡ Append → ((rows : List Row) → use_fault false a [] rows ≡ [] → ⊥)
+    → ((v : Text) (vs : List Text) → values_fault a (v ∷ vs) ≡ [] → fits a.id (reading_by a) v ≡ true) → UsesWell ok false a
+append_well a is_append needs fit [] rows passes holds = absurd (needs rows passes)
+append_well a is_append needs fit (v ∷ vs) rows passes holds =
+    let both = both_pass (range_kinds (unwrap_or_range a.range).start_inclusive (most_values a) (length (v ∷ vs))) (action_fault (action_of a) false a (v ∷ vs) rows) passes in
+    let values : values_fault a (v ∷ vs) ≡ [] = subst (λ (act : ArgAction). action_fault act false a (v ∷ vs) rows ≡ []) is_append both.1 in
+    subst (λ (act : ArgAction). all_ok ok (used_as act a.id (reading_by a) (v ∷ vs) rows) ≡ true) (sym is_append) (with_well a CommandLine v vs rows (fit v vs values) holds)
+
 -- a flag, which takes no value and whose own text fits
-pub flag_well : (a : Rule) → action_of a ≡ SetTrue → a.missing ≡ codes "true" ∷ [] → unwrap_or_range a.range ≡ record { start_inclusive = 0; end_inclusive = 0 }
+flag_well : (a : Rule) → action_of a ≡ SetTrue → a.missing ≡ codes "true" ∷ [] → unwrap_or_range a.range ≡ record { start_inclusive = 0; end_inclusive = 0 }
     → fits a.id (reading_by a) (codes "true") ≡ true → UsesWell ok false a
 flag_well a is_flag missing none fit (v ∷ vs) rows passes holds =
     let range = unwrap_or_range a.range in
@@ -130,12 +141,51 @@ no_default rows a none holds = go (has_row a.id rows)
     go false = rw none holds
 
 -- one with a default value that fits adds a row that is in order
-pub fit_default : (rows : List Row) (a : Rule) (v : Text) → a.defaults ≡ v ∷ [] → fits a.id (reading_by a) v ≡ true → all_ok ok rows ≡ true → all_ok ok (with_default rows a) ≡ true
+fit_default : (rows : List Row) (a : Rule) (v : Text) → a.defaults ≡ v ∷ [] → fits a.id (reading_by a) v ≡ true → all_ok ok rows ≡ true → all_ok ok (with_default rows a) ≡ true
 fit_default rows a v is fit holds = go (has_row a.id rows)
   where
     go : (b : Bool) → all_ok ok (if b then rows else default_rows a.id (reading_by a) a.defaults rows) ≡ true
     go true = holds
     go false = subst (λ (texts : List Text). all_ok ok (default_rows a.id (reading_by a) texts rows) ≡ true) (sym is) (with_well a DefaultValue v [] rows fit holds)
+
+-- ---- arguments of which each row is in order
+
+-- so are those of its uses, and that of its default
+pub record IsOrderly (a : Rule) : Type 0 where
+  pub uses : UsesWell ok false a
+  pub default : (rows : List Row) → all_ok ok rows ≡ true → all_ok ok (with_default rows a) ≡ true
+
+abbrev pub AreOrderly : List Rule → Type 0
+AreOrderly [] = Unit {0}
+AreOrderly (a ∷ rest) = IsOrderly a × AreOrderly rest
+
+-- an argument with a value, and none by default
+pub option_orderly : (a : Rule) → action_of a ≡ Set → a.defaults ≡ [] → ((rows : List Row) → use_fault false a [] rows ≡ [] → ⊥)
+    → ((v : Text) (vs : List Text) → values_fault a (v ∷ vs) ≡ [] → fits a.id (reading_by a) v ≡ true) → IsOrderly a
+option_orderly a is_set none needs fit = record { uses = set_well a is_set needs fit; default = λ rows holds. no_default rows a none holds }
+
+-- one that may be given more than once
+pub append_orderly : (a : Rule) → action_of a ≡ Append → a.defaults ≡ [] → ((rows : List Row) → use_fault false a [] rows ≡ [] → ⊥)
+    → ((v : Text) (vs : List Text) → values_fault a (v ∷ vs) ≡ [] → fits a.id (reading_by a) v ≡ true) → IsOrderly a
+append_orderly a is_append none needs fit = record { uses = append_well a is_append needs fit; default = λ rows holds. no_default rows a none holds }
+
+-- a flag, which is false by default
+pub flag_orderly : (a : Rule) → action_of a ≡ SetTrue → a.missing ≡ codes "true" ∷ [] → unwrap_or_range a.range ≡ record { start_inclusive = 0; end_inclusive = 0 } → a.defaults ≡ codes "false" ∷ []
+    → fits a.id (reading_by a) (codes "true") ≡ true → fits a.id (reading_by a) (codes "false") ≡ true → IsOrderly a
+flag_orderly a is_flag missing none default given_fits default_fits =
+    record { uses = flag_well a is_flag missing none given_fits; default = λ rows holds. fit_default rows a (codes "false") default default_fits holds }
+
+pub uses_found : (rules : List Rule) → AreOrderly rules → (p : Rule → Bool) → IsWellUsed ok false (find p rules)
+uses_found [] all p = tt
+uses_found (a ∷ rest) all p = go (p a) (uses_found rest all.1 p)
+  where
+    go : (b : Bool) → IsWellUsed ok false (find p rest) → IsWellUsed ok false (if b then Some a else find p rest)
+    go true more = all.0.uses
+    go false more = more
+
+pub defaults_orderly : (rules : List Rule) → AreOrderly rules → DefaultsWell ok rules
+defaults_orderly [] all = tt
+defaults_orderly (a ∷ rest) all = (all.0.default, defaults_orderly rest all.1)
 
 -- ---- what is given
 

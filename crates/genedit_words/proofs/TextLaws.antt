@@ -2,7 +2,7 @@
 use Rattle.std.proofs.Common.{◌≡◌, ◌∙◌, ◌||◌, ℕ, Bool, true, false, true≢false, List, Option, Some, None, is_some, codes, refl, sym, ap}
 use Rattle.std.specs.Borrow.{Bor}
 use Rattle.std.specs.Option.{IsSome}
-use Rattle.std.specs.Prelude.{if◌then◌else◌, option_and_then, option_map, Result, Ok, Err}
+use Rattle.std.specs.Prelude.{map, if◌then◌else◌, option_and_then, option_map, Result, Ok, Err}
 use Rattle.clap.specs.Walk.{Row, Text, first_of}
 use Rattle.generations_rule.specs.Rule.{GenerationsRule}
 use Rattle.genedit_words.specs.Misspelt.{Misspelt}
@@ -15,6 +15,16 @@ some_text (Some s) text h = refl
 
 pub same_text : (o : Option (Bor (List ℕ))) (s : Bor (List ℕ)) (text : List ℕ) → option_map (λ s. s.now) o ≡ Some text → o ≡ Some s → s.now ≡ text
 same_text o s text h is = let some : Some s.now ≡ Some text = ap (option_map (λ (x : Bor (List ℕ)). x.now)) (sym is) ∙ h in cc
+
+-- the same of texts
+pub some_texts : (o : Option (Bor (List (Bor (List ℕ))))) (texts : List (List ℕ)) → option_map (λ s. map (λ v. v.now) s.now) o ≡ Some texts → IsSome o
+some_texts None texts h = cc
+some_texts (Some s) texts h = refl
+
+pub same_texts : (o : Option (Bor (List (Bor (List ℕ))))) (s : Bor (List (Bor (List ℕ)))) (texts : List (List ℕ)) → option_map (λ s. map (λ v. v.now) s.now) o ≡ Some texts → o ≡ Some s
+    → map (λ (v : Bor (List ℕ)). v.now) s.now ≡ texts
+same_texts o s texts h is =
+    let some : Some (map (λ (v : Bor (List ℕ)). v.now) s.now) ≡ Some texts = ap (option_map (λ (x : Bor (List (Bor (List ℕ)))). map (λ (v : Bor (List ℕ)). v.now) x.now)) (sym is) ∙ h in cc
 
 -- what the getters read for a picture
 pub is_viewing : (rows : List Row) (rule : Option GenerationsRule) {file at size : Option Text} (generation : Option ℕ) (is_plain is_svg : Bool)

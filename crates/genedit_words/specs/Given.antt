@@ -1,12 +1,19 @@
 -- What words that are no fault have.
-use Rattle.std.specs.Prelude.{◌≡◌, ◌⊎◌, ◌≤◌, ⊤, None, ℕ, Bool, true, false, List, Option, Some, codes, pos}
+use Rattle.std.specs.Prelude.{IsSomeAnd, ◌≡◌, ◌⊎◌, ◌≤◌, ⊤, None, ℕ, Bool, true, false, List, Option, Some, codes, pos}
 use Rattle.std.specs.Option.{IsSome}
-use Rattle.std.specs.Str.{bytes_eq}
 use Rattle.clap.specs.Values.{IsSignedIn}
 use Rattle.clap.specs.Words.{Row, Text, first_of, one_of, without_minus}
+use Rattle.clap.specs.Walk.{all_of}
+use Rattle.genedit_words.specs.declared.subcommand.Subcommand.{Subcommand}
+use Rattle.genedit_words.specs.declared.subcommand.Subcommand.TheVariants as subcommand
+use Rattle.genedit_words.specs.Subcommands.{subcommand_named}
 use Rattle.genedit_words.specs.declared.task.ServeTask.{ServeTask}
 use Rattle.genedit_words.specs.declared.task.Task.{Task}
 use Rattle.genedit_words.specs.declared.task.Task.TheVariants.{Join, Serve}
+
+-- a text at a place
+abbrev pub HasText : Text → List Row → Type 0
+HasText id rows = (text : Text) × (first_of id rows ≡ Some text)
 
 -- a text for a rule
 abbrev pub HasRule : List Row → Type 0
@@ -40,8 +47,8 @@ pub record HasView (rows : List Row) : Type 0 where
 
 -- what a conversion needs, and may be asked with
 pub record HasConversion (rows : List Row) : Type 0 where
-  pub input : (text : Text) × (first_of (codes "in") rows ≡ Some text)
-  pub output : (text : Text) × (first_of (codes "out") rows ≡ Some text)
+  pub input : HasText (codes "in") rows
+  pub output : HasText (codes "out") rows
   pub generation : MayHaveNumber 0 536870912 (codes "gen") rows
   pub replace : HasFlag (codes "replace") rows
 
@@ -54,21 +61,49 @@ pub record HasClient (rows : List Row) : Type 0 where
   pub quiet : HasFlag (codes "quiet") rows
   pub no_rescue : HasFlag (codes "no-rescue") rows
 
--- by the subcommand: whether it is `run`, `rle`, `serve`, `check`, `view`, `join`, `convert`
-abbrev pub HasBy : Bool → Bool → Bool → Bool → Bool → Bool → Bool → List Row → Type 0
-HasBy true is_rle is_serve is_check is_view is_join is_convert rows = ⊤
-HasBy false true is_serve is_check is_view is_join is_convert rows = HasRule rows
-HasBy false false true is_check is_view is_join is_convert rows = HasServer rows
-HasBy false false false true is_view is_join is_convert rows = ⊤
-HasBy false false false false true is_join is_convert rows = HasView rows
-HasBy false false false false false true is_convert rows = HasClient rows
-HasBy false false false false false false true rows = HasConversion rows
-HasBy false false false false false false false rows = ⊥
+-- texts, one at least
+abbrev pub HasTexts : Text → List Row → Type 0
+HasTexts id rows = (texts : List Text) × (all_of id rows ≡ Some texts)
 
--- by its name
+pub record HasNew (rows : List Row) : Type 0 where
+  pub file : HasText (codes "file") rows
+  pub rule : HasRule rows
+
+pub record HasMerge (rows : List Row) : Type 0 where
+  pub file : HasText (codes "file") rows
+  pub others : HasTexts (codes "other") rows
+
+pub record HasDiff (rows : List Row) : Type 0 where
+  pub file : HasText (codes "file") rows
+  pub other : HasText (codes "other") rows
+
+pub record HasLog (rows : List Row) : Type 0 where
+  pub file : HasText (codes "file") rows
+  pub edits : MayHaveNumber 0 4294967295 (codes "edits") rows
+
+pub record HasExport (rows : List Row) : Type 0 where
+  pub file : HasText (codes "file") rows
+  pub generation : HasNumber 0 4294967295 (codes "generation") rows
+  pub edits : MayHaveNumber 0 4294967295 (codes "edits") rows
+
+-- what a subcommand needs
+abbrev pub HasFor : Subcommand → List Row → Type 0
+HasFor subcommand.Run rows = ⊤
+HasFor subcommand.Check rows = ⊤
+HasFor subcommand.Rle rows = HasRule rows
+HasFor subcommand.View rows = HasView rows
+HasFor subcommand.Convert rows = HasConversion rows
+HasFor subcommand.Serve rows = HasServer rows
+HasFor subcommand.Join rows = HasClient rows
+HasFor subcommand.New rows = HasNew rows
+HasFor subcommand.Merge rows = HasMerge rows
+HasFor subcommand.Diff rows = HasDiff rows
+HasFor subcommand.Log rows = HasLog rows
+HasFor subcommand.Export rows = HasExport rows
+
+-- the same, by its name
 abbrev pub Has : Text → List Row → Type 0
-Has name = HasBy (bytes_eq name (codes "run")) (bytes_eq name (codes "rle")) (bytes_eq name (codes "serve")) (bytes_eq name (codes "check"))
-    (bytes_eq name (codes "view")) (bytes_eq name (codes "join")) (bytes_eq name (codes "convert"))
+Has name rows = IsSomeAnd (subcommand_named name) (λ s. HasFor s rows)
 
 -- a subcommand is named, and has what it needs
 pub record IsNamed (entered : Option (Text × List Row)) : Type 0 where

@@ -1,3 +1,4 @@
+pub mod Subcommands
 pub mod RuleWords
 pub mod Misspelt
 pub mod Bound

@@ -12,8 +12,8 @@ use Rattle.header_rules.specs.Families.{other_names, table_ends, table_fronts}
 use Rattle.header_rules.specs.Names.{rule_names}
 use Rattle.genedit_words.specs.Bound.{bound_words}
 use Rattle.genedit_words.specs.Misspelt.{misspelt_text}
-use Rattle.genedit_words.specs.Told.{Check, Join, Run, Serve, View}
-use Rattle.genedit_words.specs.Words.{Asks, LacksRule, genedit_app, rle_task, rule_asked, rule_if_given, serve_task}
+use Rattle.genedit_words.specs.Told.{Check, Diff, Export, Join, Log, Merge, Run, Serve, View}
+use Rattle.genedit_words.specs.Words.{Asks, LacksRule, genedit_app, new_task, rle_task, rule_asked, rule_if_given, serve_task}
 
 abbrev genedit : List Text → List Text
 genedit words = codes "genedit" ∷ words
@@ -229,6 +229,34 @@ sixty_five_sessions = refl
 no_port : fault_of genedit_app (serve (codes "--rule=/2/3" ∷ codes "--sessions=1" ∷ [])) ≡ kind.MissingRequiredArgument ∷ []
 unfolding clap_on_literals
 no_port = refl
+
+new_document : Asks (genedit (codes "new" ∷ codes "a.glwl" ∷ codes "--rule=/2/3" ∷ [])) (new_task (codes "a.glwl") (rule_asked (codes "/2/3")))
+unfolding clap_on_literals
+new_document = (refl, refl)
+
+merging : Asks (genedit (codes "merge" ∷ codes "a" ∷ codes "b" ∷ codes "-" ∷ codes "b" ∷ [])) (Ok (Merge (codes "a") (codes "b" ∷ codes "-" ∷ codes "b" ∷ [])))
+unfolding clap_on_literals
+merging = (refl, refl)
+
+merging_of_none : fault_of genedit_app (genedit (codes "merge" ∷ codes "a" ∷ [])) ≡ kind.MissingRequiredArgument ∷ []
+unfolding clap_on_literals
+merging_of_none = refl
+
+comparing : Asks (genedit (codes "diff" ∷ codes "a" ∷ codes "-" ∷ [])) (Ok (Diff (codes "a") None))
+unfolding clap_on_literals
+comparing = (refl, refl)
+
+listing : Asks (genedit (codes "log" ∷ codes "--edits" ∷ codes "12" ∷ codes "a" ∷ [])) (Ok (Log (Some (codes "a")) (Some 12)))
+unfolding clap_on_literals
+listing = (refl, refl)
+
+exporting : Asks (genedit (codes "export" ∷ codes "-" ∷ codes "30" ∷ [])) (Ok (Export None 30 None))
+unfolding clap_on_literals
+exporting = (refl, refl)
+
+generation_of_33_bits : fault_of genedit_app (genedit (codes "export" ∷ codes "a" ∷ codes "4294967296" ∷ [])) ≡ kind.ValueValidation ∷ []
+unfolding clap_on_literals
+generation_of_33_bits = refl
 
 refused_rule : Asks (rle (codes "--rule" ∷ codes "life?" ∷ [])) (Err (record { text = codes "life?"; why = Fault Slashes }))
 unfolding clap_on_literals rule_names other_names table_fronts table_ends

@@ -1,5 +1,5 @@
 -- What words can ask for, as plain data.
-use Rattle.std.specs.Prelude.{ℕ, Bool, List, Option, option_map, Result, Ok, Err}
+use Rattle.std.specs.Prelude.{ℕ, Bool, List, map, Option, option_map, Result, Ok, Err}
 use Rattle.generations_rule.specs.Rule.{GenerationsRule}
 use Rattle.genedit_words.specs.Misspelt.{Misspelt}
 use Rattle.genedit_words.specs.declared.misspelt.MisspeltRule.{MisspeltRule}
@@ -41,6 +41,11 @@ pub data Told : Type 0 where
   View : (viewed : Viewed) → Told
   Join : (client : JoinTask) → Told
   Convert : (conversion : Conversion) → Told
+  New : (file : List ℕ) → (rule : GenerationsRule) → Told
+  Merge : (file : List ℕ) → (others : List (List ℕ)) → Told
+  Diff : (file : List ℕ) → (other : Option (List ℕ)) → Told
+  Log : (file : Option (List ℕ)) → (edits : Option ℕ) → Told
+  Export : (file : Option (List ℕ)) → (generation : ℕ) → (edits : Option ℕ) → Told
 
 -- what a task is, by its texts
 abbrev pub told_of : Task → Told
@@ -71,6 +76,11 @@ told_of (task.Convert converting) = Convert (record {
   generation = converting.generation;
   replaces = converting.replaces;
 })
+told_of (task.New new) = New new.file.now new.rule
+told_of (task.Merge merging) = Merge merging.file.now (map (λ s. s.now) merging.others.items)
+told_of (task.Diff diff) = Diff diff.file.now (option_map (λ s. s.now) diff.other)
+told_of (task.Log log) = Log (option_map (λ s. s.now) log.file) log.edits
+told_of (task.Export export) = Export (option_map (λ s. s.now) export.file) export.generation export.edits
 
 -- what was looked for, or the word that spells no rule
 abbrev pub or_misspelt : {T : Type 0} → Result T MisspeltRule → Result T Misspelt

@@ -1,13 +1,14 @@
 -- What the words of the command line ask for.
 use Rattle.std.specs.Option.{option_map_or}
-use Rattle.std.specs.Prelude.{◌≡◌, ◌∷◌, [], ℕ, Bool, List, Option, Some, None, Result, Ok, Err, codes, pos}
+use Rattle.std.specs.Prelude.{⊤, ◌≡◌, ◌∷◌, [], ℕ, Bool, List, Option, Some, None, Result, Ok, Err, codes, pos}
 use Rattle.std.specs.Prelude.{◌&&◌, ◌||◌, true, false, not, is_some, if◌then◌else◌, option_map, option_and_then, unwrap_or}
 use Rattle.std.specs.Str.{bytes_eq}
 use Rattle.std.specs.Str.Parse.{digits_value, without_leading_plus}
 use Rattle.clap.specs.Words.{App, HasKind, Row, Rule, Shape, Text, fault_of, first_of, new_rule, one_of}
+use Rattle.clap.specs.Walk.{all_of}
 use Rattle.clap.specs.Words.{subcommand_of}
 use Rattle.clap.specs.Simple.{new_shape}
-use Rattle.clap.specs.declared.builder.action.ArgAction.TheVariants.{Set, SetTrue}
+use Rattle.clap.specs.declared.builder.action.ArgAction.TheVariants.{Append, Set, SetTrue}
 use Rattle.clap.specs.declared.builder.value_parser.ValueParser.TheVariants as vp
 use Rattle.generations_rule.specs.Rule.{GenerationsRule}
 use Rattle.header_rules.specs.declared.spelling.Misspelling.{Misspelling}
@@ -17,7 +18,13 @@ use Rattle.genedit_words.specs.declared.ending.Ending.{Ending}
 use Rattle.genedit_words.specs.declared.ending.Ending.TheVariants as ending
 use Rattle.genedit_words.specs.declared.task.JoinTask.{JoinTask}
 use Rattle.genedit_words.specs.Misspelt.{Misspelt}
-use Rattle.genedit_words.specs.Told.{Told, Conversion, Viewed, Check, Convert, Join, Rle, Run, Serve, View}
+use Rattle.genedit_words.specs.declared.subcommand.Subcommand.{Subcommand}
+use Rattle.genedit_words.specs.declared.subcommand.Subcommand.TheVariants as subcommand
+use Rattle.genedit_words.specs.declared.task.Task.{Task}
+use Rattle.genedit_words.specs.declared.words.NoTask.{NoTask}
+use Rattle.genedit_words.specs.declared.words.NoTask.TheVariants as no_task
+use Rattle.genedit_words.specs.Subcommands.{subcommand_named}
+use Rattle.genedit_words.specs.Told.{Told, Conversion, Viewed, Check, Convert, Diff, Export, Join, Log, Merge, New, Rle, Run, Serve, View, told_of}
 
 -- the rule, or the word that spells none
 abbrev pub rule_or_misspelt : Text → Result GenerationsRule Misspelling → Result GenerationsRule Misspelt
@@ -102,6 +109,33 @@ convert_shape = record (new_shape (codes "convert")) {
   rules = place_argument (codes "in") ∷ place_argument (codes "out") ∷ optional (codes "rule") ∷ gen_option ∷ flag (codes "replace") ∷ [];
 }
 
+-- how many records of edits are looked at: any number of 32 bits
+abbrev pub edits_option : Rule
+edits_option = record (optional (codes "edits")) { parser = Some (vp.Signed (pos 0) (pos 4294967295)) }
+
+-- a generation at its place: any number of 32 bits
+abbrev pub generation_place : Rule
+generation_place = record (place_argument (codes "generation")) { parser = Some (vp.Signed (pos 0) (pos 4294967295)) }
+
+-- files, one at least
+abbrev pub others_argument : Rule
+others_argument = record (place_argument (codes "other")) { action = Some Append }
+
+abbrev pub new_document_shape : Shape
+new_document_shape = record (new_shape (codes "new")) { rules = place_argument (codes "file") ∷ rule_option ∷ [] }
+
+abbrev pub merge_shape : Shape
+merge_shape = record (new_shape (codes "merge")) { rules = place_argument (codes "file") ∷ others_argument ∷ [] }
+
+abbrev pub diff_shape : Shape
+diff_shape = record (new_shape (codes "diff")) { rules = place_argument (codes "file") ∷ place_argument (codes "other") ∷ [] }
+
+abbrev pub log_shape : Shape
+log_shape = record (new_shape (codes "log")) { rules = place_argument (codes "file") ∷ edits_option ∷ [] }
+
+abbrev pub export_shape : Shape
+export_shape = record (new_shape (codes "export")) { rules = place_argument (codes "file") ∷ generation_place ∷ edits_option ∷ [] }
+
 abbrev pub join_shape : Shape
 join_shape = record (new_shape (codes "join")) { rules = port_option ∷ every_option ∷ flag (codes "follow") ∷ flag (codes "changes") ∷ flag (codes "quiet") ∷ flag (codes "no-rescue") ∷ [] }
 
@@ -112,28 +146,30 @@ top_app = record {
   subs = [];
 }
 
--- it with the commands for scripts and texts
-abbrev pub text_app : App
-text_app = record {
+-- it with some subcommands
+abbrev pub app_with : List Shape → App
+app_with subs = record {
   top = record (new_shape (codes "genedit")) {
     is_leaf = false;
     has_version = true;
     subcommand_required = true;
   };
-  subs = run_shape ∷ check_shape ∷ rle_shape ∷ [];
+  subs = subs;
 }
+
+-- it with the commands for scripts and texts
+abbrev pub text_app : App
+text_app = app_with (run_shape ∷ check_shape ∷ rle_shape ∷ view_shape ∷ convert_shape ∷ [])
+
+-- and those for boards that are served; for a server the rule has to be given, or may be
+abbrev pub board_app : Bool → App
+board_app needs_rule = app_with (run_shape ∷ check_shape ∷ rle_shape ∷ view_shape ∷ convert_shape ∷ serve_shape needs_rule ∷ join_shape ∷ [])
 
 -- `genedit` has a version and no arguments, and one of its subcommands has to be given; for a server the
 -- rule has to be given, or may be
 abbrev pub app_by : Bool → App
-app_by needs_rule = record {
-  top = record (new_shape (codes "genedit")) {
-    is_leaf = false;
-    has_version = true;
-    subcommand_required = true;
-  };
-  subs = run_shape ∷ check_shape ∷ rle_shape ∷ view_shape ∷ convert_shape ∷ serve_shape needs_rule ∷ join_shape ∷ [];
-}
+app_by needs_rule = app_with (run_shape ∷ check_shape ∷ rle_shape ∷ view_shape ∷ convert_shape ∷ serve_shape needs_rule ∷ join_shape
+    ∷ new_document_shape ∷ merge_shape ∷ diff_shape ∷ log_shape ∷ export_shape ∷ [])
 
 -- the words of `genedit` are read so: a server may lack the option, since its file may name the rule
 abbrev pub genedit_app : App
@@ -263,16 +299,46 @@ client_at rows port = record {
 abbrev pub join_asked : List Row → Option (Result Told Misspelt)
 join_asked rows = option_map (λ port. Ok (Join (client_at rows port))) (number_of (codes "port") rows)
 
--- what a subcommand asks for, by its name and its rows
+-- a document that is made under the rule that the option spells
+abbrev pub new_task : Text → Result GenerationsRule Misspelt → Result Told Misspelt
+new_task file (Ok rule) = Ok (New file rule)
+new_task file (Err fault) = Err fault
+
+abbrev pub new_asked : List Row → Option (Result Told Misspelt)
+new_asked rows = option_and_then (λ file. option_map (λ text. new_task file (rule_asked text)) (first_of (codes "rule") rows)) (first_of (codes "file") rows)
+
+-- documents that are merged into the first
+abbrev pub merge_asked : List Row → Option (Result Told Misspelt)
+merge_asked rows = option_and_then (λ file. option_map (λ others. Ok (Merge file others)) (all_of (codes "other") rows)) (first_of (codes "file") rows)
+
+abbrev pub diff_asked : List Row → Option (Result Told Misspelt)
+diff_asked rows = option_and_then (λ file. option_map (λ other. Ok (Diff file (named_file other))) (first_of (codes "other") rows)) (first_of (codes "file") rows)
+
+abbrev pub log_asked : List Row → Option (Result Told Misspelt)
+log_asked rows = option_map (λ file. Ok (Log (named_file file) (number_of (codes "edits") rows))) (first_of (codes "file") rows)
+
+abbrev pub export_asked : List Row → Option (Result Told Misspelt)
+export_asked rows = option_and_then (λ file. option_map (λ generation. Ok (Export (named_file file) generation (number_of (codes "edits") rows)))
+    (number_of (codes "generation") rows)) (first_of (codes "file") rows)
+
+-- what a subcommand asks for, by its rows
+abbrev pub asked_by : Subcommand → List Row → Option (Result Told Misspelt)
+asked_by subcommand.Run rows = run_asked rows
+asked_by subcommand.Check rows = check_asked rows
+asked_by subcommand.Rle rows = rle_asked rows
+asked_by subcommand.View rows = view_asked rows
+asked_by subcommand.Convert rows = convert_asked rows
+asked_by subcommand.Serve rows = serve_asked rows
+asked_by subcommand.Join rows = join_asked rows
+asked_by subcommand.New rows = new_asked rows
+asked_by subcommand.Merge rows = merge_asked rows
+asked_by subcommand.Diff rows = diff_asked rows
+asked_by subcommand.Log rows = log_asked rows
+asked_by subcommand.Export rows = export_asked rows
+
+-- the same, by its name
 abbrev pub task_of : Text × List Row → Option (Result Told Misspelt)
-task_of subcommand = if bytes_eq subcommand.0 (codes "run") then run_asked subcommand.1
-    else if bytes_eq subcommand.0 (codes "rle") then rle_asked subcommand.1
-    else if bytes_eq subcommand.0 (codes "serve") then serve_asked subcommand.1
-    else if bytes_eq subcommand.0 (codes "check") then check_asked subcommand.1
-    else if bytes_eq subcommand.0 (codes "view") then view_asked subcommand.1
-    else if bytes_eq subcommand.0 (codes "join") then join_asked subcommand.1
-    else if bytes_eq subcommand.0 (codes "convert") then convert_asked subcommand.1
-    else None
+task_of entered = option_and_then (λ s. asked_by s entered.1) (subcommand_named entered.0)
 
 abbrev pub task_asked : List Text → Option (Result Told Misspelt)
 task_asked words = option_and_then task_of (subcommand_of genedit_app words)
@@ -280,6 +346,12 @@ task_asked words = option_and_then task_of (subcommand_of genedit_app words)
 -- the words are a command line of `genedit`, and ask for this
 abbrev pub Asks : List Text → Result Told Misspelt → Type 0
 Asks words task = (fault_of genedit_app words ≡ []) × (task_asked words ≡ Some task)
+
+-- what is asked for is this, or memory is refused
+abbrev pub IsAsked : Option (Result Told Misspelt) → Result Task NoTask → Type 0
+IsAsked asked (Ok task) = asked ≡ Some (Ok (told_of task))
+IsAsked asked (Err (no_task.Rule rule)) = asked ≡ Some (Err (record { text = rule.text.now; why = rule.why }))
+IsAsked asked (Err no_task.Memory) = ⊤
 
 -- the words are a command line of `genedit`, and ask for a server with neither a rule nor a file
 abbrev pub LacksRule : List Text → Type 0

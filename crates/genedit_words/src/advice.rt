@@ -4,8 +4,8 @@ use clap::Error;
 use clap::error::ErrorKind;
 use std::alloc::{AllocError, Global};
 
-/// The options with a value, and the file that `convert` writes, as `clap` names them, and an example of each.
-const EXAMPLES: [(&str, &str); 9] = [
+/// The options with a value, and what has to stand at a place, as `clap` names them, and an example of each.
+const EXAMPLES: [(&str, &str); 16] = [
     ("--rule <", " --rule 23/3/2"),
     ("--port <", " --port 7020"),
     ("--sessions <", " --sessions 64"),
@@ -14,6 +14,13 @@ const EXAMPLES: [(&str, &str); 9] = [
     ("--at <", " --at -3,4"),
     ("--size <", " --size 40x20"),
     ("--gen <", " --gen 30"),
+    ("--edits <", " --edits 100"),
+    ("provided: <FILE>", " my.glwl"),
+    ("<TEXT> <FILE>", " my.glwl"),
+    ("<OTHER>", " copy.glwl"),
+    ("provided: <G>", " 30"),
+    ("<FILE> <G>", " 30"),
+    ("'<G>'", " 30"),
     ("<OUT>", " genedit convert Lava.mcl lava.rle"),
 ];
 

@@ -4,8 +4,11 @@ ghost use Rattle.std.specs.Prelude.{◌≡◌, IfOk, false, codes};
 ghost use Rattle.clap.specs.Simple.{new_app};
 ghost use Rattle.clap.specs.Words.{app_of, rule_of, shape_of};
 ghost use Rattle.clap.specs.declared.builder.command.Command.TheViews.{out-Command as fields_of};
-ghost use Rattle.genedit_words.specs.Words.{app_by, board_rule, check_shape, convert_shape, every_option, file_argument, flag, gen_option, join_shape, option, optional, place_argument, port_option, rle_shape, run_shape, serve_shape, sessions_option, text_app, top_app, view_shape};
+ghost use Rattle.genedit_words.specs.Words.{app_by, board_app, board_rule, check_shape, convert_shape, every_option, file_argument, flag, gen_option, join_shape, option, optional, place_argument, port_option, rle_shape, run_shape, serve_shape, sessions_option, text_app, top_app, view_shape};
 
+use crate::document_commands::{
+    diff_command, export_command, log_command, merge_command, new_command,
+};
 use clap::{Arg, ArgAction, Command, value_parser};
 use std::alloc::{AllocError, Global};
 
@@ -186,9 +189,20 @@ Examples:
 pub fn command<'a>(alloc: Global, needs_rule: bool) -> Result<Command<'a>, AllocError>
     ensures { IfOk result (λ command. app_of command ≡ app_by needs_rule) }
 {
+    let command = board_commands(alloc, needs_rule)?
+        .subcommand(new_command(alloc)?)?
+        .subcommand(merge_command(alloc)?)?
+        .subcommand(diff_command(alloc)?)?
+        .subcommand(log_command(alloc)?)?
+        .subcommand(export_command(alloc)?)?;
+    Ok(command)
+}
+
+/// The command line with the subcommands for scripts, texts and boards that are served.
+fn board_commands<'a>(alloc: Global, needs_rule: bool) -> Result<Command<'a>, AllocError>
+    ensures { IfOk result (λ command. (app_of command ≡ board_app needs_rule) × ((fields_of command).has_globals ≡ false)) }
+{
     let command = text_commands(alloc)?
-        .subcommand(view_command(alloc)?)?
-        .subcommand(convert_command(alloc)?)?
         .subcommand(serve_command(alloc, needs_rule)?)?
         .subcommand(join_command(alloc)?)?;
     Ok(command)
@@ -201,7 +215,9 @@ fn text_commands<'a>(alloc: Global) -> Result<Command<'a>, AllocError>
     let command = top_command(alloc)
         .subcommand(run_command(alloc)?)?
         .subcommand(check_command(alloc)?)?
-        .subcommand(rle_command(alloc)?)?;
+        .subcommand(rle_command(alloc)?)?
+        .subcommand(view_command(alloc)?)?
+        .subcommand(convert_command(alloc)?)?;
     Ok(command)
 }
 
@@ -217,7 +233,7 @@ fn top_command<'a>(alloc: Global) -> Command<'a>
 }
 
 /// A subcommand with its line in the list of all, and its help.
-fn titled<'a>(alloc: Global, name: &'a str, about: &'a str, help: &'a str) -> Command<'a>
+pub(crate) fn titled<'a>(alloc: Global, name: &'a str, about: &'a str, help: &'a str) -> Command<'a>
     ensures app { app_of result ≡ new_app name.entry.now }
     ensures local { (fields_of result).has_globals ≡ false }
 {
@@ -359,7 +375,12 @@ fn convert_command<'a>(alloc: Global) -> Result<Command<'a>, AllocError>
 }
 
 /// A file that has to be named, at its place among the words.
-fn place_argument<'a>(alloc: Global, name: &'a str, value: &'a str, help: &'a str) -> Arg<'a>
+pub(crate) fn place_argument<'a>(
+    alloc: Global,
+    name: &'a str,
+    value: &'a str,
+    help: &'a str,
+) -> Arg<'a>
     ensures rule { rule_of result ≡ place_argument name.entry.now }
     ensures local { result.global ≡ false }
 {
@@ -485,7 +506,7 @@ fn sessions_argument<'a>(alloc: Global) -> Arg<'a>
 }
 
 /// An option that has to be given, with a value.
-fn required<'a>(alloc: Global, name: &'a str, value: &'a str, help: &'a str) -> Arg<'a>
+pub(crate) fn required<'a>(alloc: Global, name: &'a str, value: &'a str, help: &'a str) -> Arg<'a>
     ensures rule { rule_of result ≡ option name.entry.now }
     ensures local { result.global ≡ false }
 {
@@ -493,7 +514,7 @@ fn required<'a>(alloc: Global, name: &'a str, value: &'a str, help: &'a str) -> 
 }
 
 /// An option that may be given, with a value.
-fn optional<'a>(alloc: Global, name: &'a str, value: &'a str, help: &'a str) -> Arg<'a>
+pub(crate) fn optional<'a>(alloc: Global, name: &'a str, value: &'a str, help: &'a str) -> Arg<'a>
     ensures rule { rule_of result ≡ optional name.entry.now }
     ensures local { result.global ≡ false }
 {

@@ -4,11 +4,13 @@
 
 mod advice;
 mod commands;
+mod document_commands;
 mod ending;
 mod missing;
 mod misspelt;
 mod options;
 mod rule_words;
+mod subcommand;
 mod task;
 mod words;
 
@@ -17,5 +19,8 @@ pub use ending::Ending;
 pub use misspelt::MisspeltRule;
 pub use options::bound;
 pub use rule_words::rule_cure;
-pub use task::{ConvertTask, JoinTask, RleTask, ServeTask, Task, Viewing};
+pub use task::{
+    ConvertTask, DiffTask, ExportTask, JoinTask, LogTask, MergeTask, NewTask, RleTask, ServeTask,
+    Task, Viewing,
+};
 pub use words::{asked, given};

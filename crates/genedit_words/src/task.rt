@@ -68,8 +68,50 @@ pub struct ConvertTask<'a> {
     pub replaces: bool,
 }
 
-/// What the words ask for.
+/// A document that is made, without an edit.
 #[derive(Clone, Copy)]
+pub struct NewTask<'a> {
+    pub file: &'a str,
+    pub rule: Rule,
+}
+
+/// Documents that are merged into one.
+#[derive(Drop)]
+pub struct MergeTask<'a> {
+    pub file: &'a str,
+    /// The files of the others, one at least; standard input where one is named `-`.
+    pub others: Vec<&'a str>,
+}
+
+/// Two documents that are compared.
+#[derive(Clone, Copy)]
+pub struct DiffTask<'a> {
+    pub file: &'a str,
+    /// The file of the other; standard input if it is named `-`.
+    pub other: Option<&'a str>,
+}
+
+/// A document's edits that are listed.
+#[derive(Clone, Copy)]
+pub struct LogTask<'a> {
+    /// The file to read; standard input if it is named `-`.
+    pub file: Option<&'a str>,
+    /// How many of its records of edits are looked at, from the first on; all if none is given.
+    pub edits: Option<u32>,
+}
+
+/// A generation of a document that is written as an RLE text.
+#[derive(Clone, Copy)]
+pub struct ExportTask<'a> {
+    /// The file to read; standard input if it is named `-`.
+    pub file: Option<&'a str>,
+    pub generation: u32,
+    /// How many of its records of edits are looked at, from the first on; all if none is given.
+    pub edits: Option<u32>,
+}
+
+/// What the words ask for.
+#[derive(Drop)]
 pub enum Task<'a> {
     /// The script of this file, or on standard input, is run.
     Run(Option<&'a str>),
@@ -85,4 +127,14 @@ pub enum Task<'a> {
     Join(JoinTask),
     /// A file is made an RLE text.
     Convert(ConvertTask<'a>),
+    /// A document is made.
+    New(NewTask<'a>),
+    /// Documents are merged into one.
+    Merge(MergeTask<'a>),
+    /// Two documents are compared.
+    Diff(DiffTask<'a>),
+    /// A document's edits are listed.
+    Log(LogTask<'a>),
+    /// A generation of a document is written.
+    Export(ExportTask<'a>),
 }

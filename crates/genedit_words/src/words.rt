@@ -1,27 +1,41 @@
 //! What the words ask for.
 
-ghost use Rattle.std.specs.Prelude.{◌≡◌, ◌≤◌, ℕ, List, IfErr, IfOk, Ok, Some, codes, false, map, option_and_then, option_map, string_bytes, true};
+ghost use Rattle.std.specs.Prelude.{◌≡◌, ◌≤◌, ◌<◌, ◌^◌, ℕ, List, IfErr, IfOk, Ok, Some, Option, Result, codes, false, map, option_and_then, option_map, string_bytes, true};
 ghost use Rattle.clap.specs.Words.{first_of, found_of, rows_of, subcommand_rows_of};
-ghost use Rattle.genedit_words.specs.Given.{HasClient, HasConversion, HasFlag, HasNumber, HasRule, HasServer, HasView, IsInRange, IsNamed, MayHaveNumber};
-ghost use Rattle.genedit_words.specs.Told.{or_misspelt, told, told_of};
-ghost use Rattle.genedit_words.specs.Words.{Asks, EndsWords, check_asked, convert_asked, file_asked, has_board, interval_asked, is_set, join_asked, lacks_rule, named_file, number_of, rle_asked, rule_asked, rule_if_given, run_asked, serve_asked, task_of, view_asked};
+ghost use Rattle.clap.specs.Walk.{all_of};
+ghost use Rattle.genedit_words.specs.Misspelt.{Misspelt};
+ghost use Rattle.genedit_words.specs.Given.{HasClient, HasConversion, HasDiff, HasExport, HasFlag, HasFor, HasLog, HasMerge, HasNew, HasNumber, HasRule, HasServer, HasText, HasTexts, HasView, IsInRange, IsNamed, MayHaveNumber};
+ghost use Rattle.genedit_words.specs.Told.{Told, or_misspelt, told, told_of};
+ghost use Rattle.genedit_words.specs.Words.{Asks, EndsWords, IsAsked, asked_by, check_asked, convert_asked, diff_asked, export_asked, file_asked, has_board, interval_asked, is_set, join_asked, lacks_rule, log_asked, merge_asked, named_file, new_asked, number_of, rle_asked, rule_asked, rule_if_given, run_asked, serve_asked, task_of, view_asked};
 
 use crate::commands::command;
 use crate::ending::Ending;
 use crate::missing::with_rule;
 use crate::misspelt::MisspeltRule;
 use crate::options::bound;
-use crate::task::{ConvertTask, JoinTask, RleTask, ServeTask, Task, Viewing};
+use crate::subcommand::Subcommand;
+use crate::task::{
+    ConvertTask, DiffTask, ExportTask, JoinTask, LogTask, MergeTask, NewTask, RleTask, ServeTask,
+    Task, Viewing,
+};
 use clap::ArgMatches;
 use genedit_io::RunFault;
 use generations_rule::Rule;
 use header_rules::spelled_rule;
-use std::alloc::{AllocGlobal, Global};
+use std::alloc::{AllocError, AllocGlobal, Global};
 use std::io::ErrorKind;
 use std::rt::Env;
 
 /// How many milliseconds are let pass between two polls where the words do not say it.
 const INTERVAL: u16 = 50;
+
+/// Why no task comes of words that are a command line.
+#[derive(Drop)]
+pub(crate) enum NoTask<'a> {
+    /// One of them spells no rule.
+    Rule(MisspeltRule<'a>),
+    Memory,
+}
 
 /// The words with which the program was started, its own name first, as `bound` makes them.
 pub fn given<R: Env + AllocGlobal>(rt: &R) -> Result<Vec<String>, Ending<'static>> {
@@ -48,9 +62,10 @@ pub fn asked(alloc: Global, words: &[String]) -> Result<Task<'_>, Ending<'_>>
     if lacks_rule(&matches) {
         return Err(Ending::NoRule);
     }
-    match task(&matches) {
+    match task(alloc, &matches) {
         Ok(task) => Ok(task),
-        Err(rule) => Err(Ending::Rule(rule)),
+        Err(NoTask::Rule(rule)) => Err(Ending::Rule(rule)),
+        Err(NoTask::Memory) => Err(Ending::Run(RunFault::Memory)),
     }
 }
 
@@ -72,35 +87,125 @@ fn has_board(words: &ArgMatches<'_>) -> bool
     words.get_str("rule").is_some() || words.get_str("keep").is_some()
 }
 
-/// What the subcommand asks for.
-fn task<'a>(matches: &ArgMatches<'a>) -> Result<Task<'a>, MisspeltRule<'a>>
+/// What the words ask for.
+fn task<'a>(alloc: Global, matches: &ArgMatches<'a>) -> Result<Task<'a>, NoTask<'a>>
     requires named { IsNamed (subcommand_rows_of matches.now) }
     requires board { option_map lacks_rule (subcommand_rows_of matches.now) ≡ Some false }
-    ensures asked { option_and_then task_of (subcommand_rows_of matches.now) ≡ Some (told result) }
+    ensures asked { IsAsked (option_and_then task_of (subcommand_rows_of matches.now)) result }
     ensures range { IfOk result IsInRange }
 {
-    if let Some(words) = matches.subcommand_matches("rle") {
-        return rle(words);
-    }
-    if let Some(words) = matches.subcommand_matches("serve") {
-        return serve(words);
-    }
-    if let Some(words) = matches.subcommand_matches("check") {
-        return Ok(check(words));
-    }
-    if let Some(words) = matches.subcommand_matches("view") {
-        return view(words);
-    }
-    if let Some(words) = matches.subcommand_matches("join") {
-        return Ok(join(words));
-    }
-    if let Some(words) = matches.subcommand_matches("convert") {
-        return convert(words);
-    }
-    let Some(words) = matches.subcommand_matches("run") else {
+    let Some((name, words)) = matches.subcommand() else {
         unreachable!()
     };
-    Ok(run(words))
+    match Subcommand::named(name) {
+        Some(subcommand) => task_by(alloc, subcommand, words),
+        None => unreachable!(),
+    }
+}
+
+/// What a subcommand asks for.
+fn task_by<'a>(
+    alloc: Global,
+    subcommand: Subcommand,
+    words: &ArgMatches<'a>,
+) -> Result<Task<'a>, NoTask<'a>>
+    requires has { HasFor subcommand (rows_of (found_of words.now)) }
+    requires board { subcommand ≡ Subcommand.Serve → has_board (rows_of (found_of words.now)) ≡ true }
+    ensures asked { IsAsked (asked_by subcommand (rows_of (found_of words.now))) result }
+    ensures range { IfOk result IsInRange }
+{
+    match subcommand {
+        Subcommand::Run => Ok(run(words)),
+        Subcommand::Check => Ok(check(words)),
+        Subcommand::Rle => ruled(rle(words)),
+        Subcommand::View => ruled(view(words)),
+        Subcommand::Convert => ruled(convert(words)),
+        Subcommand::Serve => ruled(serve(words)),
+        Subcommand::Join => Ok(join(words)),
+        Subcommand::New => ruled(new_document(words)),
+        Subcommand::Merge => match merge(alloc, words) {
+            Ok(task) => Ok(task),
+            Err(_) => Err(NoTask::Memory),
+        },
+        Subcommand::Diff => Ok(diff(words)),
+        Subcommand::Log => Ok(log(words)),
+        Subcommand::Export => Ok(export(words)),
+    }
+}
+
+/// A task, or the word that spells no rule.
+fn ruled<'a>(task: Result<Task<'a>, MisspeltRule<'a>>) -> Result<Task<'a>, NoTask<'a>>
+    ensures asked { (asked : Option (Result Told Misspelt)) → asked ≡ Some (told task.entry) → IsAsked asked result }
+    ensures range { IfOk task.entry IsInRange → IfOk result IsInRange }
+{
+    match task {
+        Ok(task) => Ok(task),
+        Err(rule) => Err(NoTask::Rule(rule)),
+    }
+}
+
+/// What `new` asks for.
+fn new_document<'a>(words: &ArgMatches<'a>) -> Result<Task<'a>, MisspeltRule<'a>>
+    requires { HasNew (rows_of (found_of words.now)) }
+    ensures asked { new_asked (rows_of (found_of words.now)) ≡ Some (told result) }
+    ensures range { IfOk result IsInRange }
+{
+    let rule = rule(words)?;
+    Ok(Task::New(NewTask {
+        file: file_at(words, "file"),
+        rule,
+    }))
+}
+
+/// What `merge` asks for.
+fn merge<'a>(alloc: Global, words: &ArgMatches<'a>) -> Result<Task<'a>, AllocError>
+    requires { HasMerge (rows_of (found_of words.now)) }
+    ensures asked { IfOk result (λ task. merge_asked (rows_of (found_of words.now)) ≡ Some (Ok (told_of task))) }
+    ensures range { IfOk result IsInRange }
+{
+    let mut others = Vec::new(alloc);
+    others.extend_from_slice(files_at(words, "other"))?;
+    Ok(Task::Merge(MergeTask {
+        file: file_at(words, "file"),
+        others,
+    }))
+}
+
+/// What `diff` asks for.
+fn diff<'a>(words: &ArgMatches<'a>) -> Task<'a>
+    requires { HasDiff (rows_of (found_of words.now)) }
+    ensures asked { diff_asked (rows_of (found_of words.now)) ≡ Some (Ok (told_of result)) }
+    ensures range { IsInRange result }
+{
+    Task::Diff(DiffTask {
+        file: file_at(words, "file"),
+        other: named_file(file_at(words, "other")),
+    })
+}
+
+/// What `log` asks for.
+fn log<'a>(words: &ArgMatches<'a>) -> Task<'a>
+    requires { HasLog (rows_of (found_of words.now)) }
+    ensures asked { log_asked (rows_of (found_of words.now)) ≡ Some (Ok (told_of result)) }
+    ensures range { IsInRange result }
+{
+    Task::Log(LogTask {
+        file: named_file(file_at(words, "file")),
+        edits: count_if_given(words, "edits"),
+    })
+}
+
+/// What `export` asks for.
+fn export<'a>(words: &ArgMatches<'a>) -> Task<'a>
+    requires { HasExport (rows_of (found_of words.now)) }
+    ensures asked { export_asked (rows_of (found_of words.now)) ≡ Some (Ok (told_of result)) }
+    ensures range { IsInRange result }
+{
+    Task::Export(ExportTask {
+        file: named_file(file_at(words, "file")),
+        generation: count(words, "generation"),
+        edits: count_if_given(words, "edits"),
+    })
 }
 
 /// What `run` asks for.
@@ -230,10 +335,19 @@ fn convert<'a>(words: &ArgMatches<'a>) -> Result<Task<'a>, MisspeltRule<'a>>
     }))
 }
 
+/// Files of which one has to be named, as the words name them.
+fn files_at<'m, 'a>(words: &'m ArgMatches<'a>, id: &str) -> &'m [&'a str]
+    requires { HasTexts id.now (rows_of (found_of words.now)) }
+    ensures { all_of id.now (rows_of (found_of words.now)) ≡ Some (map (λ s. s.now) result.now) }
+{
+    // the argument is required, so the words have it
+    words.get_strs(id).unwrap()
+}
+
 /// A file that has to be named, as the words name it.
 fn file_at<'a>(words: &ArgMatches<'a>, id: &str) -> &'a str
-    requires { (text : List ℕ) × (first_of id.now (rows_of (found_of words.now)) ≡ Some text) }
-    ensures { (text : List ℕ) → first_of id.now (rows_of (found_of words.now)) ≡ Some text → result.now ≡ text }
+    requires { HasText id.now (rows_of (found_of words.now)) }
+    ensures { first_of id.now (rows_of (found_of words.now)) ≡ Some result.now }
 {
     // the argument is required, so the words have it
     words.get_str(id).unwrap()
@@ -257,7 +371,23 @@ fn generation(words: &ArgMatches<'_>) -> Option<u32>
     requires { MayHaveNumber 0 536870912 (codes "gen") (rows_of (found_of words.now)) }
     ensures { number_of (codes "gen") (rows_of (found_of words.now)) ≡ result }
 {
-    words.get_one::<u32>("gen")
+    count_if_given(words, "gen")
+}
+
+/// The number of an option that may be given and takes numbers of 32 bits.
+fn count_if_given(words: &ArgMatches<'_>, id: &str) -> Option<u32>
+    requires { (high : ℕ) × (high < 2 ^ 32) × MayHaveNumber 0 high id.now (rows_of (found_of words.now)) }
+    ensures { number_of id.now (rows_of (found_of words.now)) ≡ result }
+{
+    words.get_one::<u32>(id)
+}
+
+/// The number that has to be given and is one of 32 bits.
+fn count(words: &ArgMatches<'_>, id: &str) -> u32
+    requires { HasNumber 0 4294967295 id.now (rows_of (found_of words.now)) }
+    ensures { number_of id.now (rows_of (found_of words.now)) ≡ Some result }
+{
+    words.get_one::<u32>(id).unwrap()
 }
 
 /// Whether a flag is given.

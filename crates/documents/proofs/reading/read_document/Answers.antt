@@ -1,27 +1,19 @@
-use Rattle.std.proofs.Common.{arith, refl}
-use Rattle.documents.proofs.Bodies.{no_head}
+use Rattle.std.proofs.Common.{arith}
+use Rattle.std.proofs.lemmas.Result.{err_from_is_err_and}
 use Rattle.documents.proofs.Made.{made_is}
-use Rattle.documents.proofs.ReadLaws.{IsHeaded, clashes, read_as, rule_found}
+use Rattle.documents.proofs.ReadLaws.{clashes, list_refused, read_as}
 use Rattle.documents.proofs.reading.read_document.Goals as goal
 
-pub returns-in_default-2 : goal.returns-in_default-2
-returns-in_default-2 c = no_head c.args.bytes.now c.in-Some.head.now c.in-Some.behind.now c.in-Some.ensures.some.0 c.in-Some.ensures.some.1 (c.in_ok-rule.ensures.none c.in_default-2.is)
+pub returns-in_err-listed : goal.returns-in_err-listed
+returns-in_err-listed c =
+    let p = err_from_is_err_and c.from_residual.result c.from_residual.ensures.1 in
+    rw (p.1, p.2) (list_refused c.args.bytes.now c.in_err-listed.field-0.0 c.in_err-listed.ensures.told)
 
 pub of_parts-requires : goal.of_parts-requires
-of_parts-requires c =
-    let found = rule_found c.in_ok-rule.field-0 c.in-Some-2.rule c.in-Some.head.now c.in-Some-2.is c.in_ok-rule.ensures.some in
-    made_is c.in-Some-2.rule c.in_ok-edits.edits.items c.in-Ok.set.items found.0 c.in_ok-edits.ensures.under c.in-Ok.ensures
+of_parts-requires c = made_is c.in_ok-listed.listed.rule c.in_ok-listed.listed.edits.items c.in-Ok.set.items c.in_ok-listed.ensures.told.has.is_rule c.in_ok-listed.ensures.under c.in-Ok.ensures
 
 pub returns-in-Ok : goal.returns-in-Ok
-returns-in-Ok c =
-    let found = rule_found c.in_ok-rule.field-0 c.in-Some-2.rule c.in-Some.head.now c.in-Some-2.is c.in_ok-rule.ensures.some in
-    let head : IsHeaded c.in-Some-2.rule c.args.bytes.now c.in-Some.head.now c.in-Some.behind.now = record { is_rule = found.0; is_head = found.1; is = c.in-Some.ensures.some.0; spelt = c.in-Some.ensures.some.1 } in
-    rw c.of_parts.ensures
-    (read_as c.in-Some-2.rule c.args.bytes.now c.in-Some.head.now c.in-Some.behind.now c.in_ok-edits.rest.now c.in_ok-edits.edits.items c.in-Ok.set.items _ c.len-count.result
-    head c.in_ok-edits.ensures.told c.in_ok-edits.ensures.under c.in-Ok.ensures refl (grind arith))
+returns-in-Ok c = rw c.of_parts.ensures (read_as c.args.bytes.now _ c.in-Ok.set.items c.len-count.result c.in_ok-listed.ensures.told c.in_ok-listed.ensures.under c.in-Ok.ensures (grind arith))
 
 pub returns-in-Err : goal.returns-in-Err
-returns-in-Err c =
-    let found = rule_found c.in_ok-rule.field-0 c.in-Some-2.rule c.in-Some.head.now c.in-Some-2.is c.in_ok-rule.ensures.some in
-    let head : IsHeaded c.in-Some-2.rule c.args.bytes.now c.in-Some.head.now c.in-Some.behind.now = record { is_rule = found.0; is_head = found.1; is = c.in-Some.ensures.some.0; spelt = c.in-Some.ensures.some.1 } in
-    clashes c.in-Some-2.rule c.args.bytes.now c.in-Some.head.now c.in-Some.behind.now c.in_ok-edits.rest.now c.in_ok-edits.edits.items c.in-Err.stamp head c.in_ok-edits.ensures.told c.in-Err.ensures
+returns-in-Err c = clashes c.args.bytes.now _ c.in-Err.stamp c.in_ok-listed.ensures.told c.in-Err.ensures

@@ -1,4 +1,4 @@
-use Rattle.std.proofs.Common.{◌∙◌}
+use Rattle.std.proofs.Common.{◌∙◌, Some, ap, sym}
 use Rattle.clap.proofs.WalkLemmas.{first_value-rows}
 use Rattle.clap.specs.Matches.{found_of}
 use Rattle.genedit_words.proofs.TextLaws.{same_text, some_text}
@@ -8,5 +8,5 @@ pub unwrap-requires : goal.unwrap-requires
 unwrap-requires c = some_text c.get_str.result c.requires.0 (c.get_str.ensures ∙ (first_value-rows (found_of c.args.words.now) c.args.id.now ∙ c.requires.1))
 
 pub returns : goal.returns
-returns c = λ text first.
-    same_text c.get_str.result c.unwrap.result text (c.get_str.ensures ∙ (first_value-rows (found_of c.args.words.now) c.args.id.now ∙ first)) c.unwrap.ensures
+returns c =
+    c.requires.1 ∙ ap Some (sym (same_text c.get_str.result c.unwrap.result c.requires.0 (c.get_str.ensures ∙ (first_value-rows (found_of c.args.words.now) c.args.id.now ∙ c.requires.1)) c.unwrap.ensures))

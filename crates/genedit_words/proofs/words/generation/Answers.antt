@@ -1,13 +1,5 @@
-use Rattle.std.proofs.Common.{◌∙◌, codes, arith}
-use Rattle.std.specs.Str.Parse.{ParsesUnsigned, ExplainsUnsignedError, HasUnsignedDigitsIfOk}
-use Rattle.clap.proofs.WalkLemmas.{one_text-rows}
-use Rattle.clap.specs.Matches.{found_of}
-use Rattle.clap.specs.Walk.{rows_of}
-use Rattle.genedit_words.proofs.NumberLaws.{is_number_if}
+use Rattle.std.proofs.Common.{arith}
 use Rattle.genedit_words.proofs.words.generation.Goals as goal
 
-pub returns : goal.returns
-returns c =
-    let same = one_text-rows (found_of c.args.words.now) (codes "gen") in
-    is_number_if 32 (λ bs r. ParsesUnsigned 32 10 bs r × ExplainsUnsignedError 10 bs r × HasUnsignedDigitsIfOk bs r) (λ u x g. g.0)
-    0 536870912 (codes "gen") (rows_of (found_of c.args.words.now)) c.get_one.result (λ none. c.get_one.ensures.none (same ∙ none)) (λ t e. c.get_one.ensures.value t (same ∙ e)) (omega arith) c.requires
+pub count_if_given-requires : goal.count_if_given-requires
+count_if_given-requires c = (536870912, omega arith, c.requires)

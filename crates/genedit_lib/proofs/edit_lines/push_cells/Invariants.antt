@@ -1,7 +1,7 @@
 use Rattle.std.proofs.Common.{◌≡◌, ◌++◌, drop}
 use mathlib.Core.List.{IsPrefix}
-use Rattle.client_session.specs.Lines.{cells_text}
-use Rattle.client_session.proofs.lines.push_cells.Given as goal
+use Rattle.genedit_lib.specs.EditLines.{cells_text}
+use Rattle.genedit_lib.proofs.edit_lines.push_cells.Given as goal
 
 -- the cells that are printed, and then those that are left, are all; what was printed before stands
 abbrev pub invariant-loop-cell : goal.invariant-loop-cell

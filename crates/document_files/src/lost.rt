@@ -16,7 +16,7 @@ const HEAD: usize = 20;
 
 /// Saves what stands behind the last whole record of a file beside it, before that is cut off. Where whole records
 /// stand in it, how many is told, and how they come back.
-pub(crate) fn save_lost<F: Files<File = File> + Eprint>(
+pub fn save_lost<F: Files<File = File> + Eprint>(
     rt: &F,
     alloc: Global,
     found: &Found<FileKeep<'_, F>>,

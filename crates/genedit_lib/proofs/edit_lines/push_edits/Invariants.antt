@@ -1,7 +1,7 @@
 use Rattle.std.proofs.Common.{◌≡◌, ◌++◌, drop}
 use mathlib.Core.List.{IsPrefix}
-use Rattle.client_session.specs.Lines.{edit_lines}
-use Rattle.client_session.proofs.lines.push_edits.Given as goal
+use Rattle.genedit_lib.specs.EditLines.{edit_lines}
+use Rattle.genedit_lib.proofs.edit_lines.push_edits.Given as goal
 
 -- the lines that are printed, and then those of the edits that are left, are the lines of all; what was printed before stands
 abbrev pub invariant-loop-edit : goal.invariant-loop-edit

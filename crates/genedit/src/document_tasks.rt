@@ -1,0 +1,417 @@
+//! Documents in files.
+
+ghost use Rattle.std.specs.Prelude.{IfOk};
+ghost use Rattle.document_bodies.specs.Bodies.{AreEditsUnder};
+ghost use Rattle.kept_log.specs.Found.{IsReadTo, listed};
+
+use crate::opening::{opened, tell, tell_refused, tell_unread};
+use devices::{ReadSource, Source, WriteSink};
+use document_files::{
+    FileRefusal, cause_of_file, is_missing, open_found, save_lost, write_refusal,
+};
+use documents::{Document, DocumentFault, ListedEdits, gather, read_document, read_edits};
+use genedit_documents::{
+    difference_text, export_fault, export_text, fault_text, first_edits, log_text, merge_bytes,
+    merged_line, new_line, run_fault,
+};
+use genedit_io::{RunFault, file_fault_text, pull_all, push_output};
+use genedit_words::{DiffTask, ExportTask, LogTask, MergeTask, NewTask};
+use kept_devices::Reopen;
+use kept_file::FileKeep;
+use kept_log::Found;
+use keyed_hash::{HashKey, RandomBytes};
+use std::alloc::{AllocError, Global};
+use std::fs::File;
+use std::io;
+use std::io::ErrorKind;
+use std::path::Path;
+use std::random::RandomSource;
+use std::rt::Files;
+use whole_files::{WriteRefusal, write_whole};
+
+/// All is well.
+const WELL: u8 = 0;
+
+/// Two documents differ.
+const TOLD: u8 = 1;
+
+/// How many pulls a file has, at most.
+const TURNS: u64 = 1 << 32;
+
+/// What standard input is called.
+const STANDARD_INPUT: &str = "-";
+
+/// How a command on documents is left before its work is done.
+#[derive(Clone, Copy)]
+enum Left {
+    /// What is refused was told; the status of the process.
+    Told(u8),
+    /// By a fault of no file.
+    Run(RunFault),
+}
+
+impl Left {
+    /// By what telling a refusal came to.
+    fn by(told: Result<u8, RunFault>) -> Left {
+        match told {
+            Ok(status) => Left::Told(status),
+            Err(fault) => Left::Run(fault),
+        }
+    }
+
+    /// The status of the process, or the fault.
+    fn end(self) -> Result<u8, RunFault> {
+        match self {
+            Left::Told(status) => Ok(status),
+            Left::Run(fault) => Err(fault),
+        }
+    }
+}
+
+impl From<AllocError> for Left {
+    fn from(_error: AllocError) -> Left {
+        Left::Run(RunFault::Memory)
+    }
+}
+
+impl From<RunFault> for Left {
+    fn from(fault: RunFault) -> Left {
+        Left::Run(fault)
+    }
+}
+
+/// Says why what a file has is refused; the status of the process.
+fn tell_document<R: Eprint>(
+    rt: &R,
+    alloc: Global,
+    path: &str,
+    fault: &DocumentFault,
+) -> Result<u8, RunFault> {
+    let ending = run_fault(fault);
+    if ending == RunFault::Memory {
+        return Err(ending);
+    }
+    let text = fault_text(alloc, fault, path.as_bytes())?;
+    tell(rt, alloc, &text)?;
+    Ok(ending.exit_status())
+}
+
+/// Makes a document without an edit.
+pub fn new_document<R: Files<File = File> + Print + Eprint>(
+    rt: &R,
+    alloc: Global,
+    task: &NewTask<'_>,
+) -> Result<u8, RunFault> {
+    let text = Document::new(alloc, task.rule).text(alloc)?;
+    if let Err(refusal) = write_whole(rt, alloc, task.file, false, &text) {
+        return tell_unmade(rt, alloc, task.file, refusal);
+    }
+    if let Err(error) = sync_folder(rt, alloc, task.file) {
+        let refusal = WriteRefusal::System(cause_of_file(error.kind()));
+        return tell_unmade(rt, alloc, task.file, refusal);
+    }
+    let line = new_line(alloc, task.file.as_bytes(), &task.rule)?;
+    printed(rt, &line, WELL)
+}
+
+/// Says why a document is not made; the status of the process.
+fn tell_unmade<R: Eprint>(
+    rt: &R,
+    alloc: Global,
+    path: &str,
+    refusal: WriteRefusal,
+) -> Result<u8, RunFault> {
+    let why = match refusal {
+        WriteRefusal::Exists => "there is such a file",
+        WriteRefusal::NoFile => "it is no file",
+        WriteRefusal::System(cause) => cause.text(),
+        WriteRefusal::Memory => return Err(RunFault::Memory),
+    };
+    let text = file_fault_text(alloc, RunFault::Write, path.as_bytes(), why)?;
+    tell(rt, alloc, &text)?;
+    Ok(RunFault::Write.exit_status())
+}
+
+/// Syncs the folder of a file: that the file is there is on the disk then.
+fn sync_folder<R: Files<File = File>>(rt: &R, alloc: Global, path: &str) -> io::Result<()> {
+    let whole = rt.canonicalize(alloc, path)?.into_string();
+    let Some(folder) = Path::new(whole.as_str()).parent() else {
+        return Err(io::Error::from(ErrorKind::InvalidInput));
+    };
+    File::open(rt, folder)?.sync_all()
+}
+
+/// Merges documents into the first. Nothing is written where one of them is refused, or none has an edit that is
+/// new.
+pub fn merge<R: Files<File = File> + Input + Print + Eprint>(
+    rt: &R,
+    alloc: Global,
+    task: &MergeTask<'_>,
+) -> Result<u8, RunFault> {
+    match merged(rt, alloc, task) {
+        Ok(line) => printed(rt, &line, WELL),
+        Err(left) => left.end(),
+    }
+}
+
+fn merged<R: Files<File = File> + Input + Eprint>(
+    rt: &R,
+    alloc: Global,
+    task: &MergeTask<'_>,
+) -> Result<Vec<u8>, Left> {
+    let path = task.file;
+    if is_missing(rt, path) {
+        return Err(Left::by(tell_refused(rt, alloc, path, missing())));
+    }
+    let found = match open_found(rt, alloc, path) {
+        Ok(found) => found,
+        Err(refusal) => return Err(Left::by(tell_refused(rt, alloc, path, refusal))),
+    };
+    let document = document_in(rt, alloc, path, &found.bytes)?;
+    let before = document.edits().len();
+    let document = with_others(rt, alloc, document, &task.others)?;
+    let edits = document.edits().len();
+    write_document(rt, alloc, path, found, &document)?;
+    let line = merged_line(alloc, path.as_bytes(), edits, edits.saturating_sub(before))?;
+    Ok(line)
+}
+
+/// That there is no document to merge into.
+fn missing() -> FileRefusal {
+    FileRefusal::of(
+        RunFault::Refused(42, None),
+        "there is no such file: genedit new makes one",
+    )
+}
+
+/// A document with the edits of others, in turn.
+fn with_others<R: Files + Input + Eprint>(
+    rt: &R,
+    alloc: Global,
+    document: Document,
+    others: &[&str],
+) -> Result<Document, Left> {
+    let mut all = document;
+    for name in others {
+        all = with_other(rt, alloc, &all, name)?;
+    }
+    Ok(all)
+}
+
+/// A document with the edits of another.
+fn with_other<R: Files + Input + Eprint>(
+    rt: &R,
+    alloc: Global,
+    document: &Document,
+    name: &str,
+) -> Result<Document, Left> {
+    let bytes = bytes_of(rt, alloc, named(name))?;
+    match merge_bytes(alloc, document, &bytes) {
+        Ok(merged) => {
+            tell_passed(rt, name, merged.passed);
+            Ok(merged.document)
+        }
+        Err(fault) => Err(Left::by(tell_document(rt, alloc, name, &fault))),
+    }
+}
+
+/// The file of a name, or standard input.
+fn named(name: &str) -> Option<&str> {
+    if name == STANDARD_INPUT {
+        None
+    } else {
+        Some(name)
+    }
+}
+
+/// Says how many bytes of a file were passed over, if any were.
+fn tell_passed<R: Eprint>(rt: &R, name: &str, passed: usize) {
+    if passed > 0 {
+        let _ = eprintln!(rt;
+            "genedit: {name}: {passed} bytes of it are no whole record, and were passed over"
+        );
+    }
+}
+
+/// Puts a document in the place of what its file had, where that is something else: whole, or not at all. What
+/// stood behind the last whole record is saved beside it before.
+fn write_document<R: Files<File = File> + Eprint>(
+    rt: &R,
+    alloc: Global,
+    path: &str,
+    found: Found<FileKeep<'_, R>>,
+    document: &Document,
+) -> Result<(), Left>
+    requires { IsReadTo found.bytes.items (listed found.parts.head found.parts.bodies.items) found.parts.whole }
+{
+    let text = document.text(alloc)?;
+    if text.as_slice() == found.bytes.as_slice() && !found.is_doubtful {
+        return Ok(());
+    }
+    if let Err(refusal) = save_lost(rt, alloc, &found) {
+        return Err(Left::by(tell_refused(rt, alloc, path, refusal)));
+    }
+    let mut keep = found.keep;
+    match keep.replace(&text) {
+        Ok(()) => Ok(()),
+        Err(_) => Err(Left::by(tell_refused(rt, alloc, path, write_refusal(&keep)))),
+    }
+}
+
+/// Tells how two documents differ.
+pub fn diff<R: Files + Input + Print + Eprint>(
+    rt: &R,
+    alloc: Global,
+    task: &DiffTask<'_>,
+) -> Result<u8, RunFault> {
+    match difference(rt, alloc, task) {
+        Ok(text) => {
+            if text.is_empty() {
+                return Ok(WELL);
+            }
+            printed(rt, &text, TOLD)
+        }
+        Err(left) => left.end(),
+    }
+}
+
+fn difference<R: Files + Input + Eprint>(
+    rt: &R,
+    alloc: Global,
+    task: &DiffTask<'_>,
+) -> Result<Vec<u8>, Left> {
+    let bytes = bytes_of(rt, alloc, Some(task.file))?;
+    let first = document_in(rt, alloc, task.file, &bytes)?;
+    let other = bytes_of(rt, alloc, task.other)?;
+    let name = name_of(task.other);
+    let gathered = match gather(alloc, first.rule(), &other) {
+        Ok(gathered) => gathered,
+        Err(fault) => return Err(Left::by(tell_document(rt, alloc, name, &fault))),
+    };
+    tell_passed(rt, name, gathered.passed);
+    match difference_text(alloc, &first, &gathered.document) {
+        Ok(text) => Ok(text),
+        Err(fault) => Err(Left::by(tell_document(rt, alloc, name, &fault))),
+    }
+}
+
+/// Lists the edits of a document.
+pub fn log<R: Files + Input + Print + Eprint>(
+    rt: &R,
+    alloc: Global,
+    task: &LogTask<'_>,
+) -> Result<u8, RunFault> {
+    match logged(rt, alloc, task) {
+        Ok(text) => printed(rt, &text, WELL),
+        Err(left) => left.end(),
+    }
+}
+
+fn logged<R: Files + Input + Eprint>(
+    rt: &R,
+    alloc: Global,
+    task: &LogTask<'_>,
+) -> Result<Vec<u8>, Left> {
+    let bytes = bytes_of(rt, alloc, task.file)?;
+    let listed = edits_in(rt, alloc, task.file, &bytes)?;
+    let edits = first_edits(&listed.edits, most_of(task.edits));
+    let lost = bytes.len().saturating_sub(listed.whole);
+    let text = log_text(alloc, &listed.rule, edits, lost)?;
+    Ok(text)
+}
+
+/// Prints a generation of a document.
+pub fn export<R: Files + Input + Print + Eprint + RandomSource>(
+    rt: &R,
+    alloc: Global,
+    task: &ExportTask<'_>,
+) -> Result<u8, RunFault> {
+    let Ok(key) = HashKey::drawn(&mut RandomBytes::of(rt)) else {
+        return Err(RunFault::Read);
+    };
+    match exported(rt, alloc, task, key) {
+        Ok(text) => printed(rt, &text, WELL),
+        Err(left) => left.end(),
+    }
+}
+
+fn exported<R: Files + Input + Eprint>(
+    rt: &R,
+    alloc: Global,
+    task: &ExportTask<'_>,
+    key: HashKey,
+) -> Result<Vec<u8>, Left> {
+    let bytes = bytes_of(rt, alloc, task.file)?;
+    let listed = edits_in(rt, alloc, task.file, &bytes)?;
+    match export_text(alloc, key, &listed, most_of(task.edits), task.generation) {
+        Ok(text) => Ok(text),
+        Err(fault) => Err(Left::Run(export_fault(fault))),
+    }
+}
+
+/// How many edits are looked at, if that is asked for.
+fn most_of(edits: Option<u32>) -> Option<u64> {
+    match edits {
+        Some(edits) => Some(u64::from(edits)),
+        None => None,
+    }
+}
+
+/// What a file is called.
+fn name_of(file: Option<&str>) -> &str {
+    file.unwrap_or(STANDARD_INPUT)
+}
+
+/// The document of a file's bytes.
+fn document_in<R: Eprint>(
+    rt: &R,
+    alloc: Global,
+    path: &str,
+    bytes: &[u8],
+) -> Result<Document, Left> {
+    match read_document(alloc, bytes) {
+        Ok(read) => Ok(read.document),
+        Err(fault) => Err(Left::by(tell_document(rt, alloc, path, &fault))),
+    }
+}
+
+/// The edits of a file's bytes, as they stand.
+fn edits_in<R: Eprint>(
+    rt: &R,
+    alloc: Global,
+    file: Option<&str>,
+    bytes: &[u8],
+) -> Result<ListedEdits, Left>
+    ensures { IfOk result (λ l. AreEditsUnder l.rule l.edits.items) }
+{
+    match read_edits(alloc, bytes) {
+        Ok(listed) => Ok(listed),
+        Err(fault) => Err(Left::by(tell_document(rt, alloc, name_of(file), &fault))),
+    }
+}
+
+/// All bytes of a file, or of standard input.
+fn bytes_of<R: Files + Input + Eprint>(
+    rt: &R,
+    alloc: Global,
+    file: Option<&str>,
+) -> Result<Vec<u8>, Left> {
+    match file {
+        None => pulled(alloc, &mut ReadSource::new(rt.reader())),
+        Some(path) => match opened(rt, path) {
+            Err(cause) => Err(Left::by(tell_unread(rt, alloc, path, cause))),
+            Ok(file) => pulled(alloc, &mut ReadSource::new(file)),
+        },
+    }
+}
+
+fn pulled<S: Source>(alloc: Global, source: &mut S) -> Result<Vec<u8>, Left> {
+    let bytes = pull_all(alloc, source, TURNS)?;
+    Ok(bytes)
+}
+
+/// Prints a text; the status of the process.
+fn printed<R: Print>(rt: &R, text: &[u8], status: u8) -> Result<u8, RunFault> {
+    push_output(&mut WriteSink::new(io::writer(rt)), text)?;
+    Ok(status)
+}

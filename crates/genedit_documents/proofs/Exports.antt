@@ -1,0 +1,61 @@
+-- What a new replica exports that took some edits.
+use Rattle.std.proofs.Common.{◌≡◌, ◌∙◌, ◌⊎◌, inl, inr, ℕ, List, [], ◌∷◌, sym, ap, subst}
+use Rattle.std.specs.Prelude.{IfErr, IfOk, Result, Ok, Err, Vec}
+use Rattle.std.specs.declared.alloc.Global.{Global}
+use Rattle.generations_rule.specs.Place.{Place}
+use Rattle.generations_rule.specs.Rule.{GenerationsRule}
+use Rattle.stamped_writes.specs.declared.write.Write.{Write}
+use Rattle.stamped_writes.specs.Write.{AreSame, Writes, greater}
+use Rattle.edit_stamps.specs.Edit.{HaveStatesBelow, PlaneEdit, greatest}
+use Rattle.edit_stamps.proofs.WriteLaws.{unwritten-greater}
+use Rattle.document_bodies.specs.Bodies.{AreEditsUnder}
+use Rattle.stamped_tree.specs.Plane.{map_of}
+use Rattle.generation_engine.specs.Universe.{states_in_writes}
+use Rattle.export.specs.declared.fault.ExportFault.{ExportFault}
+use Rattle.export.specs.Export.{IsExport, most_cells}
+use Rattle.delta_exchange.specs.Message.{writes_in}
+use Rattle.delta_exchange.specs.declared.message.Content.{Content}
+use Rattle.delta_exchange.specs.declared.message.Content.TheVariants.{Edits}
+use Rattle.replica_core.specs.declared.fault.Fault.{Fault}
+use Rattle.replica_core.specs.Exchange.{TakesSome}
+use Rattle.replica_core.specs.Exporting.{IsExportFault, IsExportOf}
+use Rattle.replica_core.specs.Replica.{IsNew, ReplicaState}
+use Rattle.genedit_documents.specs.Exporting.{IsExportRefused}
+
+-- edits under a rule have states of the rule
+pub have_below : (r : GenerationsRule) (edits : List PlaneEdit) → AreEditsUnder r edits → HaveStatesBelow r.states edits
+have_below r [] under = tt
+have_below r (e ∷ edits) under = (under.0.below.0, have_below r edits under.1)
+
+-- a replica of a rule holds the map of some edits
+pub record HoldsMap (r : GenerationsRule) (edits : List PlaneEdit) (s : ReplicaState) : Type 0 where
+  pub rule : s.rule ≡ r
+  pub map : AreSame (map_of s.plane) (greatest edits)
+
+pub holds_taken : (r : GenerationsRule) (number room : ℕ) (edits : List PlaneEdit) (old new : ReplicaState) → IsNew r number room old → TakesSome old new (λ content. content ≡ Edits edits) → HoldsMap r edits new
+holds_taken r number room edits old new fresh takes = record {
+  rule = takes.2.one.rule ∙ fresh.same_rule;
+  map = λ c. takes.2.map c ∙ ap (λ (w : Write). greater w (writes_in takes.0 c)) (fresh.map c) ∙ unwritten-greater (writes_in takes.0 c) ∙ ap (λ (k : Content). writes_in k c) takes.1;
+}
+
+-- two maps that are the same are one map of states
+same_states : (a b : Writes) → AreSame a b → states_in_writes a ≡ states_in_writes b
+same_states a b same = λ i c. (same c i).state
+
+pub exported : (r : GenerationsRule) (edits : List PlaneEdit) (s : ReplicaState) (g : ℕ) (answer : Result (Vec ℕ Global) Fault) → HoldsMap r edits s → IfOk answer (λ text. IsExportOf s g (Ok text.items))
+    → IfOk answer (λ text. IsExport r (states_in_writes (greatest edits)) g most_cells (Ok text.items))
+exported r edits s g (Ok text) holds is =
+    subst (λ (f : Place → ℕ). IsExport r f g most_cells (Ok text.items)) (same_states (map_of s.plane) (greatest edits) holds.map)
+    (subst (λ (q : GenerationsRule). IsExport q (states_in_writes (map_of s.plane)) g most_cells (Ok text.items)) holds.rule is)
+exported r edits s g (Err fault) holds is = tt
+
+pub not_exported : (r : GenerationsRule) (edits : List PlaneEdit) (s : ReplicaState) (g : ℕ) (answer : Result (Vec ℕ Global) Fault) → HoldsMap r edits s → IfErr answer (IsExportFault s g)
+    → IfErr answer (IsExportRefused r (states_in_writes (greatest edits)) g)
+not_exported r edits s g (Ok text) holds is = tt
+not_exported r edits s g (Err fault) holds (inl want) = inl want.0
+not_exported r edits s g (Err fault) holds (inr refused) = inr (record {
+  refusal = refused.0;
+  told = refused.1;
+  refused = subst (λ (f : Place → ℕ). IsExport r f g most_cells (Err refused.0)) (same_states (map_of s.plane) (greatest edits) holds.map)
+      (subst (λ (q : GenerationsRule). IsExport q (states_in_writes (map_of s.plane)) g most_cells (Err refused.0)) holds.rule refused.2);
+})

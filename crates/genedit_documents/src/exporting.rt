@@ -1,0 +1,38 @@
+//! The generations of a document.
+
+ghost use Rattle.std.specs.Prelude.{IfErr, IfOk, Ok};
+ghost use Rattle.document_bodies.specs.Bodies.{AreEditsUnder};
+ghost use Rattle.edit_stamps.specs.Edit.{greatest};
+ghost use Rattle.export.specs.Export.{IsExport, most_cells};
+ghost use Rattle.generation_engine.specs.Universe.{states_in_writes};
+ghost use Rattle.genedit_documents.specs.Exporting.{IsExportRefused};
+ghost use Rattle.genedit_documents.specs.Listing.{first_of};
+
+use crate::listing::first_edits;
+use documents::ListedEdits;
+use keyed_hash::HashKey;
+use replica_core::{Fault, Replica};
+use stamped_tree::Limits;
+use std::alloc::Global;
+
+/// Some replica's number: none of its own is drawn.
+const NUMBER: u16 = 1;
+
+/// The RLE text of the map that the first edits of a list make, each cell by the greatest stamp, so many
+/// generations later, as `Replica::export` gives it; of so many edits at most, or of all where no number is
+/// given. Refused are `GenRange` and `TooManyCells`; else memory or room is wanting.
+pub fn export_text(
+    alloc: Global,
+    key: HashKey,
+    listed: &ListedEdits,
+    most: Option<u64>,
+    generation: u32,
+) -> Result<Vec<u8>, Fault>
+    requires { AreEditsUnder listed.now.rule listed.now.edits.items }
+    ensures text { IfOk result (λ text. IsExport listed.now.rule (states_in_writes (greatest (first_of most listed.now.edits.items))) generation most_cells (Ok text.items)) }
+    ensures refused { IfErr result (IsExportRefused listed.now.rule (states_in_writes (greatest (first_of most listed.now.edits.items))) generation) }
+{
+    let mut replica = Replica::within(alloc, listed.rule, NUMBER, Limits::of_key(key))?;
+    replica.take_edits(first_edits(&listed.edits, most))?;
+    replica.export(generation)
+}

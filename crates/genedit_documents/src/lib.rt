@@ -1,0 +1,16 @@
+//! What the commands on documents print and make: listings, differences, merges and exports.
+#![tactic(auto)]
+
+mod difference;
+mod exporting;
+mod fault;
+mod lines;
+mod listing;
+mod merging;
+
+pub use difference::difference_text;
+pub use exporting::export_text;
+pub use fault::{export_fault, fault_text, run_fault};
+pub use lines::{merged_line, new_line};
+pub use listing::{first_edits, log_text};
+pub use merging::{Merged, merge_bytes};
