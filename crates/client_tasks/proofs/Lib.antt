@@ -1,3 +1,1 @@
-pub mod SavedLaws
 pub mod PieceLaws
-pub mod OpeningLaws

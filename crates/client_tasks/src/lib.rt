@@ -9,7 +9,6 @@ mod opening;
 mod pieces;
 mod printing;
 mod refusing;
-mod saved;
 
 pub use alone::carry_on;
 pub use carrying::carry_out;

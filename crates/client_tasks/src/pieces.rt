@@ -1,15 +1,12 @@
 //! Cells that are drawn in as many edits as they need.
 
-ghost use Rattle.std.specs.Prelude.{◌≡◌, IfOk};
-ghost use Rattle.replica_events.specs.declared.edit_spec.EditSpec.TheVariants.{Cells};
 ghost use Rattle.client_tasks.specs.Opening.{DrawsAll, DrawsSome};
 
 use client_session::{Client, CommandFault, Outcome};
 use devices::{Sink, Source};
 use edit_stamps::MOST_CELLS;
+use opened_files::spec_of;
 use pattern_cells::Cell;
-use replica_events::{CellList, EditSpec};
-use std::alloc::{AllocError, Global};
 use std::time::Clock;
 
 /// Draws cells in edits of as many as one may have, each behind a poll of its own, the first behind one that
@@ -47,13 +44,4 @@ fn draw_some<C: Clock, S: Source + Drop, K: Sink + Drop>(
         Ok(spec) => client.draw(after, &spec),
         Err(_) => Err(CommandFault::Memory),
     }
-}
-
-/// What is to be drawn where some cells are.
-fn spec_of(alloc: Global, cells: &[Cell]) -> Result<EditSpec, AllocError>
-    ensures { IfOk result (λ spec. spec ≡ Cells cells.now) }
-{
-    let mut copy = Vec::new(alloc);
-    copy.extend_from_slice(cells)?;
-    Ok(EditSpec::Cells(CellList::of_vec(copy)))
 }

@@ -21,20 +21,18 @@ use Rattle.replica_core.specs.Exchange.{TakesSome}
 use Rattle.replica_core.specs.Exporting.{IsExportFault, IsExportOf}
 use Rattle.replica_core.specs.Replica.{IsNew, ReplicaState}
 use Rattle.genedit_documents.specs.Exporting.{IsExportRefused}
+use Rattle.genedit_documents.specs.Holding.{HoldsMap}
 
 -- edits under a rule have states of the rule
 pub have_below : (r : GenerationsRule) (edits : List PlaneEdit) → AreEditsUnder r edits → HaveStatesBelow r.states edits
 have_below r [] under = tt
 have_below r (e ∷ edits) under = (under.0.below.0, have_below r edits under.1)
 
--- a replica of a rule holds the map of some edits
-pub record HoldsMap (r : GenerationsRule) (edits : List PlaneEdit) (s : ReplicaState) : Type 0 where
-  pub rule : s.rule ≡ r
-  pub map : AreSame (map_of s.plane) (greatest edits)
-
-pub holds_taken : (r : GenerationsRule) (number room : ℕ) (edits : List PlaneEdit) (old new : ReplicaState) → IsNew r number room old → TakesSome old new (λ content. content ≡ Edits edits) → HoldsMap r edits new
+-- a new replica that took some edits holds their map
+pub holds_taken : (r : GenerationsRule) (number room : ℕ) (edits : List PlaneEdit) (old new : ReplicaState) → IsNew r number room old → TakesSome old new (λ content. content ≡ Edits edits) → HoldsMap r number edits new
 holds_taken r number room edits old new fresh takes = record {
   rule = takes.2.one.rule ∙ fresh.same_rule;
+  number = takes.2.one.number ∙ fresh.same_number;
   map = λ c. takes.2.map c ∙ ap (λ (w : Write). greater w (writes_in takes.0 c)) (fresh.map c) ∙ unwritten-greater (writes_in takes.0 c) ∙ ap (λ (k : Content). writes_in k c) takes.1;
 }
 
@@ -42,18 +40,18 @@ holds_taken r number room edits old new fresh takes = record {
 same_states : (a b : Writes) → AreSame a b → states_in_writes a ≡ states_in_writes b
 same_states a b same = λ i c. (same c i).state
 
-pub exported : (r : GenerationsRule) (edits : List PlaneEdit) (s : ReplicaState) (g : ℕ) (answer : Result (Vec ℕ Global) Fault) → HoldsMap r edits s → IfOk answer (λ text. IsExportOf s g (Ok text.items))
+pub exported : (r : GenerationsRule) (number : ℕ) (edits : List PlaneEdit) (s : ReplicaState) (g : ℕ) (answer : Result (Vec ℕ Global) Fault) → HoldsMap r number edits s → IfOk answer (λ text. IsExportOf s g (Ok text.items))
     → IfOk answer (λ text. IsExport r (states_in_writes (greatest edits)) g most_cells (Ok text.items))
-exported r edits s g (Ok text) holds is =
+exported r number edits s g (Ok text) holds is =
     subst (λ (f : Place → ℕ). IsExport r f g most_cells (Ok text.items)) (same_states (map_of s.plane) (greatest edits) holds.map)
     (subst (λ (q : GenerationsRule). IsExport q (states_in_writes (map_of s.plane)) g most_cells (Ok text.items)) holds.rule is)
-exported r edits s g (Err fault) holds is = tt
+exported r number edits s g (Err fault) holds is = tt
 
-pub not_exported : (r : GenerationsRule) (edits : List PlaneEdit) (s : ReplicaState) (g : ℕ) (answer : Result (Vec ℕ Global) Fault) → HoldsMap r edits s → IfErr answer (IsExportFault s g)
+pub not_exported : (r : GenerationsRule) (number : ℕ) (edits : List PlaneEdit) (s : ReplicaState) (g : ℕ) (answer : Result (Vec ℕ Global) Fault) → HoldsMap r number edits s → IfErr answer (IsExportFault s g)
     → IfErr answer (IsExportRefused r (states_in_writes (greatest edits)) g)
-not_exported r edits s g (Ok text) holds is = tt
-not_exported r edits s g (Err fault) holds (inl want) = inl want.0
-not_exported r edits s g (Err fault) holds (inr refused) = inr (record {
+not_exported r number edits s g (Ok text) holds is = tt
+not_exported r number edits s g (Err fault) holds (inl want) = inl want.0
+not_exported r number edits s g (Err fault) holds (inr refused) = inr (record {
   refusal = refused.0;
   told = refused.1;
   refused = subst (λ (f : Place → ℕ). IsExport r f g most_cells (Err refused.0)) (same_states (map_of s.plane) (greatest edits) holds.map)

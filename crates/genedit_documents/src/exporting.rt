@@ -8,11 +8,10 @@ ghost use Rattle.generation_engine.specs.Universe.{states_in_writes};
 ghost use Rattle.genedit_documents.specs.Exporting.{IsExportRefused};
 ghost use Rattle.genedit_documents.specs.Listing.{first_of};
 
-use crate::listing::first_edits;
+use crate::holding::replica_of;
 use documents::ListedEdits;
 use keyed_hash::HashKey;
-use replica_core::{Fault, Replica};
-use stamped_tree::Limits;
+use replica_core::Fault;
 use std::alloc::Global;
 
 /// Some replica's number: none of its own is drawn.
@@ -32,7 +31,6 @@ pub fn export_text(
     ensures text { IfOk result (λ text. IsExport listed.now.rule (states_in_writes (greatest (first_of most listed.now.edits.items))) generation most_cells (Ok text.items)) }
     ensures refused { IfErr result (IsExportRefused listed.now.rule (states_in_writes (greatest (first_of most listed.now.edits.items))) generation) }
 {
-    let mut replica = Replica::within(alloc, listed.rule, NUMBER, Limits::of_key(key))?;
-    replica.take_edits(first_edits(&listed.edits, most))?;
+    let replica = replica_of(alloc, listed, most, NUMBER, key)?;
     replica.export(generation)
 }

@@ -4,6 +4,7 @@
 mod difference;
 mod exporting;
 mod fault;
+mod holding;
 mod lines;
 mod listing;
 mod merging;
@@ -11,6 +12,7 @@ mod merging;
 pub use difference::difference_text;
 pub use exporting::export_text;
 pub use fault::{export_fault, fault_text, run_fault};
+pub use holding::replica_of;
 pub use lines::{merged_line, new_line};
 pub use listing::{first_edits, log_text};
 pub use merging::{Merged, merge_bytes};

@@ -1,11 +1,10 @@
 -- How a client ends.
-use Rattle.std.specs.Prelude.{ℕ, Bool, true, false, not, ◌&&◌, ◌||◌, ◌==◌, nat_le, if◌then◌else◌, List, [], ◌∷◌, ◌++◌, length, take, codes, Option, Some, None, Result, Ok, Err}
-use Rattle.std.specs.Str.{bytes_eq}
-use Rattle.text_scan.specs.Bytes.{◌>=>◌, behind_all, decimal_number, front, is_decimal_digit}
+use Rattle.std.specs.Prelude.{ℕ, Bool, true, false, not, ◌&&◌, ◌||◌, List, ◌++◌, codes, Option, Some, None, Result, Ok, Err}
+use Rattle.typed_commands.specs.declared.refusals.Tally.{Tally}
+use Rattle.typed_commands.specs.Refusals.{well_status}
 use Rattle.genedit_join.specs.declared.ends.Board.{Board}
 use Rattle.genedit_join.specs.declared.ends.End.{End}
 use Rattle.genedit_join.specs.declared.ends.End.TheVariants as how
-use Rattle.genedit_join.specs.declared.ends.Tally.{Tally}
 use Rattle.genedit_join.specs.declared.fault.JoinFault.{JoinFault}
 use Rattle.genedit_join.specs.declared.fault.JoinFault.TheVariants.{NoServer, NoSeat, Gone, NoReply, OtherRule, Script, Run}
 use Rattle.genedit_join.specs.Fault.{join_fault_text, join_status}
@@ -18,34 +17,11 @@ end_behind (Ok done) None tally = how.Left tally
 
 -- ---- statuses
 
--- a line at fault counts more than a refusal
-abbrev pub well_status : Tally → ℕ
-well_status tally = if tally.faulty then 2 else if tally.refused then 1 else 0
-
 -- a fault has its own status; at a terminal a client that left has 0, whatever came of its lines
 abbrev pub end_status : End → Bool → ℕ
 end_status (how.Fault fault) terminal = join_status fault
 end_status (how.Left tally) true = 0
 end_status (how.Left tally) false = well_status tally
-
--- ---- what was printed
-
--- a text begins as a refusal is printed
-abbrev pub is_refusal : List ℕ → Bool
-is_refusal text = nat_le 8 (length text) && bytes_eq (take 8 text) (codes "refused ")
-
--- the text behind the first of its line feeds behind which it begins so
-abbrev pub refusal_behind : List ℕ → Option (List ℕ)
-refusal_behind [] = None
-refusal_behind (byte ∷ bytes) = if (byte == 10) && is_refusal bytes then Some bytes else refusal_behind bytes
-
--- a text from the first of its lines on that is a refusal: the first line, or one behind a line feed
-abbrev pub refusal_in : List ℕ → Option (List ℕ)
-refusal_in text = if is_refusal text then Some text else refusal_behind text
-
--- the number of that refusal
-abbrev pub refused_number : List ℕ → Option ℕ
-refused_number text = refusal_in text >=> λ refusal. behind_all (codes "refused ") refusal >=> λ told. decimal_number 255 (front is_decimal_digit told)
 
 -- ---- a server that is lost
 

@@ -3,8 +3,8 @@ use Rattle.std.specs.Prelude.{ℕ, Bool, ◌==◌, not, if◌then◌else◌, Lis
 use Rattle.std.specs.Str.{bytes_eq}
 use Rattle.genedit_io.specs.Cause.{file_fault_text}
 use Rattle.genedit_io.specs.declared.fault.RunFault.TheVariants.{Write}
-use Rattle.genedit_join.specs.Files.{file_cause_text}
-use Rattle.genedit_join.specs.declared.files.FileCause.{FileCause}
+use Rattle.typed_commands.specs.Files.{file_cause_text}
+use Rattle.typed_commands.specs.declared.files.FileCause.{FileCause}
 use Rattle.genedit_join.specs.declared.rescue.Holding.{Holding}
 use Rattle.genedit_join.specs.declared.rescue.Holding.TheVariants.{Same, Other}
 use Rattle.genedit_join.specs.declared.rescue.Kept.{Kept}

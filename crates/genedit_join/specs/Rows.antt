@@ -1,23 +1,20 @@
 -- Worked values of the definitions.
-use Rattle.std.specs.Prelude.{◌≡◌, true, false, Some, None, codes, refl}
+use Rattle.std.specs.Prelude.{◌≡◌, true, false, codes, refl}
 use Rattle.std.specs.Fmt.{digits}
 use Rattle.board_client.specs.declared.fault.ClientFault.TheVariants as client
 use Rattle.client_session.specs.declared.fault.CommandFault.TheVariants as command
 use Rattle.frame_line.specs.declared.fault.LineFault.TheVariants as line
-use Rattle.genedit_io.specs.declared.cause.Cause.TheVariants.{Full, NoFolder}
-use Rattle.genedit_io.specs.declared.fault.RunFault.TheVariants.{Refused, Write}
+use Rattle.genedit_io.specs.declared.cause.Cause.TheVariants.{Full}
+use Rattle.genedit_io.specs.declared.fault.RunFault.TheVariants.{Write}
 use Rattle.genedit_join.specs.declared.ends.Board.{Board}
 use Rattle.genedit_join.specs.declared.ends.End.TheVariants as how
-use Rattle.genedit_join.specs.declared.ends.Tally.{Tally}
+use Rattle.typed_commands.specs.declared.refusals.Tally.{Tally}
 use Rattle.genedit_join.specs.declared.fault.JoinFault.TheVariants as fault
-use Rattle.whole_files.specs.declared.refusal.WriteRefusal.TheVariants as refuses
-use Rattle.genedit_join.specs.declared.files.FileCause.TheVariants as cause
-use Rattle.genedit_join.specs.declared.files.FileFault.TheVariants as files
+use Rattle.typed_commands.specs.declared.files.FileCause.TheVariants as cause
 use Rattle.genedit_join.specs.declared.patience.WaitStep.TheVariants.{GiveUp, Say, Wait}
 use Rattle.genedit_join.specs.declared.rescue.Kept.TheVariants.{In, Nowhere}
-use Rattle.genedit_join.specs.Ends.{end_status, is_rescued, lost_text, refusal_in, refused_number}
+use Rattle.genedit_join.specs.Ends.{end_status, is_rescued, lost_text}
 use Rattle.genedit_join.specs.Fault.{fault_of_command, join_fault_text, join_status}
-use Rattle.genedit_join.specs.Files.{fault_of, refused_line, wrote_line}
 use Rattle.genedit_join.specs.Rescue.{kept_text, rescue_name}
 use Rattle.genedit_join.specs.Waiting.{step_after}
 
@@ -43,25 +40,6 @@ status_of_no_reply = refl
 pub status_without_memory : join_status (fault_of_command command.Memory) ≡ 5
 status_without_memory = refl
 
-pub written : wrote_line 120 (codes "a.rle") ≡ codes "wrote 120 a.rle\n"
-unfolding digits
-written = refl
-
-pub not_written : refused_line (Refused 37 None) (codes "out/a.rle") (cause.System NoFolder) ≡ codes "refused 37 Write out/a.rle: there is no such folder\n"
-unfolding digits
-not_written = refl
-
-pub not_replaced : refused_line (Refused 37 None) (codes "a.rle") cause.Exists ≡ codes "refused 37 Write a.rle: there is such a file; save! or export! replaces it\n"
-unfolding digits
-not_replaced = refl
-
--- a file that stands is told with the commands that replace it; want of memory is no refusal
-pub stays : fault_of refuses.Exists ≡ files.Refused cause.Exists
-stays = refl
-
-pub wants_memory : fault_of refuses.Memory ≡ files.Memory
-wants_memory = refl
-
 -- ---- ends
 
 abbrev faulty_and_refused : Tally
@@ -81,15 +59,6 @@ status_without_the_server = refl
 
 pub status_of_a_script : end_status (how.Fault fault.Script) false ≡ 2
 status_of_a_script = refl
-
-pub refusal_behind_a_line : refusal_in (codes "drawn 1 1\nrefused 30 Closed\n") ≡ Some (codes "refused 30 Closed\n")
-refusal_behind_a_line = refl
-
-pub refusal_amid_a_line : refusal_in (codes "wrote 3 refused 4\n") ≡ None
-refusal_amid_a_line = refl
-
-pub number_of_a_refusal : refused_number (codes "wrote 3 a\nrefused 11 StateRange\n") ≡ Some 11
-number_of_a_refusal = refl
 
 pub lost : lost_text fault.Gone ≡ codes "the server went away: the board is kept here; save FILE, export G [FILE], show, pattern, bye"
 lost = refl

@@ -1,24 +1,12 @@
 //! How a client ends.
 
-ghost use Rattle.std.specs.Prelude.{◌≡◌, ◌&&◌, IfOk, not, option_map};
-ghost use Rattle.text_scan.specs.Words.{words};
-ghost use Rattle.client_commands.specs.Commands.{begins_script};
+ghost use Rattle.std.specs.Prelude.{◌≡◌, IfOk};
 ghost use Rattle.genedit_join.specs.Away.{is_gone, tries_again};
-ghost use Rattle.genedit_join.specs.Ends.{end_behind, end_status, goes_on, is_kept, is_refusal, is_rescued, loses_server, lost_text, refusal_in, refused_number, well_status};
+ghost use Rattle.genedit_join.specs.Ends.{end_behind, end_status, goes_on, is_kept, is_rescued, loses_server, lost_text};
 
 use crate::fault::JoinFault;
-use client_commands::begins_script;
 use std::alloc::{AllocError, Global};
-use text_scan::{number, split_digits};
-
-/// What came of the lines of a client.
-#[derive(Clone, Copy, Debug, PartialEq, Eq)]
-pub(crate) struct Tally {
-    /// A line was at fault.
-    pub(crate) faulty: bool,
-    /// A command was refused, or a file failed.
-    pub(crate) refused: bool,
-}
+use typed_commands::Tally;
 
 /// What is known of the board that a client holds.
 #[derive(Clone, Copy, Debug, PartialEq, Eq)]
@@ -64,66 +52,8 @@ pub(crate) fn end_status(end: End, is_terminal: bool) -> u8
     match end {
         End::Fault(fault) => fault.exit_status(),
         End::Left(_) if is_terminal => 0,
-        End::Left(tally) => well_status(tally),
+        End::Left(tally) => tally.well_status(),
     }
-}
-
-/// That of a client which left, by what came of its lines.
-fn well_status(tally: Tally) -> u8
-    ensures { result ≡ well_status tally }
-{
-    if tally.faulty {
-        2
-    } else if tally.refused {
-        1
-    } else {
-        0
-    }
-}
-
-/// What was printed from the first of its lines on that tells a refusal, if one does: it begins with
-/// `refused `.
-pub(crate) fn refusal_in(printed: &[u8]) -> Option<&[u8]>
-    ensures { option_map (λ rest. rest.now) result ≡ refusal_in printed.now }
-{
-    if is_refusal(printed) {
-        return Some(printed);
-    }
-    let mut rest = printed;
-    while let Some((byte, behind)) = rest.split_first() {
-        if *byte == b'\n' && is_refusal(behind) {
-            return Some(behind);
-        }
-        rest = behind;
-    }
-    None
-}
-
-/// The number of the first refusal that was printed, if one was.
-pub(crate) fn refused_number(printed: &[u8]) -> Option<u8>
-    ensures { result ≡ refused_number printed.now }
-{
-    let told = refusal_in(printed)?.strip_prefix(b"refused ")?;
-    let (digits, _) = split_digits(told);
-    match number(255, digits) {
-        Some(number) => Some(number as u8),
-        None => None,
-    }
-}
-
-/// Whether a text begins with `refused `.
-fn is_refusal(text: &[u8]) -> bool
-    ensures { result ≡ is_refusal text.now }
-{
-    8 <= text.len() && &text[..8] == b"refused ".as_slice()
-}
-
-/// Whether a line says that the commands are a script: it is the first that says something, and begins as a
-/// script does.
-pub(crate) fn is_script(has_heard: bool, line: &[u8]) -> bool
-    ensures { result ≡ (not has_heard && begins_script (words line.now)) }
-{
-    !has_heard && begins_script(line)
 }
 
 /// Whether a fault is that the server is lost.

@@ -9,19 +9,13 @@ use crate::ahead::{Ahead, SayingSink};
 use crate::away::{Absence, Held};
 use crate::connection::StreamSource;
 use crate::ears::{Bell, Ears};
-use crate::ends::{
-    Board, End, Tally, end_behind, goes_on, is_kept, is_rescued, refusal_in, tries_again,
-};
+use crate::ends::{Board, End, end_behind, goes_on, is_kept, is_rescued, tries_again};
 use crate::fault::{JoinFault, of_client};
-use crate::files::{FileFault, read_whole, refused_text, write_target, wrote_text};
 use crate::joining::JoinOptions;
 use crate::late::{drawn_behind, drawn_text, late_outcome, refusal_text};
-use crate::own_files::OwnFiles;
 use crate::patience::{Patience, SECONDS, WaitStep, is_kept_after, say_waiting, step_after};
 use crate::rescue::{SeatPlace, has_writes, keep};
-use crate::telling::{
-    tell_kept, tell_left_out, tell_lost, tell_say_again, tell_unkept, warn_of_rule,
-};
+use crate::telling::{tell_kept, tell_left_out, tell_lost, tell_say_again, tell_unkept};
 use board_client::Pushing;
 use client_commands::{ClientCommand, FileName, FileTarget};
 use client_session::{Client, Followed, Outcome, end_of, rest_within, time_until};
@@ -36,6 +30,10 @@ use std::rt::Files;
 use std::sync::{Arc, Wait};
 use std::thread;
 use std::time::{Clock, Duration};
+use typed_commands::{
+    About, FileFault, OwnFiles, Tally, cure, read_whole, refusal_in, refused_text, tell_cure,
+    warn_of_rule, write_target, wrote_text,
+};
 
 /// How often a sleep or a wait is broken by a poll, at most.
 const TURNS: u64 = 0x1_0000_0000;
@@ -115,10 +113,7 @@ impl<'a, R: Clock + Eprint + Drop> Joined<'a, R> {
             ears: None,
             bell: None,
             files,
-            tally: Tally {
-                faulty: false,
-                refused: false,
-            },
+            tally: Tally::none(),
             lost: None,
             absence: None,
             held: None,
@@ -363,6 +358,15 @@ impl<'a, R: Clock + Files + Eprint + Drop> Joined<'a, R> {
         ensures { result ≡ self.now.options.interval }
     {
         u32::from(self.options.interval)
+    }
+
+    /// Tells what would be right, where the command of a line that ends at this one was refused for what it
+    /// says. Where memory is wanting for that, nothing is told: the refusal stands, and the client goes on.
+    pub(crate) fn tell_cure(&self, line: u64, about: &About) {
+        let (alloc, rule) = (self.client.alloc(), self.client.replica().rule());
+        if let Ok(Some(cure)) = cure(self.rt, alloc, self.client.printed(), &rule, about) {
+            tell_cure(self.rt, line, cure.as_str());
+        }
     }
 
     /// Warns where a pattern's text, which is told by this name, has another rule than the board.

@@ -6,12 +6,11 @@ ghost use Rattle.genedit_join.specs.Fault.{fault_of_command, without_greeting};
 use crate::ahead::SayingSink;
 use crate::away::{Broken, Held};
 use crate::connection::{Connection, StreamSource, connect};
-use crate::cures::About;
-use crate::ends::{end_status, is_script};
+use crate::ends::end_status;
 use crate::fault::JoinFault;
 use crate::joined::{AWAITED, Going, Joined, Pace};
 use crate::patience::Patience;
-use crate::telling::{tell_doubt, tell_end, tell_fault, tell_open_block, tell_unkept};
+use crate::telling::{tell_doubt, tell_end, tell_unkept};
 use crate::typed::{Typed, typed_lines};
 use board_client::Server;
 use client_commands::{ClientCommand, Dictation, Heard, command_in};
@@ -29,6 +28,7 @@ use std::sync::{Arc, Wait};
 use std::thread;
 use std::thread::Threads;
 use std::time::{Clock, Duration};
+use typed_commands::{About, is_script, tell_fault, tell_open_block};
 
 /// How a client joins a board.
 #[derive(Clone, Copy)]

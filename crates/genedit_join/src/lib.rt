@@ -5,17 +5,13 @@
 mod ahead;
 mod away;
 mod connection;
-mod cures;
 mod ears;
 mod ends;
 mod fault;
-mod files;
 mod joined;
 mod joining;
 mod late;
-mod own_files;
 mod patience;
-mod population;
 mod rescue;
 mod telling;
 mod typed;

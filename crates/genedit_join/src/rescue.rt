@@ -5,13 +5,13 @@ ghost use Rattle.edit_stamps.specs.PlaneMap.{IsGreatestStamp};
 ghost use Rattle.stamped_tree.specs.Plane.{map_of};
 ghost use Rattle.genedit_join.specs.Rescue.{has_writes, holding_of, in_file_text, kept_text, nowhere_text, rescue_name};
 
-use crate::files::{FileCause, FileFault, read_whole, standing_of, write_target};
 use client_commands::{FileName, FileTarget};
 use genedit_io::{RunFault, file_fault_text};
 use itoa::Buffer;
 use stamped_tree::Plane;
 use std::alloc::{AllocError, Global};
 use std::rt::Files;
+use typed_commands::{FileCause, FileFault, read_whole, standing_of, write_target};
 use whole_files::Standing;
 
 /// How many names are tried, at most.

@@ -1,30 +1,8 @@
-use Rattle.std.proofs.Common.{◌≡◌, ◌∙◌, List, ap, sym, subst}
-use Rattle.generations_rule.specs.Rule.{GenerationsRule}
-use Rattle.edit_stamps.specs.Edit.{HaveStatesBelow, PlaneEdit}
-use Rattle.document_bodies.specs.Bodies.{AreEditsUnder}
-use Rattle.delta_exchange.specs.declared.message.Content.{Content}
-use Rattle.delta_exchange.specs.declared.message.Content.TheVariants.{Edits}
-use Rattle.replica_core.specs.Exchange.{TakesSome}
-use Rattle.genedit_documents.specs.Listing.{first_of}
-use Rattle.genedit_documents.proofs.Exports.{exported, have_below, holds_taken, not_exported}
-use Rattle.genedit_documents.proofs.ListLaws.{under_first}
+use Rattle.genedit_documents.proofs.Exports.{exported, not_exported}
 use Rattle.genedit_documents.proofs.exporting.export_text.Goals as goal
 
-pub take_edits-requires : goal.take_edits-requires
-take_edits-requires c =
-    let are : c.first_edits.result.now ≡ first_of c.args.most c.args.listed.now.edits.items = c.first_edits.ensures ∙ ap (first_of c.args.most) c.deref.ensures.value in
-    let under : AreEditsUnder c.args.listed.now.rule c.first_edits.result.now =
-    subst (AreEditsUnder c.args.listed.now.rule) (sym are) (under_first c.args.listed.now.rule c.args.most c.args.listed.now.edits.items c.requires) in
-    subst (λ (q : GenerationsRule). HaveStatesBelow q.states c.first_edits.result.now) (sym c.in_ok-replica.ensures.new.same_rule) (have_below c.args.listed.now.rule c.first_edits.result.now under)
-
 pub returns-clause-text : goal.returns-clause-text
-returns-clause-text c =
-    let are : c.first_edits.result.now ≡ first_of c.args.most c.args.listed.now.edits.items = c.first_edits.ensures ∙ ap (first_of c.args.most) c.deref.ensures.value in
-    let takes = subst (λ (l : List PlaneEdit). TakesSome c.in_ok-replica.replica c.take_edits.new.self (λ content. content ≡ Edits l)) are c.in_ok-take_edits.ensures in
-    exported c.args.listed.now.rule _ c.take_edits.new.self c.args.generation c.export.result (holds_taken c.args.listed.now.rule _ _ _ c.in_ok-replica.replica c.take_edits.new.self c.in_ok-replica.ensures.new takes) c.export.ensures.text
+returns-clause-text c = exported c.args.listed.now.rule _ _ c.in_ok-replica.replica c.args.generation c.export.result c.in_ok-replica.ensures.held c.export.ensures.text
 
 pub returns-clause-refused : goal.returns-clause-refused
-returns-clause-refused c =
-    let are : c.first_edits.result.now ≡ first_of c.args.most c.args.listed.now.edits.items = c.first_edits.ensures ∙ ap (first_of c.args.most) c.deref.ensures.value in
-    let takes = subst (λ (l : List PlaneEdit). TakesSome c.in_ok-replica.replica c.take_edits.new.self (λ content. content ≡ Edits l)) are c.in_ok-take_edits.ensures in
-    not_exported c.args.listed.now.rule _ c.take_edits.new.self c.args.generation c.export.result (holds_taken c.args.listed.now.rule _ _ _ c.in_ok-replica.replica c.take_edits.new.self c.in_ok-replica.ensures.new takes) c.export.ensures.err
+returns-clause-refused c = not_exported c.args.listed.now.rule _ _ c.in_ok-replica.replica c.args.generation c.export.result c.in_ok-replica.ensures.held c.export.ensures.err

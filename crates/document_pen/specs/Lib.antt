@@ -1,0 +1,5 @@
+pub mod Pen
+pub mod Drawing
+pub mod Exporting
+pub mod Opening
+pub mod Carrying

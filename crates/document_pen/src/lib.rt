@@ -1,0 +1,17 @@
+//! What a command draws in a document that a file keeps: each edit is in the file, synced, before it is told.
+#![tactic(auto)]
+
+mod carrying;
+mod done;
+mod exporting;
+mod fault;
+mod naming;
+mod opening;
+mod pen;
+mod telling;
+
+pub use carrying::carry_out;
+pub use done::Done;
+pub use fault::PenFault;
+pub use naming::PasteMode;
+pub use pen::{Outcome, Pen};

@@ -1,0 +1,77 @@
+//! Files that are opened.
+
+ghost use Rattle.std.specs.Prelude.{◌≡◌, ◌++◌, codes};
+ghost use Rattle.genedit_lib.specs.Output.{refused_text};
+ghost use Rattle.multistate_rle.specs.RleFault.{text_fault_number, text_fault_text};
+ghost use Rattle.document_pen.specs.declared.pen.Outcome.TheVariants.{Refused};
+ghost use Rattle.document_pen.specs.Opening.{DrawsAll, DrawsSome, IsOpened};
+ghost use Rattle.document_pen.specs.Pen.{IsPrinted};
+
+use crate::fault::PenFault;
+use crate::pen::{Outcome, Pen};
+use edit_stamps::MOST_CELLS;
+use genedit_lib::{push_text, text_refusal};
+use kept_devices::Keep;
+use multistate_rle::RleFault;
+use opened_files::{Opening, Unopened, opening_of, spec_of};
+use pattern_cells::Cell;
+
+impl<K: Keep> Pen<K> {
+    /// Draws what a text holds: the cells that are not dead of a board that was saved, in edits of at most 2^20 cells,
+    /// each kept in the file before the next, with counters above those of the text too; else the pattern of a file
+    /// of RLE, of MCell's format or of plaintext, at its own position. What is refused of the text is printed; behind
+    /// an edit that is refused no more is drawn.
+    pub fn open(&mut self, text: &[u8]) -> Result<Outcome, PenFault>
+        ensures { IsOpened text.now self.old self.new result }
+    {
+        match opening_of(self.alloc, &self.replica, text) {
+            Ok(Opening::Board(saved)) => self.draw_all(saved.counter, &saved.cells),
+            Ok(Opening::Pattern(spec)) => self.draw(0, &spec),
+            Err(Unopened::Refused(fault)) => self.refuse(fault),
+            Err(Unopened::NoPattern(fault)) => self.refuse_text(fault),
+            Err(Unopened::Memory) => Err(PenFault::Memory),
+            Err(Unopened::StoreFull) => Err(PenFault::StoreFull),
+        }
+    }
+
+    /// Draws cells in edits of as many as one may have, with counters above a given one too.
+    fn draw_all(&mut self, after: u64, cells: &[Cell]) -> Result<Outcome, PenFault>
+        ensures { DrawsAll after cells.now self.old self.new result }
+    {
+        let mut rest = cells;
+        while rest.len() > MOST_CELLS {
+            let (some, more) = rest.split_at(MOST_CELLS);
+            match self.draw_some(after, some) {
+                Ok(Outcome::Drawn) => rest = more,
+                Ok(Outcome::Refused) => return Ok(Outcome::Refused),
+                Err(fault) => return Err(fault),
+            }
+        }
+        self.draw_some(after, rest)
+    }
+
+    /// Draws some cells in one edit.
+    fn draw_some(&mut self, after: u64, cells: &[Cell]) -> Result<Outcome, PenFault>
+        ensures { DrawsSome after cells.now self.old self.new result }
+    {
+        match spec_of(self.alloc, cells) {
+            Ok(spec) => self.draw(after, &spec),
+            Err(_) => Err(PenFault::Memory),
+        }
+    }
+
+    /// Prints the refusal of a text that is no pattern.
+    fn refuse_text(&mut self, fault: RleFault) -> Result<Outcome, PenFault>
+        ensures { IsPrinted Refused (refused_text (text_fault_number fault) (text_fault_text fault) ++ codes "\n") self.old self.new result }
+    {
+        let before = self.out.len();
+        let told = text_refusal(self.alloc, fault)?;
+        match push_text(&mut self.out, &told) {
+            Ok(()) => Ok(Outcome::Refused),
+            Err(_) => {
+                self.out.truncate(before);
+                Err(PenFault::Memory)
+            }
+        }
+    }
+}

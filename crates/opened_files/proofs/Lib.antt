@@ -1,0 +1,2 @@
+pub mod SavedLaws
+pub mod OpeningLaws

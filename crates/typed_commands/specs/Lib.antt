@@ -1,0 +1,4 @@
+pub mod Cures
+pub mod Files
+pub mod Refusals
+pub mod Rows
