@@ -1,26 +1,24 @@
 //! Documents in files.
 
-ghost use Rattle.std.specs.Prelude.{IfOk};
-ghost use Rattle.document_bodies.specs.Bodies.{AreEditsUnder};
 ghost use Rattle.kept_log.specs.Found.{IsReadTo, listed};
 
-use crate::opening::{opened, tell, tell_refused, tell_unread};
-use devices::{ReadSource, Source, WriteSink};
-use document_files::{
-    FileRefusal, cause_of_file, is_missing, open_found, save_lost, write_refusal,
+use crate::document_reading::{
+    Left, bytes_of, document_in, edits_in, missing, name_of, printed, tell_document,
 };
-use documents::{Document, DocumentFault, ListedEdits, gather, read_document, read_edits};
+use crate::opening::{tell, tell_refused};
+use document_files::{cause_of_file, is_missing, open_found, save_lost, write_refusal};
+use documents::{Document, gather};
 use genedit_documents::{
-    difference_text, export_fault, export_text, fault_text, first_edits, log_text, merge_bytes,
-    merged_line, new_line, run_fault,
+    difference_text, export_fault, export_text, first_edits, log_text, merge_bytes, merged_line,
+    new_line,
 };
-use genedit_io::{RunFault, file_fault_text, pull_all, push_output};
+use genedit_io::{RunFault, file_fault_text};
 use genedit_words::{DiffTask, ExportTask, LogTask, MergeTask, NewTask};
 use kept_devices::Reopen;
 use kept_file::FileKeep;
 use kept_log::Found;
 use keyed_hash::{HashKey, RandomBytes};
-use std::alloc::{AllocError, Global};
+use std::alloc::Global;
 use std::fs::File;
 use std::io;
 use std::io::ErrorKind;
@@ -35,66 +33,8 @@ const WELL: u8 = 0;
 /// Two documents differ.
 const TOLD: u8 = 1;
 
-/// How many pulls a file has, at most.
-const TURNS: u64 = 1 << 32;
-
 /// What standard input is called.
 const STANDARD_INPUT: &str = "-";
-
-/// How a command on documents is left before its work is done.
-#[derive(Clone, Copy)]
-enum Left {
-    /// What is refused was told; the status of the process.
-    Told(u8),
-    /// By a fault of no file.
-    Run(RunFault),
-}
-
-impl Left {
-    /// By what telling a refusal came to.
-    fn by(told: Result<u8, RunFault>) -> Left {
-        match told {
-            Ok(status) => Left::Told(status),
-            Err(fault) => Left::Run(fault),
-        }
-    }
-
-    /// The status of the process, or the fault.
-    fn end(self) -> Result<u8, RunFault> {
-        match self {
-            Left::Told(status) => Ok(status),
-            Left::Run(fault) => Err(fault),
-        }
-    }
-}
-
-impl From<AllocError> for Left {
-    fn from(_error: AllocError) -> Left {
-        Left::Run(RunFault::Memory)
-    }
-}
-
-impl From<RunFault> for Left {
-    fn from(fault: RunFault) -> Left {
-        Left::Run(fault)
-    }
-}
-
-/// Says why what a file has is refused; the status of the process.
-fn tell_document<R: Eprint>(
-    rt: &R,
-    alloc: Global,
-    path: &str,
-    fault: &DocumentFault,
-) -> Result<u8, RunFault> {
-    let ending = run_fault(fault);
-    if ending == RunFault::Memory {
-        return Err(ending);
-    }
-    let text = fault_text(alloc, fault, path.as_bytes())?;
-    tell(rt, alloc, &text)?;
-    Ok(ending.exit_status())
-}
 
 /// Makes a document without an edit.
 pub fn new_document<R: Files<File = File> + Print + Eprint>(
@@ -103,19 +43,15 @@ pub fn new_document<R: Files<File = File> + Print + Eprint>(
     task: &NewTask<'_>,
 ) -> Result<u8, RunFault> {
     let text = Document::new(alloc, task.rule).text(alloc)?;
-    if let Err(refusal) = write_whole(rt, alloc, task.file, false, &text) {
-        return tell_unmade(rt, alloc, task.file, refusal);
-    }
-    if let Err(error) = sync_folder(rt, alloc, task.file) {
-        let refusal = WriteRefusal::System(cause_of_file(error.kind()));
+    if let Err(refusal) = write_durably(rt, alloc, task.file, false, &text) {
         return tell_unmade(rt, alloc, task.file, refusal);
     }
     let line = new_line(alloc, task.file.as_bytes(), &task.rule)?;
     printed(rt, &line, WELL)
 }
 
-/// Says why a document is not made; the status of the process.
-fn tell_unmade<R: Eprint>(
+/// Says why a file is not made, or not written; the status of the process.
+pub(crate) fn tell_unmade<R: Eprint>(
     rt: &R,
     alloc: Global,
     path: &str,
@@ -132,7 +68,22 @@ fn tell_unmade<R: Eprint>(
     Ok(RunFault::Write.exit_status())
 }
 
-/// Syncs the folder of a file: that the file is there is on the disk then.
+/// Writes a file whole, and syncs its folder: that it is there is on the disk then.
+pub(crate) fn write_durably<R: Files<File = File>>(
+    rt: &R,
+    alloc: Global,
+    path: &str,
+    replaces: bool,
+    text: &[u8],
+) -> Result<(), WriteRefusal> {
+    write_whole(rt, alloc, path, replaces, text)?;
+    match sync_folder(rt, alloc, path) {
+        Ok(()) => Ok(()),
+        Err(error) => Err(WriteRefusal::System(cause_of_file(error.kind()))),
+    }
+}
+
+/// Syncs the folder of a file.
 fn sync_folder<R: Files<File = File>>(rt: &R, alloc: Global, path: &str) -> io::Result<()> {
     let whole = rt.canonicalize(alloc, path)?.into_string();
     let Some(folder) = Path::new(whole.as_str()).parent() else {
@@ -174,14 +125,6 @@ fn merged<R: Files<File = File> + Input + Eprint>(
     write_document(rt, alloc, path, found, &document)?;
     let line = merged_line(alloc, path.as_bytes(), edits, edits.saturating_sub(before))?;
     Ok(line)
-}
-
-/// That there is no document to merge into.
-fn missing() -> FileRefusal {
-    FileRefusal::of(
-        RunFault::Refused(42, None),
-        "there is no such file: genedit new makes one",
-    )
 }
 
 /// A document with the edits of others, in turn.
@@ -355,63 +298,4 @@ fn most_of(edits: Option<u32>) -> Option<u64> {
         Some(edits) => Some(u64::from(edits)),
         None => None,
     }
-}
-
-/// What a file is called.
-fn name_of(file: Option<&str>) -> &str {
-    file.unwrap_or(STANDARD_INPUT)
-}
-
-/// The document of a file's bytes.
-fn document_in<R: Eprint>(
-    rt: &R,
-    alloc: Global,
-    path: &str,
-    bytes: &[u8],
-) -> Result<Document, Left> {
-    match read_document(alloc, bytes) {
-        Ok(read) => Ok(read.document),
-        Err(fault) => Err(Left::by(tell_document(rt, alloc, path, &fault))),
-    }
-}
-
-/// The edits of a file's bytes, as they stand.
-fn edits_in<R: Eprint>(
-    rt: &R,
-    alloc: Global,
-    file: Option<&str>,
-    bytes: &[u8],
-) -> Result<ListedEdits, Left>
-    ensures { IfOk result (λ l. AreEditsUnder l.rule l.edits.items) }
-{
-    match read_edits(alloc, bytes) {
-        Ok(listed) => Ok(listed),
-        Err(fault) => Err(Left::by(tell_document(rt, alloc, name_of(file), &fault))),
-    }
-}
-
-/// All bytes of a file, or of standard input.
-fn bytes_of<R: Files + Input + Eprint>(
-    rt: &R,
-    alloc: Global,
-    file: Option<&str>,
-) -> Result<Vec<u8>, Left> {
-    match file {
-        None => pulled(alloc, &mut ReadSource::new(rt.reader())),
-        Some(path) => match opened(rt, path) {
-            Err(cause) => Err(Left::by(tell_unread(rt, alloc, path, cause))),
-            Ok(file) => pulled(alloc, &mut ReadSource::new(file)),
-        },
-    }
-}
-
-fn pulled<S: Source>(alloc: Global, source: &mut S) -> Result<Vec<u8>, Left> {
-    let bytes = pull_all(alloc, source, TURNS)?;
-    Ok(bytes)
-}
-
-/// Prints a text; the status of the process.
-fn printed<R: Print>(rt: &R, text: &[u8], status: u8) -> Result<u8, RunFault> {
-    push_output(&mut WriteSink::new(io::writer(rt)), text)?;
-    Ok(status)
 }

@@ -5,7 +5,10 @@ mod bounds;
 mod clients;
 mod closing;
 mod converting;
+mod document_reading;
 mod document_tasks;
+mod drawing;
+mod numbering;
 mod opening;
 mod pictures;
 mod tasks;
@@ -15,6 +18,8 @@ ghost use Rattle.genedit_words.specs.Given.{IsInRange};
 use crate::clients::join;
 use crate::converting::convert_file;
 use crate::document_tasks::{diff, export, log, merge, new_document};
+use crate::drawing::draw_in_document;
+use crate::numbering::number;
 use crate::pictures::view;
 use crate::tasks::{check, rle, run, serve};
 use genedit_io::RunFault;
@@ -95,9 +100,11 @@ fn perform<
         Task::Join(client) => join(rt, alloc, *client),
         Task::Convert(file) => convert_file(rt, alloc, file),
         Task::New(document) => new_document(rt, alloc, document),
+        Task::Draw(drawing) => draw_in_document(rt, alloc, drawing),
         Task::Merge(documents) => merge(rt, alloc, documents),
         Task::Diff(documents) => diff(rt, alloc, documents),
         Task::Log(document) => log(rt, alloc, document),
         Task::Export(document) => export(rt, alloc, document),
+        Task::Number(name) => number(rt, alloc, name),
     }
 }

@@ -1,5 +1,5 @@
 -- What a new replica exports that took some edits.
-use Rattle.std.proofs.Common.{◌≡◌, ◌∙◌, ◌⊎◌, inl, inr, ℕ, List, [], ◌∷◌, sym, ap, subst}
+use Rattle.std.proofs.Common.{◌≡◌, ◌∙◌, inl, inr, ℕ, List, [], ◌∷◌, ap, subst}
 use Rattle.std.specs.Prelude.{IfErr, IfOk, Result, Ok, Err, Vec}
 use Rattle.std.specs.declared.alloc.Global.{Global}
 use Rattle.generations_rule.specs.Place.{Place}
@@ -11,7 +11,6 @@ use Rattle.edit_stamps.proofs.WriteLaws.{unwritten-greater}
 use Rattle.document_bodies.specs.Bodies.{AreEditsUnder}
 use Rattle.stamped_tree.specs.Plane.{map_of}
 use Rattle.generation_engine.specs.Universe.{states_in_writes}
-use Rattle.export.specs.declared.fault.ExportFault.{ExportFault}
 use Rattle.export.specs.Export.{IsExport, most_cells}
 use Rattle.delta_exchange.specs.Message.{writes_in}
 use Rattle.delta_exchange.specs.declared.message.Content.{Content}

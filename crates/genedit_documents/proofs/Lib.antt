@@ -1,2 +1,3 @@
 pub mod ListLaws
 pub mod Exports
+pub mod NumberLaws

@@ -1,8 +1,8 @@
 -- Parts of lists of edits.
-use Rattle.std.proofs.Common.{◌≡◌, ◌≤◌, ℕ, zero, suc, List, [], ◌∷◌, take, refl}
+use Rattle.std.proofs.Common.{ℕ, zero, suc, List, [], ◌∷◌, take}
 use Rattle.std.specs.Prelude.{Option, Some, None}
 use Rattle.generations_rule.specs.Rule.{GenerationsRule}
-use Rattle.edit_stamps.specs.Edit.{HaveStatesBelow, PlaneEdit}
+use Rattle.edit_stamps.specs.Edit.{PlaneEdit}
 use Rattle.document_bodies.specs.Bodies.{AreEditsUnder}
 use Rattle.genedit_documents.specs.Listing.{first_of}
 

@@ -4,5 +4,6 @@ pub mod Differing
 pub mod Merging
 pub mod Holding
 pub mod Exporting
+pub mod Numbers
 pub mod Faults
 pub mod Rows

@@ -8,6 +8,7 @@ mod holding;
 mod lines;
 mod listing;
 mod merging;
+mod numbers;
 
 pub use difference::difference_text;
 pub use exporting::export_text;
@@ -16,3 +17,4 @@ pub use holding::replica_of;
 pub use lines::{merged_line, new_line};
 pub use listing::{first_edits, log_text};
 pub use merging::{Merged, merge_bytes};
+pub use numbers::{Numbered, Numbering, NumbersFault, is_name, number_of, number_text, numbers_in};

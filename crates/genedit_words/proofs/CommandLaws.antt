@@ -11,15 +11,15 @@ use Rattle.clap.specs.Lexer.{without_minus}
 use Rattle.clap.specs.Takes.{is_given}
 use Rattle.clap.specs.Values.{read_as}
 use Rattle.clap.specs.ValueTests.{accepts}
-use Rattle.clap.specs.Walk.{answers_to, Held, Names, Row, Rule, Text, finished, first_of, nothing_held, one_of, row_text, rows_after, settled, walk, walk_from, with_default}
+use Rattle.clap.specs.Walk.{answers_to, Held, Names, Row, Rule, Text, finished, first_of, nothing_held, one_of, row_text, rows_after, settled, walk, walk_from}
 use Rattle.clap.specs.Simple.{App, Shape, label_of, argument_words, built, built_leaf, entered, filled, help_rule, help_shape, inherited, names_of, rows_at, subcommand_of, with_index}
 use Rattle.clap.specs.Kinds.{Kinds, check_kinds, or_else}
 use Rattle.clap.specs.Faults.{check_fault, defaults_fault, entered_fault, fault_of, level_fault, settle_fault, walk_fault}
 use Rattle.clap.specs.declared.builder.value_parser.Reading.{Reading}
 use Rattle.clap.specs.declared.builder.value_parser.Reading.TheVariants as reading
 use Rattle.clap.specs.declared.builder.value_parser.ValueParser.TheVariants as vp
-use Rattle.genedit_words.specs.Given.{Has, HasClient, HasConversion, HasDiff, HasExport, HasFlag, HasLog, HasMerge, HasNew, HasNumber, HasRule, HasServer, HasText, HasTexts, HasView, IsNamed, MayHaveNumber}
-use Rattle.genedit_words.specs.Words.{board_rule, check_shape, convert_shape, diff_shape, edits_option, every_option, export_shape, file_argument, flag, gen_option, generation_place, genedit_app, join_shape, log_shape, merge_shape, new_document_shape, optional, others_argument, place_argument, port_option, rle_shape, rule_option, run_shape, serve_shape, sessions_option, view_shape}
+use Rattle.genedit_words.specs.Given.{Has, HasClient, HasConversion, HasDiff, HasDraw, HasExport, HasFlag, HasLog, HasMerge, HasNew, HasNumber, HasNumbering, HasRule, HasServer, HasText, HasTexts, HasView, IsNamed, MayHaveNumber}
+use Rattle.genedit_words.specs.Words.{board_rule, check_shape, convert_shape, diff_shape, draw_shape, edits_option, every_option, export_shape, file_argument, flag, gen_option, generation_place, genedit_app, join_shape, log_shape, merge_shape, new_document_shape, number_shape, optional, others_argument, place_argument, port_option, replica_option, rle_shape, rule_option, run_shape, serve_shape, sessions_option, view_shape}
 use Rattle.genedit_words.proofs.Stops.{both_pass, stops_at_help, walk_passes}
 use Rattle.genedit_words.proofs.RowFacts.{IsWellUsed, all_ok, both_true, rows_well}
 use Rattle.genedit_words.proofs.RuleFacts.{AreOrderly, HasValue, IsOrderly, append_orderly, defaults_orderly, drops_minus, first_passes, fits, flag_orderly, found_value, given_value, is_flag_text, keeps_all, no_default, ok, option_orderly, uses_found}
@@ -54,6 +54,12 @@ other_orderly place = option_orderly (given place (place_argument (codes "other"
 
 others_orderly : (place : ℕ) → IsOrderly (given place others_argument)
 others_orderly place = append_orderly (given place others_argument) refl refl (λ rows h. cc) (λ v vs passes. refl)
+
+numbers_orderly : (place : ℕ) → IsOrderly (given place (place_argument (codes "numbers")))
+numbers_orderly place = option_orderly (given place (place_argument (codes "numbers"))) refl refl (λ rows h. cc) (λ v vs passes. refl)
+
+name_orderly : (place : ℕ) → IsOrderly (given place (place_argument (codes "name")))
+name_orderly place = option_orderly (given place (place_argument (codes "name"))) refl refl (λ rows h. cc) (λ v vs passes. refl)
 
 rule_orderly : (place : ℕ) → IsOrderly (given place rule_option)
 rule_orderly place = option_orderly (given place rule_option) refl refl (λ rows h. cc) (λ v vs passes. refl)
@@ -90,6 +96,9 @@ edits_orderly place = option_orderly (given place edits_option) refl refl (λ ro
 
 generation_orderly : (place : ℕ) → IsOrderly (given place generation_place)
 generation_orderly place = option_orderly (given place generation_place) refl refl (λ rows h. cc) (λ v vs passes. first_passes false (vp.Signed (pos 0) (pos 4294967295)) v vs passes)
+
+replica_orderly : (place : ℕ) → IsOrderly (given place replica_option)
+replica_orderly place = option_orderly (given place replica_option) refl refl (λ rows h. cc) (λ v vs passes. first_passes false (vp.Signed (pos 65) (pos 65535)) v vs passes)
 
 plain_orderly : (place : ℕ) → IsOrderly (given place (flag (codes "plain")))
 plain_orderly place = flag_orderly (given place (flag (codes "plain"))) refl refl refl refl refl refl
@@ -142,6 +151,9 @@ join_rules = (port_orderly 1, (every_orderly 1, (follow_orderly 1, (changes_orde
 new_rules : AreOrderly (leaf new_document_shape).rules
 new_rules = (document_orderly 1, (rule_orderly 2, (help_orderly, tt)))
 
+draw_rules : AreOrderly (leaf draw_shape).rules
+draw_rules = (document_orderly 1, (replica_orderly 2, (help_orderly, tt)))
+
 merge_rules : AreOrderly (leaf merge_shape).rules
 merge_rules = (document_orderly 1, (others_orderly 2, (help_orderly, tt)))
 
@@ -153,6 +165,9 @@ log_rules = (document_orderly 1, (edits_orderly 2, (help_orderly, tt)))
 
 export_rules : AreOrderly (leaf export_shape).rules
 export_rules = (document_orderly 1, (generation_orderly 2, (edits_orderly 3, (help_orderly, tt))))
+
+number_rules : AreOrderly (leaf number_shape).rules
+number_rules = (numbers_orderly 1, (name_orderly 2, (help_orderly, tt)))
 
 -- ---- what the last checks say
 
@@ -376,6 +391,15 @@ new_has words passes =
       rule = value_at (codes "rule") rows read.fine (given_by (codes "rule") (leaf new_document_shape).rules rows read.given refl);
     }
 
+draw_has : (words : List Text) → level_fault (leaf draw_shape) [] nothing_held words false [] ≡ [] → HasDraw (rows_after (leaf draw_shape).rules [] words)
+draw_has words passes =
+    let rows = rows_after (leaf draw_shape).rules [] words in
+    let read = leaf_fine (leaf draw_shape) words draw_rules refl passes in
+    record {
+      file = value_at (codes "file") rows read.fine (given_by (codes "file") (leaf draw_shape).rules rows read.given refl);
+      replica = number_at 65 65535 (codes "replica") rows read.fine (given_by (codes "replica") (leaf draw_shape).rules rows read.given refl) (λ how v fit. fit);
+    }
+
 merge_has : (words : List Text) → level_fault (leaf merge_shape) [] nothing_held words false [] ≡ [] → HasMerge (rows_after (leaf merge_shape).rules [] words)
 merge_has words passes =
     let rows = rows_after (leaf merge_shape).rules [] words in
@@ -411,6 +435,15 @@ export_has words passes =
       file = value_at (codes "file") rows read.fine (given_by (codes "file") (leaf export_shape).rules rows read.given refl);
       generation = number_at 0 4294967295 (codes "generation") rows read.fine (given_by (codes "generation") (leaf export_shape).rules rows read.given refl) (λ how v fit. fit);
       edits = may_have_number 0 4294967295 (codes "edits") rows read.fine (λ how v fit. fit);
+    }
+
+number_has : (words : List Text) → level_fault (leaf number_shape) [] nothing_held words false [] ≡ [] → HasNumbering (rows_after (leaf number_shape).rules [] words)
+number_has words passes =
+    let rows = rows_after (leaf number_shape).rules [] words in
+    let read = leaf_fine (leaf number_shape) words number_rules refl passes in
+    record {
+      file = value_at (codes "numbers") rows read.fine (given_by (codes "numbers") (leaf number_shape).rules rows read.given refl);
+      name = value_at (codes "name") rows read.fine (given_by (codes "name") (leaf number_shape).rules rows read.given refl);
     }
 
 -- ---- which subcommand the words name
@@ -450,7 +483,7 @@ not_help name rows other is = go (bytes_eq (codes "help") name) refl is
     go false same h = absurd (true≢false (sym h))
 
 all_have : (name : Text) → bytes_eq name (codes "help") ≡ false → HaveAll name whole.subs
-all_have name other = ((λ is words passes. tt), ((λ is words passes. tt), ((λ is words passes. rle_has words passes), ((λ is words passes. view_has words passes), ((λ is words passes. convert_has words passes), ((λ is words passes. serve_has words passes), ((λ is words passes. join_has words passes), ((λ is words passes. new_has words passes), ((λ is words passes. merge_has words passes), ((λ is words passes. diff_has words passes), ((λ is words passes. log_has words passes), ((λ is words passes. export_has words passes), ((λ is words passes. not_help name (rows_after (built_leaf help_shape).rules [] words) other is), tt)))))))))))))
+all_have name other = ((λ is words passes. tt), ((λ is words passes. tt), ((λ is words passes. rle_has words passes), ((λ is words passes. view_has words passes), ((λ is words passes. convert_has words passes), ((λ is words passes. serve_has words passes), ((λ is words passes. join_has words passes), ((λ is words passes. new_has words passes), ((λ is words passes. draw_has words passes), ((λ is words passes. merge_has words passes), ((λ is words passes. diff_has words passes), ((λ is words passes. log_has words passes), ((λ is words passes. export_has words passes), ((λ is words passes. number_has words passes), ((λ is words passes. not_help name (rows_after (built_leaf help_shape).rules [] words) other is), tt)))))))))))))))
 
 entered_named : (stop : Option (Text × List Text)) → is_some (entered whole stop) ≡ true → entered_fault whole stop ≡ [] → stops_at_help stop ≡ false
     → IsNamed (entered whole stop)

@@ -1,5 +1,5 @@
 -- What words that are no fault have.
-use Rattle.std.specs.Prelude.{IsSomeAnd, ◌≡◌, ◌⊎◌, ◌≤◌, ⊤, None, ℕ, Bool, true, false, List, Option, Some, codes, pos}
+use Rattle.std.specs.Prelude.{IsSomeAnd, ◌≡◌, ◌⊎◌, ◌≤◌, ⊤, None, ℕ, List, Option, Some, codes, pos}
 use Rattle.std.specs.Option.{IsSome}
 use Rattle.clap.specs.Values.{IsSignedIn}
 use Rattle.clap.specs.Words.{Row, Text, first_of, one_of, without_minus}
@@ -9,7 +9,7 @@ use Rattle.genedit_words.specs.declared.subcommand.Subcommand.TheVariants as sub
 use Rattle.genedit_words.specs.Subcommands.{subcommand_named}
 use Rattle.genedit_words.specs.declared.task.ServeTask.{ServeTask}
 use Rattle.genedit_words.specs.declared.task.Task.{Task}
-use Rattle.genedit_words.specs.declared.task.Task.TheVariants.{Join, Serve}
+use Rattle.genedit_words.specs.declared.task.Task.TheVariants.{Draw, Join, Serve}
 
 -- a text at a place
 abbrev pub HasText : Text → List Row → Type 0
@@ -69,6 +69,10 @@ pub record HasNew (rows : List Row) : Type 0 where
   pub file : HasText (codes "file") rows
   pub rule : HasRule rows
 
+pub record HasDraw (rows : List Row) : Type 0 where
+  pub file : HasText (codes "file") rows
+  pub replica : HasNumber 65 65535 (codes "replica") rows
+
 pub record HasMerge (rows : List Row) : Type 0 where
   pub file : HasText (codes "file") rows
   pub others : HasTexts (codes "other") rows
@@ -86,6 +90,10 @@ pub record HasExport (rows : List Row) : Type 0 where
   pub generation : HasNumber 0 4294967295 (codes "generation") rows
   pub edits : MayHaveNumber 0 4294967295 (codes "edits") rows
 
+pub record HasNumbering (rows : List Row) : Type 0 where
+  pub file : HasText (codes "numbers") rows
+  pub name : HasText (codes "name") rows
+
 -- what a subcommand needs
 abbrev pub HasFor : Subcommand → List Row → Type 0
 HasFor subcommand.Run rows = ⊤
@@ -96,10 +104,12 @@ HasFor subcommand.Convert rows = HasConversion rows
 HasFor subcommand.Serve rows = HasServer rows
 HasFor subcommand.Join rows = HasClient rows
 HasFor subcommand.New rows = HasNew rows
+HasFor subcommand.Draw rows = HasDraw rows
 HasFor subcommand.Merge rows = HasMerge rows
 HasFor subcommand.Diff rows = HasDiff rows
 HasFor subcommand.Log rows = HasLog rows
 HasFor subcommand.Export rows = HasExport rows
+HasFor subcommand.Number rows = HasNumbering rows
 
 -- the same, by its name
 abbrev pub Has : Text → List Row → Type 0
@@ -116,8 +126,10 @@ pub record IsNamed (entered : Option (Text × List Row)) : Type 0 where
 abbrev pub IsServable : ServeTask → Type 0
 IsServable server = (server.keep ≡ None → IsSome server.rule) × (1 ≤ server.sessions) × (server.sessions ≤ 64)
 
--- a server can be served; a client lets 1 to 60,000 milliseconds pass between two polls
+-- a server can be served; a client lets 1 to 60,000 milliseconds pass between two polls; whoever draws in a
+-- document has a number that is no seat's
 abbrev pub IsInRange : Task → Type 0
 IsInRange (Serve server) = IsServable server
 IsInRange (Join client) = (1 ≤ client.interval) × (client.interval ≤ 60000)
+IsInRange (Draw drawing) = (65 ≤ drawing.replica) × (drawing.replica ≤ 65535)
 IsInRange _ = ⊤

@@ -12,7 +12,7 @@ use Rattle.header_rules.specs.Families.{other_names, table_ends, table_fronts}
 use Rattle.header_rules.specs.Names.{rule_names}
 use Rattle.genedit_words.specs.Bound.{bound_words}
 use Rattle.genedit_words.specs.Misspelt.{misspelt_text}
-use Rattle.genedit_words.specs.Told.{Check, Diff, Export, Join, Log, Merge, Run, Serve, View}
+use Rattle.genedit_words.specs.Told.{Check, Diff, Draw, Export, Join, Log, Merge, Number, Run, Serve, View}
 use Rattle.genedit_words.specs.Words.{Asks, LacksRule, genedit_app, new_task, rle_task, rule_asked, rule_if_given, serve_task}
 
 abbrev genedit : List Text → List Text
@@ -234,6 +234,27 @@ new_document : Asks (genedit (codes "new" ∷ codes "a.glwl" ∷ codes "--rule=/
 unfolding clap_on_literals
 new_document = (refl, refl)
 
+drawing : Asks (genedit (codes "draw" ∷ codes "a.glwl" ∷ codes "--replica" ∷ codes "65" ∷ [])) (Ok (Draw (codes "a.glwl") 65))
+unfolding clap_on_literals
+drawing = (refl, refl)
+
+-- `-` is a file's name as any other
+drawing_in_a_file : Asks (genedit (codes "draw" ∷ codes "--replica=65535" ∷ codes "-" ∷ [])) (Ok (Draw (codes "-") 65535))
+unfolding clap_on_literals
+drawing_in_a_file = (refl, refl)
+
+drawing_by_nobody : fault_of genedit_app (genedit (codes "draw" ∷ codes "a.glwl" ∷ [])) ≡ kind.MissingRequiredArgument ∷ []
+unfolding clap_on_literals
+drawing_by_nobody = refl
+
+drawing_by_a_seat : fault_of genedit_app (genedit (codes "draw" ∷ codes "a.glwl" ∷ codes "--replica=64" ∷ [])) ≡ kind.ValueValidation ∷ []
+unfolding clap_on_literals
+drawing_by_a_seat = refl
+
+replica_of_17_bits : fault_of genedit_app (genedit (codes "draw" ∷ codes "a.glwl" ∷ codes "--replica=65536" ∷ [])) ≡ kind.ValueValidation ∷ []
+unfolding clap_on_literals
+replica_of_17_bits = refl
+
 merging : Asks (genedit (codes "merge" ∷ codes "a" ∷ codes "b" ∷ codes "-" ∷ codes "b" ∷ [])) (Ok (Merge (codes "a") (codes "b" ∷ codes "-" ∷ codes "b" ∷ [])))
 unfolding clap_on_literals
 merging = (refl, refl)
@@ -257,6 +278,14 @@ exporting = (refl, refl)
 generation_of_33_bits : fault_of genedit_app (genedit (codes "export" ∷ codes "a" ∷ codes "4294967296" ∷ [])) ≡ kind.ValueValidation ∷ []
 unfolding clap_on_literals
 generation_of_33_bits = refl
+
+numbering : Asks (genedit (codes "number" ∷ codes "numbers.txt" ∷ codes "ann" ∷ [])) (Ok (Number (codes "numbers.txt") (codes "ann")))
+unfolding clap_on_literals
+numbering = (refl, refl)
+
+numbering_of_nobody : fault_of genedit_app (genedit (codes "number" ∷ codes "numbers.txt" ∷ [])) ≡ kind.MissingRequiredArgument ∷ []
+unfolding clap_on_literals
+numbering_of_nobody = refl
 
 refused_rule : Asks (rle (codes "--rule" ∷ codes "life?" ∷ [])) (Err (record { text = codes "life?"; why = Fault Slashes }))
 unfolding clap_on_literals rule_names other_names table_fronts table_ends

@@ -42,10 +42,12 @@ pub data Told : Type 0 where
   Join : (client : JoinTask) → Told
   Convert : (conversion : Conversion) → Told
   New : (file : List ℕ) → (rule : GenerationsRule) → Told
+  Draw : (file : List ℕ) → (replica : ℕ) → Told
   Merge : (file : List ℕ) → (others : List (List ℕ)) → Told
   Diff : (file : List ℕ) → (other : Option (List ℕ)) → Told
   Log : (file : Option (List ℕ)) → (edits : Option ℕ) → Told
   Export : (file : Option (List ℕ)) → (generation : ℕ) → (edits : Option ℕ) → Told
+  Number : (file : List ℕ) → (name : List ℕ) → Told
 
 -- what a task is, by its texts
 abbrev pub told_of : Task → Told
@@ -77,10 +79,12 @@ told_of (task.Convert converting) = Convert (record {
   replaces = converting.replaces;
 })
 told_of (task.New new) = New new.file.now new.rule
+told_of (task.Draw drawing) = Draw drawing.file.now drawing.replica
 told_of (task.Merge merging) = Merge merging.file.now (map (λ s. s.now) merging.others.items)
 told_of (task.Diff diff) = Diff diff.file.now (option_map (λ s. s.now) diff.other)
 told_of (task.Log log) = Log (option_map (λ s. s.now) log.file) log.edits
 told_of (task.Export export) = Export (option_map (λ s. s.now) export.file) export.generation export.edits
+told_of (task.Number numbering) = Number numbering.file.now numbering.name.now
 
 -- what was looked for, or the word that spells no rule
 abbrev pub or_misspelt : {T : Type 0} → Result T MisspeltRule → Result T Misspelt

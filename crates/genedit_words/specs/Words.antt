@@ -24,7 +24,7 @@ use Rattle.genedit_words.specs.declared.task.Task.{Task}
 use Rattle.genedit_words.specs.declared.words.NoTask.{NoTask}
 use Rattle.genedit_words.specs.declared.words.NoTask.TheVariants as no_task
 use Rattle.genedit_words.specs.Subcommands.{subcommand_named}
-use Rattle.genedit_words.specs.Told.{Told, Conversion, Viewed, Check, Convert, Diff, Export, Join, Log, Merge, New, Rle, Run, Serve, View, told_of}
+use Rattle.genedit_words.specs.Told.{Told, Conversion, Viewed, Check, Convert, Diff, Draw, Export, Join, Log, Merge, New, Number, Rle, Run, Serve, View, told_of}
 
 -- the rule, or the word that spells none
 abbrev pub rule_or_misspelt : Text → Result GenerationsRule Misspelling → Result GenerationsRule Misspelt
@@ -124,6 +124,13 @@ others_argument = record (place_argument (codes "other")) { action = Some Append
 abbrev pub new_document_shape : Shape
 new_document_shape = record (new_shape (codes "new")) { rules = place_argument (codes "file") ∷ rule_option ∷ [] }
 
+-- the number of whoever draws in a document: 65 to 65535, since 1 to 64 are seats of boards
+abbrev pub replica_option : Rule
+replica_option = record (option (codes "replica")) { parser = Some (vp.Signed (pos 65) (pos 65535)) }
+
+abbrev pub draw_shape : Shape
+draw_shape = record (new_shape (codes "draw")) { rules = place_argument (codes "file") ∷ replica_option ∷ [] }
+
 abbrev pub merge_shape : Shape
 merge_shape = record (new_shape (codes "merge")) { rules = place_argument (codes "file") ∷ others_argument ∷ [] }
 
@@ -135,6 +142,9 @@ log_shape = record (new_shape (codes "log")) { rules = place_argument (codes "fi
 
 abbrev pub export_shape : Shape
 export_shape = record (new_shape (codes "export")) { rules = place_argument (codes "file") ∷ generation_place ∷ edits_option ∷ [] }
+
+abbrev pub number_shape : Shape
+number_shape = record (new_shape (codes "number")) { rules = place_argument (codes "numbers") ∷ place_argument (codes "name") ∷ [] }
 
 abbrev pub join_shape : Shape
 join_shape = record (new_shape (codes "join")) { rules = port_option ∷ every_option ∷ flag (codes "follow") ∷ flag (codes "changes") ∷ flag (codes "quiet") ∷ flag (codes "no-rescue") ∷ [] }
@@ -169,7 +179,7 @@ board_app needs_rule = app_with (run_shape ∷ check_shape ∷ rle_shape ∷ vie
 -- rule has to be given, or may be
 abbrev pub app_by : Bool → App
 app_by needs_rule = app_with (run_shape ∷ check_shape ∷ rle_shape ∷ view_shape ∷ convert_shape ∷ serve_shape needs_rule ∷ join_shape
-    ∷ new_document_shape ∷ merge_shape ∷ diff_shape ∷ log_shape ∷ export_shape ∷ [])
+    ∷ new_document_shape ∷ draw_shape ∷ merge_shape ∷ diff_shape ∷ log_shape ∷ export_shape ∷ number_shape ∷ [])
 
 -- the words of `genedit` are read so: a server may lack the option, since its file may name the rule
 abbrev pub genedit_app : App
@@ -307,6 +317,10 @@ new_task file (Err fault) = Err fault
 abbrev pub new_asked : List Row → Option (Result Told Misspelt)
 new_asked rows = option_and_then (λ file. option_map (λ text. new_task file (rule_asked text)) (first_of (codes "rule") rows)) (first_of (codes "file") rows)
 
+-- a document that is drawn in by whoever has the number that the option spells
+abbrev pub draw_asked : List Row → Option (Result Told Misspelt)
+draw_asked rows = option_and_then (λ file. option_map (λ replica. Ok (Draw file replica)) (number_of (codes "replica") rows)) (first_of (codes "file") rows)
+
 -- documents that are merged into the first
 abbrev pub merge_asked : List Row → Option (Result Told Misspelt)
 merge_asked rows = option_and_then (λ file. option_map (λ others. Ok (Merge file others)) (all_of (codes "other") rows)) (first_of (codes "file") rows)
@@ -321,6 +335,10 @@ abbrev pub export_asked : List Row → Option (Result Told Misspelt)
 export_asked rows = option_and_then (λ file. option_map (λ generation. Ok (Export (named_file file) generation (number_of (codes "edits") rows)))
     (number_of (codes "generation") rows)) (first_of (codes "file") rows)
 
+-- the number of a name, by the file that lists them
+abbrev pub number_asked : List Row → Option (Result Told Misspelt)
+number_asked rows = option_and_then (λ file. option_map (λ name. Ok (Number file name)) (first_of (codes "name") rows)) (first_of (codes "numbers") rows)
+
 -- what a subcommand asks for, by its rows
 abbrev pub asked_by : Subcommand → List Row → Option (Result Told Misspelt)
 asked_by subcommand.Run rows = run_asked rows
@@ -331,10 +349,12 @@ asked_by subcommand.Convert rows = convert_asked rows
 asked_by subcommand.Serve rows = serve_asked rows
 asked_by subcommand.Join rows = join_asked rows
 asked_by subcommand.New rows = new_asked rows
+asked_by subcommand.Draw rows = draw_asked rows
 asked_by subcommand.Merge rows = merge_asked rows
 asked_by subcommand.Diff rows = diff_asked rows
 asked_by subcommand.Log rows = log_asked rows
 asked_by subcommand.Export rows = export_asked rows
+asked_by subcommand.Number rows = number_asked rows
 
 -- the same, by its name
 abbrev pub task_of : Text × List Row → Option (Result Told Misspelt)

@@ -5,7 +5,7 @@ use clap::error::ErrorKind;
 use std::alloc::{AllocError, Global};
 
 /// The options with a value, and what has to stand at a place, as `clap` names them, and an example of each.
-const EXAMPLES: [(&str, &str); 16] = [
+const EXAMPLES: [(&str, &str); 20] = [
     ("--rule <", " --rule 23/3/2"),
     ("--port <", " --port 7020"),
     ("--sessions <", " --sessions 64"),
@@ -15,12 +15,16 @@ const EXAMPLES: [(&str, &str); 16] = [
     ("--size <", " --size 40x20"),
     ("--gen <", " --gen 30"),
     ("--edits <", " --edits 100"),
+    ("--replica <", " --replica 65"),
     ("provided: <FILE>", " my.glwl"),
     ("<TEXT> <FILE>", " my.glwl"),
+    ("<N> <FILE>", " my.glwl"),
     ("<OTHER>", " copy.glwl"),
     ("provided: <G>", " 30"),
     ("<FILE> <G>", " 30"),
     ("'<G>'", " 30"),
+    ("<NUMBERS>", " numbers.txt"),
+    ("<NAME>", " ann"),
     ("<OUT>", " genedit convert Lava.mcl lava.rle"),
 ];
 

@@ -7,7 +7,8 @@ ghost use Rattle.clap.specs.declared.builder.command.Command.TheViews.{out-Comma
 ghost use Rattle.genedit_words.specs.Words.{app_by, board_app, board_rule, check_shape, convert_shape, every_option, file_argument, flag, gen_option, join_shape, option, optional, place_argument, port_option, rle_shape, run_shape, serve_shape, sessions_option, text_app, top_app, view_shape};
 
 use crate::document_commands::{
-    diff_command, export_command, log_command, merge_command, new_command,
+    diff_command, draw_command, export_command, log_command, merge_command, new_command,
+    number_command,
 };
 use clap::{Arg, ArgAction, Command, value_parser};
 use std::alloc::{AllocError, Global};
@@ -191,10 +192,12 @@ pub fn command<'a>(alloc: Global, needs_rule: bool) -> Result<Command<'a>, Alloc
 {
     let command = board_commands(alloc, needs_rule)?
         .subcommand(new_command(alloc)?)?
+        .subcommand(draw_command(alloc)?)?
         .subcommand(merge_command(alloc)?)?
         .subcommand(diff_command(alloc)?)?
         .subcommand(log_command(alloc)?)?
-        .subcommand(export_command(alloc)?)?;
+        .subcommand(export_command(alloc)?)?
+        .subcommand(number_command(alloc)?)?;
     Ok(command)
 }
 

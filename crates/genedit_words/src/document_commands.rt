@@ -3,7 +3,7 @@
 ghost use Rattle.std.specs.Prelude.{◌≡◌, IfOk, false, codes};
 ghost use Rattle.clap.specs.Words.{rule_of, shape_of};
 ghost use Rattle.clap.specs.declared.builder.command.Command.TheViews.{out-Command as fields_of};
-ghost use Rattle.genedit_words.specs.Words.{diff_shape, edits_option, export_shape, generation_place, log_shape, merge_shape, new_document_shape, others_argument, place_argument};
+ghost use Rattle.genedit_words.specs.Words.{diff_shape, draw_shape, edits_option, export_shape, generation_place, log_shape, merge_shape, new_document_shape, number_shape, others_argument, place_argument, replica_option};
 
 use crate::commands::{optional, place_argument, required, titled};
 use clap::{Arg, ArgAction, Command, value_parser};
@@ -16,6 +16,37 @@ makes. FILE is made, with no edit in it; a file that is there is not replaced. I
 Examples:
   genedit new all.glwl --rule B3/S23
   genedit merge all.glwl monday.board tuesday.board";
+
+const DRAW_HELP: &str = "\
+Draws in the document of FILE, which `genedit new` makes, by commands from standard input, one a line. Each
+edit is in FILE, on the disk, before its line `drawn COUNTER N` is printed: a crash leaves FILE as it was
+before a line, or after it. N is the number of whoever draws, 65 to 65535: two people who draw apart have two
+(`genedit number` gives them); 1 to 64 are seats of boards that are served.
+
+  cells x y s ..         draws cells, each a coordinate and a state
+  clear x y w h          draws an area of dead cells, w wide and h high
+  pattern NAME           the lines up to a line `end` are an RLE text; keeps its pattern by name
+  copy NAME x y          draws the pattern's whole box there, dead cells too
+  or NAME x y            draws the pattern's live and dying cells there
+  show x y               prints a cell: `cell STATE COUNTER N`
+  export G [FILE]        prints the cells G generations later, or writes them to a file, as an RLE text
+  export! G FILE         as export, and replaces a file that is there
+  open FILE              draws the live and dying cells of a state, of RLE, .mcl or .cells, in place
+  sleep MS               does nothing for so long
+  help, ?                prints the commands in ten lines
+  bye, quit, exit        ends, as does the end of the input
+
+What is refused prints `refused NUMBER NAME`, and what would be right is told on standard error, as it is of a
+line at fault, with its place; both go on. Refused at the beginning, with nothing written: 43 where another
+process has FILE, as a server that keeps its board in it, and 42 where it holds no document. What stands behind
+the last whole record of FILE is saved to FILE.lost first, which is said.
+
+The status is 0; 1 where a command was refused or a file failed; 2 where a line was at fault, but at a terminal 0
+for both; 3 where standard input cannot be read; 4 where FILE or standard output failed; 5 without memory.
+
+Examples:
+  echo 'cells 0 0 1 1 0 1 2 0 1' | genedit draw my.glwl --replica 65
+  genedit draw my.glwl --replica $(genedit number numbers.txt ann)";
 
 const MERGE_HELP: &str = "\
 FILE gets the edits of each OTHER, which may be `-`, standard input, or the file of a server that runs. Of an
@@ -63,6 +94,15 @@ Examples:
   genedit export my.glwl 0 > my.rle
   genedit export board.glwl 30 --edits 100 | genedit view";
 
+const NUMBER_HELP: &str = "\
+Prints the number of NAME, which whoever draws apart needs, for `genedit draw`. NUMBERS is a text file of lines
+`65 ann`; where it has no line of NAME one is added, with one more than the greatest number, 65 at first. So let
+NUMBERS lie beside the documents and travel with them: two who took one number meet a conflict in it before
+their drawings do.
+
+Example:
+  genedit number numbers.txt ann";
+
 pub(crate) fn new_command<'a>(alloc: Global) -> Result<Command<'a>, AllocError>
     ensures shape { IfOk result (λ command. shape_of command ≡ new_document_shape) }
     ensures local { IfOk result (λ command. (fields_of command).has_globals ≡ false) }
@@ -84,6 +124,29 @@ fn document_argument<'a>(alloc: Global) -> Arg<'a>
     ensures local { result.global ≡ false }
 {
     place_argument(alloc, "file", "FILE", "The file of the document")
+}
+
+pub(crate) fn draw_command<'a>(alloc: Global) -> Result<Command<'a>, AllocError>
+    ensures shape { IfOk result (λ command. shape_of command ≡ draw_shape) }
+    ensures local { IfOk result (λ command. (fields_of command).has_globals ≡ false) }
+{
+    let command = titled(alloc, "draw", "Draws in a document", DRAW_HELP)
+        .arg(document_argument(alloc))?
+        .arg(replica_argument(alloc))?;
+    Ok(command)
+}
+
+fn replica_argument<'a>(alloc: Global) -> Arg<'a>
+    ensures rule { rule_of result ≡ replica_option }
+    ensures local { result.global ≡ false }
+{
+    let replica = required(
+        alloc,
+        "replica",
+        "N",
+        "The number of whoever draws, 65 to 65535",
+    );
+    replica.value_parser(value_parser!(u16).range(65..=65_535))
 }
 
 pub(crate) fn merge_command<'a>(alloc: Global) -> Result<Command<'a>, AllocError>
@@ -169,4 +232,24 @@ fn generation_place<'a>(alloc: Global) -> Arg<'a>
 {
     let generation = place_argument(alloc, "generation", "G", "How many generations later");
     generation.value_parser(value_parser!(u32))
+}
+
+pub(crate) fn number_command<'a>(alloc: Global) -> Result<Command<'a>, AllocError>
+    ensures shape { IfOk result (λ command. shape_of command ≡ number_shape) }
+    ensures local { IfOk result (λ command. (fields_of command).has_globals ≡ false) }
+{
+    let command = titled(
+        alloc,
+        "number",
+        "Prints one's number for drawing",
+        NUMBER_HELP,
+    )
+    .arg(place_argument(
+        alloc,
+        "numbers",
+        "NUMBERS",
+        "The file that lists the numbers",
+    ))?
+    .arg(place_argument(alloc, "name", "NAME", "Whose number is printed"))?;
+    Ok(command)
 }

@@ -14,10 +14,12 @@ pub(crate) enum Subcommand {
     Serve,
     Join,
     New,
+    Draw,
     Merge,
     Diff,
     Log,
     Export,
+    Number,
 }
 
 impl Subcommand {
@@ -34,10 +36,12 @@ impl Subcommand {
             "serve" => Some(Subcommand::Serve),
             "join" => Some(Subcommand::Join),
             "new" => Some(Subcommand::New),
+            "draw" => Some(Subcommand::Draw),
             "merge" => Some(Subcommand::Merge),
             "diff" => Some(Subcommand::Diff),
             "log" => Some(Subcommand::Log),
             "export" => Some(Subcommand::Export),
+            "number" => Some(Subcommand::Number),
             _ => None,
         }
     }

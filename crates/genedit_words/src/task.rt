@@ -75,6 +75,14 @@ pub struct NewTask<'a> {
     pub rule: Rule,
 }
 
+/// A document in which is drawn.
+#[derive(Clone, Copy)]
+pub struct DrawTask<'a> {
+    pub file: &'a str,
+    /// 65 to 65535: 1 to 64 are seats of boards that are served.
+    pub replica: u16,
+}
+
 /// Documents that are merged into one.
 #[derive(Drop)]
 pub struct MergeTask<'a> {
@@ -110,6 +118,15 @@ pub struct ExportTask<'a> {
     pub edits: Option<u32>,
 }
 
+/// One's number for drawing, which is printed.
+#[derive(Clone, Copy)]
+pub struct NumberTask<'a> {
+    /// The file that lists the numbers.
+    pub file: &'a str,
+    /// Whose number it is.
+    pub name: &'a str,
+}
+
 /// What the words ask for.
 #[derive(Drop)]
 pub enum Task<'a> {
@@ -129,6 +146,8 @@ pub enum Task<'a> {
     Convert(ConvertTask<'a>),
     /// A document is made.
     New(NewTask<'a>),
+    /// A document is drawn in.
+    Draw(DrawTask<'a>),
     /// Documents are merged into one.
     Merge(MergeTask<'a>),
     /// Two documents are compared.
@@ -137,4 +156,6 @@ pub enum Task<'a> {
     Log(LogTask<'a>),
     /// A generation of a document is written.
     Export(ExportTask<'a>),
+    /// One's number for drawing is printed.
+    Number(NumberTask<'a>),
 }

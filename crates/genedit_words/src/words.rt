@@ -4,9 +4,9 @@ ghost use Rattle.std.specs.Prelude.{◌≡◌, ◌≤◌, ◌<◌, ◌^◌, ℕ,
 ghost use Rattle.clap.specs.Words.{first_of, found_of, rows_of, subcommand_rows_of};
 ghost use Rattle.clap.specs.Walk.{all_of};
 ghost use Rattle.genedit_words.specs.Misspelt.{Misspelt};
-ghost use Rattle.genedit_words.specs.Given.{HasClient, HasConversion, HasDiff, HasExport, HasFlag, HasFor, HasLog, HasMerge, HasNew, HasNumber, HasRule, HasServer, HasText, HasTexts, HasView, IsInRange, IsNamed, MayHaveNumber};
+ghost use Rattle.genedit_words.specs.Given.{HasClient, HasConversion, HasDiff, HasDraw, HasExport, HasFlag, HasFor, HasLog, HasMerge, HasNew, HasNumber, HasNumbering, HasRule, HasServer, HasText, HasTexts, HasView, IsInRange, IsNamed, MayHaveNumber};
 ghost use Rattle.genedit_words.specs.Told.{Told, or_misspelt, told, told_of};
-ghost use Rattle.genedit_words.specs.Words.{Asks, EndsWords, IsAsked, asked_by, check_asked, convert_asked, diff_asked, export_asked, file_asked, has_board, interval_asked, is_set, join_asked, lacks_rule, log_asked, merge_asked, named_file, new_asked, number_of, rle_asked, rule_asked, rule_if_given, run_asked, serve_asked, task_of, view_asked};
+ghost use Rattle.genedit_words.specs.Words.{Asks, EndsWords, IsAsked, asked_by, check_asked, convert_asked, diff_asked, draw_asked, export_asked, file_asked, has_board, interval_asked, is_set, join_asked, lacks_rule, log_asked, merge_asked, named_file, new_asked, number_asked, number_of, rle_asked, rule_asked, rule_if_given, run_asked, serve_asked, task_of, view_asked};
 
 use crate::commands::command;
 use crate::ending::Ending;
@@ -15,8 +15,8 @@ use crate::misspelt::MisspeltRule;
 use crate::options::bound;
 use crate::subcommand::Subcommand;
 use crate::task::{
-    ConvertTask, DiffTask, ExportTask, JoinTask, LogTask, MergeTask, NewTask, RleTask, ServeTask,
-    Task, Viewing,
+    ConvertTask, DiffTask, DrawTask, ExportTask, JoinTask, LogTask, MergeTask, NewTask, NumberTask,
+    RleTask, ServeTask, Task, Viewing,
 };
 use clap::ArgMatches;
 use genedit_io::RunFault;
@@ -123,6 +123,7 @@ fn task_by<'a>(
         Subcommand::Serve => ruled(serve(words)),
         Subcommand::Join => Ok(join(words)),
         Subcommand::New => ruled(new_document(words)),
+        Subcommand::Draw => Ok(draw(words)),
         Subcommand::Merge => match merge(alloc, words) {
             Ok(task) => Ok(task),
             Err(_) => Err(NoTask::Memory),
@@ -130,6 +131,7 @@ fn task_by<'a>(
         Subcommand::Diff => Ok(diff(words)),
         Subcommand::Log => Ok(log(words)),
         Subcommand::Export => Ok(export(words)),
+        Subcommand::Number => Ok(numbering(words)),
     }
 }
 
@@ -155,6 +157,18 @@ fn new_document<'a>(words: &ArgMatches<'a>) -> Result<Task<'a>, MisspeltRule<'a>
         file: file_at(words, "file"),
         rule,
     }))
+}
+
+/// What `draw` asks for.
+fn draw<'a>(words: &ArgMatches<'a>) -> Task<'a>
+    requires { HasDraw (rows_of (found_of words.now)) }
+    ensures asked { draw_asked (rows_of (found_of words.now)) ≡ Some (Ok (told_of result)) }
+    ensures range { IsInRange result }
+{
+    Task::Draw(DrawTask {
+        file: file_at(words, "file"),
+        replica: number(words, "replica"),
+    })
 }
 
 /// What `merge` asks for.
@@ -205,6 +219,18 @@ fn export<'a>(words: &ArgMatches<'a>) -> Task<'a>
         file: named_file(file_at(words, "file")),
         generation: count(words, "generation"),
         edits: count_if_given(words, "edits"),
+    })
+}
+
+/// What `number` asks for.
+fn numbering<'a>(words: &ArgMatches<'a>) -> Task<'a>
+    requires { HasNumbering (rows_of (found_of words.now)) }
+    ensures asked { number_asked (rows_of (found_of words.now)) ≡ Some (Ok (told_of result)) }
+    ensures range { IsInRange result }
+{
+    Task::Number(NumberTask {
+        file: file_at(words, "numbers"),
+        name: file_at(words, "name"),
     })
 }
 
