@@ -1,4 +1,4 @@
-.PHONY: test run look build bench memory fuzz browser trial
+.PHONY: test run look build bench memory fuzz browser streams trial
 
 # How many checks of the gate run at a time: one a processor, or fewer, so that each can have 4 GB. Most take
 # less than that; `trial_calls` takes 6.
@@ -59,6 +59,11 @@ fuzz: $(PROGRAM)
 # Tries the page in headless Chromium, and tells where its pictures are. Needs Node.js 20 and Debian's chromium.
 browser: $(PROGRAM)
 	@examples/page $(PROGRAM) browser
+
+# Carries a document over Redis and MQTT. Needs Debian's redis-server, mosquitto and mosquitto-clients, and names
+# those that are not there.
+streams: $(PROGRAM)
+	@examples/streams/trial $(PROGRAM)
 
 # Tries the wrong bodies that the gate leaves out: the prover must refuse each. `make trial
 # CRATES="a b"` tries those of these crates alone.

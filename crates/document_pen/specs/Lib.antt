@@ -3,3 +3,4 @@ pub mod Drawing
 pub mod Exporting
 pub mod Opening
 pub mod Carrying
+pub mod Feeding

@@ -4,6 +4,7 @@ use Rattle.generations_rule.specs.Rule.{GenerationsRule}
 use Rattle.edit_stamps.specs.Edit.{PlaneEdit}
 use Rattle.documents.specs.Documents.{document_text}
 use Rattle.documents.specs.Laws.{AreDocumentLaws}
+use Rattle.documents.proofs.Renumbers.{renumbers_none}
 use Rattle.documents.proofs.SetLaws.{set_has_one_list}
 use Rattle.documents.proofs.TextLaws.{text_told}
 use Rattle.documents.proofs.Unions.{antisymmetric, associative, commutative, has_one_union, idempotent, join_of_maps, least, left, right}
@@ -26,4 +27,5 @@ are_document_laws = record {
   least = least;
   map = join_of_maps;
   exists = λ a b up also agree. has_one_union a b up also;
+  renumbers_none = renumbers_none;
 }

@@ -1,17 +1,13 @@
 -- Records that are found wherever they begin, one by one.
-use Rattle.std.proofs.Common.{◌≡◌, ◌≢◌, ◌≤◌, ◌+◌, ◌-◌, ℕ, List, [], ◌∷◌, ◌++◌, length, drop, refl, sym, ap, subst, ◌∙◌, append_assoc, append-nil, arith, length-append}
-use Rattle.std.specs.Prelude.{Result, Ok, Err}
-use Rattle.generations_rule.specs.Rule.{GenerationsRule, IsRule}
+use Rattle.std.proofs.Common.{◌≡◌, ◌≢◌, ◌≤◌, ◌+◌, ℕ, List, [], ◌∷◌, ◌++◌, length, drop, refl, sym, ap, subst, ◌∙◌, append_assoc, append-nil, arith, length-append}
+use Rattle.std.specs.Prelude.{Ok, Err}
+use Rattle.generations_rule.specs.Rule.{GenerationsRule}
 use Rattle.edit_stamps.specs.Edit.{PlaneEdit}
 use Rattle.kept_records.specs.Records.{BeginsNone, IsNextWhole, head_text, record_text, records_text}
 use Rattle.kept_records.proofs.FrontLaws.{head_length}
-use Rattle.document_bodies.specs.Bodies.{AreEditsUnder}
 use Rattle.documents.specs.declared.fault.DocumentFault.{DocumentFault}
 use Rattle.documents.specs.declared.fault.DocumentFault.TheVariants.{StateRange, OtherRule, SameStamp, NoDocument, Body, Memory}
-use Rattle.documents.specs.Sets.{ClashesWithin}
-use Rattle.documents.specs.Results.{IsSetOf}
-use Rattle.documents.specs.Gathering.{AreFoundTo, AreGatheredIn, AreTold, HasNoRecord, IsFirstAmong, IsGathered, IsLeftAt, IsToldRefused, edits_told}
-use Rattle.documents.proofs.Made.{made}
+use Rattle.documents.specs.Gathering.{AreFoundTo, AreGatheredIn, AreTold, HasNoRecord, IsGathered, IsLeftAt, IsToldRefused, edits_told}
 
 -- some records are found and tell these edits; behind the last is a place, and so many bytes are theirs
 pub record AreGatheredTo (r : GenerationsRule) (bytes : List ℕ) (edits : List PlaneEdit) (to read records : ℕ) : Type 0 where

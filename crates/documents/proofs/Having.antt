@@ -1,5 +1,5 @@
 -- Whether an edit is in a set, by the place of its stamp.
-use Rattle.std.proofs.Common.{◌≡◌, inl, inr, ℕ, Bool, true, false, List, refl, sym, ap, subst, ◌∙◌}
+use Rattle.std.proofs.Common.{◌≡◌, inl, inr, ℕ, false, List, sym, subst, ◌∙◌}
 use Rattle.std.specs.Prelude.{Some, None, Contains, slice_index_or}
 use Rattle.std.proofs.lemmas.Bool.{cases_Bool}
 use Rattle.edit_stamps.specs.Edit.{PlaneEdit, is_edit}

@@ -12,3 +12,4 @@ pub mod ReadLaws
 pub mod DocumentLaws
 pub mod Gathers
 pub mod Having
+pub mod Renumbers

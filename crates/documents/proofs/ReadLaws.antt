@@ -1,5 +1,5 @@
 -- What reading a document finds.
-use Rattle.std.proofs.Common.{◌≡◌, ◌-◌, ℕ, List, ◌++◌, length, refl, subst}
+use Rattle.std.proofs.Common.{◌≡◌, ◌-◌, ℕ, List, ◌++◌, length, subst}
 use Rattle.std.specs.Prelude.{Option, Some, IfSome, Err}
 use Rattle.generations_rule.specs.Rule.{GenerationsRule, IsRule}
 use Rattle.edit_stamps.specs.Edit.{PlaneEdit}

@@ -1,9 +1,10 @@
 -- What documents and their unions obey.
-use Rattle.std.specs.Prelude.{◌≡◌, List}
+use Rattle.std.specs.Prelude.{◌≡◌, ℕ, List}
 use Rattle.edit_stamps.specs.Edit.{PlaneEdit, greatest}
 use Rattle.stamped_writes.specs.Write.{AreSame, joined}
 use Rattle.documents.specs.Sets.{Agree, AreOneSet, IsAscending, IsPartOf, IsUnion}
 use Rattle.documents.specs.Documents.{DocumentState, IsDocument, document_text}
+use Rattle.documents.specs.Renumber.{renumbered}
 
 -- two sets have one union, and no other
 pub record HasOneUnion (a b : List PlaneEdit) : Type 0 where
@@ -36,3 +37,5 @@ pub record AreDocumentLaws : Type 0 where
   pub map : (a b c : List PlaneEdit) → IsAscending a → IsAscending b → IsAscending c → Agree a b → IsUnion a b c → AreSame (greatest c) (joined (greatest a) (greatest b))
   -- two sets that agree have one union
   pub exists : (a b : List PlaneEdit) → IsAscending a → IsAscending b → Agree a b → HasOneUnion a b
+  -- and then none of the second is taken as another replica's: so taken it is merged as it is
+  pub renumbers_none : (number : ℕ) (a b : List PlaneEdit) → IsAscending b → Agree a b → renumbered number a b ≡ b

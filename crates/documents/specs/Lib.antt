@@ -7,3 +7,4 @@ pub mod Laws
 pub mod Reading
 pub mod Gathering
 pub mod Rows
+pub mod Renumber

@@ -1,9 +1,9 @@
 //! Documents.
 
-ghost use Rattle.std.specs.Prelude.{◌≡◌, ◌↔◌, [], IfOk, IsTrue};
+ghost use Rattle.std.specs.Prelude.{◌≡◌, ◌≤◌, ◌↔◌, [], IfOk, IsTrue};
 
 use crate::fault::DocumentFault;
-use crate::{clash, count, put, set, union};
+use crate::{clash, count, put, renumber, set, union};
 use document_bodies::{edit_body, head_body};
 use edit_stamps::Edit;
 use generations_rule::Rule;
@@ -31,6 +31,7 @@ impl Model for Document {
 
 impl Document {
     ghost use Rattle.documents.specs.Documents.{IsDocument, count_of_new, document_text, has_edit};
+    ghost use Rattle.documents.specs.Renumber.{IsRenumbered, has_replica};
     ghost use Rattle.documents.specs.Results.{IsInserted, IsMade, IsMerged};
     ghost use Rattle.documents.specs.Sets.{IsPartOf};
 
@@ -116,6 +117,31 @@ impl Document {
             return Err(DocumentFault::StateRange);
         }
         put::put_edit(&mut self.edits, edit)
+    }
+
+    /// The same edits, of which each whose stamp stands for another one in a document that is to take them has the number
+    /// of a replica, its counter kept. `SameStamp` where two come to have one stamp, with the least such stamp;
+    /// `Memory` is told for no cause.
+    pub fn renumbered(
+        &self,
+        alloc: Global,
+        taker: &Document,
+        number: u16,
+    ) -> Result<Document, DocumentFault>
+        requires { 1 ≤ number }
+        ensures { IsRenumbered number taker.now.edits self.now result }
+    {
+        let edits = renumber::renumbered(alloc, &taker.edits, &self.edits, number)?;
+        Document::of_edits(&self.rule, edits)
+    }
+
+    /// Whether it has an edit of a replica.
+    pub fn has_replica(&self, number: u16) -> bool
+        ensures { result ≡ has_replica number self.now.edits }
+    {
+        self.edits
+            .iter()
+            .any(|edit| edit.stamp().replica() == number)
     }
 
     /// How many of another document's edits are not in this one. It takes time by how many edits the two

@@ -10,6 +10,7 @@ mod gathering;
 mod laws;
 mod put;
 mod reading;
+mod renumber;
 mod set;
 mod union;
 mod walk;

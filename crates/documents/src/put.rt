@@ -2,6 +2,7 @@
 
 ghost use Rattle.std.specs.Prelude.{◌≡◌, ◌-◌, ◌<◌, true, false, Some, length, slice_get, MatchResult};
 ghost use Rattle.documents.specs.Documents.{has_edit};
+ghost use Rattle.documents.specs.Renumber.{is_another};
 ghost use Rattle.documents.specs.Results.{IsAt, IsPlaceFor, IsPut};
 ghost use Rattle.documents.specs.Sets.{IsAscending};
 
@@ -34,6 +35,17 @@ pub(crate) fn has_edit(edits: &[Edit], edit: &Edit) -> bool
 {
     match place_of(edits, edit.stamp()) {
         Ok(place) => edits[place].same(edit),
+        Err(_) => false,
+    }
+}
+
+/// Whether another edit of its stamp is in a set.
+pub(crate) fn has_another(edits: &[Edit], edit: &Edit) -> bool
+    requires { IsAscending edits.now }
+    ensures { result ≡ is_another edits.now edit.now }
+{
+    match place_of(edits, edit.stamp()) {
+        Ok(place) => !edits[place].same(edit),
         Err(_) => false,
     }
 }

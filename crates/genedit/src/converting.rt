@@ -1,13 +1,14 @@
 //! Files of cells made RLE texts.
 
 use crate::bounds::tell_bounds;
-use crate::opening::{opened, tell_unread};
-use devices::{ReadSource, Source};
+use crate::document_reading::{name_of, seen_text};
+use devices::ReadSource;
 use genedit_convert::{ConvertOptions, convert, is_rle_name, output_status, output_text};
 use genedit_io::RunFault;
 use genedit_words::ConvertTask;
 use std::alloc::Global;
 use std::fs::File;
+use std::random::RandomSource;
 use std::rt::Files;
 use whole_files::{WriteRefusal, write_refusal, write_whole};
 
@@ -19,7 +20,7 @@ const WORDS: u8 = 2;
 
 /// Writes the RLE text of a file, or of standard input. What is refused leaves the file that is to be written
 /// as it was; that it may not be written is told before anything is read.
-pub fn convert_file<R: Files<File = File> + Input + Eprint>(
+pub fn convert_file<R: Files<File = File> + Input + Eprint + RandomSource>(
     rt: &R,
     alloc: Global,
     task: &ConvertTask<'_>,
@@ -32,28 +33,25 @@ pub fn convert_file<R: Files<File = File> + Input + Eprint>(
     if let Some(refusal) = write_refusal(rt, output, task.replaces) {
         return Ok(tell_unwritten(rt, output, refusal));
     }
-    match task.file {
-        None => written(rt, alloc, task, "-", &mut ReadSource::new(rt.reader())),
-        Some(path) => match opened(rt, path) {
-            Err(cause) => tell_unread(rt, alloc, path, cause),
-            Ok(file) => written(rt, alloc, task, path, &mut ReadSource::new(file)),
-        },
+    match seen_text(rt, alloc, task.file, None) {
+        Ok(text) => written(rt, alloc, task, &text),
+        Err(left) => left.end(),
     }
 }
 
-/// Writes the RLE text of what a source has, by whose name its refusals are told.
-fn written<R: Files<File = File> + Eprint, S: Source>(
+/// Writes the RLE text of what a text has.
+fn written<R: Files<File = File> + Eprint>(
     rt: &R,
     alloc: Global,
     task: &ConvertTask<'_>,
-    name: &str,
-    source: &mut S,
+    text: &[u8],
 ) -> Result<u8, RunFault> {
+    let name = name_of(task.file);
     let options = ConvertOptions {
         generation: task.generation,
         rule: task.rule,
     };
-    let made = match convert(alloc, &options, source) {
+    let made = match convert(alloc, &options, &mut ReadSource::new(text)) {
         Ok(made) => made,
         Err(fault) => {
             let _ = eprintln!(rt; "genedit: {name}: {fault}");

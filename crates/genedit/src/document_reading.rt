@@ -7,10 +7,12 @@ use crate::opening::{opened, tell, tell_unread};
 use devices::{ReadSource, Source, WriteSink};
 use document_files::FileRefusal;
 use documents::{Document, DocumentFault, ListedEdits, read_document, read_edits};
-use genedit_documents::{fault_text, run_fault};
+use genedit_documents::{StateFault, as_state, export_fault, fault_text, run_fault};
 use genedit_io::{RunFault, pull_all, push_output};
+use keyed_hash::{HashKey, RandomBytes};
 use std::alloc::{AllocError, Global};
 use std::io;
+use std::random::RandomSource;
 use std::rt::Files;
 
 /// How many pulls a file has, at most.
@@ -139,4 +141,41 @@ fn pulled<S: Source>(alloc: Global, source: &mut S) -> Result<Vec<u8>, Left> {
 pub(crate) fn printed<R: Print>(rt: &R, text: &[u8], status: u8) -> Result<u8, RunFault> {
     push_output(&mut WriteSink::new(io::writer(rt)), text)?;
     Ok(status)
+}
+
+/// What a file has that is looked at: its bytes; or, where it is a document, the state of the map of its first edits, so
+/// many of them at most, if that is asked for. Refused is then what is no document.
+pub(crate) fn seen_text<R: Files + Input + Eprint + RandomSource>(
+    rt: &R,
+    alloc: Global,
+    file: Option<&str>,
+    edits: Option<u32>,
+) -> Result<Vec<u8>, Left> {
+    let bytes = bytes_of(rt, alloc, file)?;
+    let Ok(key) = HashKey::drawn(&mut RandomBytes::of(rt)) else {
+        return Err(Left::Run(RunFault::Read));
+    };
+    match as_state(alloc, &bytes, most_of(edits), key) {
+        Ok(Some(state)) => Ok(state),
+        Ok(None) if edits.is_none() => Ok(bytes),
+        Ok(None) => Err(Left::by(tell_no_document(rt, alloc, name_of(file)))),
+        Err(StateFault::Want(fault)) => Err(Left::Run(export_fault(fault))),
+        Err(StateFault::Document(fault)) => {
+            Err(Left::by(tell_document(rt, alloc, name_of(file), &fault)))
+        }
+    }
+}
+
+/// Says that the first edits are asked for of what is no document; the status of the process.
+fn tell_no_document<R: Eprint>(rt: &R, alloc: Global, name: &str) -> Result<u8, RunFault> {
+    let fault = DocumentFault::NoDocument;
+    tell_document(rt, alloc, name, &fault)
+}
+
+/// How many edits are looked at, if that is asked for.
+pub(crate) fn most_of(edits: Option<u32>) -> Option<u64> {
+    match edits {
+        Some(edits) => Some(u64::from(edits)),
+        None => None,
+    }
 }

@@ -3,14 +3,14 @@
 ghost use Rattle.kept_log.specs.Found.{IsReadTo, listed};
 
 use crate::document_reading::{
-    Left, bytes_of, document_in, edits_in, missing, name_of, printed, tell_document,
+    Left, bytes_of, document_in, edits_in, missing, most_of, name_of, printed, tell_document,
 };
 use crate::opening::{tell, tell_refused};
 use document_files::{cause_of_file, is_missing, open_found, save_lost, write_refusal};
 use documents::{Document, gather};
 use genedit_documents::{
-    difference_text, export_fault, export_text, first_edits, log_text, merge_bytes, merged_line,
-    new_line,
+    Merged, RenumberFault, difference_text, export_fault, export_text, first_edits, log_text,
+    merge_bytes, merge_renumbered, merged_line, new_line,
 };
 use genedit_io::{RunFault, file_fault_text};
 use genedit_words::{DiffTask, ExportTask, LogTask, MergeTask, NewTask};
@@ -32,6 +32,9 @@ const WELL: u8 = 0;
 
 /// Two documents differ.
 const TOLD: u8 = 1;
+
+/// What is asked for is refused.
+const REFUSED: u8 = 2;
 
 /// What standard input is called.
 const STANDARD_INPUT: &str = "-";
@@ -120,7 +123,7 @@ fn merged<R: Files<File = File> + Input + Eprint>(
     };
     let document = document_in(rt, alloc, path, &found.bytes)?;
     let before = document.edits().len();
-    let document = with_others(rt, alloc, document, &task.others)?;
+    let document = with_others(rt, alloc, document, task)?;
     let edits = document.edits().len();
     write_document(rt, alloc, path, found, &document)?;
     let line = merged_line(alloc, path.as_bytes(), edits, edits.saturating_sub(before))?;
@@ -132,30 +135,60 @@ fn with_others<R: Files + Input + Eprint>(
     rt: &R,
     alloc: Global,
     document: Document,
-    others: &[&str],
+    task: &MergeTask<'_>,
 ) -> Result<Document, Left> {
     let mut all = document;
-    for name in others {
-        all = with_other(rt, alloc, &all, name)?;
+    for name in &task.others {
+        all = with_other(rt, alloc, &all, name, task.renumber)?;
     }
     Ok(all)
 }
 
-/// A document with the edits of another.
+/// A document with the edits of another, of which those that clash are taken by a number, if that is asked for.
 fn with_other<R: Files + Input + Eprint>(
     rt: &R,
     alloc: Global,
     document: &Document,
     name: &str,
+    renumber: Option<u16>,
 ) -> Result<Document, Left> {
     let bytes = bytes_of(rt, alloc, named(name))?;
-    match merge_bytes(alloc, document, &bytes) {
+    match merged_with(alloc, document, &bytes, renumber) {
         Ok(merged) => {
             tell_passed(rt, name, merged.passed);
             Ok(merged.document)
         }
-        Err(fault) => Err(Left::by(tell_document(rt, alloc, name, &fault))),
+        Err(RenumberFault::Document(fault)) => {
+            Err(Left::by(tell_document(rt, alloc, name, &fault)))
+        }
+        Err(RenumberFault::Taken) => Err(Left::by(tell_taken(rt, alloc, name))),
     }
+}
+
+/// A document with the edits of other bytes, likewise.
+fn merged_with(
+    alloc: Global,
+    document: &Document,
+    bytes: &[u8],
+    renumber: Option<u16>,
+) -> Result<Merged, RenumberFault> {
+    match renumber {
+        // The words give no number below 65.
+        Some(number) if number > 0 => merge_renumbered(alloc, document, bytes, number),
+        _ => match merge_bytes(alloc, document, bytes) {
+            Ok(merged) => Ok(merged),
+            Err(fault) => Err(RenumberFault::Document(fault)),
+        },
+    }
+}
+
+/// Says that a number is somebody's already; the status of the process.
+fn tell_taken<R: Eprint>(rt: &R, alloc: Global, name: &str) -> Result<u8, RunFault> {
+    let why = format!(in alloc;
+        "{name}: one of the two has edits of that number: --renumber wants one of which neither has"
+    )?;
+    tell(rt, alloc, why.as_bytes())?;
+    Ok(REFUSED)
 }
 
 /// The file of a name, or standard input.
@@ -289,13 +322,5 @@ fn exported<R: Files + Input + Eprint>(
     match export_text(alloc, key, &listed, most_of(task.edits), task.generation) {
         Ok(text) => Ok(text),
         Err(fault) => Err(Left::Run(export_fault(fault))),
-    }
-}
-
-/// How many edits are looked at, if that is asked for.
-fn most_of(edits: Option<u32>) -> Option<u64> {
-    match edits {
-        Some(edits) => Some(u64::from(edits)),
-        None => None,
     }
 }

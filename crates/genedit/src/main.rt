@@ -8,6 +8,8 @@ mod converting;
 mod document_reading;
 mod document_tasks;
 mod drawing;
+mod feeding;
+mod following;
 mod numbering;
 mod opening;
 mod pictures;
@@ -19,6 +21,8 @@ use crate::clients::join;
 use crate::converting::convert_file;
 use crate::document_tasks::{diff, export, log, merge, new_document};
 use crate::drawing::draw_in_document;
+use crate::feeding::feed;
+use crate::following::follow;
 use crate::numbering::number;
 use crate::pictures::view;
 use crate::tasks::{check, rle, run, serve};
@@ -105,6 +109,8 @@ fn perform<
         Task::Diff(documents) => diff(rt, alloc, documents),
         Task::Log(document) => log(rt, alloc, document),
         Task::Export(document) => export(rt, alloc, document),
+        Task::Follow(document) => follow(rt, alloc, document),
+        Task::Feed(document) => feed(rt, alloc, document),
         Task::Number(name) => number(rt, alloc, name),
     }
 }

@@ -1,13 +1,14 @@
 //! Pictures of patterns and of states.
 
 use crate::bounds::tell_bounds;
-use crate::opening::{opened, tell_unread};
-use devices::{ReadSource, Source, WriteSink};
+use crate::document_reading::{name_of, seen_text};
+use devices::{ReadSource, WriteSink};
 use genedit_io::RunFault;
 use genedit_view::{BufferedSink, Form, ViewFault, ViewOptions, Window, WindowFault, window_of};
 use genedit_words::Viewing;
 use std::alloc::Global;
 use std::io;
+use std::random::RandomSource;
 use std::rt::Files;
 
 /// The picture is drawn.
@@ -33,7 +34,7 @@ enum NoWindow<'a> {
 }
 
 /// Draws what a file has, or standard input. To a terminal it is in colours, unless another form is asked for.
-pub fn view<R: Files + Input + Print + Eprint>(
+pub fn view<R: Files + Input + Print + Eprint + RandomSource>(
     rt: &R,
     alloc: Global,
     viewing: &Viewing<'_>,
@@ -49,12 +50,9 @@ pub fn view<R: Files + Input + Print + Eprint>(
         generation: viewing.generation,
         rule: viewing.rule,
     };
-    match viewing.file {
-        None => drawn(rt, alloc, &options, "-", &mut ReadSource::new(rt.reader())),
-        Some(path) => match opened(rt, path) {
-            Err(cause) => tell_unread(rt, alloc, path, cause),
-            Ok(file) => drawn(rt, alloc, &options, path, &mut ReadSource::new(file)),
-        },
+    match seen_text(rt, alloc, viewing.file, viewing.edits) {
+        Ok(text) => drawn(rt, alloc, &options, name_of(viewing.file), &text),
+        Err(left) => left.end(),
     }
 }
 
@@ -97,19 +95,19 @@ fn tell_no_window(rt: &impl Eprint, fault: NoWindow<'_>) -> u8 {
     WORDS
 }
 
-/// Draws what a source of this name has.
-fn drawn<S: Source>(
+/// Draws what a text of this name has.
+fn drawn(
     rt: &(impl Print + Eprint),
     alloc: Global,
     options: &ViewOptions,
     name: &str,
-    source: &mut S,
+    text: &[u8],
 ) -> Result<u8, RunFault> {
     let sink = WriteSink::new(io::writer(rt));
     let Ok(mut sink) = BufferedSink::new(alloc, sink) else {
         return Err(RunFault::Memory);
     };
-    match genedit_view::view(alloc, options, source, &mut sink) {
+    match genedit_view::view(alloc, options, &mut ReadSource::new(text), &mut sink) {
         Ok(bounds) => {
             tell_bounds(rt, alloc, name, bounds, options.generation.is_some())?;
             Ok(WELL)

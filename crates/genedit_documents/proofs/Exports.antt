@@ -13,6 +13,7 @@ use Rattle.stamped_tree.specs.Plane.{map_of}
 use Rattle.generation_engine.specs.Universe.{states_in_writes}
 use Rattle.export.specs.Export.{IsExport, most_cells}
 use Rattle.delta_exchange.specs.Message.{writes_in}
+use Rattle.delta_exchange.specs.StateText.{IsStateText}
 use Rattle.delta_exchange.specs.declared.message.Content.{Content}
 use Rattle.delta_exchange.specs.declared.message.Content.TheVariants.{Edits}
 use Rattle.replica_core.specs.declared.fault.Fault.{Fault}
@@ -56,3 +57,8 @@ not_exported r number edits s g (Err fault) holds (inr refused) = inr (record {
   refused = subst (λ (f : Place → ℕ). IsExport r f g most_cells (Err refused.0)) (same_states (map_of s.plane) (greatest edits) holds.map)
       (subst (λ (q : GenerationsRule). IsExport q (states_in_writes (map_of s.plane)) g most_cells (Err refused.0)) holds.rule refused.2);
 })
+
+-- the text of what a replica holds is that of the map of its edits
+pub state_told : (r : GenerationsRule) (number : ℕ) (edits : List PlaneEdit) (s : ReplicaState) (text : List ℕ) → HoldsMap r number edits s → IsStateText s.rule (map_of s.plane) text → IsStateText r (greatest edits) text
+state_told r number edits s text holds is =
+    subst (λ (w : Writes). IsStateText r w text) (λ i c. holds.map c i) (subst (λ (q : GenerationsRule). IsStateText q (map_of s.plane) text) holds.rule is)

@@ -30,7 +30,7 @@ export_ending fault = run.Refused (replica_fault_number fault) None
 abbrev pub cause_of_fault : DocumentFault → List ℕ
 cause_of_fault StateRange = codes "an edit has a state that its rule has not"
 cause_of_fault OtherRule = codes "it has another rule"
-cause_of_fault (SameStamp stamp) = codes "two edits have that counter and replica"
+cause_of_fault (SameStamp stamp) = codes "two edits have that counter and replica: see --renumber of genedit merge"
 cause_of_fault NoDocument = codes "it holds no record of a document"
 cause_of_fault (Body fault place) = codes "that record of it tells no edit under the rule"
 cause_of_fault Memory = codes "out of memory"

@@ -1,5 +1,13 @@
--- Replicas that hold a document.
-use Rattle.std.specs.Prelude.{◌≡◌, ℕ, List}
+-- Replicas that hold a document, and states of its map.
+use Rattle.std.specs.Prelude.{◌≡◌, ℕ, List, Option, Some, None, Result, Ok, Err}
+use Rattle.kept_records.specs.Records.{BeginsNone}
+use Rattle.documents.specs.declared.reading.ListedEdits.{ListedEdits}
+use Rattle.documents.specs.Reading.{IsListRead}
+use Rattle.delta_exchange.specs.StateText.{IsStateText}
+use Rattle.replica_core.specs.Fault.{IsWant}
+use Rattle.genedit_documents.specs.declared.states.StateFault.{StateFault}
+use Rattle.genedit_documents.specs.declared.states.StateFault.TheVariants.{Document, Want}
+use Rattle.genedit_documents.specs.Listing.{first_of}
 use Rattle.generations_rule.specs.Rule.{GenerationsRule}
 use Rattle.edit_stamps.specs.Edit.{PlaneEdit, greatest}
 use Rattle.stamped_writes.specs.Write.{AreSame}
@@ -11,3 +19,11 @@ pub record HoldsMap (r : GenerationsRule) (n : ℕ) (edits : List PlaneEdit) (s 
   pub rule : s.rule ≡ r
   pub number : s.number ≡ n
   pub map : AreSame (map_of s.plane) (greatest edits)
+
+-- no record begins the bytes; or they tell a document, and the text is that of the map of its first edits; or they tell none, for this
+-- cause; or memory or room is wanting
+abbrev pub IsAsState : {B : Type 0} → (B → List ℕ) → List ℕ → Option ℕ → Result (Option B) StateFault → Type 0
+IsAsState bytes_of bytes most (Ok None) = BeginsNone bytes
+IsAsState bytes_of bytes most (Ok (Some text)) = (l : ListedEdits) × IsListRead bytes (Ok l) × IsStateText l.rule (greatest (first_of most l.edits.items)) (bytes_of text)
+IsAsState bytes_of bytes most (Err (Document fault)) = IsListRead bytes (Err fault)
+IsAsState bytes_of bytes most (Err (Want fault)) = IsWant fault

@@ -41,7 +41,7 @@ pub differences :
 unfolding digits
 differences = refl
 
-pub clash : fault_text (SameStamp (stamp_of 3 65)) (codes "b.glwl") ≡ codes "refused 41 SameStamp 3 65 b.glwl: two edits have that counter and replica"
+pub clash : fault_text (SameStamp (stamp_of 3 65)) (codes "b.glwl") ≡ codes "refused 41 SameStamp 3 65 b.glwl: two edits have that counter and replica: see --renumber of genedit merge"
 unfolding digits
 clash = refl
 

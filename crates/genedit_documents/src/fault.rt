@@ -74,7 +74,8 @@ fn cause_of_fault(fault: &DocumentFault) -> &'static str
     match fault {
         DocumentFault::StateRange => "an edit has a state that its rule has not",
         DocumentFault::OtherRule => "it has another rule",
-        DocumentFault::SameStamp(_) => "two edits have that counter and replica",
+        DocumentFault::SameStamp(_) =>
+            "two edits have that counter and replica: see --renumber of genedit merge",
         DocumentFault::NoDocument => "it holds no record of a document",
         DocumentFault::Body(_, _) => "that record of it tells no edit under the rule",
         DocumentFault::Memory => "out of memory",

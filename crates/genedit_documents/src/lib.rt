@@ -9,6 +9,7 @@ mod lines;
 mod listing;
 mod merging;
 mod numbers;
+mod states;
 
 pub use difference::difference_text;
 pub use exporting::export_text;
@@ -16,5 +17,6 @@ pub use fault::{export_fault, fault_text, run_fault};
 pub use holding::replica_of;
 pub use lines::{merged_line, new_line};
 pub use listing::{first_edits, log_text};
-pub use merging::{Merged, merge_bytes};
+pub use merging::{Merged, RenumberFault, merge_bytes, merge_renumbered};
 pub use numbers::{Numbered, Numbering, NumbersFault, is_name, number_of, number_text, numbers_in};
+pub use states::{StateFault, as_state};

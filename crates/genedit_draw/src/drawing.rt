@@ -13,13 +13,11 @@ use std::sync::Wait;
 use std::thread;
 use std::time::{Clock, Duration};
 use typed_commands::{
-    About, FileFault, OwnFiles, Tally, cure, is_script, read_whole, refusal_in, refused_text,
-    tell_cure, tell_fault, tell_open_block, warn_of_rule, write_target, wrote_text,
+    About, FileFault, OpenedFile, OwnFiles, Tally, cure, is_script, read_opened, refusal_in,
+    refused_text, tell_cure, tell_fault, tell_open_block, warn_of_rule, write_target, wrote_text,
 };
 
-/// The refusals of a file that cannot be read, and of one that cannot be written.
-const READ: u8 = 36;
-
+/// The refusal of a file that cannot be written.
 const WRITE: u8 = 37;
 
 /// A drawing that has ended: the pen, and what came of the lines, or why it ended before them.
@@ -201,38 +199,27 @@ impl<'a, R: Files + Clock + Wait + Eprint, K: Keep> Drawing<'a, R, K> {
                 self.files.add(alloc, &allowed.name, false)?;
                 Ok(())
             }
-            Err(fault) => self.refuse_file(WRITE, &allowed.name, fault),
+            Err(FileFault::Refused(cause)) => {
+                let refusal = RunFault::Refused(WRITE, None);
+                let told = refused_text(alloc, refusal, &allowed.name, cause)?;
+                self.pen.print(&told)?;
+                Ok(())
+            }
+            Err(FileFault::Memory) => Err(DrawFault::Run(RunFault::Memory)),
         }
     }
 
     /// Draws what a file holds.
     fn open(&mut self, file: &FileName) -> Result<(), DrawFault> {
-        match read_whole(self.rt, self.pen.alloc(), file) {
-            Ok(text) => {
+        let key = self.pen.replica().plane().key();
+        match read_opened(self.rt, self.pen.alloc(), file, key)? {
+            OpenedFile::Text(text) => {
                 self.warn(file.as_bytes(), &text)?;
                 self.pen.open(&text)?;
-                Ok(())
             }
-            Err(fault) => self.refuse_file(READ, file, fault),
+            OpenedFile::Refused(line) => self.pen.print(&line)?,
         }
-    }
-
-    /// Says that a file was refused, by the number of that refusal.
-    fn refuse_file(
-        &mut self,
-        number: u8,
-        file: &FileName,
-        fault: FileFault,
-    ) -> Result<(), DrawFault> {
-        match fault {
-            FileFault::Refused(cause) => {
-                let refusal = RunFault::Refused(number, None);
-                let told = refused_text(self.pen.alloc(), refusal, file, cause)?;
-                self.pen.print(&told)?;
-                Ok(())
-            }
-            FileFault::Memory => Err(DrawFault::Run(RunFault::Memory)),
-        }
+        Ok(())
     }
 
     /// Does nothing for so long.

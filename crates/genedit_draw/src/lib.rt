@@ -8,3 +8,4 @@ mod lines;
 
 pub use drawing::{Drawn, draw};
 pub use fault::DrawFault;
+pub use lines::Lines;

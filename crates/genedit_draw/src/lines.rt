@@ -14,7 +14,7 @@ const TURNS: u64 = 1 << 32;
 
 /// The lines of a source. So much of it is pulled as the next line wants, and what stands behind that is kept.
 #[derive(Drop)]
-pub(crate) struct Lines {
+pub struct Lines {
     alloc: Global,
     piece: Vec<u8>,
     /// How many bytes of the piece were given.
@@ -23,7 +23,7 @@ pub(crate) struct Lines {
 
 impl Lines {
     /// Nothing was pulled.
-    pub(crate) fn new(alloc: Global) -> Lines {
+    pub fn new(alloc: Global) -> Lines {
         Lines {
             alloc,
             piece: Vec::new(alloc),
@@ -31,8 +31,9 @@ impl Lines {
         }
     }
 
-    /// The next line, without its LF; what stands behind the last LF is one, if anything does.
-    pub(crate) fn next<S: Source>(&mut self, source: &mut S) -> Result<Option<Vec<u8>>, RunFault> {
+    /// The next line, without its LF; what stands behind the last LF is one, if anything does. `None` at the end of the
+    /// source. `Read` where the source failed, `Turns` behind 2^32 pulls for one line, `Memory` where it was refused.
+    pub fn next<S: Source>(&mut self, source: &mut S) -> Result<Option<Vec<u8>>, RunFault> {
         let mut line = Vec::new(self.alloc);
         for _turn in 0..TURNS {
             if self.ends(&mut line)? {

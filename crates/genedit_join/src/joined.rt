@@ -31,8 +31,8 @@ use std::sync::{Arc, Wait};
 use std::thread;
 use std::time::{Clock, Duration};
 use typed_commands::{
-    About, FileFault, OwnFiles, Tally, cure, read_whole, refusal_in, refused_text, tell_cure,
-    warn_of_rule, write_target, wrote_text,
+    About, FileFault, OpenedFile, OwnFiles, Tally, cure, read_opened, read_whole, refusal_in,
+    refused_text, tell_cure, warn_of_rule, write_target, wrote_text,
 };
 
 /// How often a sleep or a wait is broken by a poll, at most.
@@ -403,16 +403,13 @@ impl<'a, R: Clock + Files + Eprint + Drop> Joined<'a, R> {
 
     /// Draws what a file holds.
     fn open(&mut self, file: &FileName) -> Result<Going, JoinFault> {
-        let alloc = self.client.alloc();
-        let text = match read_whole(self.rt, alloc, file) {
-            Ok(text) => text,
-            Err(FileFault::Refused(cause)) => {
-                let refusal = RunFault::Refused(READ, None);
-                self.client
-                    .print(&refused_text(alloc, refusal, file, cause)?)?;
+        let key = self.client.replica().plane().key();
+        let text = match read_opened(self.rt, self.client.alloc(), file, key)? {
+            OpenedFile::Text(text) => text,
+            OpenedFile::Refused(line) => {
+                self.client.print(&line)?;
                 return Ok(Going::On);
             }
-            Err(FileFault::Memory) => return Err(JoinFault::Run(RunFault::Memory)),
         };
         self.warn(file.as_bytes(), &text)?;
         if !self.client.is_awaiting() {
@@ -571,9 +568,7 @@ impl<
     }
 }
 
-/// The refusals of a file that cannot be read, and of one that cannot be written.
-const READ: u8 = 36;
-
+/// The refusal of a file that cannot be written.
 const WRITE: u8 = 37;
 
 /// Whether a command begins with a poll, which is then asked ahead: one that draws only where no poll waits,

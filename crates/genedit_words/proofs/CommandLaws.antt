@@ -18,8 +18,8 @@ use Rattle.clap.specs.Faults.{check_fault, defaults_fault, entered_fault, fault_
 use Rattle.clap.specs.declared.builder.value_parser.Reading.{Reading}
 use Rattle.clap.specs.declared.builder.value_parser.Reading.TheVariants as reading
 use Rattle.clap.specs.declared.builder.value_parser.ValueParser.TheVariants as vp
-use Rattle.genedit_words.specs.Given.{Has, HasClient, HasConversion, HasDiff, HasDraw, HasExport, HasFlag, HasLog, HasMerge, HasNew, HasNumber, HasNumbering, HasRule, HasServer, HasText, HasTexts, HasView, IsNamed, MayHaveNumber}
-use Rattle.genedit_words.specs.Words.{board_rule, check_shape, convert_shape, diff_shape, draw_shape, edits_option, every_option, export_shape, file_argument, flag, gen_option, generation_place, genedit_app, join_shape, log_shape, merge_shape, new_document_shape, number_shape, optional, others_argument, place_argument, port_option, replica_option, rle_shape, rule_option, run_shape, serve_shape, sessions_option, view_shape}
+use Rattle.genedit_words.specs.Given.{Has, HasClient, HasConversion, HasDiff, HasDraw, HasExport, HasFeed, HasFlag, HasFollow, HasLog, HasMerge, HasNew, HasNumber, HasNumbering, HasRule, HasServer, HasText, HasTexts, HasView, IsNamed, MayHaveNumber}
+use Rattle.genedit_words.specs.Words.{board_rule, check_shape, convert_shape, diff_shape, draw_shape, edits_option, every_option, export_shape, feed_shape, file_argument, flag, follow_shape, from_option, gen_option, generation_place, genedit_app, join_shape, log_shape, merge_shape, new_document_shape, number_shape, optional, others_argument, place_argument, port_option, renumber_option, replica_option, rle_shape, rule_option, run_shape, serve_shape, sessions_option, view_shape}
 use Rattle.genedit_words.proofs.Stops.{both_pass, stops_at_help, walk_passes}
 use Rattle.genedit_words.proofs.RowFacts.{IsWellUsed, all_ok, both_true, rows_well}
 use Rattle.genedit_words.proofs.RuleFacts.{AreOrderly, HasValue, IsOrderly, append_orderly, defaults_orderly, drops_minus, first_passes, fits, flag_orderly, found_value, given_value, is_flag_text, keeps_all, no_default, ok, option_orderly, uses_found}
@@ -94,11 +94,17 @@ gen_orderly place = option_orderly (given place gen_option) refl refl (λ rows h
 edits_orderly : (place : ℕ) → IsOrderly (given place edits_option)
 edits_orderly place = option_orderly (given place edits_option) refl refl (λ rows h. cc) (λ v vs passes. first_passes false (vp.Signed (pos 0) (pos 4294967295)) v vs passes)
 
+from_orderly : (place : ℕ) → IsOrderly (given place from_option)
+from_orderly place = option_orderly (given place from_option) refl refl (λ rows h. cc) (λ v vs passes. first_passes false (vp.Signed (pos 0) (pos 4294967295)) v vs passes)
+
 generation_orderly : (place : ℕ) → IsOrderly (given place generation_place)
 generation_orderly place = option_orderly (given place generation_place) refl refl (λ rows h. cc) (λ v vs passes. first_passes false (vp.Signed (pos 0) (pos 4294967295)) v vs passes)
 
 replica_orderly : (place : ℕ) → IsOrderly (given place replica_option)
 replica_orderly place = option_orderly (given place replica_option) refl refl (λ rows h. cc) (λ v vs passes. first_passes false (vp.Signed (pos 65) (pos 65535)) v vs passes)
+
+renumber_orderly : (place : ℕ) → IsOrderly (given place renumber_option)
+renumber_orderly place = option_orderly (given place renumber_option) refl refl (λ rows h. cc) (λ v vs passes. first_passes false (vp.Signed (pos 65) (pos 65535)) v vs passes)
 
 plain_orderly : (place : ℕ) → IsOrderly (given place (flag (codes "plain")))
 plain_orderly place = flag_orderly (given place (flag (codes "plain"))) refl refl refl refl refl refl
@@ -124,6 +130,9 @@ quiet_orderly place = flag_orderly (given place (flag (codes "quiet"))) refl ref
 no_rescue_orderly : (place : ℕ) → IsOrderly (given place (flag (codes "no-rescue")))
 no_rescue_orderly place = flag_orderly (given place (flag (codes "no-rescue"))) refl refl refl refl refl refl
 
+raw_orderly : (place : ℕ) → IsOrderly (given place (flag (codes "raw")))
+raw_orderly place = flag_orderly (given place (flag (codes "raw"))) refl refl refl refl refl refl
+
 help_orderly : IsOrderly (filled help_rule)
 help_orderly = record { uses = λ values rows passes holds. holds; default = λ rows holds. no_default rows (filled help_rule) refl holds }
 
@@ -137,7 +146,7 @@ rle_rules : AreOrderly (leaf rle_shape).rules
 rle_rules = (file_orderly 1, (rule_orderly 2, (help_orderly, tt)))
 
 view_rules : AreOrderly (leaf view_shape).rules
-view_rules = (file_orderly 1, (own_rule_orderly 2, (at_orderly 2, (size_orderly 2, (gen_orderly 2, (plain_orderly 2, (svg_orderly 2, (help_orderly, tt))))))))
+view_rules = (file_orderly 1, (own_rule_orderly 2, (at_orderly 2, (size_orderly 2, (gen_orderly 2, (edits_orderly 2, (plain_orderly 2, (svg_orderly 2, (help_orderly, tt)))))))))
 
 convert_rules : AreOrderly (leaf convert_shape).rules
 convert_rules = (in_orderly 1, (out_orderly 2, (own_rule_orderly 3, (gen_orderly 3, (replace_orderly 3, (help_orderly, tt))))))
@@ -155,7 +164,7 @@ draw_rules : AreOrderly (leaf draw_shape).rules
 draw_rules = (document_orderly 1, (replica_orderly 2, (help_orderly, tt)))
 
 merge_rules : AreOrderly (leaf merge_shape).rules
-merge_rules = (document_orderly 1, (others_orderly 2, (help_orderly, tt)))
+merge_rules = (document_orderly 1, (others_orderly 2, (renumber_orderly 3, (help_orderly, tt))))
 
 diff_rules : AreOrderly (leaf diff_shape).rules
 diff_rules = (document_orderly 1, (other_orderly 2, (help_orderly, tt)))
@@ -165,6 +174,12 @@ log_rules = (document_orderly 1, (edits_orderly 2, (help_orderly, tt)))
 
 export_rules : AreOrderly (leaf export_shape).rules
 export_rules = (document_orderly 1, (generation_orderly 2, (edits_orderly 3, (help_orderly, tt))))
+
+follow_rules : AreOrderly (leaf follow_shape).rules
+follow_rules = (document_orderly 1, (from_orderly 2, (raw_orderly 2, (help_orderly, tt))))
+
+feed_rules : AreOrderly (leaf feed_shape).rules
+feed_rules = (document_orderly 1, (help_orderly, tt))
 
 number_rules : AreOrderly (leaf number_shape).rules
 number_rules = (numbers_orderly 1, (name_orderly 2, (help_orderly, tt)))
@@ -344,6 +359,7 @@ view_has words passes =
     let read = leaf_fine (leaf view_shape) words view_rules refl passes in
     record {
       generation = may_have_number 0 536870912 (codes "gen") rows read.fine (λ how v fit. fit);
+      edits = may_have_number 0 4294967295 (codes "edits") rows read.fine (λ how v fit. fit);
       plain = has_flag (codes "plain") rows read.fine (λ how v fit. fit);
       svg = has_flag (codes "svg") rows read.fine (λ how v fit. fit);
     }
@@ -407,6 +423,7 @@ merge_has words passes =
     record {
       file = value_at (codes "file") rows read.fine (given_by (codes "file") (leaf merge_shape).rules rows read.given refl);
       others = values_at (codes "other") rows read.fine (given_by (codes "other") (leaf merge_shape).rules rows read.given refl);
+      renumber = may_have_number 65 65535 (codes "renumber") rows read.fine (λ how v fit. fit);
     }
 
 diff_has : (words : List Text) → level_fault (leaf diff_shape) [] nothing_held words false [] ≡ [] → HasDiff (rows_after (leaf diff_shape).rules [] words)
@@ -436,6 +453,22 @@ export_has words passes =
       generation = number_at 0 4294967295 (codes "generation") rows read.fine (given_by (codes "generation") (leaf export_shape).rules rows read.given refl) (λ how v fit. fit);
       edits = may_have_number 0 4294967295 (codes "edits") rows read.fine (λ how v fit. fit);
     }
+
+follow_has : (words : List Text) → level_fault (leaf follow_shape) [] nothing_held words false [] ≡ [] → HasFollow (rows_after (leaf follow_shape).rules [] words)
+follow_has words passes =
+    let rows = rows_after (leaf follow_shape).rules [] words in
+    let read = leaf_fine (leaf follow_shape) words follow_rules refl passes in
+    record {
+      file = value_at (codes "file") rows read.fine (given_by (codes "file") (leaf follow_shape).rules rows read.given refl);
+      from = may_have_number 0 4294967295 (codes "from") rows read.fine (λ how v fit. fit);
+      raw = has_flag (codes "raw") rows read.fine (λ how v fit. fit);
+    }
+
+feed_has : (words : List Text) → level_fault (leaf feed_shape) [] nothing_held words false [] ≡ [] → HasFeed (rows_after (leaf feed_shape).rules [] words)
+feed_has words passes =
+    let rows = rows_after (leaf feed_shape).rules [] words in
+    let read = leaf_fine (leaf feed_shape) words feed_rules refl passes in
+    record { file = value_at (codes "file") rows read.fine (given_by (codes "file") (leaf feed_shape).rules rows read.given refl) }
 
 number_has : (words : List Text) → level_fault (leaf number_shape) [] nothing_held words false [] ≡ [] → HasNumbering (rows_after (leaf number_shape).rules [] words)
 number_has words passes =
@@ -483,7 +516,7 @@ not_help name rows other is = go (bytes_eq (codes "help") name) refl is
     go false same h = absurd (true≢false (sym h))
 
 all_have : (name : Text) → bytes_eq name (codes "help") ≡ false → HaveAll name whole.subs
-all_have name other = ((λ is words passes. tt), ((λ is words passes. tt), ((λ is words passes. rle_has words passes), ((λ is words passes. view_has words passes), ((λ is words passes. convert_has words passes), ((λ is words passes. serve_has words passes), ((λ is words passes. join_has words passes), ((λ is words passes. new_has words passes), ((λ is words passes. draw_has words passes), ((λ is words passes. merge_has words passes), ((λ is words passes. diff_has words passes), ((λ is words passes. log_has words passes), ((λ is words passes. export_has words passes), ((λ is words passes. number_has words passes), ((λ is words passes. not_help name (rows_after (built_leaf help_shape).rules [] words) other is), tt)))))))))))))))
+all_have name other = ((λ is words passes. tt), ((λ is words passes. tt), ((λ is words passes. rle_has words passes), ((λ is words passes. view_has words passes), ((λ is words passes. convert_has words passes), ((λ is words passes. serve_has words passes), ((λ is words passes. join_has words passes), ((λ is words passes. new_has words passes), ((λ is words passes. draw_has words passes), ((λ is words passes. merge_has words passes), ((λ is words passes. diff_has words passes), ((λ is words passes. log_has words passes), ((λ is words passes. export_has words passes), ((λ is words passes. follow_has words passes), ((λ is words passes. feed_has words passes), ((λ is words passes. number_has words passes), ((λ is words passes. not_help name (rows_after (built_leaf help_shape).rules [] words) other is), tt)))))))))))))))))
 
 entered_named : (stop : Option (Text × List Text)) → is_some (entered whole stop) ≡ true → entered_fault whole stop ≡ [] → stops_at_help stop ≡ false
     → IsNamed (entered whole stop)

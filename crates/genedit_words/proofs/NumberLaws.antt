@@ -2,7 +2,7 @@
 use Rattle.std.specs.Option.{option_map_or}
 use Rattle.std.specs.Str.{bytes_eq}
 use Rattle.std.proofs.Common.{Bool, None, codes, true, false, inl, inr, ◌≡◌, ◌∙◌, ◌≤◌, ◌<◌, ◌^◌, ℕ, List, Option, Some, ap, sym, arith}
-use Rattle.std.specs.Prelude.{option_map, unwrap_or, Ok, Result, pos, ◌≤ℤ◌}
+use Rattle.std.specs.Prelude.{IfSome, option_map, unwrap_or, Ok, Result, pos, ◌≤ℤ◌}
 use Rattle.std.proofs.lemmas.Int.{ints}
 use Rattle.std.specs.Str.Parse.{ParsesUnsigned, digits_value, signed_digits_value, without_leading_plus}
 use Rattle.clap.proofs.CallerReads.{signed_reads}
@@ -43,6 +43,13 @@ module _ {E : Type 0} (k : ℕ) (G : List ℕ → Result ℕ E → Type 0) (only
       → low ≤ other → other ≤ high → MayHaveNumber low high id rows → (low ≤ unwrap_or r other) × (unwrap_or r other ≤ high)
   is_within_or low high other id rows r none reads small least most (inl missing) = rw (none missing) (least, most)
   is_within_or low high other id rows r none reads small least most (inr has) =
+      let got = is_within low high id rows r reads small has in rw got.1 (got.2, got.3)
+
+  -- it is in its range, where it is not missing
+  pub is_within_if : (low high : ℕ) (id : Text) (rows : List Row) (r : Option ℕ) → (one_of id rows ≡ None → r ≡ None) → Reads id rows r → high < 2 ^ k
+      → MayHaveNumber low high id rows → IfSome r (λ n. (low ≤ n) × (n ≤ high))
+  is_within_if low high id rows r none reads small (inl missing) = rw (none missing) tt
+  is_within_if low high id rows r none reads small (inr has) =
       let got = is_within low high id rows r reads small has in rw got.1 (got.2, got.3)
 
 -- ---- flags

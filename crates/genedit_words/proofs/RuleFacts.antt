@@ -53,8 +53,11 @@ fits id how v = if bytes_eq id (codes "port") then drops_minus how && accepts fa
     else if bytes_eq id (codes "until-close") then keeps_all how && is_flag_text v
     else if bytes_eq id (codes "replace") then keeps_all how && is_flag_text v
     else if bytes_eq id (codes "edits") then drops_minus how && accepts false (vp.Signed (pos 0) (pos 4294967295)) v
+    else if bytes_eq id (codes "from") then drops_minus how && accepts false (vp.Signed (pos 0) (pos 4294967295)) v
+    else if bytes_eq id (codes "raw") then keeps_all how && is_flag_text v
     else if bytes_eq id (codes "generation") then drops_minus how && accepts false (vp.Signed (pos 0) (pos 4294967295)) v
     else if bytes_eq id (codes "replica") then drops_minus how && accepts false (vp.Signed (pos 65) (pos 65535)) v
+    else if bytes_eq id (codes "renumber") then drops_minus how && accepts false (vp.Signed (pos 65) (pos 65535)) v
     else true
 
 -- a row has a first value, which fits

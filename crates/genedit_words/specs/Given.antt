@@ -1,5 +1,5 @@
 -- What words that are no fault have.
-use Rattle.std.specs.Prelude.{IsSomeAnd, ◌≡◌, ◌⊎◌, ◌≤◌, ⊤, None, ℕ, List, Option, Some, codes, pos}
+use Rattle.std.specs.Prelude.{IfSome, IsSomeAnd, ◌≡◌, ◌⊎◌, ◌≤◌, ⊤, None, ℕ, List, Option, Some, codes, pos}
 use Rattle.std.specs.Option.{IsSome}
 use Rattle.clap.specs.Values.{IsSignedIn}
 use Rattle.clap.specs.Words.{Row, Text, first_of, one_of, without_minus}
@@ -9,7 +9,7 @@ use Rattle.genedit_words.specs.declared.subcommand.Subcommand.TheVariants as sub
 use Rattle.genedit_words.specs.Subcommands.{subcommand_named}
 use Rattle.genedit_words.specs.declared.task.ServeTask.{ServeTask}
 use Rattle.genedit_words.specs.declared.task.Task.{Task}
-use Rattle.genedit_words.specs.declared.task.Task.TheVariants.{Draw, Join, Serve}
+use Rattle.genedit_words.specs.declared.task.Task.TheVariants.{Draw, Join, Merge, Serve}
 
 -- a text at a place
 abbrev pub HasText : Text → List Row → Type 0
@@ -42,6 +42,7 @@ MayHaveNumber low high id rows = (one_of id rows ≡ None) ⊎ HasNumber low hig
 -- what a picture may be asked with
 pub record HasView (rows : List Row) : Type 0 where
   pub generation : MayHaveNumber 0 536870912 (codes "gen") rows
+  pub edits : MayHaveNumber 0 4294967295 (codes "edits") rows
   pub plain : HasFlag (codes "plain") rows
   pub svg : HasFlag (codes "svg") rows
 
@@ -76,6 +77,7 @@ pub record HasDraw (rows : List Row) : Type 0 where
 pub record HasMerge (rows : List Row) : Type 0 where
   pub file : HasText (codes "file") rows
   pub others : HasTexts (codes "other") rows
+  pub renumber : MayHaveNumber 65 65535 (codes "renumber") rows
 
 pub record HasDiff (rows : List Row) : Type 0 where
   pub file : HasText (codes "file") rows
@@ -89,6 +91,14 @@ pub record HasExport (rows : List Row) : Type 0 where
   pub file : HasText (codes "file") rows
   pub generation : HasNumber 0 4294967295 (codes "generation") rows
   pub edits : MayHaveNumber 0 4294967295 (codes "edits") rows
+
+pub record HasFollow (rows : List Row) : Type 0 where
+  pub file : HasText (codes "file") rows
+  pub from : MayHaveNumber 0 4294967295 (codes "from") rows
+  pub raw : HasFlag (codes "raw") rows
+
+pub record HasFeed (rows : List Row) : Type 0 where
+  pub file : HasText (codes "file") rows
 
 pub record HasNumbering (rows : List Row) : Type 0 where
   pub file : HasText (codes "numbers") rows
@@ -109,6 +119,8 @@ HasFor subcommand.Merge rows = HasMerge rows
 HasFor subcommand.Diff rows = HasDiff rows
 HasFor subcommand.Log rows = HasLog rows
 HasFor subcommand.Export rows = HasExport rows
+HasFor subcommand.Follow rows = HasFollow rows
+HasFor subcommand.Feed rows = HasFeed rows
 HasFor subcommand.Number rows = HasNumbering rows
 
 -- the same, by its name
@@ -127,9 +139,10 @@ abbrev pub IsServable : ServeTask → Type 0
 IsServable server = (server.keep ≡ None → IsSome server.rule) × (1 ≤ server.sessions) × (server.sessions ≤ 64)
 
 -- a server can be served; a client lets 1 to 60,000 milliseconds pass between two polls; whoever draws in a
--- document has a number that is no seat's
+-- document has a number that is no seat's, and so has whoever gets edits that clash
 abbrev pub IsInRange : Task → Type 0
 IsInRange (Serve server) = IsServable server
 IsInRange (Join client) = (1 ≤ client.interval) × (client.interval ≤ 60000)
 IsInRange (Draw drawing) = (65 ≤ drawing.replica) × (drawing.replica ≤ 65535)
+IsInRange (Merge merging) = IfSome merging.renumber (λ number. (65 ≤ number) × (number ≤ 65535))
 IsInRange _ = ⊤

@@ -12,7 +12,7 @@ use Rattle.header_rules.specs.Families.{other_names, table_ends, table_fronts}
 use Rattle.header_rules.specs.Names.{rule_names}
 use Rattle.genedit_words.specs.Bound.{bound_words}
 use Rattle.genedit_words.specs.Misspelt.{misspelt_text}
-use Rattle.genedit_words.specs.Told.{Check, Diff, Draw, Export, Join, Log, Merge, Number, Run, Serve, View}
+use Rattle.genedit_words.specs.Told.{Check, Diff, Draw, Export, Feed, Follow, Join, Log, Merge, Number, Run, Serve, View}
 use Rattle.genedit_words.specs.Words.{Asks, LacksRule, genedit_app, new_task, rle_task, rule_asked, rule_if_given, serve_task}
 
 abbrev genedit : List Text → List Text
@@ -161,19 +161,28 @@ two_files : fault_of genedit_app (genedit (codes "check" ∷ codes "a" ∷ codes
 unfolding clap_on_literals
 two_files = refl
 
-picture : Asks (genedit (codes "view" ∷ [])) (Ok (View (record { file = None; rule = None; at = None; size = None; generation = None; is_plain = false; is_svg = false })))
+picture : Asks (genedit (codes "view" ∷ [])) (Ok (View (record { file = None; rule = None; at = None; size = None; generation = None; edits = None; is_plain = false; is_svg = false })))
 unfolding clap_on_literals
 picture = (refl, refl)
 
 window_of_a_file : Asks (genedit (codes "view" ∷ codes "gun.rle" ∷ codes "--at=-3,4" ∷ codes "--size=9,9" ∷ codes "--gen" ∷ codes "30" ∷ codes "--svg" ∷ []))
-    (Ok (View (record { file = Some (codes "gun.rle"); rule = None; at = Some (codes "-3,4"); size = Some (codes "9,9"); generation = Some 30; is_plain = false; is_svg = true })))
+    (Ok (View (record { file = Some (codes "gun.rle"); rule = None; at = Some (codes "-3,4"); size = Some (codes "9,9"); generation = Some 30; edits = None; is_plain = false; is_svg = true })))
 unfolding clap_on_literals
 window_of_a_file = (refl, refl)
 
 last_generation : Asks (genedit (codes "view" ∷ codes "--gen=536870912" ∷ []))
-    (Ok (View (record { file = None; rule = None; at = None; size = None; generation = Some 536870912; is_plain = false; is_svg = false })))
+    (Ok (View (record { file = None; rule = None; at = None; size = None; generation = Some 536870912; edits = None; is_plain = false; is_svg = false })))
 unfolding clap_on_literals
 last_generation = (refl, refl)
+
+picture_of_a_document : Asks (genedit (codes "view" ∷ codes "a.glwl" ∷ codes "--edits" ∷ codes "4294967295" ∷ []))
+    (Ok (View (record { file = Some (codes "a.glwl"); rule = None; at = None; size = None; generation = None; edits = Some 4294967295; is_plain = false; is_svg = false })))
+unfolding clap_on_literals
+picture_of_a_document = (refl, refl)
+
+edits_of_33_bits : fault_of genedit_app (genedit (codes "view" ∷ codes "--edits=4294967296" ∷ [])) ≡ kind.ValueValidation ∷ []
+unfolding clap_on_literals
+edits_of_33_bits = refl
 
 generation_too_late : fault_of genedit_app (genedit (codes "view" ∷ codes "--gen=536870913" ∷ [])) ≡ kind.ValueValidation ∷ []
 unfolding clap_on_literals
@@ -255,9 +264,17 @@ replica_of_17_bits : fault_of genedit_app (genedit (codes "draw" ∷ codes "a.gl
 unfolding clap_on_literals
 replica_of_17_bits = refl
 
-merging : Asks (genedit (codes "merge" ∷ codes "a" ∷ codes "b" ∷ codes "-" ∷ codes "b" ∷ [])) (Ok (Merge (codes "a") (codes "b" ∷ codes "-" ∷ codes "b" ∷ [])))
+merging : Asks (genedit (codes "merge" ∷ codes "a" ∷ codes "b" ∷ codes "-" ∷ codes "b" ∷ [])) (Ok (Merge (codes "a") (codes "b" ∷ codes "-" ∷ codes "b" ∷ []) None))
 unfolding clap_on_literals
 merging = (refl, refl)
+
+merging_by_another_number : Asks (genedit (codes "merge" ∷ codes "a" ∷ codes "b" ∷ codes "--renumber" ∷ codes "67" ∷ [])) (Ok (Merge (codes "a") (codes "b" ∷ []) (Some 67)))
+unfolding clap_on_literals
+merging_by_another_number = (refl, refl)
+
+merging_by_a_seat : fault_of genedit_app (genedit (codes "merge" ∷ codes "a" ∷ codes "b" ∷ codes "--renumber=64" ∷ [])) ≡ kind.ValueValidation ∷ []
+unfolding clap_on_literals
+merging_by_a_seat = refl
 
 merging_of_none : fault_of genedit_app (genedit (codes "merge" ∷ codes "a" ∷ [])) ≡ kind.MissingRequiredArgument ∷ []
 unfolding clap_on_literals
@@ -278,6 +295,31 @@ exporting = (refl, refl)
 generation_of_33_bits : fault_of genedit_app (genedit (codes "export" ∷ codes "a" ∷ codes "4294967296" ∷ [])) ≡ kind.ValueValidation ∷ []
 unfolding clap_on_literals
 generation_of_33_bits = refl
+
+following : Asks (genedit (codes "follow" ∷ codes "a.glwl" ∷ [])) (Ok (Follow (codes "a.glwl") None false))
+unfolding clap_on_literals
+following = (refl, refl)
+
+-- `-` is a file's name as any other
+following_of_bytes : Asks (genedit (codes "follow" ∷ codes "--raw" ∷ codes "--from" ∷ codes "4294967295" ∷ codes "-" ∷ [])) (Ok (Follow (codes "-") (Some 4294967295) true))
+unfolding clap_on_literals
+following_of_bytes = (refl, refl)
+
+following_of_no_file : fault_of genedit_app (genedit (codes "follow" ∷ codes "--raw" ∷ [])) ≡ kind.MissingRequiredArgument ∷ []
+unfolding clap_on_literals
+following_of_no_file = refl
+
+records_of_33_bits : fault_of genedit_app (genedit (codes "follow" ∷ codes "a.glwl" ∷ codes "--from=4294967296" ∷ [])) ≡ kind.ValueValidation ∷ []
+unfolding clap_on_literals
+records_of_33_bits = refl
+
+feeding : Asks (genedit (codes "feed" ∷ codes "a.glwl" ∷ [])) (Ok (Feed (codes "a.glwl")))
+unfolding clap_on_literals
+feeding = (refl, refl)
+
+feeding_of_two : fault_of genedit_app (genedit (codes "feed" ∷ codes "a" ∷ codes "b" ∷ [])) ≡ kind.UnknownArgument ∷ []
+unfolding clap_on_literals
+feeding_of_two = refl
 
 numbering : Asks (genedit (codes "number" ∷ codes "numbers.txt" ∷ codes "ann" ∷ [])) (Ok (Number (codes "numbers.txt") (codes "ann")))
 unfolding clap_on_literals

@@ -3,7 +3,7 @@ use Rattle.std.specs.Prelude.{Option, Some, None, if◌then◌else◌, codes}
 use Rattle.std.specs.Str.{bytes_eq}
 use Rattle.clap.specs.Words.{Text}
 use Rattle.genedit_words.specs.declared.subcommand.Subcommand.{Subcommand}
-use Rattle.genedit_words.specs.declared.subcommand.Subcommand.TheVariants.{Run, Check, Rle, View, Convert, Serve, Join, New, Draw, Merge, Diff, Log, Export, Number}
+use Rattle.genedit_words.specs.declared.subcommand.Subcommand.TheVariants.{Run, Check, Rle, View, Convert, Serve, Join, New, Draw, Merge, Diff, Log, Export, Follow, Feed, Number}
 
 abbrev pub subcommand_named : Text → Option Subcommand
 subcommand_named name =
@@ -20,5 +20,7 @@ subcommand_named name =
     else if bytes_eq name (codes "diff") then Some Diff
     else if bytes_eq name (codes "log") then Some Log
     else if bytes_eq name (codes "export") then Some Export
+    else if bytes_eq name (codes "follow") then Some Follow
+    else if bytes_eq name (codes "feed") then Some Feed
     else if bytes_eq name (codes "number") then Some Number
     else None

@@ -14,6 +14,7 @@ pub record Viewed : Type 0 where
   pub at : Option (List ℕ)
   pub size : Option (List ℕ)
   pub generation : Option ℕ
+  pub edits : Option ℕ
   pub is_plain : Bool
   pub is_svg : Bool
 
@@ -43,10 +44,12 @@ pub data Told : Type 0 where
   Convert : (conversion : Conversion) → Told
   New : (file : List ℕ) → (rule : GenerationsRule) → Told
   Draw : (file : List ℕ) → (replica : ℕ) → Told
-  Merge : (file : List ℕ) → (others : List (List ℕ)) → Told
+  Merge : (file : List ℕ) → (others : List (List ℕ)) → (renumber : Option ℕ) → Told
   Diff : (file : List ℕ) → (other : Option (List ℕ)) → Told
   Log : (file : Option (List ℕ)) → (edits : Option ℕ) → Told
   Export : (file : Option (List ℕ)) → (generation : ℕ) → (edits : Option ℕ) → Told
+  Follow : (file : List ℕ) → (from : Option ℕ) → (is_raw : Bool) → Told
+  Feed : (file : List ℕ) → Told
   Number : (file : List ℕ) → (name : List ℕ) → Told
 
 -- what a task is, by its texts
@@ -68,6 +71,7 @@ told_of (task.View viewing) = View (record {
   at = option_map (λ s. s.now) viewing.at;
   size = option_map (λ s. s.now) viewing.size;
   generation = viewing.generation;
+  edits = viewing.edits;
   is_plain = viewing.is_plain;
   is_svg = viewing.is_svg;
 })
@@ -80,10 +84,12 @@ told_of (task.Convert converting) = Convert (record {
 })
 told_of (task.New new) = New new.file.now new.rule
 told_of (task.Draw drawing) = Draw drawing.file.now drawing.replica
-told_of (task.Merge merging) = Merge merging.file.now (map (λ s. s.now) merging.others.items)
+told_of (task.Merge merging) = Merge merging.file.now (map (λ s. s.now) merging.others.items) merging.renumber
 told_of (task.Diff diff) = Diff diff.file.now (option_map (λ s. s.now) diff.other)
 told_of (task.Log log) = Log (option_map (λ s. s.now) log.file) log.edits
 told_of (task.Export export) = Export (option_map (λ s. s.now) export.file) export.generation export.edits
+told_of (task.Follow following) = Follow following.file.now following.from following.is_raw
+told_of (task.Feed feed) = Feed feed.file.now
 told_of (task.Number numbering) = Number numbering.file.now numbering.name.now
 
 -- what was looked for, or the word that spells no rule

@@ -24,7 +24,7 @@ use Rattle.genedit_words.specs.declared.task.Task.{Task}
 use Rattle.genedit_words.specs.declared.words.NoTask.{NoTask}
 use Rattle.genedit_words.specs.declared.words.NoTask.TheVariants as no_task
 use Rattle.genedit_words.specs.Subcommands.{subcommand_named}
-use Rattle.genedit_words.specs.Told.{Told, Conversion, Viewed, Check, Convert, Diff, Draw, Export, Join, Log, Merge, New, Number, Rle, Run, Serve, View, told_of}
+use Rattle.genedit_words.specs.Told.{Told, Conversion, Viewed, Check, Convert, Diff, Draw, Export, Feed, Follow, Join, Log, Merge, New, Number, Rle, Run, Serve, View, told_of}
 
 -- the rule, or the word that spells none
 abbrev pub rule_or_misspelt : Text → Result GenerationsRule Misspelling → Result GenerationsRule Misspelt
@@ -95,9 +95,13 @@ serve_shape needs_rule = record (new_shape (codes "serve")) { rules = board_rule
 abbrev pub check_shape : Shape
 check_shape = record (new_shape (codes "check")) { rules = file_argument ∷ [] }
 
+-- how many records of edits are looked at: any number of 32 bits
+abbrev pub edits_option : Rule
+edits_option = record (optional (codes "edits")) { parser = Some (vp.Signed (pos 0) (pos 4294967295)) }
+
 abbrev pub view_shape : Shape
 view_shape = record (new_shape (codes "view")) {
-  rules = file_argument ∷ optional (codes "rule") ∷ optional (codes "at") ∷ optional (codes "size") ∷ gen_option ∷ flag (codes "plain") ∷ flag (codes "svg") ∷ [];
+  rules = file_argument ∷ optional (codes "rule") ∷ optional (codes "at") ∷ optional (codes "size") ∷ gen_option ∷ edits_option ∷ flag (codes "plain") ∷ flag (codes "svg") ∷ [];
 }
 
 -- a file that has to be named, at its place among the words
@@ -108,10 +112,6 @@ abbrev pub convert_shape : Shape
 convert_shape = record (new_shape (codes "convert")) {
   rules = place_argument (codes "in") ∷ place_argument (codes "out") ∷ optional (codes "rule") ∷ gen_option ∷ flag (codes "replace") ∷ [];
 }
-
--- how many records of edits are looked at: any number of 32 bits
-abbrev pub edits_option : Rule
-edits_option = record (optional (codes "edits")) { parser = Some (vp.Signed (pos 0) (pos 4294967295)) }
 
 -- a generation at its place: any number of 32 bits
 abbrev pub generation_place : Rule
@@ -131,8 +131,12 @@ replica_option = record (option (codes "replica")) { parser = Some (vp.Signed (p
 abbrev pub draw_shape : Shape
 draw_shape = record (new_shape (codes "draw")) { rules = place_argument (codes "file") ∷ replica_option ∷ [] }
 
+-- the number by which edits are taken that clash, if one is given: 65 to 65535
+abbrev pub renumber_option : Rule
+renumber_option = record (optional (codes "renumber")) { parser = Some (vp.Signed (pos 65) (pos 65535)) }
+
 abbrev pub merge_shape : Shape
-merge_shape = record (new_shape (codes "merge")) { rules = place_argument (codes "file") ∷ others_argument ∷ [] }
+merge_shape = record (new_shape (codes "merge")) { rules = place_argument (codes "file") ∷ others_argument ∷ renumber_option ∷ [] }
 
 abbrev pub diff_shape : Shape
 diff_shape = record (new_shape (codes "diff")) { rules = place_argument (codes "file") ∷ place_argument (codes "other") ∷ [] }
@@ -142,6 +146,16 @@ log_shape = record (new_shape (codes "log")) { rules = place_argument (codes "fi
 
 abbrev pub export_shape : Shape
 export_shape = record (new_shape (codes "export")) { rules = place_argument (codes "file") ∷ generation_place ∷ edits_option ∷ [] }
+
+-- how many records are passed over: any number of 32 bits
+abbrev pub from_option : Rule
+from_option = record (optional (codes "from")) { parser = Some (vp.Signed (pos 0) (pos 4294967295)) }
+
+abbrev pub follow_shape : Shape
+follow_shape = record (new_shape (codes "follow")) { rules = place_argument (codes "file") ∷ from_option ∷ flag (codes "raw") ∷ [] }
+
+abbrev pub feed_shape : Shape
+feed_shape = record (new_shape (codes "feed")) { rules = place_argument (codes "file") ∷ [] }
 
 abbrev pub number_shape : Shape
 number_shape = record (new_shape (codes "number")) { rules = place_argument (codes "numbers") ∷ place_argument (codes "name") ∷ [] }
@@ -179,7 +193,7 @@ board_app needs_rule = app_with (run_shape ∷ check_shape ∷ rle_shape ∷ vie
 -- rule has to be given, or may be
 abbrev pub app_by : Bool → App
 app_by needs_rule = app_with (run_shape ∷ check_shape ∷ rle_shape ∷ view_shape ∷ convert_shape ∷ serve_shape needs_rule ∷ join_shape
-    ∷ new_document_shape ∷ draw_shape ∷ merge_shape ∷ diff_shape ∷ log_shape ∷ export_shape ∷ number_shape ∷ [])
+    ∷ new_document_shape ∷ draw_shape ∷ merge_shape ∷ diff_shape ∷ log_shape ∷ export_shape ∷ follow_shape ∷ feed_shape ∷ number_shape ∷ [])
 
 -- the words of `genedit` are read so: a server may lack the option, since its file may name the rule
 abbrev pub genedit_app : App
@@ -227,6 +241,7 @@ viewing rows rule = record {
   at = first_of (codes "at") rows;
   size = first_of (codes "size") rows;
   generation = number_of (codes "gen") rows;
+  edits = number_of (codes "edits") rows;
   is_plain = is_set (codes "plain") rows;
   is_svg = is_set (codes "svg") rows;
 }
@@ -267,7 +282,7 @@ abbrev pub view_task : List Row → Result (Option GenerationsRule) Misspelt →
 view_task rows (Ok rule) = Ok (View (viewing rows rule))
 view_task rows (Err fault) = Err fault
 
--- a picture of a pattern or of a state, under the rule that the option spells if it is given
+-- a picture of a pattern, of a state or of a document, under the rule that the option spells if it is given
 abbrev pub view_asked : List Row → Option (Result Told Misspelt)
 view_asked rows = Some (view_task rows (rule_if_given (first_of (codes "rule") rows)))
 
@@ -321,9 +336,9 @@ new_asked rows = option_and_then (λ file. option_map (λ text. new_task file (r
 abbrev pub draw_asked : List Row → Option (Result Told Misspelt)
 draw_asked rows = option_and_then (λ file. option_map (λ replica. Ok (Draw file replica)) (number_of (codes "replica") rows)) (first_of (codes "file") rows)
 
--- documents that are merged into the first
+-- documents that are merged into the first, where edits that clash are taken by the number that the option spells, if it is given
 abbrev pub merge_asked : List Row → Option (Result Told Misspelt)
-merge_asked rows = option_and_then (λ file. option_map (λ others. Ok (Merge file others)) (all_of (codes "other") rows)) (first_of (codes "file") rows)
+merge_asked rows = option_and_then (λ file. option_map (λ others. Ok (Merge file others (number_of (codes "renumber") rows))) (all_of (codes "other") rows)) (first_of (codes "file") rows)
 
 abbrev pub diff_asked : List Row → Option (Result Told Misspelt)
 diff_asked rows = option_and_then (λ file. option_map (λ other. Ok (Diff file (named_file other))) (first_of (codes "other") rows)) (first_of (codes "file") rows)
@@ -334,6 +349,13 @@ log_asked rows = option_map (λ file. Ok (Log (named_file file) (number_of (code
 abbrev pub export_asked : List Row → Option (Result Told Misspelt)
 export_asked rows = option_and_then (λ file. option_map (λ generation. Ok (Export (named_file file) generation (number_of (codes "edits") rows)))
     (number_of (codes "generation") rows)) (first_of (codes "file") rows)
+
+-- a document whose records are told, from behind as many as the option spells
+abbrev pub follow_asked : List Row → Option (Result Told Misspelt)
+follow_asked rows = option_map (λ file. Ok (Follow file (number_of (codes "from") rows) (is_set (codes "raw") rows))) (first_of (codes "file") rows)
+
+abbrev pub feed_asked : List Row → Option (Result Told Misspelt)
+feed_asked rows = option_map (λ file. Ok (Feed file)) (first_of (codes "file") rows)
 
 -- the number of a name, by the file that lists them
 abbrev pub number_asked : List Row → Option (Result Told Misspelt)
@@ -354,6 +376,8 @@ asked_by subcommand.Merge rows = merge_asked rows
 asked_by subcommand.Diff rows = diff_asked rows
 asked_by subcommand.Log rows = log_asked rows
 asked_by subcommand.Export rows = export_asked rows
+asked_by subcommand.Follow rows = follow_asked rows
+asked_by subcommand.Feed rows = feed_asked rows
 asked_by subcommand.Number rows = number_asked rows
 
 -- the same, by its name

@@ -5,7 +5,7 @@ use clap::error::ErrorKind;
 use std::alloc::{AllocError, Global};
 
 /// The options with a value, and what has to stand at a place, as `clap` names them, and an example of each.
-const EXAMPLES: [(&str, &str); 20] = [
+const EXAMPLES: [(&str, &str); 22] = [
     ("--rule <", " --rule 23/3/2"),
     ("--port <", " --port 7020"),
     ("--sessions <", " --sessions 64"),
@@ -15,7 +15,9 @@ const EXAMPLES: [(&str, &str); 20] = [
     ("--size <", " --size 40x20"),
     ("--gen <", " --gen 30"),
     ("--edits <", " --edits 100"),
+    ("--from <", " --from 100"),
     ("--replica <", " --replica 65"),
+    ("--renumber <", " --renumber 67"),
     ("provided: <FILE>", " my.glwl"),
     ("<TEXT> <FILE>", " my.glwl"),
     ("<N> <FILE>", " my.glwl"),

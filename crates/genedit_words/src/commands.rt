@@ -7,8 +7,8 @@ ghost use Rattle.clap.specs.declared.builder.command.Command.TheViews.{out-Comma
 ghost use Rattle.genedit_words.specs.Words.{app_by, board_app, board_rule, check_shape, convert_shape, every_option, file_argument, flag, gen_option, join_shape, option, optional, place_argument, port_option, rle_shape, run_shape, serve_shape, sessions_option, text_app, top_app, view_shape};
 
 use crate::document_commands::{
-    diff_command, draw_command, export_command, log_command, merge_command, new_command,
-    number_command,
+    diff_command, draw_command, edits_argument, export_command, feed_command, follow_command,
+    log_command, merge_command, new_command, number_command,
 };
 use clap::{Arg, ArgAction, Command, value_parser};
 use std::alloc::{AllocError, Global};
@@ -72,10 +72,11 @@ Examples:
   genedit rle --rule 345/2/4 < ship.rle > canonical.rle";
 
 const VIEW_HELP: &str = "\
-The file is an RLE text, a file of MCell (.mcl), plaintext (.cells), or a state as it is saved, which begins
-with GLWS; its first bytes tell which. Without --rule its own rule is taken; a pattern's file may tell it as
-Golly does, as B3/S23, and so may --rule. Plaintext tells none. Bounds of a grid are passed over, which is
-said. Coordinates are those of the file's position and its columns and rows; y grows downwards.
+The file is an RLE text, a file of MCell (.mcl), plaintext (.cells), a state as it is saved, which begins with
+GLWS, or a document as `genedit draw` and a server keep it, of which --edits N shows the first N edits alone;
+its first bytes tell which. Without --rule its own rule is taken; a pattern's file may tell it as Golly does,
+as B3/S23, and so may --rule. Plaintext tells none. Bounds of a grid are passed over, which is said.
+Coordinates are those of the file's position and its columns and rows; y grows downwards.
 
 On a terminal it draws two cells a character, in Golly's colours; else, and with --plain, a character
 for each cell: `.` is dead, and of two states `O` is live; of more, `A` to `Z`, `a` to `z` and `0` to
@@ -86,7 +87,8 @@ it goes before --plain.
 Examples:
   genedit view gun.rle
   genedit view --gen 30 --svg < gun.rle > gun.svg
-  genedit view gun.rle --at -3,4 --size 40x20";
+  genedit view gun.rle --at -3,4 --size 40x20
+  genedit view my.glwl --edits 100";
 
 const CONVERT_HELP: &str = "\
 IN is an RLE text, a file of MCell (.mcl), plaintext (.cells), or a state as it is saved; what it is, its
@@ -150,7 +152,7 @@ polls, so that the drawing goes over all that others drew by then.
   save FILE              writes the board to a file as a state, with its stamps
   export! G FILE         as export, and replaces a file that is there
   save! FILE             as save, and replaces a file that is there
-  open FILE              draws the live and dying cells of a state, of RLE, .mcl or .cells, in place
+  open FILE              draws the live and dying cells of a state, a document, RLE, .mcl or .cells
   poll                   prints what others drew, and `edits K`
   wait N [MS]            polls until others drew N edits, or until MS milliseconds, 10000 if none are
                          given, are over: `edits K` or `late K`
@@ -197,6 +199,8 @@ pub fn command<'a>(alloc: Global, needs_rule: bool) -> Result<Command<'a>, Alloc
         .subcommand(diff_command(alloc)?)?
         .subcommand(log_command(alloc)?)?
         .subcommand(export_command(alloc)?)?
+        .subcommand(follow_command(alloc)?)?
+        .subcommand(feed_command(alloc)?)?
         .subcommand(number_command(alloc)?)?;
     Ok(command)
 }
@@ -331,6 +335,7 @@ fn view_command<'a>(alloc: Global) -> Result<Command<'a>, AllocError>
         "The width and height of the window, as 40,20 or 40x20",
     ))?
     .arg(generation_argument(alloc))?
+    .arg(edits_argument(alloc))?
     .arg(flag(alloc, "plain", "Draws a character for each cell"))?
     .arg(flag(alloc, "svg", "Draws an SVG"))?;
     Ok(command)
@@ -529,7 +534,7 @@ pub(crate) fn optional<'a>(alloc: Global, name: &'a str, value: &'a str, help: &
 }
 
 /// A flag that may be given.
-fn flag<'a>(alloc: Global, name: &'a str, help: &'a str) -> Arg<'a>
+pub(crate) fn flag<'a>(alloc: Global, name: &'a str, help: &'a str) -> Arg<'a>
     ensures rule { rule_of result ≡ flag name.entry.now }
     ensures local { result.global ≡ false }
 {

@@ -3,9 +3,9 @@
 ghost use Rattle.std.specs.Prelude.{◌≡◌, IfOk, false, codes};
 ghost use Rattle.clap.specs.Words.{rule_of, shape_of};
 ghost use Rattle.clap.specs.declared.builder.command.Command.TheViews.{out-Command as fields_of};
-ghost use Rattle.genedit_words.specs.Words.{diff_shape, draw_shape, edits_option, export_shape, generation_place, log_shape, merge_shape, new_document_shape, number_shape, others_argument, place_argument, replica_option};
+ghost use Rattle.genedit_words.specs.Words.{diff_shape, draw_shape, edits_option, export_shape, feed_shape, flag, follow_shape, from_option, generation_place, log_shape, merge_shape, new_document_shape, number_shape, others_argument, place_argument, renumber_option, replica_option};
 
-use crate::commands::{optional, place_argument, required, titled};
+use crate::commands::{flag, optional, place_argument, required, titled};
 use clap::{Arg, ArgAction, Command, value_parser};
 use std::alloc::{AllocError, Global};
 
@@ -31,7 +31,7 @@ before a line, or after it. N is the number of whoever draws, 65 to 65535: two p
   show x y               prints a cell: `cell STATE COUNTER N`
   export G [FILE]        prints the cells G generations later, or writes them to a file, as an RLE text
   export! G FILE         as export, and replaces a file that is there
-  open FILE              draws the live and dying cells of a state, of RLE, .mcl or .cells, in place
+  open FILE              draws the live and dying cells of a state, a document, RLE, .mcl or .cells
   sleep MS               does nothing for so long
   help, ?                prints the commands in ten lines
   bye, quit, exit        ends, as does the end of the input
@@ -58,11 +58,16 @@ Refused, with nothing written: 43 where another process has FILE, as a server th
 each OTHER in turn 42 where it holds no record, 16 where it has another rule, and 41 where an edit of it has
 counter and replica of another one.
 
+With --renumber N each edit of an OTHER whose counter and replica stand for another edit in FILE is taken as
+replica N's, its counter kept: so two who drew by one number come together. N is a number of which neither has
+an edit.
+
 FILE is written beside and then gets its name, so it is whole or as it was.
 
 Examples:
   genedit merge my.glwl bobs.glwl
   genedit merge my.glwl my.glwl.sync-conflict-*
+  genedit merge my.glwl bobs.glwl --renumber 67
   ssh host cat board.glwl | genedit merge my.glwl -";
 
 const DIFF_HELP: &str = "\
@@ -93,6 +98,28 @@ alone are looked at, as they stand: so a kept board is seen as it was before som
 Examples:
   genedit export my.glwl 0 > my.rle
   genedit export board.glwl 30 --edits 100 | genedit view";
+
+const FOLLOW_HELP: &str = "\
+Prints each record of FILE, and then each that comes, as a line of base64; with --raw as bytes. The first record names
+the rule; each further one is an edit. Where FILE is replaced, as `genedit merge` does, what is new in it follows. With
+--from N the first N records are passed over. It ends by Ctrl-C, or where nobody reads any more.
+
+Examples:
+  genedit follow my.glwl | mosquitto_pub -t board -l
+  genedit follow my.glwl --raw | ssh host 'cat > copy.glwl'";
+
+const FEED_HELP: &str = "\
+Takes lines from standard input, as `genedit follow` prints them, in any order, repeated, some lost, and puts each edit
+that is new into FILE, on the disk, as it comes. At the end of the input it prints `new K`. A line that is no record,
+is of another rule (16), or has a second edit of one counter and replica (41) is skipped, and told on standard error
+with its number.
+
+The status is 0, or 2 where a line was skipped. Refused at the beginning, with nothing written: 43 where another process
+has FILE, and 42 where it holds no document.
+
+Examples:
+  mosquitto_sub -t board | genedit feed my.glwl
+  redis-cli --raw XRANGE board - + | awk 'NR % 3 == 0' | genedit feed my.glwl";
 
 const NUMBER_HELP: &str = "\
 Prints the number of NAME, which whoever draws apart needs, for `genedit draw`. NUMBERS is a text file of lines
@@ -155,7 +182,8 @@ pub(crate) fn merge_command<'a>(alloc: Global) -> Result<Command<'a>, AllocError
 {
     let command = titled(alloc, "merge", "Merges documents into one", MERGE_HELP)
         .arg(document_argument(alloc))?
-        .arg(others_argument(alloc))?;
+        .arg(others_argument(alloc))?
+        .arg(renumber_argument(alloc))?;
     Ok(command)
 }
 
@@ -170,6 +198,19 @@ fn others_argument<'a>(alloc: Global) -> Arg<'a>
         "The files of the others; - for standard input",
     )
     .action(ArgAction::Append)
+}
+
+fn renumber_argument<'a>(alloc: Global) -> Arg<'a>
+    ensures rule { rule_of result ≡ renumber_option }
+    ensures local { result.global ≡ false }
+{
+    let renumber = optional(
+        alloc,
+        "renumber",
+        "N",
+        "By which number edits are taken that clash, 65 to 65535",
+    );
+    renumber.value_parser(value_parser!(u16).range(65..=65_535))
 }
 
 pub(crate) fn diff_command<'a>(alloc: Global) -> Result<Command<'a>, AllocError>
@@ -197,7 +238,7 @@ pub(crate) fn log_command<'a>(alloc: Global) -> Result<Command<'a>, AllocError>
     Ok(command)
 }
 
-fn edits_argument<'a>(alloc: Global) -> Arg<'a>
+pub(crate) fn edits_argument<'a>(alloc: Global) -> Arg<'a>
     ensures rule { rule_of result ≡ edits_option }
     ensures local { result.global ≡ false }
 {
@@ -232,6 +273,44 @@ fn generation_place<'a>(alloc: Global) -> Arg<'a>
 {
     let generation = place_argument(alloc, "generation", "G", "How many generations later");
     generation.value_parser(value_parser!(u32))
+}
+
+pub(crate) fn follow_command<'a>(alloc: Global) -> Result<Command<'a>, AllocError>
+    ensures shape { IfOk result (λ command. shape_of command ≡ follow_shape) }
+    ensures local { IfOk result (λ command. (fields_of command).has_globals ≡ false) }
+{
+    let command = titled(
+        alloc,
+        "follow",
+        "Prints the records of a document as they come",
+        FOLLOW_HELP,
+    )
+    .arg(document_argument(alloc))?
+    .arg(from_argument(alloc))?
+    .arg(flag(alloc, "raw", "Prints bytes, and not base64"))?;
+    Ok(command)
+}
+
+fn from_argument<'a>(alloc: Global) -> Arg<'a>
+    ensures rule { rule_of result ≡ from_option }
+    ensures local { result.global ≡ false }
+{
+    let from = optional(alloc, "from", "N", "How many records are passed over");
+    from.value_parser(value_parser!(u32))
+}
+
+pub(crate) fn feed_command<'a>(alloc: Global) -> Result<Command<'a>, AllocError>
+    ensures shape { IfOk result (λ command. shape_of command ≡ feed_shape) }
+    ensures local { IfOk result (λ command. (fields_of command).has_globals ≡ false) }
+{
+    let command = titled(
+        alloc,
+        "feed",
+        "Puts records from standard input into a document",
+        FEED_HELP,
+    )
+    .arg(document_argument(alloc))?;
+    Ok(command)
 }
 
 pub(crate) fn number_command<'a>(alloc: Global) -> Result<Command<'a>, AllocError>

@@ -20,7 +20,7 @@ pub use misspelt::MisspeltRule;
 pub use options::bound;
 pub use rule_words::rule_cure;
 pub use task::{
-    ConvertTask, DiffTask, DrawTask, ExportTask, JoinTask, LogTask, MergeTask, NewTask, NumberTask,
-    RleTask, ServeTask, Task, Viewing,
+    ConvertTask, DiffTask, DrawTask, ExportTask, FeedTask, FollowTask, JoinTask, LogTask,
+    MergeTask, NewTask, NumberTask, RleTask, ServeTask, Task, Viewing,
 };
 pub use words::{asked, given};

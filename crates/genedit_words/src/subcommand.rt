@@ -19,6 +19,8 @@ pub(crate) enum Subcommand {
     Diff,
     Log,
     Export,
+    Follow,
+    Feed,
     Number,
 }
 
@@ -41,6 +43,8 @@ impl Subcommand {
             "diff" => Some(Subcommand::Diff),
             "log" => Some(Subcommand::Log),
             "export" => Some(Subcommand::Export),
+            "follow" => Some(Subcommand::Follow),
+            "feed" => Some(Subcommand::Feed),
             "number" => Some(Subcommand::Number),
             _ => None,
         }

@@ -41,7 +41,7 @@ pub struct JoinTask {
     pub leaves_no_file: bool,
 }
 
-/// A picture of a pattern or of a state.
+/// A picture of a pattern, of a state or of a document.
 #[derive(Clone, Copy)]
 pub struct Viewing<'a> {
     /// The file to read; standard input if none is given.
@@ -51,6 +51,8 @@ pub struct Viewing<'a> {
     pub at: Option<&'a str>,
     pub size: Option<&'a str>,
     pub generation: Option<u32>,
+    /// Of a document, how many of its records of edits are looked at, from the first on; all if none is given.
+    pub edits: Option<u32>,
     pub is_plain: bool,
     pub is_svg: bool,
 }
@@ -89,6 +91,9 @@ pub struct MergeTask<'a> {
     pub file: &'a str,
     /// The files of the others, one at least; standard input where one is named `-`.
     pub others: Vec<&'a str>,
+    /// By which number an edit of another is taken whose counter and replica stand for another edit in the
+    /// file, if one is given: 65 to 65535.
+    pub renumber: Option<u16>,
 }
 
 /// Two documents that are compared.
@@ -116,6 +121,22 @@ pub struct ExportTask<'a> {
     pub generation: u32,
     /// How many of its records of edits are looked at, from the first on; all if none is given.
     pub edits: Option<u32>,
+}
+
+/// A document whose records are told as they come.
+#[derive(Clone, Copy)]
+pub struct FollowTask<'a> {
+    pub file: &'a str,
+    /// How many records are passed over, the first, which names the rule, among them; none if it is not given.
+    pub from: Option<u32>,
+    /// Whether they are told as bytes, and not as lines of base64.
+    pub is_raw: bool,
+}
+
+/// A document that takes records from standard input.
+#[derive(Clone, Copy)]
+pub struct FeedTask<'a> {
+    pub file: &'a str,
 }
 
 /// One's number for drawing, which is printed.
@@ -156,6 +177,10 @@ pub enum Task<'a> {
     Log(LogTask<'a>),
     /// A generation of a document is written.
     Export(ExportTask<'a>),
+    /// A document's records are told as they come.
+    Follow(FollowTask<'a>),
+    /// A document takes records from standard input.
+    Feed(FeedTask<'a>),
     /// One's number for drawing is printed.
     Number(NumberTask<'a>),
 }

@@ -1,12 +1,12 @@
 //! What the words ask for.
 
-ghost use Rattle.std.specs.Prelude.{◌≡◌, ◌≤◌, ◌<◌, ◌^◌, ℕ, List, IfErr, IfOk, Ok, Some, Option, Result, codes, false, map, option_and_then, option_map, string_bytes, true};
+ghost use Rattle.std.specs.Prelude.{◌≡◌, ◌≤◌, ◌<◌, ◌^◌, ℕ, List, IfErr, IfOk, IfSome, Ok, Some, Option, Result, codes, false, map, option_and_then, option_map, string_bytes, true};
 ghost use Rattle.clap.specs.Words.{first_of, found_of, rows_of, subcommand_rows_of};
 ghost use Rattle.clap.specs.Walk.{all_of};
 ghost use Rattle.genedit_words.specs.Misspelt.{Misspelt};
-ghost use Rattle.genedit_words.specs.Given.{HasClient, HasConversion, HasDiff, HasDraw, HasExport, HasFlag, HasFor, HasLog, HasMerge, HasNew, HasNumber, HasNumbering, HasRule, HasServer, HasText, HasTexts, HasView, IsInRange, IsNamed, MayHaveNumber};
+ghost use Rattle.genedit_words.specs.Given.{HasClient, HasConversion, HasDiff, HasDraw, HasExport, HasFeed, HasFlag, HasFollow, HasFor, HasLog, HasMerge, HasNew, HasNumber, HasNumbering, HasRule, HasServer, HasText, HasTexts, HasView, IsInRange, IsNamed, MayHaveNumber};
 ghost use Rattle.genedit_words.specs.Told.{Told, or_misspelt, told, told_of};
-ghost use Rattle.genedit_words.specs.Words.{Asks, EndsWords, IsAsked, asked_by, check_asked, convert_asked, diff_asked, draw_asked, export_asked, file_asked, has_board, interval_asked, is_set, join_asked, lacks_rule, log_asked, merge_asked, named_file, new_asked, number_asked, number_of, rle_asked, rule_asked, rule_if_given, run_asked, serve_asked, task_of, view_asked};
+ghost use Rattle.genedit_words.specs.Words.{Asks, EndsWords, IsAsked, asked_by, check_asked, convert_asked, diff_asked, draw_asked, export_asked, feed_asked, file_asked, follow_asked, has_board, interval_asked, is_set, join_asked, lacks_rule, log_asked, merge_asked, named_file, new_asked, number_asked, number_of, rle_asked, rule_asked, rule_if_given, run_asked, serve_asked, task_of, view_asked};
 
 use crate::commands::command;
 use crate::ending::Ending;
@@ -15,8 +15,8 @@ use crate::misspelt::MisspeltRule;
 use crate::options::bound;
 use crate::subcommand::Subcommand;
 use crate::task::{
-    ConvertTask, DiffTask, DrawTask, ExportTask, JoinTask, LogTask, MergeTask, NewTask, NumberTask,
-    RleTask, ServeTask, Task, Viewing,
+    ConvertTask, DiffTask, DrawTask, ExportTask, FeedTask, FollowTask, JoinTask, LogTask,
+    MergeTask, NewTask, NumberTask, RleTask, ServeTask, Task, Viewing,
 };
 use clap::ArgMatches;
 use genedit_io::RunFault;
@@ -131,6 +131,8 @@ fn task_by<'a>(
         Subcommand::Diff => Ok(diff(words)),
         Subcommand::Log => Ok(log(words)),
         Subcommand::Export => Ok(export(words)),
+        Subcommand::Follow => Ok(follow(words)),
+        Subcommand::Feed => Ok(feed(words)),
         Subcommand::Number => Ok(numbering(words)),
     }
 }
@@ -182,7 +184,17 @@ fn merge<'a>(alloc: Global, words: &ArgMatches<'a>) -> Result<Task<'a>, AllocErr
     Ok(Task::Merge(MergeTask {
         file: file_at(words, "file"),
         others,
+        renumber: renumber(words),
     }))
+}
+
+/// By which number edits are taken that clash, if one is given.
+fn renumber(words: &ArgMatches<'_>) -> Option<u16>
+    requires { MayHaveNumber 65 65535 (codes "renumber") (rows_of (found_of words.now)) }
+    ensures value { number_of (codes "renumber") (rows_of (found_of words.now)) ≡ result }
+    ensures range { IfSome result (λ number. (65 ≤ number) × (number ≤ 65535)) }
+{
+    words.get_one::<u16>("renumber")
 }
 
 /// What `diff` asks for.
@@ -219,6 +231,30 @@ fn export<'a>(words: &ArgMatches<'a>) -> Task<'a>
         file: named_file(file_at(words, "file")),
         generation: count(words, "generation"),
         edits: count_if_given(words, "edits"),
+    })
+}
+
+/// What `follow` asks for.
+fn follow<'a>(words: &ArgMatches<'a>) -> Task<'a>
+    requires { HasFollow (rows_of (found_of words.now)) }
+    ensures asked { follow_asked (rows_of (found_of words.now)) ≡ Some (Ok (told_of result)) }
+    ensures range { IsInRange result }
+{
+    Task::Follow(FollowTask {
+        file: file_at(words, "file"),
+        from: count_if_given(words, "from"),
+        is_raw: is_set(words, "raw"),
+    })
+}
+
+/// What `feed` asks for.
+fn feed<'a>(words: &ArgMatches<'a>) -> Task<'a>
+    requires { HasFeed (rows_of (found_of words.now)) }
+    ensures asked { feed_asked (rows_of (found_of words.now)) ≡ Some (Ok (told_of result)) }
+    ensures range { IsInRange result }
+{
+    Task::Feed(FeedTask {
+        file: file_at(words, "file"),
     })
 }
 
@@ -339,6 +375,7 @@ fn view<'a>(words: &ArgMatches<'a>) -> Result<Task<'a>, MisspeltRule<'a>>
         at: words.get_str("at"),
         size: words.get_str("size"),
         generation: generation(words),
+        edits: count_if_given(words, "edits"),
         is_plain: is_set(words, "plain"),
         is_svg: is_set(words, "svg"),
     }))

@@ -1,5 +1,4 @@
-use Rattle.std.proofs.Common.{◌≡◌, ℕ, List, subst, ◌∙◌}
-use Rattle.edit_stamps.specs.Edit.{PlaneEdit}
+use Rattle.std.proofs.Common.{ℕ, subst, ◌∙◌}
 use Rattle.documents.specs.Results.{IsAt, IsPlaceFor}
 use Rattle.documents.proofs.Having.{has_nowhere, has_where}
 use Rattle.documents.proofs.put.has_edit.Goals as goal

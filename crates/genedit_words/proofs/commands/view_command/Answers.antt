@@ -1,6 +1,6 @@
 use Rattle.std.proofs.Common.{codes, ap}
 use Rattle.clap.specs.Simple.{App, new_app}
-use Rattle.genedit_words.specs.Words.{file_argument, flag, gen_option, optional}
+use Rattle.genedit_words.specs.Words.{edits_option, file_argument, flag, gen_option, optional}
 use Rattle.genedit_words.proofs.ShapeLaws.{IsShape, with_argument}
 use Rattle.genedit_words.proofs.commands.view_command.Goals as goal
 
@@ -12,6 +12,7 @@ returns-clause-shape c =
     let at = with_argument c.in_ok-arg-2.field-0 c.in_ok-arg-3.field-0 c.optional-2.result _ (optional (codes "at")) rule c.optional-2.ensures.rule c.optional-2.ensures.local c.in_ok-arg-3.ensures in
     let size = with_argument c.in_ok-arg-3.field-0 c.in_ok-arg-4.field-0 c.optional-3.result _ (optional (codes "size")) at c.optional-3.ensures.rule c.optional-3.ensures.local c.in_ok-arg-4.ensures in
     let gen = with_argument c.in_ok-arg-4.field-0 c.in_ok-arg-5.field-0 c.generation_argument.result _ gen_option size c.generation_argument.ensures.rule c.generation_argument.ensures.local c.in_ok-arg-5.ensures in
-    let plain = with_argument c.in_ok-arg-5.field-0 c.in_ok-arg-6.field-0 c.flag.result _ (flag (codes "plain")) gen c.flag.ensures.rule c.flag.ensures.local c.in_ok-arg-6.ensures in
-    let svg = with_argument c.in_ok-arg-6.field-0 c.in_ok-command.command c.flag-2.result _ (flag (codes "svg")) plain c.flag-2.ensures.rule c.flag-2.ensures.local c.in_ok-command.ensures in
+    let edits = with_argument c.in_ok-arg-5.field-0 c.in_ok-arg-6.field-0 c.edits_argument.result _ edits_option gen c.edits_argument.ensures.rule c.edits_argument.ensures.local c.in_ok-arg-6.ensures in
+    let plain = with_argument c.in_ok-arg-6.field-0 c.in_ok-arg-7.field-0 c.flag.result _ (flag (codes "plain")) edits c.flag.ensures.rule c.flag.ensures.local c.in_ok-arg-7.ensures in
+    let svg = with_argument c.in_ok-arg-7.field-0 c.in_ok-command.command c.flag-2.result _ (flag (codes "svg")) plain c.flag-2.ensures.rule c.flag-2.ensures.local c.in_ok-command.ensures in
     ap (λ (a : App). a.top) svg.is
