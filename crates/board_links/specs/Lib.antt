@@ -1,0 +1,3 @@
+pub mod Urls
+pub mod Tokens
+pub mod Rows
