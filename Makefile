@@ -44,11 +44,12 @@ bench:
 	@examples/growth $(PROGRAM)
 	@cd crates/bench_calls && rt run -- --time
 
-# Runs each call that takes memory with each allocation refused in turn, and so a server of a kept board. Needs a
-# C compiler.
+# Runs each call that takes memory with each allocation refused in turn, and so a server of a kept board and the
+# commands of documents. Needs a C compiler.
 memory: $(PROGRAM)
 	@examples/refuse
 	@examples/kept $(PROGRAM) refuse
+	@examples/documents $(PROGRAM) refuse
 
 # Feeds 3,000 rounds of bytes by chance to each call that reads what others send, and 3,000 files of MCell and of
 # plaintext to the program.

@@ -82,6 +82,7 @@ fn printed<R: Networked>(
     let board = ServedBoard {
         rule,
         sessions,
+        first: 1,
         key: HashKey::fixed(),
     };
     let address = Address {

@@ -62,7 +62,7 @@ text_at (w ∷ vs) (suc at) v is lt = text_at vs at v is (omega (arith, lt))
 
 -- what stays of a seat stays
 pub seat_on : (a b c : Seating) → IsSame a b → IsSame b c → IsSame a c
-seat_on a b c s t = record { place = t.place ∙ s.place; rule = t.rule ∙ s.rule; floor = t.floor ∙ s.floor; room = t.room ∙ s.room }
+seat_on a b c s t = record { place = t.place ∙ s.place; number = t.number ∙ s.number; rule = t.rule ∙ s.rule; floor = t.floor ∙ s.floor; room = t.room ∙ s.room }
 
 -- the last of a list stands at its place
 at_end : {A : Type 0} (xs : List A) (x : A) → slice_get (xs ++ x ∷ []) (length xs) ≡ Some x
@@ -93,15 +93,15 @@ raise_next f old now i x y so_far lt is e = ap (λ l. set l i y) so_far ∙ rais
 -- ---- seats with which nothing was done
 
 -- the last of them rises from nowhere, and put nothing
-pub fresh_last : (rule : GenerationsRule) (room n : ℕ) (xs : List Seating) (x : Seating) → AllFresh rule room n (xs ++ x ∷ []) → (x.floor ≡ None) × (x.mine ≡ [])
-fresh_last rule room n [] x all = (ap (λ (s : Seating). s.floor) all.0, ap (λ (s : Seating). s.mine) all.0)
-fresh_last rule room n (y ∷ xs) x all = fresh_last rule room (n + 1) xs x all.1
+pub fresh_last : (first : ℕ) (rule : GenerationsRule) (room n : ℕ) (xs : List Seating) (x : Seating) → AllFresh first rule room n (xs ++ x ∷ []) → (x.floor ≡ None) × (x.mine ≡ [])
+fresh_last first rule room n [] x all = (ap (λ (s : Seating). s.floor) all.0, ap (λ (s : Seating). s.mine) all.0)
+fresh_last first rule room n (y ∷ xs) x all = fresh_last first rule room (n + 1) xs x all.1
 
 -- and the others put nothing
-pub fresh_each : (rule : GenerationsRule) (room n : ℕ) (xs : List Seating) (x : Seating) → AllFresh rule room n (xs ++ x ∷ []) → (k : ℕ) (d : Seating) → k < length xs → (get_or xs k d).mine ≡ []
-fresh_each rule room n [] x all k d lt = absurd (omega (arith, lt))
-fresh_each rule room n (y ∷ xs) x all zero d lt = ap (λ (s : Seating). s.mine) all.0
-fresh_each rule room n (y ∷ xs) x all (suc k) d lt = fresh_each rule room (n + 1) xs x all.1 k d (omega (arith, lt))
+pub fresh_each : (first : ℕ) (rule : GenerationsRule) (room n : ℕ) (xs : List Seating) (x : Seating) → AllFresh first rule room n (xs ++ x ∷ []) → (k : ℕ) (d : Seating) → k < length xs → (get_or xs k d).mine ≡ []
+fresh_each first rule room n [] x all k d lt = absurd (omega (arith, lt))
+fresh_each first rule room n (y ∷ xs) x all zero d lt = ap (λ (s : Seating). s.mine) all.0
+fresh_each first rule room n (y ∷ xs) x all (suc k) d lt = fresh_each first rule room (n + 1) xs x all.1 k d (omega (arith, lt))
 
 -- what was changed in place is all there is
 pub all_changed : (f : Seating → Seating) (before after : List Seating) (count : ℕ) → after ≡ map f before → length before ≤ count → take count (after ++ drop (length after) before) ≡ map f before

@@ -1,5 +1,5 @@
 -- What a file has is put on a board, before any session.
-use Rattle.std.specs.Prelude.{◌≡◌, ◌⊎◌, ◌+◌, ◌<◌, ◌↔◌, ℕ, List, [], ◌∷◌, ◌++◌, take, map, Option, Some, None, Ok, Err, IsTrue, slice_get, Vec}
+use Rattle.std.specs.Prelude.{◌≡◌, ◌⊎◌, ◌<◌, ◌↔◌, ℕ, List, [], ◌∷◌, ◌++◌, take, map, Option, Some, None, Ok, Err, IsTrue, slice_get, Vec}
 use Rattle.std.specs.declared.alloc.Global.{Global}
 use Rattle.generations_rule.specs.Rule.{GenerationsRule}
 use Rattle.edit_stamps.specs.Edit.{PlaneEdit}
@@ -42,7 +42,7 @@ IsLoadFault r bodies fault.Memory = Unit {0}
 
 -- a seat whose edits rise from the newest counter of its replica on
 abbrev pub raised : List ℕ → Seating → Seating
-raised newest s = record s { floor = Some (counter_of newest (s.place + 1)) }
+raised newest s = record s { floor = Some (counter_of newest s.number) }
 
 -- of these seats of a board all but the last are raised so, and the last is the file's
 pub record AreRaised (newest : List ℕ) (before after : List Seating) (file : Seating) : Type 0 where

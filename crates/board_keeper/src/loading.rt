@@ -191,7 +191,7 @@ pub fn load_board<J: Naming, R: Wait + Drop, H: Wait>(
 ) -> Result<LoadedBoard<J, R>, LoadFault>
     requires empty { (relay.list ≡ []) × (relay.kept ≡ []) }
     requires some { 0 < length seats.items }
-    requires fresh { (rule : GenerationsRule) × (room : ℕ) × AllFresh rule room 0 seats.items }
+    requires fresh { (first : ℕ) × (rule : GenerationsRule) × (room : ℕ) × AllFresh first rule room 0 seats.items }
     ensures loaded { IfOk result (λ l. (newest : List ℕ) × IsLoaded document.entry.rule.now (map (λ v. v.items) document.entry.bodies.now) l.relay l.seats.file newest × AreRaised newest seats.items l.seats.seats.items l.seats.file) }
     ensures same { IfOk result (λ l. Same relay l.relay) }
     ensures fault { IfErr result (IsLoadFault document.entry.rule.now (map (λ v. v.items) document.entry.bodies.now)) }

@@ -1,4 +1,4 @@
--- What has changed of what was watched.
+-- What has changed of what was watched, and how it looked before.
 use Rattle.std.proofs.Common.{◌≡◌, ◌≢◌, ℕ, true, ◌==◌, List, map, refl, sym, ap, subst, ◌∙◌, arith}
 use Rattle.std.specs.Prelude.{Contains, filter, not}
 use Rattle.std.proofs.lemmas.Bool.Decides.{nat_tests}
@@ -9,7 +9,7 @@ use Rattle.edit_stamps.specs.Making.{settled}
 use Rattle.edit_stamps.proofs.SortedCells.{settled_sorted}
 use Rattle.cell_changes.specs.Changes.{AreChanges, HaveStatesOf, Watches, cell_in}
 use Rattle.cell_changes.specs.Put.{has_changed, now_in}
-use Rattle.cell_changes.proofs.Lists.{mapped_only, mapped_has}
+use Rattle.cell_changes.proofs.Lists.{filtered_has, filtered_only, mapped_only, mapped_has}
 use Rattle.cell_changes.proofs.SettledCells.{one_cell, settled_only, settled_has}
 
 differs : (m n : ℕ) → not (m == n) ≡ true → m ≢ n
@@ -50,5 +50,31 @@ module _ (watched : List Cell) (before after : Writes) (are : Watches watched be
     changed = λ d. (
       λ h. (have_states d (settled_only found d h), has_other d (settled_only found d h)),
       λ is. settled_has after found have_states d (is_found d is.0 is.1),
+    );
+  }
+
+  -- ---- before
+
+  abbrev outdated : List Cell
+  outdated = filter (has_changed after) watched
+
+  was_there : (d : Cell) → Contains outdated d → (before (place_of d)).state ≡ d.state
+  was_there d h = are.states d (filtered_only (has_changed after) watched d h).0
+
+  is_other : (d : Cell) → Contains outdated d → (after (place_of d)).state ≢ d.state
+  is_other d h = differs (after (place_of d)).state d.state (filtered_only (has_changed after) watched d h).1
+
+  is_outdated : (d : Cell) → (before (place_of d)).state ≡ d.state → (after (place_of d)).state ≢ d.state → Contains outdated d
+  is_outdated d was other =
+      let seen : Contains watched (cell_in before (place_of d)) = are.changed (place_of d) (λ e. other (e ∙ was)) in
+      let same : cell_in before (place_of d) ≡ d = one_cell (cell_in before (place_of d)) d refl was in
+      filtered_has (has_changed after) watched d (subst (λ c. Contains watched c) same seen) (tells (after (place_of d)).state d.state other)
+
+  pub were_changes : AreChanges after before (settled outdated)
+  were_changes = record {
+    sorted = settled_sorted outdated;
+    changed = λ d. (
+      λ h. (was_there d (settled_only outdated d h), is_other d (settled_only outdated d h)),
+      λ is. settled_has before outdated was_there d (is_outdated d is.0 is.1),
     );
   }

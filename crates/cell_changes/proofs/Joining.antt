@@ -33,7 +33,7 @@ unwritten_stays v = elim (cases_Bool (at_most v unwritten)) [ inl above ↦ rw a
 
 -- ---- lists
 
-listed_place : (cells : List Cell) (c : Place) (s : ℕ) → listed cells c ≡ Some s → (d : Cell) × (Contains cells d × (place_of d ≡ c) × (d.state ≡ s))
+pub listed_place : (cells : List Cell) (c : Place) (s : ℕ) → listed cells c ≡ Some s → (d : Cell) × (Contains cells d × (place_of d ≡ c) × (d.state ≡ s))
 listed_place [] c s e = absurd (cc)
 listed_place (d ∷ cells) c s e = elim (cases_Bool (is_place (place_of d) c)) [
   | inl here ↦ (d, (contains_head d cells, one_place (place_of d) c here, the_state (sym (listed_here d cells c here) ∙ e)))

@@ -1,5 +1,5 @@
 -- Which elements lists have.
-use Rattle.std.proofs.Common.{◌≡◌, ◌⊎◌, zero, suc, Bool, true, List, [], ◌∷◌, map, inl, inr, refl, sym, ap, subst, arith}
+use Rattle.std.proofs.Common.{◌≡◌, ◌⊎◌, zero, suc, Bool, true, List, [], ◌∷◌, map, inl, inr, refl, sym, ap, subst, ◌∙◌, arith}
 use Rattle.std.specs.Prelude.{Contains, filter, find, length, Some, ◌==◌, IfOk, OnOk, Result, Ok, Err}
 use Rattle.std.proofs.lemmas.Bool.{cases_Bool}
 use Rattle.stamped_tree.proofs.Overwriting.{no_length}
@@ -33,6 +33,27 @@ mapped_has f p (z ∷ xs) x h passes = elim (contains_cases z x xs h) [
   | inr below ↦ elim (cases_Bool (p z)) [
     | inl first ↦ rw first (contains_tail (f z) (f x) (map f (filter p xs)) (mapped_has f p xs x below passes))
     | inr other ↦ rw other (mapped_has f p xs x below passes)
+  ]
+]
+
+-- what is left of a list by a test is of the list, and passes
+pub filtered_only : {X : Type 0} (p : X → Bool) (xs : List X) (x : X) → Contains (filter p xs) x → Contains xs x × (p x ≡ true)
+filtered_only p [] x h = absurd (contains_none x h)
+filtered_only p (y ∷ xs) x h = elim (cases_Bool (p y)) [
+  | inl passes ↦ elim (contains_cases y x (filter p xs) (rw passes at h)) [
+    | inl is ↦ (contains_same y x xs is, ap p is ∙ passes)
+    | inr below ↦ (let r = filtered_only p xs x below in (contains_tail y x xs r.0, r.1))
+  ]
+  | inr fails ↦ (let r = filtered_only p xs x (rw fails at h) in (contains_tail y x xs r.0, r.1))
+]
+
+pub filtered_has : {X : Type 0} (p : X → Bool) (xs : List X) (x : X) → Contains xs x → p x ≡ true → Contains (filter p xs) x
+filtered_has p [] x h passes = absurd (contains_none x h)
+filtered_has p (y ∷ xs) x h passes = elim (contains_cases y x xs h) [
+  | inl is ↦ (let first = subst (λ z. p z ≡ true) is passes in rw first (contains_same y x (filter p xs) is))
+  | inr below ↦ elim (cases_Bool (p y)) [
+    | inl first ↦ rw first (contains_tail y x (filter p xs) (filtered_has p xs x below passes))
+    | inr other ↦ rw other (filtered_has p xs x below passes)
   ]
 ]
 

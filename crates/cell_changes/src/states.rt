@@ -2,7 +2,7 @@
 
 ghost use Rattle.std.specs.Prelude.{◌≡◌, OnOk};
 ghost use Rattle.stamped_tree.specs.Plane.{map_of};
-ghost use Rattle.cell_changes.specs.Put.{IsPlaceOf, Puts, now_in};
+ghost use Rattle.cell_changes.specs.Put.{IsPlaceOf, Puts, has_changed, now_in};
 
 use pattern_cells::Cell;
 use stamped_tree::Plane;
@@ -17,6 +17,13 @@ pub fn now_in(plane: &Plane, cell: Cell) -> Cell
         y: cell.y,
         state: plane.get(cell.x, cell.y).state,
     }
+}
+
+/// Whether the state of a cell's place in a plane is another one than the cell's.
+pub fn has_changed(plane: &Plane, cell: Cell) -> bool
+    ensures { result ≡ has_changed (map_of plane.now) cell }
+{
+    plane.get(cell.x, cell.y).state != cell.state
 }
 
 /// Puts the places of some cells last, with their states in a plane.

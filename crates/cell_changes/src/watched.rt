@@ -7,7 +7,7 @@ ghost use Rattle.cell_changes.specs.Put.{IsNonzeroIn, Puts, SomeLists, has_chang
 use crate::area_walk::push_covered;
 use crate::areas::areas_of;
 use crate::settling::settled_cells;
-use crate::states::{now_in, push_places};
+use crate::states::{has_changed, now_in, push_places};
 use edit_stamps::Edit;
 use pattern_cells::Cell;
 use stamped_tree::Plane;
@@ -68,6 +68,15 @@ impl Watched {
         let changed = changed_cells(alloc, &self.cells, now)?;
         settled_cells(changed)
     }
+
+    /// Those of the places whose state is another one now, with the state that each had, by `y`, then `x`, each
+    /// once. The only error is want of memory.
+    pub fn earlier(&self, alloc: Global, now: &Plane) -> Result<Vec<Cell>, AllocError>
+        ensures { IfOk result (λ cells. (before : Writes) → Watches self.now before (map_of now.now) → AreChanges (map_of now.now) before cells.items) }
+    {
+        let outdated = outdated_cells(alloc, &self.cells, now)?;
+        settled_cells(outdated)
+    }
 }
 
 /// Those of some cells whose state is another one in a plane, with their states there, in the same order.
@@ -76,10 +85,22 @@ fn changed_cells(alloc: Global, cells: &[Cell], now: &Plane) -> Result<Vec<Cell>
 {
     let changed = cells
         .iter()
-        .filter(|cell| now.get(cell.x, cell.y).state != cell.state)
+        .filter(|cell| has_changed(now, **cell))
         .map(|cell| now_in(now, *cell))
         .collect(alloc)?;
     Ok(changed)
+}
+
+/// Those of some cells whose state is another one in a plane, as they are, in the same order.
+fn outdated_cells(alloc: Global, cells: &[Cell], now: &Plane) -> Result<Vec<Cell>, AllocError>
+    ensures { IfOk result (λ outdated. outdated.items ≡ filter (has_changed (map_of now.now)) cells.now) }
+{
+    let outdated = cells
+        .iter()
+        .copied()
+        .filter(|cell| has_changed(now, *cell))
+        .collect(alloc)?;
+    Ok(outdated)
 }
 
 /// Puts the cells of the areas of edits last whose state is not 0.

@@ -1,28 +1,79 @@
 //! What lines come to, by the names of the commands in them.
 
 use client_commands::{ClientCommand, Dictation, FileName, FileTarget, Heard, Placement};
+use pattern_cells::Window;
 use replica_events::EditSpec;
 use std::alloc::{AllocError, Global};
 use std::test::Fail;
 
-/// A line, and what it comes to at the beginning of all lines.
-static LINES: [(&str, &str); 52] = [
-    ("cells 0 -1 255 7 8 0", "cells 0 -1 255 7 8 0"),
-    ("clear -3 4 5 6", "clear -3 4 5 6"),
-    ("copy Glider7 -3 4", "copy Glider7 -3 4"),
-    ("or abcdefghijklmn09 -3 4", "or abcdefghijklmn09 -3 4"),
-    ("show -3 4", "show -3 4"),
-    ("export 4", "export 4"),
-    ("export 4 a.rle", "export 4 a.rle"),
-    ("export! 4 a.rle", "export! 4 a.rle"),
-    ("poll", "poll"),
+/// Commands that are told as they are spelt.
+static SPELT: &str = "\
+cells 0 -1 255 7 8 0
+clear -3 4 5 6
+copy Glider7 -3 4
+or abcdefghijklmn09 -3 4
+show -3 4
+export 4
+export 4 a.rle
+export! 4 a.rle
+cut -3 4 5 6 7
+cut -3 4 5 6 7 a.rle
+cut! -3 4 5 6 7 a.rle
+count 4
+undo
+redo
+poll
+wait 3 7
+sleep 7
+save a.rle
+save! a.rle
+open a.rle
+bye";
+
+/// Lines that are at fault at the beginning of all lines.
+static FAULTY: &str = "\
+cut -3 4 5 6
+cut -3 4 5
+cut -3 4 5 -6
+cut! -3 4 5 6 7
+count -1
+undo 1
+redo 0
+Undo
+cells
+cells 0 0
+cells 1 0 0 1
+cells 0 0 256
+cells 2147483648 0 1
+clear 0 0 1
+clear 0 0 1 -1
+clear 1 0 0 1 1
+copy a 0
+copy a 0 0 0
+copy abcdefghijklmno09 0 0
+or a_b 0 0
+show 1
+show 1 2 3
+export
+export 1 2 3
+export 1 100000
+export! 4
+poll 1
+wait
+wait 4294967296
+wait 1 2 3
+sleep
+save a b
+save 7
+open
+bye bye
+pattern abcdefghijklmno09
+end";
+
+/// Other lines, each with what it comes to.
+static OTHERS: [(&str, &str); 9] = [
+    ("count", "count 0"),
     ("wait 3", "wait 3 10000"),
-    ("wait 3 7", "wait 3 7"),
-    ("sleep 7", "sleep 7"),
-    ("save a.rle", "save a.rle"),
-    ("save! a.rle", "save! a.rle"),
-    ("open a.rle", "open a.rle"),
-    ("bye", "bye"),
     (" \tpoll\t ", "poll"),
     ("poll\r", "poll"),
     ("", "nothing"),
@@ -30,45 +81,39 @@ static LINES: [(&str, &str); 52] = [
     ("# poll", "nothing"),
     (" #poll", "nothing"),
     ("pattern a", "nothing"),
-    ("cells", "fault 1"),
-    ("cells 0 0", "fault 1"),
-    ("cells 1 0 0 1", "fault 1"),
-    ("cells 0 0 256", "fault 1"),
-    ("cells 2147483648 0 1", "fault 1"),
-    ("clear 0 0 1", "fault 1"),
-    ("clear 0 0 1 -1", "fault 1"),
-    ("clear 1 0 0 1 1", "fault 1"),
-    ("copy a 0", "fault 1"),
-    ("copy a 0 0 0", "fault 1"),
-    ("copy abcdefghijklmno09 0 0", "fault 1"),
-    ("or a_b 0 0", "fault 1"),
-    ("show 1", "fault 1"),
-    ("show 1 2 3", "fault 1"),
-    ("export", "fault 1"),
-    ("export 1 2 3", "fault 1"),
-    ("export 1 100000", "fault 1"),
-    ("export! 4", "fault 1"),
-    ("poll 1", "fault 1"),
-    ("wait", "fault 1"),
-    ("wait 4294967296", "fault 1"),
-    ("wait 1 2 3", "fault 1"),
-    ("sleep", "fault 1"),
-    ("save a b", "fault 1"),
-    ("save 7", "fault 1"),
-    ("open", "fault 1"),
-    ("bye bye", "fault 1"),
-    ("pattern abcdefghijklmno09", "fault 1"),
-    ("end", "fault 1"),
 ];
 
 #[test]
-fn each_line_comes_to_its_command_or_fault(rt: HostRuntime) -> Result<(), Fail> {
-    for (line, wanted) in LINES {
-        let mut dictation = Dictation::new(rt.alloc());
-        let told = told_line(rt.alloc(), &mut dictation, line)?;
+fn commands_are_heard(rt: HostRuntime) -> Result<(), Fail> {
+    for line in SPELT.lines() {
+        let told = told_first(rt.alloc(), line)?;
+        assert_eq!(rt; told.as_str(), line);
+    }
+    Ok(())
+}
+
+#[test]
+fn lines_at_fault_are_told(rt: HostRuntime) -> Result<(), Fail> {
+    for line in FAULTY.lines() {
+        let told = told_first(rt.alloc(), line)?;
+        assert_eq!(rt; told.as_str(), "fault 1", "of {line}");
+    }
+    Ok(())
+}
+
+#[test]
+fn other_lines_come_to_commands_or_nothing(rt: HostRuntime) -> Result<(), Fail> {
+    for (line, wanted) in OTHERS {
+        let told = told_first(rt.alloc(), line)?;
         assert_eq!(rt; told.as_str(), wanted, "of {line}");
     }
     Ok(())
+}
+
+/// What a line comes to at the beginning of all lines, in words.
+fn told_first(alloc: Global, line: &str) -> Result<String, AllocError> {
+    let mut dictation = Dictation::new(alloc);
+    told_line(alloc, &mut dictation, line)
 }
 
 /// Lines one after another, each with what it comes to.
@@ -155,6 +200,12 @@ fn told_command(alloc: Global, command: &ClientCommand) -> Result<String, AllocE
             let name = format!(in alloc; "export{} {generation}", sign_of(target))?;
             told_file(alloc, name.as_str(), &target.name)
         }
+        ClientCommand::Cut(window, generation, file) => {
+            told_cut(alloc, *window, *generation, file.as_ref())
+        }
+        ClientCommand::Count(generation) => format!(in alloc; "count {generation}"),
+        ClientCommand::Undo => format!(in alloc; "undo"),
+        ClientCommand::Redo => format!(in alloc; "redo"),
         ClientCommand::Poll => format!(in alloc; "poll"),
         ClientCommand::Wait(wait) => format!(in alloc; "wait {} {}", wait.edits, wait.milliseconds),
         ClientCommand::Sleep(milliseconds) => format!(in alloc; "sleep {milliseconds}"),
@@ -166,6 +217,26 @@ fn told_command(alloc: Global, command: &ClientCommand) -> Result<String, AllocE
         ClientCommand::Open(file) => told_file(alloc, "open", file),
         ClientCommand::Help => format!(in alloc; "help"),
         ClientCommand::Bye => format!(in alloc; "bye"),
+    }
+}
+
+fn told_cut(
+    alloc: Global,
+    window: Window,
+    generation: u32,
+    file: Option<&FileTarget>,
+) -> Result<String, AllocError> {
+    let sign = file.map_or("", sign_of);
+    let Window {
+        x,
+        y,
+        width,
+        height,
+    } = window;
+    let cut = format!(in alloc; "cut{sign} {x} {y} {width} {height} {generation}")?;
+    match file {
+        None => Ok(cut),
+        Some(file) => told_file(alloc, cut.as_str(), &file.name),
     }
 }
 

@@ -1,10 +1,10 @@
 -- At a keyword that a client has from scripts, a client asks for what a script asks of replica 1.
 use Rattle.std.proofs.Common.{◌≡◌, ℕ, List, [], ◌∷◌, refl, sym, ◌∙◌, ap, subst}
-use Rattle.std.specs.Prelude.{true, false, codes, Option, Some, None, option_map}
+use Rattle.std.specs.Prelude.{ℤ, true, false, codes, Option, Some, None, option_map}
 use Rattle.std.specs.Option.{option_map_or}
 use Rattle.std.specs.Str.{bytes_eq}
 use Rattle.text_scan.specs.Bytes.{◌>=>◌}
-use Rattle.text_scan.specs.Words.{words}
+use Rattle.text_scan.specs.Words.{signed_number, words}
 use Rattle.pattern_cells.specs.declared.cell.Cell.{Cell}
 use Rattle.replica_events.specs.declared.event.Event.TheVariants as event
 use Rattle.replica_events.specs.declared.edit_spec.EditSpec.TheVariants.{Cells}
@@ -61,6 +61,9 @@ or_alike line is one = rw (is, one) (both refl)
 show_alike : AskAlike keyword.Show
 show_alike line is one = rw (is, one) (both refl)
 
+count_alike : AskAlike keyword.Count
+count_alike line is one = rw (is, one) (both refl)
+
 -- ---- each of these keywords
 
 -- what is known of such a keyword: where it begins a line of a client, a script's line with the replica's number spells the same
@@ -78,6 +81,7 @@ shared keyword.Clear is known = record { spelled = refl; no_replica = refl; no_o
 shared keyword.Copy is known = record { spelled = refl; no_replica = refl; no_optional_replica = refl; opens_none = refl; same = λ ws. refl; alike = copy_alike }
 shared keyword.Or is known = record { spelled = refl; no_replica = refl; no_optional_replica = refl; opens_none = refl; same = λ ws. refl; alike = or_alike }
 shared keyword.Show is known = record { spelled = refl; no_replica = refl; no_optional_replica = refl; opens_none = refl; same = λ ws. refl; alike = show_alike }
+shared keyword.Count is known = record { spelled = refl; no_replica = refl; no_optional_replica = refl; opens_none = refl; same = λ ws. refl; alike = count_alike }
 shared other is known = absurd (cc)
 
 agree_by : (k : Keyword) (ws : List (List ℕ)) → IsShared k → (spelled : Option SpelledValue) → line_spelled Client (keyword_name k ∷ ws) ≡ spelled →
@@ -96,6 +100,21 @@ exported : (generation : List ℕ) (n : Option ℕ) → number_spelled generatio
     Agree (client_command_spelled (codes "export" ∷ generation ∷ [])) (command_spelled (codes "export" ∷ codes "1" ∷ generation ∷ []))
 exported generation None is = rw is neither
 exported generation (Some n) is = rw is (both refl)
+
+module _ (x y width height generation : List ℕ) where
+  abbrev CutsAlike : Type 0
+  CutsAlike = Agree (client_command_spelled (codes "cut" ∷ x ∷ y ∷ width ∷ height ∷ generation ∷ [])) (command_spelled (codes "cut" ∷ codes "1" ∷ x ∷ y ∷ width ∷ height ∷ generation ∷ []))
+
+  cuts : (a b : Option ℤ) (c d g : Option ℕ) → signed_number x ≡ a → signed_number y ≡ b → number_spelled width ≡ c → number_spelled height ≡ d → number_spelled generation ≡ g → CutsAlike
+  cuts None b c d g is_x is_y is_w is_h is_g = rw is_x neither
+  cuts (Some a) None c d g is_x is_y is_w is_h is_g = rw (is_x, is_y) neither
+  cuts (Some a) (Some b) None d g is_x is_y is_w is_h is_g = rw (is_x, is_y, is_w) neither
+  cuts (Some a) (Some b) (Some c) None g is_x is_y is_w is_h is_g = rw (is_x, is_y, is_w, is_h) neither
+  cuts (Some a) (Some b) (Some c) (Some d) None is_x is_y is_w is_h is_g = rw (is_x, is_y, is_w, is_h, is_g) neither
+  cuts (Some a) (Some b) (Some c) (Some d) (Some g) is_x is_y is_w is_h is_g = rw (is_x, is_y, is_w, is_h, is_g) (both refl)
+
+  pub cut_alike : CutsAlike
+  cut_alike = cuts (signed_number x) (signed_number y) (number_spelled width) (number_spelled height) (number_spelled generation) refl refl refl refl refl
 
 -- ---- a line
 
@@ -158,6 +177,14 @@ export_line generation = record {
   other_says = refl;
   other_opens_none = opens_no_block (codes "export") (codes "1" ∷ generation ∷ []) refl;
   agrees = exported generation (number_spelled generation) refl;
+}
+
+pub cut_line : (x y width height generation : List ℕ) → IsCommandLine (codes "cut" ∷ x ∷ y ∷ width ∷ height ∷ generation ∷ [])
+cut_line x y width height generation = record {
+  begins = record { first = keyword.Cut; behind = x ∷ y ∷ width ∷ height ∷ generation ∷ []; words_are = refl; opens_none = refl };
+  other_says = refl;
+  other_opens_none = opens_no_block (codes "cut") (codes "1" ∷ x ∷ y ∷ width ∷ height ∷ generation ∷ []) refl;
+  agrees = cut_alike x y width height generation;
 }
 
 -- ---- a command that only a client has

@@ -1,5 +1,5 @@
 -- What a client's commands are beside those of a script, and what its lines come to from the first on.
-use Rattle.std.specs.Prelude.{◌≡◌, ◌↔◌, ℕ, ◌+◌, ◌<◌, ◌^◌, Bool, true, false, ◌&&◌, List, [], ◌∷◌, ◌++◌, length, map, codes, Option, Some, None, Result, Ok, Err}
+use Rattle.std.specs.Prelude.{◌≡◌, ◌↔◌, ℕ, ◌+◌, ◌<◌, ◌^◌, Bool, true, false, ◌&&◌, ◌==◌, List, [], ◌∷◌, ◌++◌, length, map, codes, Option, Some, None, Result, Ok, Err}
 use Rattle.std.specs.Option.{option_map_or}
 use Rattle.std.specs.Str.{bytes_eq}
 use Rattle.std.specs.Str.Lines.{strip_carriage_return}
@@ -8,12 +8,11 @@ use Rattle.text_scan.specs.Words.{words}
 use Rattle.replica_events.specs.declared.event.Event.TheVariants as event
 use Rattle.command_words.specs.declared.argument.Argument.{Argument}
 use Rattle.command_words.specs.declared.argument.Argument.TheVariants.{Replica}
-use Rattle.command_words.specs.declared.dialect.Dialect.TheVariants.{Client}
+use Rattle.command_words.specs.declared.dialect.Dialect.TheVariants.{Client, Script}
 use Rattle.command_words.specs.declared.keyword.Keyword.{Keyword}
 use Rattle.command_words.specs.Arguments.{optional_of, script_arguments}
 use Rattle.command_words.specs.Keywords.{keyword_spelled}
 use Rattle.command_words.specs.Quotes.{client_words}
-use Rattle.command_words.specs.Spelled.{is_empty}
 use Rattle.genedit_script.specs.declared.command.Command.{Command}
 use Rattle.genedit_script.specs.declared.command.Command.TheVariants.{Does, Names, Copies, Ors}
 use Rattle.genedit_script.specs.Script.{opening_spelled, command_spelled, numbered_lines, commands_spelled, onto}
@@ -36,6 +35,11 @@ at_replica_1 (client.Or placement) = Some (Ors (record { replica = 1; name = pla
 at_replica_1 (client.Show x y) = Some (Does (event.Show 1 x y))
 at_replica_1 (client.Export generation None) = Some (Does (event.Export 1 generation))
 at_replica_1 (client.Export generation (Some file)) = None
+at_replica_1 (client.Cut window generation None) = Some (Does (event.Cut 1 window generation))
+at_replica_1 (client.Cut window generation (Some file)) = None
+at_replica_1 (client.Count generation) = Some (Does (event.Count 1 generation))
+at_replica_1 client.Undo = None
+at_replica_1 client.Redo = None
 at_replica_1 client.Poll = None
 at_replica_1 (client.Wait wait) = None
 at_replica_1 (client.Sleep milliseconds) = None
@@ -54,9 +58,9 @@ abbrev pub take_replica : List Argument → Bool
 take_replica (Replica ∷ arguments) = true
 take_replica arguments = false
 
--- Scripts have the same behind this keyword of a client, but for the replica in front.
+-- Scripts have the same behind this keyword of a client, but for the replica in front; as many words may be left out.
 abbrev pub is_shared : Keyword → Bool
-is_shared keyword = take_replica (script_arguments keyword) && is_empty (optional_of Client keyword)
+is_shared keyword = take_replica (script_arguments keyword) && length (optional_of Client keyword) == length (optional_of Script keyword)
 
 -- whether a line of a client begins with such a keyword
 abbrev pub is_shared_line : List (List ℕ) → Bool
@@ -73,6 +77,12 @@ abbrev pub ExportTheSame : Type 0
 ExportTheSame = (generation : List ℕ) →
     client_command_spelled (codes "export" ∷ generation ∷ []) >=> at_replica_1 ≡ command_spelled (with_replica_1 (codes "export" ∷ generation ∷ []))
 
+-- and at `cut`
+abbrev pub CutTheSame : Type 0
+CutTheSame = (x y width height generation : List ℕ) →
+    client_command_spelled (codes "cut" ∷ x ∷ y ∷ width ∷ height ∷ generation ∷ []) >=> at_replica_1
+    ≡ command_spelled (with_replica_1 (codes "cut" ∷ x ∷ y ∷ width ∷ height ∷ generation ∷ []))
+
 -- ---- all lines
 
 -- Lines of a client, and lines of a script that ask the same of replica 1. They begin in a block, or in none. Each line of a
@@ -85,6 +95,9 @@ pub data AskTheSame : Bool → List (List ℕ) → List (List ℕ) → Type 0 wh
       AskTheSame false lines others → AskTheSame false (line ∷ lines) (other ∷ others)
   export : {line other generation : List ℕ} {lines others : List (List ℕ)} →
       client_words line ≡ codes "export" ∷ generation ∷ [] → words other ≡ with_replica_1 (client_words line) →
+      AskTheSame false lines others → AskTheSame false (line ∷ lines) (other ∷ others)
+  cut : {line other x y width height generation : List ℕ} {lines others : List (List ℕ)} →
+      client_words line ≡ codes "cut" ∷ x ∷ y ∷ width ∷ height ∷ generation ∷ [] → words other ≡ with_replica_1 (client_words line) →
       AskTheSame false lines others → AskTheSame false (line ∷ lines) (other ∷ others)
   own : {line other : List ℕ} {command : ClientCommand} {lines others : List (List ℕ)} →
       client_command_spelled (client_words line) ≡ Some command → at_replica_1 command ≡ None → is_skipped other ≡ true →

@@ -3,6 +3,7 @@
 ghost use Rattle.std.specs.Prelude.{◌≡◌, IfOk};
 
 use genedit_script::{PatternName, PatternText};
+use pattern_cells::Window;
 use replica_events::EditSpec;
 use std::alloc::{AllocError, Global};
 use std::marker::Model;
@@ -24,6 +25,14 @@ pub enum ClientCommand {
     /// `export G [FILE]`, `export! G FILE`: the text of the cells G generations later is written to the
     /// file, or told where none is named, as by `-`.
     Export(u32, Option<FileTarget>),
+    /// `cut X Y W H G [FILE]`, `cut! X Y W H G FILE`: the same of the cells in a window.
+    Cut(Window, u32, Option<FileTarget>),
+    /// `count [G]`: how many cells there are G generations later, 0 where none is named, and where, is told.
+    Count(u32),
+    /// `undo`: the last drawing that was not taken back is.
+    Undo,
+    /// `redo`: what was taken back last is drawn again.
+    Redo,
     /// `poll`: what others drew is asked for.
     Poll,
     /// `wait N [MS]`: edits of others are waited for.

@@ -6,12 +6,13 @@ ghost use Rattle.replica_events.specs.declared.edit_spec.EditSpec.TheVariants.{C
 ghost use Rattle.command_words.specs.Quotes.{client_words};
 ghost use Rattle.command_words.specs.Spelled.{spelled_of};
 ghost use Rattle.command_words.specs.Values.{cells_spelled};
-ghost use Rattle.client_commands.specs.declared.command.ClientCommand.TheVariants.{Draw, Export};
+ghost use Rattle.client_commands.specs.declared.command.ClientCommand.TheVariants.{Cut, Draw, Export};
+ghost use Rattle.genedit_script.specs.Script.{window_of};
 ghost use Rattle.client_commands.specs.Commands.{begins_script, client_command_asked, client_command_spelled, placement_of, session_asked, target_of, wait_of};
 
 use crate::command::{ClientCommand, FileName, FileTarget, Placement, Wait};
 use command_words::{Dialect, Keyword, Spelled, cells_in, read_line};
-use genedit_script::{PatternName, area_of};
+use genedit_script::{PatternName, area_of, window_of};
 use replica_events::{CellList, EditSpec};
 use std::alloc::{AllocError, Global};
 use text_scan::split_word;
@@ -38,6 +39,8 @@ fn command_asked(alloc: Global, spelled: &Spelled<'_>) -> Result<Option<ClientCo
         Keyword::Clear => ClientCommand::Draw(EditSpec::Clear(area_of(spelled))),
         Keyword::Copy => ClientCommand::Copy(placement_of(alloc, spelled)?),
         Keyword::Or => ClientCommand::Or(placement_of(alloc, spelled)?),
+        Keyword::Undo => ClientCommand::Undo,
+        Keyword::Redo => ClientCommand::Redo,
         Keyword::Show => ClientCommand::Show(spelled.x, spelled.y),
         _ => return session_asked(alloc, spelled),
     };
@@ -51,6 +54,9 @@ fn session_asked(alloc: Global, spelled: &Spelled<'_>) -> Result<Option<ClientCo
     match spelled.keyword {
         Keyword::Export => Ok(Some(export_asked(alloc, spelled, false)?)),
         Keyword::ExportOver => Ok(Some(export_asked(alloc, spelled, true)?)),
+        Keyword::Cut => Ok(Some(cut_asked(alloc, spelled, false)?)),
+        Keyword::CutOver => Ok(Some(cut_asked(alloc, spelled, true)?)),
+        Keyword::Count => Ok(Some(ClientCommand::Count(spelled.generation))),
         Keyword::Poll => Ok(Some(ClientCommand::Poll)),
         Keyword::Wait => Ok(Some(ClientCommand::Wait(wait_of(spelled)))),
         Keyword::Sleep => Ok(spelled.milliseconds.map(ClientCommand::Sleep)),
@@ -73,6 +79,18 @@ fn export_asked(
 {
     let file = target_of(alloc, spelled, replaces)?;
     Ok(ClientCommand::Export(spelled.generation, file))
+}
+
+/// `cut X Y W H G [FILE]`, `cut! X Y W H G FILE`
+fn cut_asked(
+    alloc: Global,
+    spelled: &Spelled<'_>,
+    replaces: bool,
+) -> Result<ClientCommand, AllocError>
+    ensures { IfOk result (λ command. command ≡ Cut (window_of (spelled_of spelled.now)) spelled.now.generation (option_map (target_of replaces) (option_map (λ word. word.now) spelled.now.file))) }
+{
+    let file = target_of(alloc, spelled, replaces)?;
+    Ok(ClientCommand::Cut(window_of(spelled), spelled.generation, file))
 }
 
 /// `cells x y state ..`

@@ -79,7 +79,7 @@ gives_back before old r b p q is first second below = subst (λ (x : Before). Gi
 
 -- what was told is held, and the seat taken
 pub is_told : (heard : Polling) (line : LineState) (r : ReplicaState) (m n : Moment) (told : Workspace) (out : List ℕ) (before : Before) → TellsReturn heard r m.workspace told m.out out
-    → n ≡ record { line = line; workspace = seated r told; out = out } → GivesBack before told.replica r → IsTold heard line r m n before
+    → n ≡ record { line = line; workspace = seated before.is_lost r told; out = out } → GivesBack before told.replica r → IsTold heard line r m n before
 is_told heard line r m n told out before tells is gives = subst (λ (x : Moment). IsTold heard line r m x before) (sym is) (record {
   told = told;
   tells = tells;

@@ -31,7 +31,7 @@ use Rattle.client_session.specs.declared.outcome.Outcome.{Outcome}
 use Rattle.client_session.specs.declared.joining.Telling.{Telling}
 use Rattle.client_session.specs.declared.joining.Telling.TheVariants.{Edits, Changes, Nothing}
 use Rattle.client_session.specs.declared.workspace.Workspace.{Workspace}
-use Rattle.client_session.specs.Drawing.{DrawsBy, IsDrawingTold, Says, TellsDrawing, undoubted}
+use Rattle.client_session.specs.Drawing.{DrawsBy, IsDrawingTold, Says, TellsDrawing, undoubted, unnoted}
 use Rattle.client_session.specs.Joining.{IsBlank}
 use Rattle.client_session.specs.Lines.{drawn_as, now_line}
 use Rattle.client_session.specs.Moment.{Moment}
@@ -101,7 +101,7 @@ published_shown : (P : Pushes) (drawing : Drawing) (e : PlaneEdit) (m n : Moment
 published_shown P (Drawn counter) e m n is shown d tells =
     let takes = d.1.1 in
     record {
-      shown = shown_behind m.workspace.shown n.workspace.shown m.workspace.replica.plane n.workspace.replica.plane [] (drop (length m.workspace.replica.journal) n.workspace.replica.journal) (m.out ++ drawn_as (is_some m.workspace.doubt) counter n.workspace.replica.number) n.out
+      shown = shown_behind m.workspace.shown n.workspace.shown m.workspace.replica.plane n.workspace.replica.plane [] (drop (length m.workspace.replica.journal) n.workspace.replica.journal) (m.out ++ drawn_as m.workspace.way (is_some m.workspace.doubt) counter n.workspace.replica.number) n.out
           shown.shown (joins_behind m.workspace.replica.journal n.workspace.replica.journal (map_of m.workspace.replica.plane) (map_of n.workspace.replica.plane)
           (took m.workspace.replica n.workspace.replica takes.0 (e ∷ []) is.journal.held takes.1 takes.2)) tells.told;
     }
@@ -110,7 +110,9 @@ published_shown P (Unpublished number) e m n is shown d tells = still_shown m.wo
 
 -- behind a push that was said
 ended_shown : (pushed : PushedEdit) (outcome : Outcome) (m n : Moment) → IsReplica m.workspace.replica → IsShown m.workspace → IsDrawingTold pushed m n (Ok outcome) → IsShown n.workspace
-ended_shown pushed outcome m n is shown d = published_shown IsPushEnd d.drawing pushed.edit m n is shown d.drawn d.told
+ended_shown pushed outcome m n is shown d =
+    let told = published_shown IsPushEnd d.drawing pushed.edit m (record n { workspace = unnoted m n }) is shown d.drawn d.told in
+    record { shown = told.shown }
 
 -- behind a drawing, or where there is no such edit
 drawn_shown : (S : Says) (m base n : Moment) (outcome : Outcome) → base.workspace.shown ≡ m.workspace.shown → base.workspace.replica ≡ m.workspace.replica → IsReplica m.workspace.replica → IsShown m.workspace
@@ -124,7 +126,9 @@ shows_what_it_holds = record {
   joined = λ telling number rule s fresh. record { shown = blank_shown telling s.shown s.replica.plane fresh.replica.map fresh.shown };
   drawn = λ after spec outcome m n is shown d. drawn_shown (IsDrawingSaid after spec) m m n outcome refl refl is shown d;
   published = λ pushed outcome m n is shown d. ended_shown pushed outcome m n is shown d;
-  anew = λ outcome m n is shown d. drawn_shown (IsAnewSaid d.0) m (undoubted m) n outcome refl refl is shown d.2;
+  anew = λ outcome m n is shown d.
+      still_shown d.mid.workspace n.workspace (ap (λ (x : Moment). x.workspace.shown) d.rest) (ap (λ (x : Moment). x.workspace.replica) d.rest)
+      (drawn_shown (IsAnewSaid d.draws.0) m (undoubted m) d.mid outcome refl refl is shown d.draws.2);
   returned = λ a before m n back.
       let t = back.seated.told in
       record {

@@ -1,6 +1,12 @@
 -- What a drawing does.
 use Rattle.std.specs.Prelude.{◌≡◌, ◌⊎◌, ℕ, Bool, true, false, ◌==◌, if◌then◌else◌, List, [], ◌++◌, length, drop, Option, Some, None, IsSome, is_some, option_map, Result, Ok, Err}
 use Rattle.pattern_cells.specs.Pattern.{RlePattern}
+use Rattle.pattern_cells.specs.declared.cell.Cell.{Cell}
+use Rattle.stamped_writes.specs.Write.{Writes}
+use Rattle.edit_stamps.specs.Edit.{PlaneEdit}
+use Rattle.stamped_tree.specs.Plane.{map_of}
+use Rattle.drawing_history.specs.Makings.{AddsStroke, MakingState, NotesStroke}
+use Rattle.drawing_history.specs.Makings as makings
 use Rattle.replica_events.specs.declared.edit_spec.EditSpec.{EditSpec}
 use Rattle.replica_events.specs.declared.edit_spec.EditSpec.TheVariants as spec
 use Rattle.replica_core.specs.Replica.{ReplicaState}
@@ -45,9 +51,9 @@ outcome_of (Refused fault) = outcome.Refused
 outcome_of (Unpublished number) = if number == 30 then outcome.InDoubt else outcome.Refused
 
 -- an edit was drawn, the one behind so many of the journal, and is none of others; where a map is told, what it changes is told behind that;
--- where one was in doubt, it is that one, drawn anew, which is told so
+-- where one was in doubt, it is that one, drawn anew, which is told so, and so is one that takes something back
 pub record TellsDrawn (counter known : ℕ) (old new : Workspace) (out out' : List ℕ) : Type 0 where
-  pub told : TellsCame [] (drop known old.replica.journal) old.shown new.shown (out ++ drawn_as (is_some old.doubt) counter old.replica.number) out'
+  pub told : TellsCame [] (drop known old.replica.journal) old.shown new.shown (out ++ drawn_as old.way (is_some old.doubt) counter old.replica.number) out'
   pub kept : new ≡ record old { shown = new.shown; counted = counted_behind known old; doubt = None }
 
 -- a push was refused; where by 30, the board is closed to the client from now on
@@ -63,9 +69,27 @@ TellsDrawing (Unpublished number) known old new out out' = TellsRefusedPush numb
 
 -- room is wanting for what an edit changes, behind the line that it was drawn; of a refusal none is wanted
 abbrev pub DrawingFindsNoRoom : Drawing → ℕ → Workspace → Workspace → List ℕ → List ℕ → Type 0
-DrawingFindsNoRoom (Drawn counter) known old new out out' = CameFindsNoRoom (drop known old.replica.journal) old.shown new.shown (out ++ drawn_as (is_some old.doubt) counter old.replica.number) out'
+DrawingFindsNoRoom (Drawn counter) known old new out out' = CameFindsNoRoom (drop known old.replica.journal) old.shown new.shown (out ++ drawn_as old.way (is_some old.doubt) counter old.replica.number) out'
 DrawingFindsNoRoom (Refused fault) known old new out out' = ⊥
 DrawingFindsNoRoom (Unpublished number) known old new out out' = ⊥
+
+-- ---- what is noted
+
+-- what is noted of an edit that was drawn, so that it can be taken back; of one that was not, nothing
+abbrev pub NotesDrawing : Drawing → PlaneEdit → Writes → Writes → MakingState → MakingState → Type 0
+NotesDrawing (Drawn counter) e before after old new = NotesStroke before e after old new
+NotesDrawing (Refused fault) e before after old new = new ≡ old
+NotesDrawing (Unpublished number) e before after old new = new ≡ old
+
+-- the same by what was watched before an edit of this stamp, at the map behind it
+abbrev pub AddsDrawing : Drawing → Option (List Cell) → ℕ → Writes → MakingState → MakingState → Type 0
+AddsDrawing (Drawn counter) watched stamp now old new = AddsStroke watched stamp now old new
+AddsDrawing (Refused fault) watched stamp now old new = new ≡ old
+AddsDrawing (Unpublished number) watched stamp now old new = new ≡ old
+
+-- what a client works with, but that nothing was noted yet of what it drew
+abbrev pub unnoted : Moment → Moment → Workspace
+unnoted m n = record n.workspace { making = m.workspace.making }
 
 -- ---- what is done
 
@@ -73,11 +97,12 @@ DrawingFindsNoRoom (Unpublished number) known old new out out' = ⊥
 abbrev pub EndsPush : PushedEdit → Moment → Moment → Result Drawing ClientFault → Type 0
 EndsPush pushed m n result = IsPublishingEnd pushed.edit m.line n.line m.workspace.replica n.workspace.replica result
 
--- it came so, and was told
+-- it came so, and was told and noted
 pub record DrawsAndTells (pushed : PushedEdit) (m n : Moment) (came : Outcome) : Type 0 where
   pub drawing : Drawing
   pub drawn : EndsPush pushed m n (Ok drawing)
-  pub told : TellsDrawing drawing (length m.workspace.replica.journal) (taken m n) n.workspace m.out n.out
+  pub told : TellsDrawing drawing (length m.workspace.replica.journal) (taken m n) (unnoted m n) m.out n.out
+  pub noted : NotesDrawing drawing pushed.edit (map_of m.workspace.replica.plane) (map_of n.workspace.replica.plane) m.workspace.making n.workspace.making
   pub outcome_is : came ≡ outcome_of drawing
 
 -- it failed, and nothing is told of it; where no answer came the edit is in doubt from now on
@@ -136,9 +161,20 @@ undoubted m = record { line = m.line; workspace = record m.workspace { doubt = N
 abbrev pub doubting : PushedEdit → Moment → Moment
 doubting pushed m = record { line = m.line; workspace = record m.workspace { doubt = Some pushed }; out = m.out }
 
--- the edit in doubt is drawn anew, and told as such; where it is refused nothing is in doubt any more
+-- the edit in doubt is pushed anew, and told as such; where it is refused nothing is in doubt any more
+abbrev pub PushesAnew : Moment → Moment → Result Outcome CommandFault → Type 0
+PushesAnew m n result = (doubted : PushedEdit) × (m.workspace.doubt ≡ Some doubted) × DrawsBy (IsAnewSaid doubted) m (undoubted m) n result
+
+-- something is drawn, and then the drawing that was being made is ended
+pub record DrawsAndEnds (Draws : Moment → Moment → Result Outcome CommandFault → Type 0) (m n : Moment) (result : Result Outcome CommandFault) : Type 0 where
+  pub mid : Moment
+  pub draws : Draws m mid result
+  pub ends : makings.EndsDrawing mid.workspace.making n.workspace.making
+  pub rest : n ≡ record mid { workspace = record mid.workspace { making = n.workspace.making } }
+
+-- the edit in doubt is drawn anew, and the drawing that was being made is ended by it
 abbrev pub DrawsAnew : Moment → Moment → Result Outcome CommandFault → Type 0
-DrawsAnew m n result = (doubted : PushedEdit) × (m.workspace.doubt ≡ Some doubted) × DrawsBy (IsAnewSaid doubted) m (undoubted m) n result
+DrawsAnew m n result = DrawsAndEnds PushesAnew m n result
 
 -- ---- behind a poll
 

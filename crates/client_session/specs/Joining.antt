@@ -5,6 +5,7 @@ use Rattle.square_store.specs.Limits.{usual_room}
 use Rattle.generations_rule.specs.Rule.{GenerationsRule}
 use Rattle.stamped_writes.specs.Write.{unwritten}
 use Rattle.stamped_tree.specs.Plane.{StampedPlane}
+use Rattle.drawing_history.specs.Makings.{nothing_made}
 use Rattle.replica_core.specs.Replica.{IsNew}
 use Rattle.genedit_lib.specs.Output.{no_patterns}
 use Rattle.genedit_lib.specs.Patterns.{pattern_in}
@@ -47,6 +48,8 @@ pub record IsFresh (telling : Telling) (number : ℕ) (rule : GenerationsRule) (
   pub open_still : s.closed ≡ false
   pub quiet : s.quiet ≡ is_quiet telling
   pub doubt : s.doubt ≡ None
+  pub making : s.making ≡ nothing_made
+  pub way : s.way ≡ None
 
 -- such a one, and its seat's line was printed
 pub record IsJoined (telling : Telling) (number : ℕ) (rule : GenerationsRule) (s : Workspace) (out out' : List ℕ) : Type 0 where

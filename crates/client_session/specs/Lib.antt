@@ -6,6 +6,7 @@ pub mod Late
 pub mod Leaving
 pub mod Waiting
 pub mod Drawing
+pub mod Undoing
 pub mod Exporting
 pub mod Joining
 pub mod Returning

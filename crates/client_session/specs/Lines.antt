@@ -1,8 +1,10 @@
 -- The lines that a client prints.
-use Rattle.std.specs.Prelude.{Bool, true, false, ℕ, zero, suc, nat_lt, if◌then◌else◌, List, [], ◌∷◌, ◌++◌, length, take, drop, codes, decimal, None}
+use Rattle.std.specs.Prelude.{Bool, true, false, ℕ, zero, suc, nat_lt, if◌then◌else◌, List, [], ◌∷◌, ◌++◌, length, take, drop, codes, decimal, Option, None, Some}
 use Rattle.generations_rule.specs.Rule.{GenerationsRule}
 use Rattle.generations_rule.specs.RuleText.{text_of}
 use Rattle.pattern_cells.specs.declared.cell.Cell.{Cell}
+use Rattle.drawing_history.specs.Ways.{way_done}
+use Rattle.drawing_history.specs.declared.way.Way.{Way}
 use Rattle.genedit_io.specs.RunFault.{run_fault_text}
 use Rattle.genedit_io.specs.declared.fault.RunFault.TheVariants.{Refused}
 use Rattle.genedit_lib.specs.EditLines.{cells_text}
@@ -63,10 +65,15 @@ drawn_line counter number = codes "drawn " ++ decimal counter ++ codes " " ++ de
 abbrev pub anew_line : ℕ → ℕ → List ℕ
 anew_line counter number = codes "drawn anew " ++ decimal counter ++ codes " " ++ decimal number ++ codes "\n"
 
--- whether an edit was drawn anew is told
-abbrev pub drawn_as : Bool → ℕ → ℕ → List ℕ
-drawn_as false counter number = drawn_line counter number
-drawn_as true counter number = anew_line counter number
+-- the same of an edit that takes something back
+abbrev pub back_line : Way → ℕ → ℕ → List ℕ
+back_line way counter number = way_done way ++ codes " " ++ decimal counter ++ codes " " ++ decimal number ++ codes "\n"
+
+-- which way an edit takes something back, if it does, and whether it was drawn anew, is told
+abbrev pub drawn_as : Option Way → Bool → ℕ → ℕ → List ℕ
+drawn_as None false counter number = drawn_line counter number
+drawn_as None true counter number = anew_line counter number
+drawn_as (Some way) anew counter number = back_line way counter number
 
 -- a refusal by its number, with the name that the table of faults has
 abbrev pub refusal_line : ℕ → List ℕ

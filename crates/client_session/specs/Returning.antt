@@ -24,6 +24,7 @@ use Rattle.client_session.specs.declared.returning.Return.{Return}
 use Rattle.client_session.specs.declared.returning.Return.TheVariants as come
 use Rattle.client_session.specs.declared.workspace.Workspace.{Workspace}
 use Rattle.genedit_lib.specs.EditLines.{edit_lines}
+use Rattle.drawing_history.specs.Makings.{MakingState, nothing_made}
 use Rattle.client_session.specs.Lines.{drawn_line, joined_line, replaced_lines, whole_line}
 use Rattle.client_session.specs.Moment.{IsCutShort, IsWant, Moment, others}
 use Rattle.client_session.specs.Telling.{AllFindsNoRoom, ShowsAll}
@@ -112,9 +113,14 @@ IsAnswered (polling.Edits count) = ⊤
 IsAnswered polling.Whole = ⊤
 IsAnswered (polling.Refused number) = ⊥
 
--- what is told at a seat is on the seat's own replica, no poll waits, and the board is open
-abbrev pub seated : ReplicaState → Workspace → Workspace
-seated r s = record s { replica = r; awaited = None; closed = false }
+-- what can be taken back at a board: where it has lost what the client held nothing, since stamps may begin anew there, and one of before be another's
+abbrev pub making_at : Bool → MakingState → MakingState
+making_at true making = nothing_made
+making_at false making = making
+
+-- what is told at a seat, whose board has lost what the client held or has not, is on the seat's own replica, no poll waits, and the board is open
+abbrev pub seated : Bool → ReplicaState → Workspace → Workspace
+seated lost r s = record s { replica = r; awaited = None; closed = false; making = making_at lost s.making }
 
 -- the first poll of a seat that is a new one, by its number, was made on a line; its replica took what came
 pub record PollsFirst (rule : GenerationsRule) (number : ℕ) (a b : LineState) (r : ReplicaState) (result : Result Polling ClientFault) : Type 0 where
@@ -132,7 +138,7 @@ pub record IsTold (heard : Polling) (line : LineState) (r : ReplicaState) (m n :
   pub told : Workspace
   pub tells : TellsReturn heard r m.workspace told m.out n.out
   pub at : n.line ≡ line
-  pub seat : n.workspace ≡ seated r told
+  pub seat : n.workspace ≡ seated before.is_lost r told
   pub gives : GivesBack before m.workspace.replica r
 
 -- the first poll of a seat of this number was made, and told

@@ -1,11 +1,10 @@
 -- Worked values of the definitions.
-use Rattle.std.specs.Prelude.{◌≡◌, ℕ, [], ◌∷◌, ◌++◌, replicate, None, Some, codes, refl, pos, negsuc}
+use Rattle.std.specs.Prelude.{◌≡◌, ℕ, [], ◌∷◌, ◌++◌, replicate, codes, refl, pos}
 use Rattle.std.specs.Fmt.{digits}
 use Rattle.generations_rule.specs.RuleText.{rule_of_text, text_of_set}
-use Rattle.edit_stamps.specs.Edit.{PlaneEdit}
-use Rattle.edit_stamps.specs.Stamp.{stamp_of}
 use Rattle.pattern_cells.specs.declared.cell.Cell.{Cell}
-use Rattle.client_session.specs.Lines.{edits_line, joined_line, lines_within, now_line, refusal_line, replaced_lines}
+use Rattle.drawing_history.specs.declared.way.Way.TheVariants.{Redo}
+use Rattle.client_session.specs.Lines.{back_line, edits_line, joined_line, lines_within, now_line, refusal_line, replaced_lines}
 
 pub joined_at_a_board : joined_line 1 (rule_of_text (codes "/2/3")) ≡ codes "joined 1 /2/3\n"
 unfolding digits text_of_set
@@ -48,3 +47,7 @@ no_edit_came = refl
 pub closed : refusal_line 30 ≡ codes "refused 30 Closed\n"
 unfolding digits
 closed = refl
+
+pub a_redo_is_told_by_its_stamp : back_line Redo 7 2 ≡ codes "redone 7 2\n"
+unfolding digits
+a_redo_is_told_by_its_stamp = refl

@@ -1,7 +1,7 @@
 //! Edits in doubt.
 
 ghost use Rattle.std.specs.Prelude.{◌≡◌, IsTrue, is_some};
-ghost use Rattle.client_session.specs.Drawing.{DrawsAnew};
+ghost use Rattle.client_session.specs.Drawing.{DrawsAnew, PushesAnew};
 
 use crate::client::Client;
 use crate::fault::CommandFault;
@@ -21,10 +21,20 @@ impl<'a, C: Clock, S: Source + Drop, K: Sink + Drop> Client<'a, C, S, K> {
 
     /// Draws the edit in doubt anew, which the board does not have, with a stamp above all that is held, and prints
     /// `drawn anew C R`, or a refusal; no poll waits then. It is in doubt no longer, unless the line fails: then
-    /// what was pushed last is.
+    /// what was pushed last is. The drawing that was being made is ended by it.
     pub fn draw_anew(&mut self) -> Result<Outcome, CommandFault>
         requires { IsTrue (is_some self.old.workspace.doubt) }
         ensures { DrawsAnew self.old self.new result }
+    {
+        let outcome = self.push_anew();
+        self.workspace.making.end();
+        outcome
+    }
+
+    /// Pushes it.
+    fn push_anew(&mut self) -> Result<Outcome, CommandFault>
+        requires { IsTrue (is_some self.old.workspace.doubt) }
+        ensures { PushesAnew self.old self.new result }
     {
         let Some(doubted) = &self.workspace.doubt else {
             unreachable!()

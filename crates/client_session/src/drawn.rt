@@ -1,7 +1,10 @@
 //! Drawings, and what is told of them.
 
-ghost use Rattle.std.specs.Prelude.{◌≡◌, ◌++◌, drop, false, is_some, IfErr, OnErr, OnOk};
-ghost use Rattle.client_session.specs.Drawing.{DrawingFindsNoRoom, DrawsAs, DrawsFrom, IsDrawCommand, IsDrawingTold, TellsDrawing, TellsDrawn};
+ghost use Rattle.std.specs.Prelude.{[], ◌∷◌, ◌≡◌, ◌++◌, drop, false, is_some, IfErr, IfSome, OnErr, OnOk};
+ghost use Rattle.cell_changes.specs.Changes.{WatchesJoin};
+ghost use Rattle.edit_stamps.specs.Edit.{greatest};
+ghost use Rattle.stamped_tree.specs.Plane.{map_of};
+ghost use Rattle.client_session.specs.Drawing.{AddsDrawing, DrawingFindsNoRoom, DrawsAs, DrawsFrom, IsDrawCommand, IsDrawingTold, TellsDrawing, TellsDrawn};
 ghost use Rattle.client_session.specs.Lines.{drawn_as, refusal_line};
 ghost use Rattle.client_session.specs.declared.outcome.Outcome.TheVariants.{Refused};
 ghost use Rattle.genedit_lib.specs.Output.{reply_line};
@@ -17,7 +20,10 @@ use crate::polling::News;
 use crate::telling::tell_own;
 use crate::workspace::{Workspace, behind};
 use board_client::{Drawing, Pushed, Saying};
+use cell_changes::Watched;
 use devices::{Sink, Source};
+use drawing_history::watch;
+use edit_stamps::Stamp;
 use genedit_lib::push_line;
 use replica_core::{Fault, Reply};
 use replica_events::EditSpec;
@@ -50,8 +56,8 @@ impl<'a, C: Clock, S: Source + Drop, K: Sink + Drop> Client<'a, C, S, K> {
         }
     }
 
-    /// The drawing behind its poll.
-    fn draw_now(&mut self, after: u64, spec: &EditSpec) -> Result<Outcome, CommandFault>
+    /// The drawing behind its poll, or at what the replica holds.
+    pub(crate) fn draw_now(&mut self, after: u64, spec: &EditSpec) -> Result<Outcome, CommandFault>
         ensures { DrawsAs self.old.workspace.closed after spec.now self.old self.new result }
     {
         if self.is_closed() {
@@ -101,13 +107,16 @@ impl<'a, C: Clock, S: Source + Drop, K: Sink + Drop> Client<'a, C, S, K> {
         }
     }
 
-    /// Hears what comes of a drawing whose push was said, and tells it. Where no answer comes the edit is in doubt.
+    /// Hears what comes of a drawing whose push was said, tells it, and notes it. Where no answer comes the edit
+    /// is in doubt.
     pub(crate) fn end_drawn(&mut self, pushed: Pushed) -> Result<Outcome, CommandFault>
         requires { pushed.rule ≡ self.old.workspace.replica.rule }
         ensures { IsDrawingTold pushed self.old self.new result }
     {
         let alloc = self.server.alloc();
         let known = self.workspace.replica.journal().len();
+        let watched = self.watch_push(&pushed);
+        let stamp = pushed.edit().stamp();
         let drawing = match self.server.end_or_doubt(
             &mut self.workspace.replica,
             &mut self.workspace.doubt,
@@ -123,7 +132,16 @@ impl<'a, C: Clock, S: Source + Drop, K: Sink + Drop> Client<'a, C, S, K> {
             Ok(()) => {}
             Err(fault) => return Err(fault),
         }
+        self.workspace.note_drawing(alloc, drawing, watched, stamp);
         Ok(outcome_of(drawing))
+    }
+
+    /// What an edit whose push was said may change of what the replica holds; `None` where memory is refused.
+    fn watch_push(&self, pushed: &Pushed) -> Option<Watched>
+        ensures { IfSome result (λ watched. WatchesJoin watched (map_of self.now.workspace.replica.plane) (greatest (pushed.now.edit ∷ []))) }
+    {
+        let plane = self.workspace.replica.plane();
+        watch(self.server.alloc(), plane, pushed.edit())
     }
 }
 
@@ -140,6 +158,7 @@ impl Workspace {
         ensures want { IfErr result (IsWant (DrawingFindsNoRoom drawing known self.old self.new out.old.items out.new.items)) }
         ensures cut { OnErr result (IsCutShort self.old self.new out.old.items out.new.items) }
         ensures replica { self.new.replica ≡ self.old.replica }
+        ensures making { self.new.making ≡ self.old.making }
     {
         match drawing {
             Drawing::Drawn(counter) => self.tell_drawn(alloc, counter, known, out),
@@ -156,7 +175,29 @@ impl Workspace {
         }
     }
 
-    /// Tells that an edit was drawn, and the cells that look different by it; anew, where one was in doubt.
+    /// Notes an edit of this stamp that was drawn, by what was watched before, so that it can be taken back; of
+    /// one that was not drawn, nothing.
+    fn note_drawing(
+        &mut self,
+        alloc: Global,
+        drawing: Drawing,
+        watched: Option<Watched>,
+        stamp: Stamp,
+    )
+        ensures noted { AddsDrawing drawing watched stamp (map_of self.old.replica.plane) self.old.making self.new.making }
+        ensures kept { self.new ≡ record self.old { making = self.new.making } }
+    {
+        match drawing {
+            Drawing::Drawn(_) => {
+                let plane = self.replica.plane();
+                self.making.stroke(alloc, watched.as_ref(), stamp, plane);
+            }
+            Drawing::Refused(_) | Drawing::Unpublished(_) => {}
+        }
+    }
+
+    /// Tells that an edit was drawn, and the cells that look different by it; anew, where one was in doubt, and
+    /// what it took back, where it did.
     fn tell_drawn(
         &mut self,
         alloc: Global,
@@ -165,11 +206,13 @@ impl Workspace {
         out: &mut Vec<u8>,
     ) -> Result<(), CommandFault>
         ensures told { OnOk result (TellsDrawn counter known self.old self.new out.old.items out.new.items) }
-        ensures want { IfErr result (IsWant (CameFindsNoRoom (drop known self.old.replica.journal) self.old.shown self.new.shown (out.old.items ++ drawn_as (is_some self.old.doubt) counter self.old.replica.number) out.new.items)) }
+        ensures want { IfErr result (IsWant (CameFindsNoRoom (drop known self.old.replica.journal) self.old.shown self.new.shown (out.old.items ++ drawn_as self.old.way (is_some self.old.doubt) counter self.old.replica.number) out.new.items)) }
         ensures cut { OnErr result (IsCutShort self.old self.new out.old.items out.new.items) }
         ensures replica { self.new.replica ≡ self.old.replica }
+        ensures making { self.new.making ≡ self.old.making }
     {
-        push_drawn_as(out, self.doubt.is_some(), counter, self.replica.number())?;
+        let anew = self.doubt.is_some();
+        push_drawn_as(out, self.way, anew, counter, self.replica.number())?;
         let own = behind(self.replica.journal(), known);
         tell_own(alloc, &mut self.shown, out, own)?;
         self.counted = self.counted_behind(known);

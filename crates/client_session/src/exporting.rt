@@ -1,7 +1,7 @@
-//! Texts of what a client's replica holds.
+//! What is told of later generations of what a client's replica holds, and its whole map as a text.
 
 ghost use Rattle.std.specs.Prelude.{◌≡◌};
-ghost use Rattle.client_session.specs.Exporting.{ExportsNow, ExportsTextNow, IsExportAnswer, IsExportCommand, IsExportPrint, IsExportTextCommand, IsSaveCommand, IsStateAnswer, SavesNow};
+ghost use Rattle.client_session.specs.Exporting.{GivesTextNow, IsReplyPrint, IsSaveCommand, IsStateAnswer, IsTellCommand, IsTextAnswer, IsTextCommand, SavesNow, TellsNow};
 
 use crate::client::Client;
 use crate::fault::CommandFault;
@@ -9,31 +9,31 @@ use crate::polling::News;
 use crate::workspace::Workspace;
 use devices::{Sink, Source};
 use genedit_lib::push_line;
-use replica_core::{Fault, Reply};
+use replica_core::{Question, Reply};
 use std::alloc::Global;
 use std::time::Clock;
 
 impl<'a, C: Clock, S: Source + Drop, K: Sink + Drop> Client<'a, C, S, K> {
-    /// Polls, tells what came, and prints the cells so many generations later as an RLE text, or why they are
-    /// not exported, as `genedit run` does.
-    pub fn export(&mut self, generation: u32) -> Result<(), CommandFault>
-        ensures { IsExportCommand generation self.old self.new result }
+    /// Polls, tells what came, and prints what is told of a question: the text of an export or of a cut, how many
+    /// cells there are, or a refusal, as `genedit run` does.
+    pub fn tell(&mut self, question: Question) -> Result<(), CommandFault>
+        ensures { IsTellCommand question self.old self.new result }
     {
         match self.news() {
             Ok(News::Refused) => Ok(()),
-            Ok(News::Edits | News::Whole) => self.export_now(generation),
+            Ok(News::Edits | News::Whole) => self.tell_now(question),
             Err(fault) => Err(fault),
         }
     }
 
-    /// Polls, tells what came, and gives the cells so many generations later as an RLE text. `None` where
-    /// the poll was refused, or the export, whose refusal is printed.
-    pub fn export_text(&mut self, generation: u32) -> Result<Option<Vec<u8>>, CommandFault>
-        ensures { IsExportTextCommand (λ text. text.items) generation self.old self.new result }
+    /// Polls, tells what came, and gives the text of an export or of a cut. `None` where the poll was refused, or
+    /// the text, whose refusal is printed.
+    pub fn text(&mut self, question: Question) -> Result<Option<Vec<u8>>, CommandFault>
+        ensures { IsTextCommand (λ text. text.items) question self.old self.new result }
     {
         match self.news() {
             Ok(News::Refused) => Ok(None),
-            Ok(News::Edits | News::Whole) => self.export_text_now(generation),
+            Ok(News::Edits | News::Whole) => self.text_now(question),
             Err(fault) => Err(fault),
         }
     }
@@ -57,23 +57,20 @@ impl<'a, C: Clock, S: Source + Drop, K: Sink + Drop> Client<'a, C, S, K> {
         self.workspace.saved()
     }
 
-    /// Prints the cells that the replica holds, so many generations later, as an RLE text, or why they are not
-    /// exported. Nothing is polled.
-    pub fn export_now(&mut self, generation: u32) -> Result<(), CommandFault>
-        ensures { ExportsNow generation self.old self.new result }
+    /// `tell` of what the replica holds. Nothing is polled.
+    pub fn tell_now(&mut self, question: Question) -> Result<(), CommandFault>
+        ensures { TellsNow question self.old self.new result }
     {
         let alloc = self.server.alloc();
-        self.workspace
-            .print_export(alloc, &mut self.out, generation)
+        self.workspace.print_told(alloc, &mut self.out, question)
     }
 
-    /// Gives the cells that the replica holds, so many generations later, as an RLE text. `None` where the export
-    /// is refused, which is printed. Nothing is polled.
-    pub fn export_text_now(&mut self, generation: u32) -> Result<Option<Vec<u8>>, CommandFault>
-        ensures { ExportsTextNow (λ text. text.items) generation self.old self.new result }
+    /// `text` of what the replica holds. Nothing is polled.
+    pub fn text_now(&mut self, question: Question) -> Result<Option<Vec<u8>>, CommandFault>
+        ensures { GivesTextNow (λ text. text.items) question self.old self.new result }
     {
         let alloc = self.server.alloc();
-        self.workspace.exported(alloc, &mut self.out, generation)
+        self.workspace.text_told(alloc, &mut self.out, question)
     }
 }
 
@@ -88,40 +85,33 @@ impl Workspace {
         }
     }
 
-    /// Prints the text of an export, or its refusal.
-    fn print_export(
+    /// Prints what is told of a question.
+    fn print_told(
         &self,
         alloc: Global,
         out: &mut Vec<u8>,
-        generation: u32,
+        question: Question,
     ) -> Result<(), CommandFault>
-        ensures { IsExportPrint generation self.now out.old.items out.new.items result }
+        ensures { IsReplyPrint question self.now out.old.items out.new.items result }
     {
-        match self.exported(alloc, out, generation) {
-            Ok(Some(text)) => {
-                out.extend_from_slice(&text)?;
-                Ok(())
-            }
-            Ok(None) => Ok(()),
-            Err(fault) => Err(fault),
-        }
+        let reply = self.replica.tell(question)?;
+        push_line(alloc, out, &reply)?;
+        Ok(())
     }
 
-    /// The text of an export, or none, where its refusal is printed.
-    fn exported(
+    /// The text that is told of a question, or none, where what is told is printed.
+    fn text_told(
         &self,
         alloc: Global,
         out: &mut Vec<u8>,
-        generation: u32,
+        question: Question,
     ) -> Result<Option<Vec<u8>>, CommandFault>
-        ensures { IsExportAnswer (λ text. text.items) generation self.now out.old.items out.new.items result }
+        ensures { IsTextAnswer (λ text. text.items) question self.now out.old.items out.new.items result }
     {
-        match self.replica.export(generation) {
-            Ok(text) => Ok(Some(text)),
-            Err(Fault::Memory) => Err(CommandFault::Memory),
-            Err(Fault::StoreFull) => Err(CommandFault::StoreFull),
-            Err(fault) => {
-                push_line(alloc, out, &Reply::Refused(fault))?;
+        match self.replica.tell(question)? {
+            Reply::Text(text) => Ok(Some(text.into_vec())),
+            reply => {
+                push_line(alloc, out, &reply)?;
                 Ok(None)
             }
         }

@@ -3,7 +3,7 @@
 ghost use Rattle.std.specs.Prelude.{◌≡◌};
 
 use board_client::ClientFault;
-use replica_core::Fault;
+use replica_core::Stop;
 use std::alloc::{AllocError, AllocFailed};
 
 /// Why a client ends.
@@ -27,5 +27,19 @@ impl From<AllocError> for CommandFault {
 
     fn from(_error: AllocError) -> CommandFault {
         CommandFault::Memory
+    }
+}
+
+impl From<Stop> for CommandFault {
+    ghost use Rattle.std.specs.Prelude.{◌≡◌};
+    ghost use Rattle.client_session.specs.Exporting.{fault_of_stop};
+
+    ghost from_gives = { λ stop fault. fault ≡ fault_of_stop stop };
+
+    fn from(stop: Stop) -> CommandFault {
+        match stop {
+            Stop::Memory => CommandFault::Memory,
+            Stop::StoreFull => CommandFault::StoreFull,
+        }
     }
 }

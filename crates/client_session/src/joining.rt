@@ -11,6 +11,7 @@ use crate::workspace::Workspace;
 use board_client::{ClientFault, Server};
 use client_protocol::Greeting;
 use devices::{Sink, Source};
+use drawing_history::Making;
 use genedit_lib::Patterns;
 use generations_rule::Rule;
 use keyed_hash::HashKey;
@@ -161,6 +162,8 @@ fn fresh(
         closed: false,
         quiet: is_quiet(telling),
         doubt: None,
+        making: Making::new(alloc),
+        way: None,
     })
 }
 

@@ -20,6 +20,7 @@ mod polling;
 mod returning;
 mod showing;
 mod telling;
+mod undoing;
 mod waiting;
 mod workspace;
 

@@ -2,8 +2,9 @@
 
 ghost use Rattle.std.specs.Prelude.{◌≡◌, ◌++◌, codes, decimal, OnErr, OnOk};
 ghost use mathlib.Core.List.{IsPrefix};
-ghost use Rattle.client_session.specs.Lines.{anew_line, drawn_as, drawn_line, edits_line, joined_line, late_line, many_line, nameless_line, now_line, now_lines, refusal_line, replaced_lines, whole_line};
+ghost use Rattle.client_session.specs.Lines.{anew_line, back_line, drawn_as, drawn_line, edits_line, joined_line, late_line, many_line, nameless_line, now_line, now_lines, refusal_line, replaced_lines, whole_line};
 
+use drawing_history::Way;
 use genedit_io::RunFault;
 use genedit_lib::{no_pattern_text, push_cells, push_text};
 use generations_rule::Rule;
@@ -128,21 +129,36 @@ pub(crate) fn push_drawn(out: &mut Vec<u8>, counter: u64, number: u16) -> Result
     Ok(())
 }
 
-/// The same of an edit, which was drawn anew, or not.
+/// The same of an edit that takes something back, or that was drawn anew, or neither.
 pub(crate) fn push_drawn_as(
     out: &mut Vec<u8>,
+    way: Option<Way>,
     anew: bool,
     counter: u64,
     number: u16,
 ) -> Result<(), AllocError>
-    ensures told { OnOk result (out.new.items ≡ out.old.items ++ drawn_as anew counter number) }
+    ensures told { OnOk result (out.new.items ≡ out.old.items ++ drawn_as way anew counter number) }
     ensures kept { OnErr result (IsPrefix out.old.items out.new.items) }
 {
-    if anew {
-        push_anew(out, counter, number)
-    } else {
-        push_drawn(out, counter, number)
+    match way {
+        Some(way) => push_back(out, way, counter, number),
+        None if anew => push_anew(out, counter, number),
+        None => push_drawn(out, counter, number),
     }
+}
+
+/// What an edit took back, by its counter and the seat's number.
+fn push_back(out: &mut Vec<u8>, way: Way, counter: u64, number: u16) -> Result<(), AllocError>
+    ensures told { OnOk result (out.new.items ≡ out.old.items ++ back_line way counter number) }
+    ensures kept { OnErr result (IsPrefix out.old.items out.new.items) }
+{
+    out.extend_from_slice(way.done().as_bytes())?;
+    out.push(b' ')?;
+    push_number(out, counter)?;
+    out.push(b' ')?;
+    push_number(out, u64::from(number))?;
+    out.push(b'\n')?;
+    Ok(())
 }
 
 /// That an edit which was in doubt was drawn anew.

@@ -8,7 +8,7 @@ ghost use Rattle.edit_journal.specs.Journal.{noted};
 ghost use Rattle.edit_stamps.specs.Edit.{is_edit};
 ghost use Rattle.replica_core.specs.Replica.{IsNew};
 ghost use Rattle.client_session.specs.Lines.{joined_line, replaced_lines};
-ghost use Rattle.client_session.specs.Returning.{GivesBack, IsFound, IsReturnTold, Returns, SitsDown, TakesSeat, counted_by, doubted, found_line, known_to, news_in, news_lines, seated, tells_edits};
+ghost use Rattle.client_session.specs.Returning.{GivesBack, IsFound, IsReturnTold, Returns, SitsDown, TakesSeat, counted_by, doubted, found_line, known_to, making_at, news_in, news_lines, seated, tells_edits};
 
 use crate::client::Client;
 use crate::fault::CommandFault;
@@ -18,6 +18,7 @@ use crate::workspace::Workspace;
 use board_client::{ClientFault, Polling, Pushed, Server};
 use client_protocol::Greeting;
 use devices::{Sink, Source};
+use drawing_history::Making;
 use edit_journal::Journal;
 use edit_stamps::Edit;
 use genedit_lib::push_edits;
@@ -51,9 +52,9 @@ impl<'a, C: Clock, S: Source + Drop, K: Sink + Drop> Client<'a, C, S, K> {
     /// Joins the board of another server, under a new seat, where its rule is the client's: greets, polls, and
     /// prints `joined SEAT RULE`, and behind that what the poll tells and the client did not know: edits, or the
     /// cells that look otherwise than was told, or `whole`. The client holds then what the board has, and nothing
-    /// else; what it held before is handed back. An edit in doubt is looked for: where the board has it, `drawn C R`
-    /// is printed, by its old stamp, and nothing is in doubt any more; else it still is. On an error the client
-    /// holds what it held.
+    /// else; what it held before is handed back, and where the board does not have all of that, nothing drawn before
+    /// can be taken back any more. An edit in doubt is looked for: where the board has it, `drawn C R` is printed, by
+    /// its old stamp, and nothing is in doubt any more; else it still is. On an error the client holds what it held.
     pub fn return_to(&mut self, mut server: Server<'a, C, S, K>) -> Result<Return, CommandFault>
         ensures { Returns server.entry self.old self.new result }
     {
@@ -116,7 +117,7 @@ impl<'a, C: Clock, S: Source + Drop, K: Sink + Drop> Client<'a, C, S, K> {
 
     /// Has another server and another replica, and gives back the one before.
     fn change_seat(&mut self, server: Server<'a, C, S, K>, replica: Replica) -> Before
-        ensures moment { self.new ≡ record { line = server.entry; workspace = seated replica self.old.workspace; out = self.old.out } }
+        ensures moment { self.new ≡ record { line = server.entry; workspace = seated result.is_lost replica self.old.workspace; out = self.old.out } }
         ensures before { GivesBack result self.old.workspace.replica replica }
     {
         let is_lost = !at_most(self.workspace.replica.plane(), replica.plane());
@@ -124,6 +125,7 @@ impl<'a, C: Clock, S: Source + Drop, K: Sink + Drop> Client<'a, C, S, K> {
         self.workspace.awaited = None;
         self.workspace.closed = false;
         let before = mem::replace(&mut self.workspace.replica, replica);
+        self.workspace.forget_lost(self.server.alloc(), is_lost);
         Before {
             replica: before,
             is_lost,
@@ -145,6 +147,16 @@ struct Told {
 }
 
 impl Workspace {
+    /// Forgets what was drawn before, where the board has lost what the client held: stamps may begin anew there, and
+    /// one of before be that of another's edit.
+    fn forget_lost(&mut self, alloc: Global, is_lost: bool)
+        ensures { self.new ≡ record self.old { making = making_at is_lost self.old.making } }
+    {
+        if is_lost {
+            self.making = Making::new(alloc);
+        }
+    }
+
     /// A replica of another seat under the same rule, that holds nothing.
     fn empty_replica(&self, alloc: Global, number: u16) -> Result<Replica, AllocError>
         requires { 1 ≤ number }

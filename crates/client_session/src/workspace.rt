@@ -3,6 +3,7 @@
 ghost use Rattle.std.specs.Prelude.{◌≡◌, drop};
 
 use board_client::Pushed;
+use drawing_history::{Making, Way};
 use edit_stamps::Edit;
 use genedit_lib::Patterns;
 use held_plane::HeldPlane;
@@ -30,6 +31,10 @@ pub struct Workspace {
     /// The edit whose push was said, and of which no answer came before the line ended, if there is one. Whether the
     /// board has it is told behind the first poll of the next connection; a drawing that is told then is this one anew.
     pub doubt: Option<Pushed>,
+    /// What was drawn, of which the last can be taken back, and the drawing that is being made.
+    pub making: Making,
+    /// Which way something is being taken back, if it is.
+    pub way: Option<Way>,
 }
 
 impl Workspace {

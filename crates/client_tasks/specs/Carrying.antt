@@ -4,6 +4,10 @@ use mathlib.Core.List.{IsPrefix}
 use Rattle.std.specs.Global.{Vec}
 use Rattle.generations_rule.specs.Place.{at_place}
 use Rattle.multistate_rle.specs.Reading.{parsed}
+use Rattle.pattern_cells.specs.declared.window.Window.{Window}
+use Rattle.drawing_history.specs.declared.way.Way.TheVariants.{Undo, Redo}
+use Rattle.replica_core.specs.declared.event.Question.{Question}
+use Rattle.replica_core.specs.declared.event.Question.TheVariants as questions
 use Rattle.replica_core.specs.declared.event.Reply.TheVariants as reply
 use Rattle.stamped_tree.specs.Plane.{map_of}
 use Rattle.genedit_lib.specs.Output.{naming_text, reply_line, with_text}
@@ -16,12 +20,13 @@ use Rattle.client_session.specs.declared.outcome.Outcome.TheVariants as outcome
 use Rattle.client_session.specs.declared.fault.CommandFault.{CommandFault}
 use Rattle.client_session.specs.declared.fault.CommandFault.TheVariants.{Memory}
 use Rattle.client_session.specs.declared.pasting.PasteMode.TheVariants.{Copy, Or}
-use Rattle.client_session.specs.Drawing.{IsDrawCommand, IsPaste}
-use Rattle.client_session.specs.Exporting.{ExportsNow, ExportsTextNow, IsExportCommand, IsExportTextCommand, IsSaveCommand, SavesNow}
+use Rattle.client_session.specs.Drawing.{DrawsAndEnds, IsDrawCommand, IsPaste}
+use Rattle.client_session.specs.Exporting.{GivesTextNow, IsSaveCommand, IsTellCommand, IsTextCommand, SavesNow, TellsNow}
 use Rattle.client_session.specs.Moment.{IsPrinted, KeepsAllButNames, Moment}
 use Rattle.client_session.specs.Waiting.{IsCount, IsWait}
 use Rattle.client_tasks.specs.declared.done.Done.{Done}
 use Rattle.client_tasks.specs.declared.done.Done.TheVariants.{Told, InDoubt, Write, Open, Sleep, Leave}
+use Rattle.client_tasks.specs.Undoing.{IsTakenBack}
 
 -- ---- what is left
 
@@ -77,9 +82,12 @@ help_text =
     ++ codes "pattern NAME, lines, end       keeps the pattern of these lines of RLE\n"
     ++ codes "copy NAME x y, or NAME x y     draw its whole box there, or its live cells\n"
     ++ codes "show x y, poll                 print a cell, or what others drew\n"
+    ++ codes "count G                        prints how many cells live G generations later\n"
     ++ codes "export G [FILE], save FILE     write the cells G generations later; the board\n"
     ++ codes "export! G FILE, save! FILE     also over a file that is there; a FILE - prints\n"
+    ++ codes "cut x y w h G [FILE]           writes what a window shows G generations later\n"
     ++ codes "open FILE                      draws what a file holds; a FILE may be \"a b\"\n"
+    ++ codes "undo, redo                     take the last drawing back, and the other way\n"
     ++ codes "wait N [MS], sleep MS          wait for N edits of others; wait MS milliseconds\n"
     ++ codes "bye, quit, exit                leave the board\n"
     ++ codes "help, ?                        print this; `genedit join --help` says more\n"
@@ -99,14 +107,23 @@ pub record ComesPrinted (P : Moment → Result (Option (Vec ℕ)) CommandFault �
 
 -- ---- commands
 
+-- what is asked for a cut
+abbrev pub cut_of : Window → ℕ → Question
+cut_of window generation = questions.Cut (record { window = window; generation = generation })
+
 abbrev pub IsCarriedOut : ClientCommand → Moment → Moment → Result Done CommandFault → Type 0
-IsCarriedOut (command.Draw drawing) m n result = Comes (IsDrawCommand 0 drawing m n) behind_drawing result
+IsCarriedOut (command.Draw drawing) m n result = Comes (DrawsAndEnds (IsDrawCommand 0 drawing) m n) behind_drawing result
 IsCarriedOut (command.Pattern name text) m n result = IsNaming name text m n result
-IsCarriedOut (command.Copy at) m n result = Comes (IsPaste Copy at.name (record { x = at.x; y = at.y }) m n) behind_drawing result
-IsCarriedOut (command.Or at) m n result = Comes (IsPaste Or at.name (record { x = at.x; y = at.y }) m n) behind_drawing result
+IsCarriedOut (command.Copy at) m n result = Comes (DrawsAndEnds (IsPaste Copy at.name (record { x = at.x; y = at.y })) m n) behind_drawing result
+IsCarriedOut (command.Or at) m n result = Comes (DrawsAndEnds (IsPaste Or at.name (record { x = at.x; y = at.y })) m n) behind_drawing result
 IsCarriedOut (command.Show x y) m n result = IsShowing x y m n result
-IsCarriedOut (command.Export generation None) m n result = Comes (IsExportCommand generation m n) (λ _. Told) result
-IsCarriedOut (command.Export generation (Some file)) m n result = Comes (IsExportTextCommand (λ (text : Vec ℕ). text.items) generation m n) (to_file file) result
+IsCarriedOut (command.Count generation) m n result = Comes (IsTellCommand (questions.Count generation) m n) (λ _. Told) result
+IsCarriedOut (command.Export generation None) m n result = Comes (IsTellCommand (questions.Export generation) m n) (λ _. Told) result
+IsCarriedOut (command.Export generation (Some file)) m n result = Comes (IsTextCommand (λ (text : Vec ℕ). text.items) (questions.Export generation) m n) (to_file file) result
+IsCarriedOut (command.Cut window generation None) m n result = Comes (IsTellCommand (cut_of window generation) m n) (λ _. Told) result
+IsCarriedOut (command.Cut window generation (Some file)) m n result = Comes (IsTextCommand (λ (text : Vec ℕ). text.items) (cut_of window generation) m n) (to_file file) result
+IsCarriedOut (command.Undo) m n result = Comes (IsTakenBack Undo m n) behind_drawing result
+IsCarriedOut (command.Redo) m n result = Comes (IsTakenBack Redo m n) behind_drawing result
 IsCarriedOut (command.Poll) m n result = Comes (IsCount m n) (λ _. Told) result
 IsCarriedOut (command.Wait wait) m n result = Comes (IsWait wait.edits m n) (λ _. Told) result
 IsCarriedOut (command.Sleep milliseconds) m n result = Leaves (Sleep milliseconds) m n result
@@ -125,8 +142,11 @@ no_server_line = codes "no server\n"
 abbrev pub IsCarriedOn : ClientCommand → Moment → Moment → Result Done CommandFault → Type 0
 IsCarriedOn (command.Pattern name text) m n result = IsNaming name text m n result
 IsCarriedOn (command.Show x y) m n result = IsShowing x y m n result
-IsCarriedOn (command.Export generation None) m n result = Comes (ExportsNow generation m n) (λ _. Told) result
-IsCarriedOn (command.Export generation (Some file)) m n result = Comes (ExportsTextNow (λ (text : Vec ℕ). text.items) generation m n) (to_file file) result
+IsCarriedOn (command.Count generation) m n result = Comes (TellsNow (questions.Count generation) m n) (λ _. Told) result
+IsCarriedOn (command.Export generation None) m n result = Comes (TellsNow (questions.Export generation) m n) (λ _. Told) result
+IsCarriedOn (command.Export generation (Some file)) m n result = Comes (GivesTextNow (λ (text : Vec ℕ). text.items) (questions.Export generation) m n) (to_file file) result
+IsCarriedOn (command.Cut window generation None) m n result = Comes (TellsNow (cut_of window generation) m n) (λ _. Told) result
+IsCarriedOn (command.Cut window generation (Some file)) m n result = Comes (GivesTextNow (λ (text : Vec ℕ). text.items) (cut_of window generation) m n) (to_file file) result
 IsCarriedOn (command.Save None) m n result = ComesPrinted (SavesNow (λ (text : Vec ℕ). text.items) m) n result
 IsCarriedOn (command.Save (Some file)) m n result = Comes (SavesNow (λ (text : Vec ℕ). text.items) m n) (to_file file) result
 IsCarriedOn (command.Sleep milliseconds) m n result = Leaves (Sleep milliseconds) m n result
@@ -135,6 +155,8 @@ IsCarriedOn (command.Bye) m n result = Leaves Leave m n result
 IsCarriedOn (command.Draw drawing) m n result = IsPrinted Told no_server_line m n result
 IsCarriedOn (command.Copy at) m n result = IsPrinted Told no_server_line m n result
 IsCarriedOn (command.Or at) m n result = IsPrinted Told no_server_line m n result
+IsCarriedOn (command.Undo) m n result = IsPrinted Told no_server_line m n result
+IsCarriedOn (command.Redo) m n result = IsPrinted Told no_server_line m n result
 IsCarriedOn (command.Poll) m n result = IsPrinted Told no_server_line m n result
 IsCarriedOn (command.Wait wait) m n result = IsPrinted Told no_server_line m n result
 IsCarriedOn (command.Open file) m n result = IsPrinted Told no_server_line m n result

@@ -1,15 +1,14 @@
 //! Commands behind the end of the server.
 
-ghost use Rattle.client_session.specs.Moment.{IsPrinted};
-ghost use Rattle.client_tasks.specs.Carrying.{IsCarriedOn, no_server_line};
-ghost use Rattle.client_tasks.specs.declared.done.Done.TheVariants.{Told};
+ghost use Rattle.client_tasks.specs.Carrying.{IsCarriedOn};
 
-use crate::carrying::{named, shown};
+use crate::carrying::{named, shown, tell_line};
 use crate::done::{Done, told, written};
 use crate::printing::{helped, printed};
 use client_commands::ClientCommand;
 use client_session::{Client, CommandFault};
 use devices::{Sink, Source};
+use replica_core::{Cut, Question};
 use std::time::Clock;
 
 /// Does what a command asks for where the server went away: of what the replica holds, and nothing is said on
@@ -23,9 +22,21 @@ pub fn carry_on<C: Clock, S: Source + Drop, K: Sink + Drop>(
     match command {
         ClientCommand::Pattern(name, text) => named(client, name, &text),
         ClientCommand::Show(x, y) => shown(client, x, y),
-        ClientCommand::Export(generation, None) => told(client.export_now(generation)),
+        ClientCommand::Count(generation) => told(client.tell_now(Question::Count(generation))),
+        ClientCommand::Export(generation, None) => {
+            told(client.tell_now(Question::Export(generation)))
+        }
         ClientCommand::Export(generation, Some(file)) => {
-            written(file, client.export_text_now(generation))
+            written(file, client.text_now(Question::Export(generation)))
+        }
+        ClientCommand::Cut(window, generation, None) => {
+            told(client.tell_now(Question::Cut(Cut { window, generation })))
+        }
+        ClientCommand::Cut(window, generation, Some(file)) => {
+            written(
+                file,
+                client.text_now(Question::Cut(Cut { window, generation })),
+            )
         }
         ClientCommand::Save(None) => {
             let text = client.save_now();
@@ -38,18 +49,10 @@ pub fn carry_on<C: Clock, S: Source + Drop, K: Sink + Drop>(
         ClientCommand::Draw(_)
         | ClientCommand::Copy(_)
         | ClientCommand::Or(_)
+        | ClientCommand::Undo
+        | ClientCommand::Redo
         | ClientCommand::Poll
         | ClientCommand::Wait(_)
-        | ClientCommand::Open(_) => tell_no_server(client),
+        | ClientCommand::Open(_) => tell_line(client, b"no server\n"),
     }
-}
-
-/// Prints that there is no server.
-fn tell_no_server<C: Clock, S: Source + Drop, K: Sink + Drop>(
-    client: &mut Client<'_, C, S, K>,
-) -> Result<Done, CommandFault>
-    ensures { IsPrinted Told no_server_line client.old client.new result }
-{
-    client.print(b"no server\n")?;
-    Ok(Done::Told)
 }

@@ -1,14 +1,19 @@
 //! Commands.
 
-ghost use Rattle.std.specs.Prelude.{◌≡◌};
+ghost use Rattle.client_session.specs.Moment.{IsPrinted};
 ghost use Rattle.client_tasks.specs.Carrying.{IsCarriedOut, IsNaming, IsShowing};
+ghost use Rattle.client_tasks.specs.declared.done.Done.TheVariants.{Told};
 
 use crate::done::{Done, drawn, told, written};
 use crate::printing::{helped, printed};
-use client_commands::{ClientCommand, Placement, Wait};
-use client_session::{Client, CommandFault, Corner, PasteMode, Patience};
+use crate::undoing::taken_back;
+use crate::whole::{draw_whole, paste_whole};
+use client_commands::{ClientCommand, Wait};
+use client_session::{Client, CommandFault, PasteMode, Patience};
 use devices::{Sink, Source};
+use drawing_history::Way;
 use genedit_script::{PatternName, PatternText};
+use replica_core::{Cut, Question};
 use std::time::Clock;
 
 /// Does what a command asks for at the board, and answers what is left to do. A wait lets so many
@@ -21,24 +26,29 @@ pub fn carry_out<C: Clock, S: Source + Drop, K: Sink + Drop>(
     ensures { IsCarriedOut command client.old client.new result }
 {
     match command {
-        ClientCommand::Draw(spec) => drawn(client.draw(0, &spec)),
+        ClientCommand::Draw(spec) => drawn(draw_whole(client, &spec)),
         ClientCommand::Pattern(name, text) => named(client, name, &text),
-        ClientCommand::Copy(placed) => {
-            drawn(client.paste(PasteMode::Copy, &placed.name, corner_of(&placed)))
-        }
-        ClientCommand::Or(placed) => {
-            drawn(client.paste(PasteMode::Or, &placed.name, corner_of(&placed)))
-        }
+        ClientCommand::Copy(placed) => drawn(paste_whole(client, PasteMode::Copy, &placed)),
+        ClientCommand::Or(placed) => drawn(paste_whole(client, PasteMode::Or, &placed)),
         ClientCommand::Show(x, y) => shown(client, x, y),
-        ClientCommand::Export(generation, None) => told(client.export(generation)),
+        ClientCommand::Count(generation) => told(client.tell(Question::Count(generation))),
+        ClientCommand::Export(generation, None) => told(client.tell(Question::Export(generation))),
         ClientCommand::Export(generation, Some(file)) => {
-            written(file, client.export_text(generation))
+            written(file, client.text(Question::Export(generation)))
+        }
+        ClientCommand::Cut(window, generation, None) => {
+            told(client.tell(Question::Cut(Cut { window, generation })))
+        }
+        ClientCommand::Cut(window, generation, Some(file)) => {
+            written(file, client.text(Question::Cut(Cut { window, generation })))
         }
         ClientCommand::Save(None) => {
             let text = client.save();
             printed(client, text)
         }
         ClientCommand::Save(Some(file)) => written(file, client.save()),
+        ClientCommand::Undo => drawn(taken_back(client, Way::Undo)),
+        ClientCommand::Redo => drawn(taken_back(client, Way::Redo)),
         ClientCommand::Poll => told(client.poll()),
         ClientCommand::Wait(wait) => told(client.wait(wait.edits, patience_of(wait, interval))),
         ClientCommand::Sleep(milliseconds) => Ok(Done::Sleep(milliseconds)),
@@ -48,13 +58,15 @@ pub fn carry_out<C: Clock, S: Source + Drop, K: Sink + Drop>(
     }
 }
 
-fn corner_of(placed: &Placement) -> Corner
-    ensures { result ≡ record { x = placed.now.x; y = placed.now.y } }
+/// Prints a line.
+pub(crate) fn tell_line<C: Clock, S: Source + Drop, K: Sink + Drop>(
+    client: &mut Client<'_, C, S, K>,
+    line: &[u8],
+) -> Result<Done, CommandFault>
+    ensures { IsPrinted Told line.now client.old client.new result }
 {
-    Corner {
-        x: placed.x,
-        y: placed.y,
-    }
+    client.print(line)?;
+    Ok(Done::Told)
 }
 
 fn patience_of(wait: Wait, interval: u32) -> Patience {

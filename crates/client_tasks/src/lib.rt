@@ -9,6 +9,8 @@ mod opening;
 mod pieces;
 mod printing;
 mod refusing;
+mod undoing;
+mod whole;
 
 pub use alone::carry_on;
 pub use carrying::carry_out;

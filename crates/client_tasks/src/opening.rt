@@ -3,8 +3,8 @@
 ghost use Rattle.std.specs.Prelude.{◌≡◌};
 ghost use Rattle.client_tasks.specs.Opening.{IsOpened};
 
-use crate::pieces::draw_all;
 use crate::refusing::{refuse, refuse_text};
+use crate::whole::{draw_board, draw_whole};
 use client_session::{Client, CommandFault, Outcome};
 use devices::{Sink, Source};
 use opened_files::{Opening, Unopened, opening_of};
@@ -14,7 +14,8 @@ use std::time::Clock;
 /// saved, in edits of at most 2^20 cells whose counters are above those of the text too; else, of a file of
 /// RLE, of MCell's format or of plaintext, what an `or` of its pattern at its own position draws. What is
 /// refused of the text is printed, and nothing said on the line; so it is of a full clock, where counters do
-/// not suffice for all edits of a board. Behind an edit that is refused, or may be, no more is drawn.
+/// not suffice for all edits of a board. Behind an edit that is refused, or may be, no more is drawn. It is one
+/// drawing, which can be taken back as one.
 pub fn open<C: Clock, S: Source + Drop, K: Sink + Drop>(
     client: &mut Client<'_, C, S, K>,
     text: &[u8],
@@ -22,8 +23,8 @@ pub fn open<C: Clock, S: Source + Drop, K: Sink + Drop>(
     ensures { IsOpened text.now client.old client.new result }
 {
     match opening_of(client.alloc(), client.replica(), text) {
-        Ok(Opening::Board(saved)) => draw_all(client, saved.counter, &saved.cells),
-        Ok(Opening::Pattern(spec)) => client.draw(0, &spec),
+        Ok(Opening::Board(saved)) => draw_board(client, saved.counter, &saved.cells),
+        Ok(Opening::Pattern(spec)) => draw_whole(client, &spec),
         Err(Unopened::Refused(fault)) => refuse(client, fault),
         Err(Unopened::NoPattern(fault)) => refuse_text(client, fault),
         Err(Unopened::Memory) => Err(CommandFault::Memory),

@@ -20,7 +20,7 @@ pub(crate) fn helped<C: Clock, S: Source + Drop, K: Sink + Drop>(
     Ok(Done::Told)
 }
 
-/// The commands of a client, in ten lines.
+/// The commands of a client, in thirteen lines.
 fn help_text() -> &'static str
     ensures { result.now ≡ help_text }
 {
@@ -29,9 +29,12 @@ cells x y s .., clear x y w h  draw cells, or an area of dead ones
 pattern NAME, lines, end       keeps the pattern of these lines of RLE
 copy NAME x y, or NAME x y     draw its whole box there, or its live cells
 show x y, poll                 print a cell, or what others drew
+count G                        prints how many cells live G generations later
 export G [FILE], save FILE     write the cells G generations later; the board
 export! G FILE, save! FILE     also over a file that is there; a FILE - prints
+cut x y w h G [FILE]           writes what a window shows G generations later
 open FILE                      draws what a file holds; a FILE may be \"a b\"
+undo, redo                     take the last drawing back, and the other way
 wait N [MS], sleep MS          wait for N edits of others; wait MS milliseconds
 bye, quit, exit                leave the board
 help, ?                        print this; `genedit join --help` says more

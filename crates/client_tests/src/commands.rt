@@ -18,9 +18,12 @@ cells x y s .., clear x y w h  draw cells, or an area of dead ones
 pattern NAME, lines, end       keeps the pattern of these lines of RLE
 copy NAME x y, or NAME x y     draw its whole box there, or its live cells
 show x y, poll                 print a cell, or what others drew
+count G                        prints how many cells live G generations later
 export G [FILE], save FILE     write the cells G generations later; the board
 export! G FILE, save! FILE     also over a file that is there; a FILE - prints
+cut x y w h G [FILE]           writes what a window shows G generations later
 open FILE                      draws what a file holds; a FILE may be \"a b\"
+undo, redo                     take the last drawing back, and the other way
 wait N [MS], sleep MS          wait for N edits of others; wait MS milliseconds
 bye, quit, exit                leave the board
 help, ?                        print this; `genedit join --help` says more
@@ -34,7 +37,7 @@ struct Row {
     draws: bool,
 }
 
-static ROWS: [Row; 19] = [
+static ROWS: [Row; 26] = [
     Row {
         line: "cells 0 0 1 1 0 2",
         left: "told",
@@ -105,6 +108,48 @@ static ROWS: [Row; 19] = [
         line: "export! 0 b.rle",
         left: "replace b.rle: #CXRLE Pos=0,0 Gen=0\nx = 3, y = 10, rule = /2/3\nA.A$2.A8$A!\n",
         told: "",
+        draws: false,
+    },
+    Row {
+        line: "count",
+        left: "told",
+        told: "cells 4 box 0 0 3 10\n",
+        draws: false,
+    },
+    Row {
+        line: "cut 0 0 1 99 0",
+        left: "told",
+        told: "#CXRLE Pos=0,0 Gen=0\nx = 1, y = 10, rule = /2/3\nA9$A!\n",
+        draws: false,
+    },
+    Row {
+        line: "cut 1 1 9 1 0 c.rle",
+        left: "write c.rle: #CXRLE Pos=2,1 Gen=0\nx = 1, y = 1, rule = /2/3\nA!\n",
+        told: "",
+        draws: false,
+    },
+    Row {
+        line: "undo",
+        left: "told",
+        told: "undone 8 1\n",
+        draws: false,
+    },
+    Row {
+        line: "show 2 1",
+        left: "told",
+        told: "cell 0 8 1\n",
+        draws: false,
+    },
+    Row {
+        line: "redo",
+        left: "told",
+        told: "redone 9 1\n",
+        draws: false,
+    },
+    Row {
+        line: "redo",
+        left: "told",
+        told: "nothing to redo\n",
         draws: false,
     },
     Row {

@@ -4,6 +4,7 @@ use crate::plays::{A, Act, B, Party, Step, play};
 use client_session::{CommandFault, Outcome, Telling};
 use edit_stamps::Rect;
 use memory_board::{Refusals, Shared};
+use replica_core::Question;
 use std::test::Fail;
 
 /// Has a board refuse so from now on.
@@ -153,7 +154,7 @@ fn refused_polls(rt: HostRuntime) -> Result<(), Fail> {
     let mut party = Party::join(&rt, rt.alloc(), &[Telling::Edits])?;
     party.play(&rt, &REFUSED_POLLS)?;
     let a = party.clients.get_mut(A).ok_or("client")?;
-    assert!(rt; a.export_text(0)?.is_none());
+    assert!(rt; a.text(Question::Export(0))?.is_none());
     assert!(rt; a.save()?.is_none());
     party.play(&rt, &REFUSED_STILL)?;
     let a = party.clients.get_mut(A).ok_or("client")?;

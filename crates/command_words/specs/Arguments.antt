@@ -25,6 +25,11 @@ script_arguments keyword.Same = argument.OneReplica ∷ argument.OtherReplica �
 script_arguments keyword.Dump = argument.Message ∷ []
 script_arguments keyword.Export = argument.Replica ∷ argument.Generation ∷ []
 script_arguments keyword.ExportOver = argument.Generation ∷ argument.NewFile ∷ []
+script_arguments keyword.Cut = argument.Replica ∷ argument.X ∷ argument.Y ∷ argument.Width ∷ argument.Height ∷ argument.Generation ∷ []
+script_arguments keyword.CutOver = argument.X ∷ argument.Y ∷ argument.Width ∷ argument.Height ∷ argument.Generation ∷ argument.NewFile ∷ []
+script_arguments keyword.Count = argument.Replica ∷ []
+script_arguments keyword.Undo = []
+script_arguments keyword.Redo = []
 script_arguments keyword.Poll = []
 script_arguments keyword.Wait = argument.Edits ∷ []
 script_arguments keyword.Sleep = argument.Milliseconds ∷ []
@@ -50,7 +55,9 @@ arguments_of Client keyword = without_replica (script_arguments keyword)
 -- what may stand behind that once, and may be left out
 abbrev pub optional_of : Dialect → Keyword → List Argument
 optional_of Client keyword.Export = argument.NewFile ∷ []
+optional_of Client keyword.Cut = argument.NewFile ∷ []
 optional_of Client keyword.Wait = argument.Milliseconds ∷ []
+optional_of dialect keyword.Count = argument.Generation ∷ []
 optional_of dialect keyword = []
 
 -- what stands behind that once or more often

@@ -2,7 +2,7 @@
 use Rattle.std.specs.Prelude.{◌≡◌, ℕ, List, [], ◌∷◌, true, false, Option, Some, None, codes, refl, negsuc, pos}
 use Rattle.command_words.specs.declared.argument.Argument.TheVariants as argument
 use Rattle.command_words.specs.declared.dialect.Dialect.TheVariants.{Script, Client}
-use Rattle.command_words.specs.declared.keyword.Keyword.TheVariants.{Cells, Clear, Copy, Exit, Export, ExportOver, Help, Open, Poll, Question, Quit, Replicas, Rule, Save, SaveOver, Show, Wait}
+use Rattle.command_words.specs.declared.keyword.Keyword.TheVariants.{Cells, Clear, Copy, Count, Cut, CutOver, Exit, Export, ExportOver, Help, Open, Poll, Question, Quit, Redo, Replicas, Rule, Save, SaveOver, Show, Undo, Wait}
 use Rattle.command_words.specs.Arguments.{arguments_of}
 use Rattle.command_words.specs.Keywords.{keyword_spelled}
 use Rattle.command_words.specs.Quotes.{line_words, name_in_quotes}
@@ -140,6 +140,56 @@ over_a_file = refl
 
 pub over_no_file : client (codes "export! 4") ≡ None
 over_no_file = refl
+
+-- a script's cut tells no file, and a client's may
+pub cut_in_a_script : script (codes "cut 2 -3 4 5 6 7")
+    ≡ Some (record (begun Cut []) { replica = 2; x = negsuc 2; y = pos 4; width = 5; height = 6; generation = 7 })
+cut_in_a_script = refl
+
+pub cut_by_a_client : client (codes "cut -3 4 5 6 7") ≡ script (codes "cut 1 -3 4 5 6 7")
+cut_by_a_client = refl
+
+pub cut_in_a_script_to_a_file : script (codes "cut 2 -3 4 5 6 7 a.rle") ≡ None
+cut_in_a_script_to_a_file = refl
+
+pub cut_to_a_file : client (codes "cut -3 4 5 6 7 a.rle")
+    ≡ Some (record (begun Cut []) { x = negsuc 2; y = pos 4; width = 5; height = 6; generation = 7; file = Some (codes "a.rle") })
+cut_to_a_file = refl
+
+pub cut_over_no_file : client (codes "cut! -3 4 5 6 7") ≡ None
+cut_over_no_file = refl
+
+pub cut_over_in_a_script : script (codes "cut! 2 -3 4 5 6 7") ≡ None
+cut_over_in_a_script = refl
+
+-- a count without a generation is of the board as it is
+pub counted : script (codes "count 2") ≡ Some (record (begun Count []) { replica = 2 })
+counted = refl
+
+pub counted_later : script (codes "count 2 9") ≡ Some (record (begun Count []) { replica = 2; generation = 9 })
+counted_later = refl
+
+pub counted_by_a_client : client (codes "count") ≡ script (codes "count 1")
+counted_by_a_client = refl
+
+pub counted_later_by_a_client : client (codes "count 9") ≡ script (codes "count 1 9")
+counted_later_by_a_client = refl
+
+-- a client alone takes its drawings back, one a line
+pub undone : client (codes "undo") ≡ Some (begun Undo [])
+undone = refl
+
+pub redone : client (codes "redo") ≡ Some (begun Redo [])
+redone = refl
+
+pub undone_twice : client (codes "undo 2") ≡ None
+undone_twice = refl
+
+pub undone_in_a_script : script (codes "undo") ≡ None
+undone_in_a_script = refl
+
+pub redone_in_a_script : script (codes "redo") ≡ None
+redone_in_a_script = refl
 
 pub saved : client (codes "save 4.state") ≡ Some (record (begun Save []) { file = Some (codes "4.state") })
 saved = refl

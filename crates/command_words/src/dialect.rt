@@ -17,7 +17,7 @@ pub enum Dialect {
     Client,
 }
 
-static SCRIPT: [Keyword; 15] = [
+static SCRIPT: [Keyword; 17] = [
     Keyword::Rule,
     Keyword::Replicas,
     Keyword::Cells,
@@ -33,18 +33,25 @@ static SCRIPT: [Keyword; 15] = [
     Keyword::Same,
     Keyword::Dump,
     Keyword::Export,
+    Keyword::Cut,
+    Keyword::Count,
 ];
 
-static CLIENT: [Keyword; 20] = [
+static CLIENT: [Keyword; 25] = [
     Keyword::Cells,
     Keyword::Clear,
     Keyword::Pattern,
     Keyword::End,
     Keyword::Copy,
     Keyword::Or,
+    Keyword::Undo,
+    Keyword::Redo,
     Keyword::Show,
+    Keyword::Count,
     Keyword::Export,
     Keyword::ExportOver,
+    Keyword::Cut,
+    Keyword::CutOver,
     Keyword::Poll,
     Keyword::Wait,
     Keyword::Sleep,

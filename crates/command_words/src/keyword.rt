@@ -27,6 +27,12 @@ pub enum Keyword {
     Export,
     /// `export!`, which may replace a file.
     ExportOver,
+    Cut,
+    /// `cut!`, which may replace a file.
+    CutOver,
+    Count,
+    Undo,
+    Redo,
     Poll,
     Wait,
     Sleep,
@@ -71,6 +77,11 @@ impl Keyword {
             Keyword::Dump => "dump",
             Keyword::Export => "export",
             Keyword::ExportOver => "export!",
+            Keyword::Cut => "cut",
+            Keyword::CutOver => "cut!",
+            Keyword::Count => "count",
+            Keyword::Undo => "undo",
+            Keyword::Redo => "redo",
             Keyword::Poll => "poll",
             Keyword::Wait => "wait",
             Keyword::Sleep => "sleep",
@@ -145,11 +156,28 @@ impl Keyword {
             Keyword::Dump => &[Argument::Message],
             Keyword::Export => &[Argument::Replica, Argument::Generation],
             Keyword::ExportOver => &[Argument::Generation, Argument::NewFile],
+            Keyword::Cut => &[
+                Argument::Replica,
+                Argument::X,
+                Argument::Y,
+                Argument::Width,
+                Argument::Height,
+                Argument::Generation,
+            ],
+            Keyword::CutOver => &[
+                Argument::X,
+                Argument::Y,
+                Argument::Width,
+                Argument::Height,
+                Argument::Generation,
+                Argument::NewFile,
+            ],
+            Keyword::Count => &[Argument::Replica],
             Keyword::Wait => &[Argument::Edits],
             Keyword::Sleep => &[Argument::Milliseconds],
             Keyword::Save | Keyword::SaveOver => &[Argument::NewFile],
             Keyword::Open => &[Argument::File],
-            Keyword::End | Keyword::Poll => &[],
+            Keyword::End | Keyword::Poll | Keyword::Undo | Keyword::Redo => &[],
             Keyword::Help | Keyword::Question => &[],
             Keyword::Bye | Keyword::Quit | Keyword::Exit => &[],
         }
@@ -160,7 +188,8 @@ impl Keyword {
         ensures { result.now ≡ optional_of dialect self }
     {
         match (dialect, self) {
-            (Dialect::Client, Keyword::Export) => &[Argument::NewFile],
+            (Dialect::Client, Keyword::Export | Keyword::Cut) => &[Argument::NewFile],
+            (_, Keyword::Count) => &[Argument::Generation],
             (Dialect::Client, Keyword::Wait) => &[Argument::Milliseconds],
             _ => &[],
         }

@@ -4,6 +4,10 @@ use Rattle.std.specs.Global.{Vec}
 use Rattle.generations_rule.specs.Place.{at_place}
 use Rattle.multistate_rle.specs.Reading.{parsed}
 use Rattle.stamped_tree.specs.Plane.{map_of}
+use Rattle.pattern_cells.specs.declared.window.Window.{Window}
+use Rattle.drawing_history.specs.declared.way.Way.TheVariants.{Undo, Redo}
+use Rattle.replica_core.specs.declared.event.Question.{Question}
+use Rattle.replica_core.specs.declared.event.Question.TheVariants as questions
 use Rattle.replica_core.specs.declared.event.Reply.TheVariants as reply
 use Rattle.genedit_lib.specs.Output.{naming_text, reply_line, with_text}
 use Rattle.genedit_lib.specs.Patterns.{pattern_in}
@@ -16,9 +20,10 @@ use Rattle.document_pen.specs.declared.naming.PasteMode.TheVariants as mode
 use Rattle.document_pen.specs.declared.pen.Outcome.{Outcome}
 use Rattle.document_pen.specs.declared.fault.PenFault.{PenFault}
 use Rattle.document_pen.specs.declared.fault.PenFault.TheVariants.{Memory}
-use Rattle.document_pen.specs.Drawing.{IsDrawn, IsPaste, pasted}
-use Rattle.document_pen.specs.Exporting.{IsExport, IsExportText}
+use Rattle.document_pen.specs.Drawing.{DrawsAndEnds, IsDrawn, IsPaste, pasted}
+use Rattle.document_pen.specs.Exporting.{IsTextGiven, IsTold}
 use Rattle.document_pen.specs.Pen.{IsPrinted, PenState}
+use Rattle.document_pen.specs.Undoing.{IsTakenBack}
 
 -- ---- what is left
 
@@ -64,21 +69,33 @@ help_text =
     ++ codes "pattern NAME, lines, end       keeps the pattern of these lines of RLE\n"
     ++ codes "copy NAME x y, or NAME x y     draw its whole box there, or its live cells\n"
     ++ codes "show x y                       prints a cell\n"
+    ++ codes "count G                        prints how many cells live G generations later\n"
     ++ codes "export G [FILE]                writes the cells G generations later\n"
     ++ codes "export! G FILE                 also over a file that is there; a FILE - prints\n"
+    ++ codes "cut x y w h G [FILE]           writes what a window shows G generations later\n"
     ++ codes "open FILE                      draws what a file holds; a FILE may be \"a b\"\n"
+    ++ codes "undo, redo                     take the last drawing back, and the other way\n"
     ++ codes "sleep MS                       waits MS milliseconds\n"
     ++ codes "bye, quit, exit                end\n"
     ++ codes "help, ?                        print this; `genedit draw --help` says more\n"
 
+-- what is asked for a cut
+abbrev pub cut_of : Window → ℕ → Question
+cut_of window generation = questions.Cut (record { window = window; generation = generation })
+
 abbrev pub IsCarriedOut : ClientCommand → PenState → PenState → Result Done PenFault → Type 0
-IsCarriedOut (command.Draw drawing) m n result = Comes (IsDrawn 0 drawing m n) (λ (_ : Outcome). Told) result
+IsCarriedOut (command.Draw drawing) m n result = Comes (DrawsAndEnds (IsDrawn 0 drawing) m n) (λ (_ : Outcome). Told) result
 IsCarriedOut (command.Pattern name text) m n result = Comes {A = Unit {0}} (IsNaming name text m n) (λ _. Told) result
 IsCarriedOut (command.Copy at) m n result = Comes (IsPaste (pasted mode.Copy at m) m n) (λ (_ : Outcome). Told) result
 IsCarriedOut (command.Or at) m n result = Comes (IsPaste (pasted mode.Or at m) m n) (λ (_ : Outcome). Told) result
 IsCarriedOut (command.Show x y) m n result = Comes {A = Unit {0}} (IsPrinted tt (reply_line (reply.Shown (map_of m.replica.plane (at_place x y)))) m n) (λ _. Told) result
-IsCarriedOut (command.Export generation None) m n result = Comes {A = Unit {0}} (IsExport generation m n) (λ _. Told) result
-IsCarriedOut (command.Export generation (Some file)) m n result = Comes (IsExportText (λ (text : Vec ℕ). text.items) generation m n) (to_file file) result
+IsCarriedOut (command.Count generation) m n result = Comes {A = Unit {0}} (IsTold (questions.Count generation) m n) (λ _. Told) result
+IsCarriedOut (command.Export generation None) m n result = Comes {A = Unit {0}} (IsTold (questions.Export generation) m n) (λ _. Told) result
+IsCarriedOut (command.Export generation (Some file)) m n result = Comes (IsTextGiven (λ (text : Vec ℕ). text.items) (questions.Export generation) m n) (to_file file) result
+IsCarriedOut (command.Cut window generation None) m n result = Comes {A = Unit {0}} (IsTold (cut_of window generation) m n) (λ _. Told) result
+IsCarriedOut (command.Cut window generation (Some file)) m n result = Comes (IsTextGiven (λ (text : Vec ℕ). text.items) (cut_of window generation) m n) (to_file file) result
+IsCarriedOut (command.Undo) m n result = Comes (IsTakenBack Undo m n) (λ (_ : Outcome). Told) result
+IsCarriedOut (command.Redo) m n result = Comes (IsTakenBack Redo m n) (λ (_ : Outcome). Told) result
 IsCarriedOut (command.Open file) m n result = Leaves (Open file) m n result
 IsCarriedOut (command.Sleep milliseconds) m n result = Leaves (Sleep milliseconds) m n result
 IsCarriedOut (command.Help) m n result = Comes {A = Unit {0}} (IsPrinted tt help_text m n) (λ _. Told) result

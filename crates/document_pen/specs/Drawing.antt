@@ -12,12 +12,15 @@ use Rattle.kept_log.specs.Kept.{Always, Keeps, Leaves}
 use Rattle.kept_log.specs.declared.log.LogState.TheVariants.{Open}
 use Rattle.replica_events.specs.declared.edit_spec.EditSpec.{EditSpec}
 use Rattle.replica_events.specs.declared.edit_spec.EditSpec.TheVariants as spec
-use Rattle.replica_core.specs.Replica.{ReplicaState, MeetsWant, edit_drawn}
+use Rattle.drawing_history.specs.Makings.{EndsDrawing, NotesStroke}
+use Rattle.drawing_history.specs.Ways.{way_done}
+use Rattle.drawing_history.specs.declared.way.Way.{Way}
+use Rattle.replica_core.specs.Replica.{IsUnchanged, ReplicaState, MeetsWant, edit_drawn}
 use Rattle.replica_core.specs.Exchange.{TakesSome}
 use Rattle.replica_core.specs.declared.fault.Fault.{Fault}
 use Rattle.replica_core.specs.declared.fault.Fault.TheVariants as faults
 use Rattle.replica_core.specs.declared.event.Reply.TheVariants as reply
-use Rattle.genedit_lib.specs.Output.{no_pattern_line, reply_line}
+use Rattle.genedit_lib.specs.Output.{no_pattern_line, reply_line, taken_back_line}
 use Rattle.genedit_lib.specs.Patterns.{pattern_in}
 use Rattle.client_commands.specs.declared.command.Placement.{Placement}
 use Rattle.document_pen.specs.declared.naming.PasteMode.{PasteMode}
@@ -44,10 +47,10 @@ HoldsEdit e r s = TakesSome r s (λ content. content ≡ Edits (e ∷ []))
 abbrev pub FindsNoRoom : PlaneEdit → ReplicaState → ReplicaState → Type 0
 FindsNoRoom e r s = MeetsWant r s (λ content. content ≡ Edits (e ∷ [])) faults.StoreFull
 
--- it holds the edit; or memory, or room, is wanting for that
+-- it holds the edit; or memory, or room, is wanting for that, and then its map is as it was
 abbrev pub IsTaken : {A : Type 0} → PlaneEdit → ReplicaState → ReplicaState → Result A PenFault → Type 0
 IsTaken e r s (Ok done) = HoldsEdit e r s
-IsTaken e r s (Err fault.Memory) = Unit {0}
+IsTaken e r s (Err fault.Memory) = IsUnchanged r s
 IsTaken e r s (Err fault.StoreFull) = FindsNoRoom e r s
 IsTaken e r s (Err fault.Write) = ⊥
 
@@ -83,42 +86,69 @@ IsKept e m n (Err fault.Memory) = LeavesFile m n
 IsKept e m n (Err fault.StoreFull) = ⊥
 IsKept e m n (Err fault.Write) = FailsCommit e m n
 
+-- ---- lines
+
+-- that an edit was drawn, or what it took back, by its counter and its replica
+abbrev pub done_line : Option Way → ℕ → List ℕ
+done_line None stamp = reply_line (reply.Drawn stamp)
+done_line (Some way) stamp = taken_back_line (way_done way) stamp
+
 -- ---- a drawing
 
--- The replica holds the edit, the file keeps it, and its line is printed.
+-- The replica holds the edit, the file keeps it, its stroke is noted, and its line is printed.
 pub record DrawsEdit (e : PlaneEdit) (m n : PenState) : Type 0 where
   pub held : HoldsEdit e m.replica n.replica
   pub kept : Commits e m n
-  pub told : n.out ≡ m.out ++ reply_line (reply.Drawn e.stamp)
-  pub names : n.patterns ≡ m.patterns
+  pub noted : NotesStroke (map_of m.replica.plane) e (map_of n.replica.plane) m.making n.making
+  pub told : n.out ≡ m.out ++ done_line m.way e.stamp
+  pub rest : (n.patterns ≡ m.patterns) × (n.way ≡ m.way)
 
--- the file failed, and nothing is printed
+-- the replica holds the edit, and its stroke is noted; but the file failed, and nothing is printed
 pub record FailsDrawing (e : PlaneEdit) (m n : PenState) : Type 0 where
   pub held : HoldsEdit e m.replica n.replica
   pub failed : FailsCommit e m n
+  pub noted : NotesStroke (map_of m.replica.plane) e (map_of n.replica.plane) m.making n.making
   pub told : n.out ≡ m.out
-  pub names : n.patterns ≡ m.patterns
+  pub rest : (n.patterns ≡ m.patterns) × (n.way ≡ m.way)
 
 -- nothing was done but, maybe, at the replica
 abbrev pub LeavesRest : PenState → PenState → Type 0
 LeavesRest m n = n ≡ record m { replica = n.replica }
 
+-- the replica holds the edit, and its stroke is noted; but memory is wanting for its line, or for its record, and nothing else is done
+pub record HoldsUnkept (e : PlaneEdit) (m n : PenState) : Type 0 where
+  pub held : HoldsEdit e m.replica n.replica
+  pub noted : NotesStroke (map_of m.replica.plane) e (map_of n.replica.plane) m.making n.making
+  pub left : n ≡ record m { replica = n.replica; making = n.making }
+
+-- memory is wanting for an edit that was made: the replica's map is as it was, and all else; or the replica holds the edit, which the file lacks
+abbrev pub LacksForEdit : PlaneEdit → PenState → PenState → Type 0
+LacksForEdit e m n = (IsUnchanged m.replica n.replica × LeavesRest m n) ⊎ HoldsUnkept e m n
+
 -- an edit that was made is drawn
 abbrev pub IsEditDrawn : PlaneEdit → PenState → PenState → Result Outcome PenFault → Type 0
 IsEditDrawn e m n (Ok outcome.Drawn) = DrawsEdit e m n
 IsEditDrawn e m n (Ok outcome.Refused) = ⊥
-IsEditDrawn e m n (Err fault.Memory) = LeavesRest m n
+IsEditDrawn e m n (Err fault.Memory) = LacksForEdit e m n
 IsEditDrawn e m n (Err fault.StoreFull) = FindsNoRoom e m.replica n.replica × LeavesRest m n
 IsEditDrawn e m n (Err fault.Write) = FailsDrawing e m n
 
--- the edit of a specification is drawn; or there is none, which is printed; or memory is wanting, and nothing done but, maybe, at the
--- replica
+-- the edit of a specification is drawn; or there is none, which is printed; or memory is wanting for the edit, or before anything is done
 abbrev pub IsDrawn : ℕ → EditSpec → PenState → PenState → Result Outcome PenFault → Type 0
 IsDrawn after spec m n (Ok outcome.Drawn) = (e : PlaneEdit) × IsEditFor after spec m.replica (Ok e) × DrawsEdit e m n
 IsDrawn after spec m n (Ok outcome.Refused) = (why : Fault) × IsEditFor after spec m.replica (Err why) × Prints (reply_line (reply.Refused why)) m n
-IsDrawn after spec m n (Err fault.Memory) = LeavesRest m n
+IsDrawn after spec m n (Err fault.Memory) = (n ≡ m) ⊎ ((e : PlaneEdit) × IsEditFor after spec m.replica (Ok e) × LacksForEdit e m n)
 IsDrawn after spec m n (Err fault.StoreFull) = (e : PlaneEdit) × IsEditFor after spec m.replica (Ok e) × FindsNoRoom e m.replica n.replica × LeavesRest m n
 IsDrawn after spec m n (Err fault.Write) = (e : PlaneEdit) × IsEditFor after spec m.replica (Ok e) × FailsDrawing e m n
+
+-- ---- the end of a drawing
+
+-- something is drawn, and then the drawing that was being made is ended
+pub record DrawsAndEnds (Draws : PenState → PenState → Result Outcome PenFault → Type 0) (m n : PenState) (result : Result Outcome PenFault) : Type 0 where
+  pub mid : PenState
+  pub draws : Draws m mid result
+  pub ends : EndsDrawing mid.making n.making
+  pub rest : n ≡ record mid { making = n.making }
 
 -- ---- pastes
 
@@ -133,7 +163,7 @@ pasted mode placed m = option_map (paste_spec mode placed) (pattern_in m.pattern
 
 -- a paste is the drawing of what the name's pattern makes; a name that stands for none is refused
 abbrev pub PastesAs : Option EditSpec → PenState → PenState → Result Outcome PenFault → Type 0
-PastesAs (Some drawn) m n result = IsDrawn 0 drawn m n result
+PastesAs (Some drawn) m n result = DrawsAndEnds (IsDrawn 0 drawn) m n result
 PastesAs None m n result = IsPrinted outcome.Refused (no_pattern_line ++ codes "\n") m n result
 
 -- or memory for a copy of the name's pattern is wanting before anything is done

@@ -1,6 +1,5 @@
 -- Records that are put into a document's file.
 use Rattle.std.specs.Prelude.{⊤, ◌≡◌, ◌≢◌, ◌⊎◌, ℕ, true, false, List, [], ◌∷◌, ◌++◌, codes, decimal, Result, Ok, Err}
-use Rattle.generations_rule.specs.Rule.{GenerationsRule}
 use Rattle.edit_stamps.specs.Edit.{PlaneEdit}
 use Rattle.edit_stamps.specs.Stamp.{counter_in, replica_in}
 use Rattle.kept_devices.specs.Keep.{KnownKeep}
@@ -8,13 +7,12 @@ use Rattle.kept_log.specs.Kept.{Always, Keeps, Leaves}
 use Rattle.kept_log.specs.declared.log.LogState.{LogState}
 use Rattle.kept_log.specs.declared.log.LogState.TheVariants.{Open}
 use Rattle.kept_records.specs.Records.{BeginsNone, IsBody, record_text}
-use Rattle.document_bodies.specs.Bodies.{head_body}
-use Rattle.document_bodies.specs.Reading.{edit_of}
 use Rattle.document_bodies.specs.Faults.{body_fault_number, body_fault_text}
 use Rattle.document_bodies.specs.declared.fault.BodyFault.{BodyFault}
 use Rattle.documents.specs.Documents.{DocumentState}
-use Rattle.documents.specs.Faults.{document_fault_number, document_fault_text}
+use Rattle.documents.specs.Gathering.{edits_told}
 use Rattle.documents.specs.Results.{IsInserted}
+use Rattle.documents.specs.declared.fault.DocumentFault.{DocumentFault}
 use Rattle.documents.specs.declared.fault.DocumentFault.TheVariants as documents
 use Rattle.document_pen.specs.declared.feeding.Fed.{Fed}
 use Rattle.document_pen.specs.declared.feeding.Fed.TheVariants as fed
@@ -53,11 +51,33 @@ IsKeptOf body m n (Ok fed.New) = KeepsOneMore body m n
 IsKeptOf body m n (Ok fed.Known) = ⊥
 IsKeptOf body m n (Err fault.NoRecord) = ⊥
 IsKeptOf body m n (Err (fault.Body why)) = ⊥
-IsKeptOf body m n (Err (fault.Edit why)) = ⊥
+IsKeptOf body m n (Err (fault.SameStamp stamp)) = ⊥
 IsKeptOf body m n (Err fault.Memory) = IsFileLeft m n
 IsKeptOf body m n (Err fault.Write) = KeepsNoMore body m n
 
 -- ---- an edit
+
+-- memory is wanting for the document, which is as it was, or for the file, behind the document
+abbrev pub LacksFor : PlaneEdit → FeedState → FeedState → Type 0
+LacksFor e m n = IsInserted m.document e n.document (Err documents.Memory) ⊎ IsInserted m.document e n.document (Ok true)
+
+-- a document refuses an edit that has its rule's states
+abbrev pub RefusesPut : DocumentFault → Type 0
+RefusesPut documents.StateRange = ⊥
+RefusesPut documents.OtherRule = ⊥
+RefusesPut (documents.SameStamp stamp) = ⊤
+RefusesPut documents.NoDocument = ⊥
+RefusesPut (documents.Body why place) = ⊥
+RefusesPut documents.Memory = ⊤
+
+-- which is told so
+abbrev pub IsPutFault : DocumentFault → FeedFault → Type 0
+IsPutFault documents.StateRange told = ⊥
+IsPutFault documents.OtherRule told = ⊥
+IsPutFault (documents.SameStamp stamp) told = told ≡ fault.SameStamp stamp
+IsPutFault documents.NoDocument told = ⊥
+IsPutFault (documents.Body why place) told = ⊥
+IsPutFault documents.Memory told = told ≡ fault.Memory
 
 -- it is put into the document, and its body into the file; or the document has it; or refuses it, and nothing is done
 abbrev pub IsPutBy : List ℕ → PlaneEdit → FeedState → FeedState → Result Fed FeedFault → Type 0
@@ -65,8 +85,8 @@ IsPutBy body e m n (Ok fed.New) = IsInserted m.document e n.document (Ok true) �
 IsPutBy body e m n (Ok fed.Known) = IsInserted m.document e n.document (Ok false) × IsFileLeft m n
 IsPutBy body e m n (Err fault.NoRecord) = ⊥
 IsPutBy body e m n (Err (fault.Body why)) = ⊥
-IsPutBy body e m n (Err (fault.Edit why)) = IsInserted m.document e n.document (Err why) × IsFileLeft m n
-IsPutBy body e m n (Err fault.Memory) = IsFileLeft m n
+IsPutBy body e m n (Err (fault.SameStamp stamp)) = IsInserted m.document e n.document (Err (documents.SameStamp stamp)) × IsFileLeft m n
+IsPutBy body e m n (Err fault.Memory) = LacksFor e m n × IsFileLeft m n
 IsPutBy body e m n (Err fault.Write) = IsInserted m.document e n.document (Ok true) × KeepsNoMore body m n
 
 -- ---- a record
@@ -75,46 +95,44 @@ IsPutBy body e m n (Err fault.Write) = IsInserted m.document e n.document (Ok tr
 abbrev pub IsNoRecord : List ℕ → Type 0
 IsNoRecord text = BeginsNone text ⊎ ((body : List ℕ) × (more : List ℕ) × IsBody body × (text ≡ record_text body ++ more) × (more ≢ []))
 
--- what comes of a body that tells no edit: as the first of a document it is passed over
-abbrev pub IsPassedOver : GenerationsRule → List ℕ → BodyFault → Result Fed FeedFault → Type 0
-IsPassedOver r body why (Ok fed.New) = ⊥
-IsPassedOver r body why (Ok fed.Known) = body ≡ head_body r
-IsPassedOver r body why (Err fault.NoRecord) = ⊥
-IsPassedOver r body why (Err (fault.Body told)) = (told ≡ why) × (body ≢ head_body r)
-IsPassedOver r body why (Err (fault.Edit told)) = ⊥
-IsPassedOver r body why (Err fault.Memory) = ⊤
-IsPassedOver r body why (Err fault.Write) = ⊥
+-- the text is the record of a body
+pub record IsRecordOf (body text : List ℕ) : Type 0 where
+  pub is_body : IsBody body
+  pub spelt : text ≡ record_text body
 
 -- the record tells this edit, which was put so
 pub record IsFedEdit (text : List ℕ) (m n : FeedState) (result : Result Fed FeedFault) : Type 0 where
   pub body : List ℕ
-  pub spelt : text ≡ record_text body
+  pub is_record : IsRecordOf body text
   pub edit : PlaneEdit
-  pub told : edit_of m.document.rule body ≡ Ok edit
+  pub told : edits_told m.document.rule body ≡ Ok (edit ∷ [])
   pub put : IsPutBy body edit m n result
 
--- it tells none, and is passed over or refused; nothing is done
-pub record IsFedNone (text : List ℕ) (m n : FeedState) (result : Result Fed FeedFault) : Type 0 where
+-- it tells none, as the first of a document does, or neither, and why; nothing is done
+pub record IsFedNone (told : Result (List PlaneEdit) BodyFault) (text : List ℕ) (m n : FeedState) : Type 0 where
   pub body : List ℕ
-  pub spelt : text ≡ record_text body
-  pub why : BodyFault
-  pub told : edit_of m.document.rule body ≡ Err why
-  pub passed : IsPassedOver m.document.rule body why result
+  pub is_record : IsRecordOf body text
+  pub tells : edits_told m.document.rule body ≡ told
   pub left : n ≡ m
 
+-- memory is wanting to read it, and nothing is done
+abbrev pub LacksReading : List ℕ → FeedState → FeedState → Type 0
+LacksReading text m n = (body : List ℕ) × IsRecordOf body text × (n ≡ m)
+
 abbrev pub IsFed : List ℕ → FeedState → FeedState → Result Fed FeedFault → Type 0
-IsFed text m n (Ok done) = IsFedEdit text m n (Ok done) ⊎ IsFedNone text m n (Ok done)
+IsFed text m n (Ok fed.New) = IsFedEdit text m n (Ok fed.New)
+IsFed text m n (Ok fed.Known) = IsFedEdit text m n (Ok fed.Known) ⊎ IsFedNone (Ok []) text m n
 IsFed text m n (Err fault.NoRecord) = IsNoRecord text × (n ≡ m)
-IsFed text m n (Err (fault.Body why)) = IsFedNone text m n (Err (fault.Body why))
-IsFed text m n (Err (fault.Edit why)) = IsFedEdit text m n (Err (fault.Edit why))
-IsFed text m n (Err fault.Memory) = IsFileLeft m n
+IsFed text m n (Err (fault.Body why)) = IsFedNone (Err why) text m n
+IsFed text m n (Err (fault.SameStamp stamp)) = IsFedEdit text m n (Err (fault.SameStamp stamp))
+IsFed text m n (Err fault.Memory) = LacksReading text m n ⊎ IsFedEdit text m n (Err fault.Memory)
 IsFed text m n (Err fault.Write) = IsFedEdit text m n (Err fault.Write)
 
 -- ---- what is said
 
--- a refusal by its number and its name, and why
-abbrev pub feed_refusal : ℕ → List ℕ → List ℕ → List ℕ
-feed_refusal number name why = codes "refused " ++ (decimal number ++ (codes " " ++ (name ++ why)))
+-- a body tells no edit, by the number and the name of its refusal
+abbrev pub feed_refusal : BodyFault → List ℕ
+feed_refusal why = codes "refused " ++ (decimal (body_fault_number why) ++ (codes " " ++ (body_fault_text why ++ codes ": its record tells no edit under the rule")))
 
 -- another edit has a stamp
 abbrev pub feed_clash : ℕ → List ℕ
@@ -123,8 +141,7 @@ feed_clash stamp = codes "refused 41 SameStamp " ++ (decimal (counter_in stamp) 
 -- why a record is not put into a document, in words
 abbrev pub feed_fault_text : FeedFault → List ℕ
 feed_fault_text fault.NoRecord = codes "it is no record"
-feed_fault_text (fault.Body why) = feed_refusal (body_fault_number why) (body_fault_text why) (codes ": its record tells no edit under the rule")
-feed_fault_text (fault.Edit (documents.SameStamp stamp)) = feed_clash stamp
-feed_fault_text (fault.Edit why) = feed_refusal (document_fault_number why) (document_fault_text why) (codes ": its edit is refused")
+feed_fault_text (fault.Body why) = feed_refusal why
+feed_fault_text (fault.SameStamp stamp) = feed_clash stamp
 feed_fault_text fault.Memory = codes "out of memory"
 feed_fault_text fault.Write = codes "the file failed"

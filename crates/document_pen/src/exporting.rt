@@ -1,38 +1,36 @@
-//! Texts of what a document shows.
+//! What is told of later generations of a document.
 
 ghost use Rattle.std.specs.Prelude.{◌≡◌};
-ghost use Rattle.document_pen.specs.Exporting.{IsExport, IsExportText};
+ghost use Rattle.document_pen.specs.Exporting.{IsTextGiven, IsTold};
 
 use crate::fault::PenFault;
 use crate::pen::Pen;
 use kept_devices::Keep;
-use replica_core::Fault;
+use replica_core::{Question, Reply};
 
 impl<K: Keep> Pen<K> {
-    /// Prints the cells so many generations later as an RLE text, or why they are not exported, as `genedit run` does.
-    pub fn export(&mut self, generation: u32) -> Result<(), PenFault>
-        ensures { IsExport generation self.old self.new result }
+    /// Prints what is told of a question: the text of an export or of a cut, how many cells there are, or a
+    /// refusal, as `genedit run` does.
+    pub fn tell(&mut self, question: Question) -> Result<(), PenFault>
+        ensures { IsTold question self.old self.new result }
     {
-        match self.export_text(generation) {
-            Ok(Some(text)) => self.print(&text),
-            Ok(None) => Ok(()),
-            Err(fault) => Err(fault),
+        match self.replica.tell(question) {
+            Ok(reply) => self.print_reply(&reply),
+            Err(stop) => Err(PenFault::from(stop)),
         }
     }
 
-    /// Gives the cells so many generations later as an RLE text; `None` where they are not exported, whose cause is
-    /// printed.
-    pub fn export_text(&mut self, generation: u32) -> Result<Option<Vec<u8>>, PenFault>
-        ensures { IsExportText (λ text. text.items) generation self.old self.new result }
+    /// Gives the text of an export or of a cut; `None` where it is refused, which is printed.
+    pub fn text(&mut self, question: Question) -> Result<Option<Vec<u8>>, PenFault>
+        ensures { IsTextGiven (λ text. text.items) question self.old self.new result }
     {
-        match self.replica.export(generation) {
-            Ok(text) => Ok(Some(text)),
-            Err(Fault::Memory) => Err(PenFault::Memory),
-            Err(Fault::StoreFull) => Err(PenFault::StoreFull),
-            Err(fault) => {
-                self.refuse(fault)?;
+        match self.replica.tell(question) {
+            Ok(Reply::Text(text)) => Ok(Some(text.into_vec())),
+            Ok(reply) => {
+                self.print_reply(&reply)?;
                 Ok(None)
             }
+            Err(stop) => Err(PenFault::from(stop)),
         }
     }
 }

@@ -2,6 +2,7 @@
 
 ghost use Rattle.std.specs.Prelude.{◌≡◌};
 
+use replica_core::Stop;
 use std::alloc::{AllocError, AllocFailed};
 
 /// Why a pen draws no more.
@@ -23,5 +24,19 @@ impl From<AllocError> for PenFault {
 
     fn from(_error: AllocError) -> PenFault {
         PenFault::Memory
+    }
+}
+
+impl From<Stop> for PenFault {
+    ghost use Rattle.std.specs.Prelude.{◌≡◌};
+    ghost use Rattle.document_pen.specs.Exporting.{fault_of_stop};
+
+    ghost from_gives = { λ stop fault. fault ≡ fault_of_stop stop };
+
+    fn from(stop: Stop) -> PenFault {
+        match stop {
+            Stop::Memory => PenFault::Memory,
+            Stop::StoreFull => PenFault::StoreFull,
+        }
     }
 }

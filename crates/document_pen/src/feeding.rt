@@ -1,15 +1,13 @@
 //! Records that are put into a document's file.
 
-ghost use Rattle.std.specs.Prelude.{◌≡◌, ◌≢◌, ◌≤◌, ◌^◌, length, IfOk, IfSome, None};
-ghost use Rattle.document_bodies.specs.Bodies.{head_body};
-ghost use Rattle.document_bodies.specs.Reading.{edit_of};
-ghost use Rattle.kept_log.specs.declared.log.LogState.TheVariants.{Open};
+ghost use Rattle.std.specs.Prelude.{◌≡◌, IfOk, IfSome, IsTrue, None};
+ghost use Rattle.edit_stamps.specs.Edit.{has_states_below};
 ghost use Rattle.kept_records.specs.Records.{IsBody, record_text};
-ghost use Rattle.document_pen.specs.Feeding.{IsFed, IsKeptOf, IsNoRecord, IsPassedOver, IsPutBy, feed_clash, feed_refusal};
+ghost use Rattle.document_pen.specs.Feeding.{IsFed, IsKeptOf, IsNoRecord, IsPutBy, IsPutFault, RefusesPut, feed_clash, feed_refusal};
 
 use delta_exchange::ReadFault;
-use document_bodies::{BodyFault, edit_in, head_body};
-use documents::{Document, DocumentFault};
+use document_bodies::BodyFault;
+use documents::{Document, DocumentFault, edit_told};
 use edit_stamps::{Edit, Stamp};
 use itoa::Buffer;
 use kept_devices::Keep;
@@ -35,8 +33,8 @@ pub enum FeedFault {
     NoRecord,
     /// Its body tells no edit under the document's rule.
     Body(BodyFault),
-    /// The document refuses its edit.
-    Edit(DocumentFault),
+    /// The document has another edit with this stamp.
+    SameStamp(Stamp),
     /// The system refused memory.
     Memory,
     /// The file failed, or had failed before: it takes nothing more.
@@ -53,20 +51,13 @@ impl FeedFault {
     {
         match self {
             FeedFault::NoRecord => words(alloc, "it is no record"),
-            FeedFault::Body(fault) => refused(alloc, fault.number(), fault.name(), NO_EDIT),
-            FeedFault::Edit(DocumentFault::SameStamp(stamp)) => clash(alloc, *stamp),
-            FeedFault::Edit(fault) => refused(alloc, fault.number(), fault.name(), REFUSED),
+            FeedFault::Body(fault) => refused(alloc, *fault),
+            FeedFault::SameStamp(stamp) => clash(alloc, *stamp),
             FeedFault::Memory => words(alloc, "out of memory"),
             FeedFault::Write => words(alloc, "the file failed"),
         }
     }
 }
-
-/// What is said of a record whose body tells no edit.
-const NO_EDIT: &str = ": its record tells no edit under the rule";
-
-/// What is said of an edit that is refused for another cause than its stamp.
-const REFUSED: &str = ": its edit is refused";
 
 fn words(alloc: Global, text: &str) -> Result<Vec<u8>, AllocError>
     ensures { IfOk result (λ words. words.items ≡ text.now) }
@@ -74,16 +65,16 @@ fn words(alloc: Global, text: &str) -> Result<Vec<u8>, AllocError>
     text.as_bytes().to_vec(alloc)
 }
 
-/// A refusal by its number and its name, and why.
-fn refused(alloc: Global, number: u8, name: &str, why: &str) -> Result<Vec<u8>, AllocError>
-    ensures { IfOk result (λ text. text.items ≡ feed_refusal number name.now why.now) }
+/// That a body tells no edit, by the number and the name of its refusal.
+fn refused(alloc: Global, fault: BodyFault) -> Result<Vec<u8>, AllocError>
+    ensures { IfOk result (λ text. text.items ≡ feed_refusal fault) }
 {
     let mut text = Vec::new(alloc);
     text.extend_from_slice(b"refused ")?;
-    text.extend_from_slice(Buffer::new().format(u64::from(number)).as_bytes())?;
+    text.extend_from_slice(Buffer::new().format(u64::from(fault.number())).as_bytes())?;
     text.push(b' ')?;
-    text.extend_from_slice(name.as_bytes())?;
-    text.extend_from_slice(why.as_bytes())?;
+    text.extend_from_slice(fault.name().as_bytes())?;
+    text.extend_from_slice(b": its record tells no edit under the rule")?;
     Ok(text)
 }
 
@@ -146,60 +137,62 @@ impl<K: Keep> Feeder<K> {
         &self.log.keep
     }
 
-    /// Puts the edit of a record into the document. At `New` the file has the record, on the disk; a crash at any moment
-    /// leaves the document with it or without. Refused are, and nothing done then, in this order: bytes that are not
-    /// just one record; a body that tells no edit under the document's rule, but for that of a first record; another
-    /// edit of a stamp that the document has. Behind `Memory` the file is as it was.
+    /// Puts the edit of a record into the document. At `New` the file has the record, on the disk; a crash at any
+    /// moment leaves the document with it or without. A first record, which names the rule alone, is passed over.
+    /// Refused are, and nothing done then, in this order: bytes that are not just one record; a body that tells no
+    /// edit under the document's rule; another edit of a stamp that the document has. Behind `Memory` the file is as
+    /// it was; the document may have the edit, so that it is to take no more.
     pub fn take(&mut self, text: &[u8]) -> Result<Fed, FeedFault>
         ensures { IsFed text.now self.old self.new result }
     {
         let Some(body) = body_of(text) else {
             return Err(FeedFault::NoRecord);
         };
-        match edit_in(self.alloc, self.document.rule(), body) {
-            Ok(edit) => self.put(body, edit),
+        match edit_told(self.alloc, self.document.rule(), body) {
+            Ok(Some(edit)) => self.put(body, edit),
+            Ok(None) => Ok(Fed::Known),
             Err(BodyFault::Read(ReadFault::Memory)) => Err(FeedFault::Memory),
-            Err(fault) => self.pass_over(body, fault),
-        }
-    }
-
-    /// What comes of a body that tells no edit.
-    fn pass_over(&self, body: &[u8], fault: BodyFault) -> Result<Fed, FeedFault>
-        ensures { IsPassedOver self.now.document.rule body.now fault result }
-    {
-        let head = head_body(self.alloc, self.document.rule())?;
-        if head.as_slice() == body {
-            Ok(Fed::Known)
-        } else {
-            Err(FeedFault::Body(fault))
+            Err(fault) => Err(FeedFault::Body(fault)),
         }
     }
 
     /// Puts an edit into the document, and its body into the file where it is new.
     fn put(&mut self, body: &[u8], edit: Edit) -> Result<Fed, FeedFault>
-        requires { IsBody body.now }
+        requires body { IsBody body.now }
+        requires states { IsTrue (has_states_below self.old.document.rule.states edit) }
         ensures { IsPutBy body.now edit self.old self.new result }
     {
-        let body = body.to_vec(self.alloc)?;
         match self.document.insert(edit) {
             Ok(true) => self.keep_body(body),
             Ok(false) => Ok(Fed::Known),
-            Err(DocumentFault::Memory) => Err(FeedFault::Memory),
-            Err(fault) => Err(FeedFault::Edit(fault)),
+            Err(fault) => Err(put_fault(fault)),
         }
     }
 
     /// Puts the record of a body into the file.
-    fn keep_body(&mut self, body: Vec<u8>) -> Result<Fed, FeedFault>
-        requires { length body.items ≤ 2 ^ 24 }
-        ensures kept { IsKeptOf body.items self.old self.new result }
+    fn keep_body(&mut self, body: &[u8]) -> Result<Fed, FeedFault>
+        requires { IsBody body.now }
+        ensures kept { IsKeptOf body.now self.old self.new result }
         ensures left { self.new.document ≡ self.old.document }
     {
+        let body = body.to_vec(self.alloc)?;
         match self.log.commit(self.alloc, slice::from_ref(&body)) {
             Ok(()) => Ok(Fed::New),
             Err(LogFault::Memory) => Err(FeedFault::Memory),
             Err(_) => Err(FeedFault::Write),
         }
+    }
+}
+
+/// Why a document does not take an edit that has its rule's states.
+fn put_fault(fault: DocumentFault) -> FeedFault
+    requires { RefusesPut fault }
+    ensures { IsPutFault fault result }
+{
+    match fault {
+        DocumentFault::SameStamp(stamp) => FeedFault::SameStamp(stamp),
+        DocumentFault::Memory => FeedFault::Memory,
+        _ => unreachable!(),
     }
 }
 

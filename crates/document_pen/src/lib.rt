@@ -10,6 +10,7 @@ mod naming;
 mod opening;
 mod pen;
 mod telling;
+mod undoing;
 
 pub use carrying::carry_out;
 pub use done::Done;

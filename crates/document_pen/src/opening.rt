@@ -4,6 +4,7 @@ ghost use Rattle.std.specs.Prelude.{◌≡◌, ◌++◌, codes};
 ghost use Rattle.genedit_lib.specs.Output.{refused_text};
 ghost use Rattle.multistate_rle.specs.RleFault.{text_fault_number, text_fault_text};
 ghost use Rattle.document_pen.specs.declared.pen.Outcome.TheVariants.{Refused};
+ghost use Rattle.document_pen.specs.Drawing.{DrawsAndEnds};
 ghost use Rattle.document_pen.specs.Opening.{DrawsAll, DrawsSome, IsOpened};
 ghost use Rattle.document_pen.specs.Pen.{IsPrinted};
 
@@ -17,15 +18,15 @@ use opened_files::{Opening, Unopened, opening_of, spec_of};
 use pattern_cells::Cell;
 
 impl<K: Keep> Pen<K> {
-    /// Draws what a text holds: the cells that are not dead of a board that was saved, in edits of at most 2^20 cells,
-    /// each kept in the file before the next, with counters above those of the text too; else the pattern of a file
-    /// of RLE, of MCell's format or of plaintext, at its own position. What is refused of the text is printed; behind
-    /// an edit that is refused no more is drawn.
+    /// Draws what a text holds: the cells that are not dead of a board that was saved, in edits of at most
+    /// 2^20 cells, each kept in the file before the next, with counters above those of the text too, as one
+    /// drawing; else the pattern of a file of RLE, of MCell's format or of plaintext, at its own position.
+    /// What is refused of the text is printed; behind an edit that is refused no more is drawn.
     pub fn open(&mut self, text: &[u8]) -> Result<Outcome, PenFault>
         ensures { IsOpened text.now self.old self.new result }
     {
         match opening_of(self.alloc, &self.replica, text) {
-            Ok(Opening::Board(saved)) => self.draw_all(saved.counter, &saved.cells),
+            Ok(Opening::Board(saved)) => self.draw_board(saved.counter, &saved.cells),
             Ok(Opening::Pattern(spec)) => self.draw(0, &spec),
             Err(Unopened::Refused(fault)) => self.refuse(fault),
             Err(Unopened::NoPattern(fault)) => self.refuse_text(fault),
@@ -34,8 +35,17 @@ impl<K: Keep> Pen<K> {
         }
     }
 
+    /// Draws the cells of a board, as one drawing.
+    fn draw_board(&mut self, after: u64, cells: &[Cell]) -> Result<Outcome, PenFault>
+        ensures { DrawsAndEnds (DrawsAll after cells.now) self.old self.new result }
+    {
+        let outcome = self.draw_all(after, cells);
+        self.making.end();
+        outcome
+    }
+
     /// Draws cells in edits of as many as one may have, with counters above a given one too.
-    fn draw_all(&mut self, after: u64, cells: &[Cell]) -> Result<Outcome, PenFault>
+    pub(crate) fn draw_all(&mut self, after: u64, cells: &[Cell]) -> Result<Outcome, PenFault>
         ensures { DrawsAll after cells.now self.old self.new result }
     {
         let mut rest = cells;
@@ -55,7 +65,7 @@ impl<K: Keep> Pen<K> {
         ensures { DrawsSome after cells.now self.old self.new result }
     {
         match spec_of(self.alloc, cells) {
-            Ok(spec) => self.draw(after, &spec),
+            Ok(spec) => self.draw_stroke(after, &spec),
             Err(_) => Err(PenFault::Memory),
         }
     }

@@ -1,24 +1,26 @@
 //! Edits that are drawn in a document.
 
-ghost use Rattle.std.specs.Prelude.{◌≡◌, ◌++◌, [], IsTrue, List, OnErr, OnOk, ℕ};
+ghost use Rattle.std.specs.Prelude.{◌≡◌, ◌++◌, [], IsTrue, List, None, OnErr, OnOk, ℕ};
 ghost use mathlib.Core.List.{IsPrefix};
 ghost use Rattle.edit_stamps.specs.Edit.{has_states_below};
 ghost use Rattle.genedit_lib.specs.Output.{no_patterns, reply_line};
 ghost use Rattle.genedit_lib.specs.Patterns.{pattern_in};
 ghost use Rattle.replica_core.specs.declared.event.Reply.TheVariants as reply;
 ghost use Rattle.document_pen.specs.declared.pen.Outcome.TheVariants.{Refused};
-ghost use Rattle.document_pen.specs.Drawing.{IsDrawn, IsEditDrawn, IsKept, IsTaken};
+ghost use Rattle.document_pen.specs.Drawing.{DrawsAndEnds, IsDrawn, IsEditDrawn, IsKept, IsTaken, done_line};
+ghost use Rattle.drawing_history.specs.Makings.{nothing_made};
 ghost use Rattle.document_pen.specs.Pen.{IsPrinted};
 
 use crate::fault::PenFault;
 use document_bodies::edit_body;
-use edit_stamps::Edit;
-use genedit_lib::{Patterns, push_line};
+use drawing_history::{Making, Way, watch};
+use edit_stamps::{Edit, Stamp};
+use genedit_lib::{Patterns, push_line, push_taken_back};
 use kept_devices::Keep;
 use kept_log::{Log, LogFault};
 use replica_core::{Fault, Replica, Reply};
 use replica_events::EditSpec;
-use std::alloc::Global;
+use std::alloc::{AllocError, Global};
 use std::marker::Model;
 use std::slice;
 
@@ -31,13 +33,17 @@ pub enum Outcome {
     Refused,
 }
 
-/// What one draws a document with: the log of its file, a replica that holds it, what pattern each name stands for, and
-/// what was printed and not cleared yet. Contracts see it as a `PenState`.
+/// What one draws a document with: the log of its file, a replica that holds it, what was drawn and can be
+/// taken back, what pattern each name stands for, and what was printed and not cleared yet. Contracts see it
+/// as a `PenState`.
 #[derive(Drop)]
 pub struct Pen<K: Keep> {
     pub(crate) alloc: Global,
     pub(crate) log: Log<K>,
     pub(crate) replica: Replica,
+    pub(crate) making: Making,
+    /// Which way something is being taken back.
+    pub(crate) way: Option<Way>,
     pub(crate) patterns: Patterns,
     pub(crate) out: Vec<u8>,
 }
@@ -52,14 +58,16 @@ impl<K: Keep> Model for Pen<K> {
 
     ghost coded = { Prim.hlevel (codes, named.the_row.coded) };
 
-    ghost view = { λ p. record { file = K.known p.log.keep; takes = p.log.state; replica = p.replica; patterns = p.patterns; out = p.out.items } };
+    ghost view = { λ p. record { file = K.known p.log.keep; takes = p.log.state; replica = p.replica; making = p.making; way = p.way; patterns = p.patterns; out = p.out.items } };
 }
 
 impl<K: Keep> Pen<K> {
-    /// A pen for the document of a file, by its log and a replica that took its edits. No name stands for a pattern yet.
+    /// A pen for the document of a file, by its log and a replica that took its edits. No name stands for a
+    /// pattern yet.
     pub fn of(alloc: Global, log: Log<K>, replica: Replica) -> Pen<K>
         ensures file { (result.file ≡ K.known log.keep) × (result.takes ≡ log.state) }
         ensures replica { result.replica ≡ replica }
+        ensures nothing { (result.making ≡ nothing_made) × (result.way ≡ None) }
         ensures names { (name : List ℕ) → pattern_in result.patterns name ≡ no_patterns name }
         ensures out { result.out ≡ [] }
     {
@@ -67,6 +75,8 @@ impl<K: Keep> Pen<K> {
             alloc,
             log,
             replica,
+            making: Making::new(alloc),
+            way: None,
             patterns: Patterns::new(alloc),
             out: Vec::new(alloc),
         }
@@ -119,12 +129,22 @@ impl<K: Keep> Pen<K> {
         }
     }
 
-    /// Draws an edit: its stamp is one more than the greatest counter that the document has, or than a given one where
-    /// that is greater, with the replica's number. At `Drawn` the file has its record, on the disk, and its line
-    /// `drawn C R` is printed; a crash at any moment leaves the document with it or without. A refusal, as a replica's,
-    /// is printed, and the file is left alone. Behind a fault nothing is printed; of `Memory` and `StoreFull` the file is
-    /// as it was.
+    /// Draws an edit: its stamp is one more than the greatest counter that the document has, or than a given
+    /// one where that is greater, with the replica's number. At `Drawn` the file has its record, on the disk,
+    /// and its line `drawn C R` is printed; a crash at any moment leaves the document with it or without. A
+    /// refusal, as a replica's, is printed, and the file is left alone. Behind a fault nothing is printed; of
+    /// `Memory` and `StoreFull` the file is as it was. Behind `Memory` the replica may hold an edit that the
+    /// file lacks, so that the pen is not to draw again.
     pub fn draw(&mut self, after: u64, spec: &EditSpec) -> Result<Outcome, PenFault>
+        ensures { DrawsAndEnds (IsDrawn after spec.now) self.old self.new result }
+    {
+        let outcome = self.draw_stroke(after, spec);
+        self.making.end();
+        outcome
+    }
+
+    /// `draw` of an edit of the drawing that is being made.
+    pub(crate) fn draw_stroke(&mut self, after: u64, spec: &EditSpec) -> Result<Outcome, PenFault>
         ensures { IsDrawn after spec.now self.old self.new result }
     {
         match self.replica.edit_of(after, spec) {
@@ -161,7 +181,14 @@ impl<K: Keep> Pen<K> {
         requires { IsTrue (has_states_below self.old.replica.rule.states edit.now) }
         ensures { IsEditDrawn edit.now self.old self.new result }
     {
+        let watched = watch(self.alloc, self.replica.plane(), edit);
         self.take(edit)?;
+        self.making.stroke(
+            self.alloc,
+            watched.as_ref(),
+            edit.stamp(),
+            self.replica.plane(),
+        );
         let before = self.out.len();
         match self.keep_edit(edit) {
             Ok(()) => Ok(Outcome::Drawn),
@@ -185,16 +212,28 @@ impl<K: Keep> Pen<K> {
         }
     }
 
-    /// Puts the line of an edit behind what was printed, and its record into the file. Where it fails, a part of the
-    /// line may stand there.
+    /// Puts the line of an edit behind what was printed: that it was drawn, or what it took back.
+    fn push_done(&mut self, stamp: Stamp) -> Result<(), AllocError>
+        ensures told { OnOk result (self.new.out ≡ self.old.out ++ done_line self.old.way stamp) }
+        ensures printed { OnErr result (IsPrefix self.old.out self.new.out) }
+        ensures left { self.new ≡ record self.old { out = self.new.out } }
+    {
+        match self.way {
+            None => push_line(self.alloc, &mut self.out, &Reply::Drawn(stamp)),
+            Some(way) => push_taken_back(&mut self.out, way.done(), stamp),
+        }
+    }
+
+    /// Puts the line of an edit behind what was printed, and its record into the file. Where it fails, a part
+    /// of the line may stand there.
     fn keep_edit(&mut self, edit: &Edit) -> Result<(), PenFault>
         ensures kept { IsKept edit.now self.old self.new result }
-        ensures told { OnOk result (self.new.out ≡ self.old.out ++ reply_line (reply.Drawn edit.now.stamp)) }
+        ensures told { OnOk result (self.new.out ≡ self.old.out ++ done_line self.old.way edit.now.stamp) }
         ensures printed { OnErr result (IsPrefix self.old.out self.new.out) }
-        ensures left { (self.new.replica ≡ self.old.replica) × (self.new.patterns ≡ self.old.patterns) }
+        ensures left { (self.new.replica ≡ self.old.replica) × (self.new.patterns ≡ self.old.patterns) × (self.new.making ≡ self.old.making) × (self.new.way ≡ self.old.way) }
     {
         let body = edit_body(self.alloc, &self.replica.rule(), edit)?;
-        push_line(self.alloc, &mut self.out, &Reply::Drawn(edit.stamp()))?;
+        self.push_done(edit.stamp())?;
         match self.log.commit(self.alloc, slice::from_ref(&body)) {
             Ok(()) => Ok(()),
             Err(LogFault::Memory) => Err(PenFault::Memory),

@@ -30,7 +30,7 @@ impl<K: Keep> Pen<K> {
     }
 }
 
-/// The commands that draw in a document, in ten lines.
+/// The commands that draw in a document, in thirteen lines.
 fn help_text() -> &'static str
     ensures { result.now ≡ help_text }
 {
@@ -39,9 +39,12 @@ cells x y s .., clear x y w h  draw cells, or an area of dead ones
 pattern NAME, lines, end       keeps the pattern of these lines of RLE
 copy NAME x y, or NAME x y     draw its whole box there, or its live cells
 show x y                       prints a cell
+count G                        prints how many cells live G generations later
 export G [FILE]                writes the cells G generations later
 export! G FILE                 also over a file that is there; a FILE - prints
+cut x y w h G [FILE]           writes what a window shows G generations later
 open FILE                      draws what a file holds; a FILE may be \"a b\"
+undo, redo                     take the last drawing back, and the other way
 sleep MS                       waits MS milliseconds
 bye, quit, exit                end
 help, ?                        print this; `genedit draw --help` says more

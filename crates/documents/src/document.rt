@@ -121,7 +121,7 @@ impl Document {
 
     /// The same edits, of which each whose stamp stands for another one in a document that is to take them has the number
     /// of a replica, its counter kept. `SameStamp` where two come to have one stamp, with the least such stamp;
-    /// `Memory` is told for no cause.
+    /// `Memory` may be told where two do, too.
     pub fn renumbered(
         &self,
         alloc: Global,

@@ -85,7 +85,7 @@ fn push_told(
     ensures under { AreEditsUnder rule.now edits.old.items → OnOk result (AreEditsUnder rule.now edits.new.items) }
     ensures refused { IfErr result (IsToldRefused rule.now body.now (before + 1)) }
 {
-    match told_in(alloc, rule, body) {
+    match edit_told(alloc, rule, body) {
         Ok(None) => Ok(()),
         Ok(Some(edit)) => {
             edits.push(edit)?;
@@ -96,8 +96,10 @@ fn push_told(
     }
 }
 
-/// The edit of a message of one, or nothing of a message of none.
-fn told_in(alloc: Global, rule: &Rule, body: &[u8]) -> Result<Option<Edit>, BodyFault>
+/// What the body of a record tells under a rule: one edit, or none, as a first record, which names the rule alone.
+/// Refused are what `delta_exchange::read_delta` refuses, and a message of more edits (`NoDocument`); want of memory
+/// is told as `Read(Memory)`, for any body.
+pub fn edit_told(alloc: Global, rule: &Rule, body: &[u8]) -> Result<Option<Edit>, BodyFault>
     ensures told { IfOk result (λ edit. MatchOption edit (edits_told rule.now body.now ≡ Ok []) (λ e. edits_told rule.now body.now ≡ Ok (e ∷ []))) }
     ensures under { IfOk result (λ edit. IfSome edit (λ e. AreTellable rule.now.states (e ∷ []))) }
     ensures refused { IfErr result (λ fault. IsWant fault ⊎ (edits_told rule.now body.now ≡ Err fault)) }

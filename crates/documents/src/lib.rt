@@ -17,6 +17,6 @@ mod walk;
 
 pub use document::Document;
 pub use fault::DocumentFault;
-pub use gathering::{Gathered, gather};
+pub use gathering::{Gathered, edit_told, gather};
 pub use laws::document_laws;
 pub use reading::{ListedEdits, ReadDocument, read_document, read_edits};

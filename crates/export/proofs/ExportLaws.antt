@@ -1,9 +1,9 @@
 -- A map has one export, and what is listed of it may be written.
-use Rattle.std.proofs.Common.{◌≡◌, ◌≢◌, ℕ, ◌<◌, List, [], ◌∷◌, refl, sym, ◌∙◌, ap, subst, arith, inl, inr}
+use Rattle.std.proofs.Common.{◌≡◌, ◌≢◌, ℕ, zero, suc, ◌<◌, Bool, List, [], ◌∷◌, refl, sym, ◌∙◌, ap, subst, arith, inl, inr}
 use Rattle.std.proofs.lemmas.Bool.{and_parts, cases_Bool, lt-ltb}
 use Rattle.std.proofs.lemmas.Bool.Decides.{nat_tests}
 use Rattle.edit_stamps.proofs.PlaceOrder.{same_itself}
-use Rattle.std.specs.Prelude.{Some, None, Option, Ok, Err, IfErr, IfOk, Result, not, ◌==◌, unwrap_or, true}
+use Rattle.std.specs.Prelude.{Some, None, Option, Ok, Err, IfErr, IfOk, Result, not, ◌==◌, unwrap_or, true, false}
 use Rattle.generations_rule.specs.Place.{Place, is_place}
 use Rattle.generations_rule.specs.Rule.{GenerationsRule, IsRule}
 use Rattle.generations_rule.specs.Evolution.{at}
@@ -17,8 +17,11 @@ use Rattle.generation_engine.specs.Universe.{AreSameStates}
 use Rattle.generation_engine.specs.Walk.{AreCellsOf}
 use Rattle.export.specs.declared.fault.ExportFault.{ExportFault}
 use Rattle.export.specs.declared.fault.ExportFault.TheVariants.{GenRange, TooManyCells, StoreFull, Memory}
-use Rattle.export.specs.Export.{IsExport}
-use Rattle.export.specs.Laws.{HasOneExport}
+use Rattle.pattern_cells.specs.declared.window.Window.{Window}
+use Rattle.pattern_cells.specs.Window.{is_in_window, seen_where}
+use Rattle.export.specs.Asking.{IsCut, seen_at}
+use Rattle.export.specs.Export.{IsExport, IsTold}
+use Rattle.export.specs.Laws.{CutsEverything, HasOneCut, HasOneExport}
 
 -- ---- answers
 
@@ -78,32 +81,62 @@ below_all n (a ∷ cells) sorted below =
     ] in
     rw (lt-ltb a.state n first) (below_all n cells (sorted_tail a cells sorted) rest)
 
+-- of the cells of a map of states below a number all states are
+pub listed_below : (n : ℕ) (h : Place → ℕ) (cells : List Cell) → ((c : Place) → h c < n) → AreCellsOf h cells → are_states_below n cells ≡ true
+listed_below n h cells below are = below_all n cells are.sorted (λ c. subst (λ s. s < n) (sym (are.states c)) (below c))
+
 -- of the cells that an engine shows all states are below the rule's number of states
 pub cells_below : (r : GenerationsRule) (f : Place → ℕ) (g : ℕ) (cells : List Cell) → IsRule r → ((c : Place) → f c < r.states) → AreCellsOf (at r f g) cells → are_states_below r.states cells ≡ true
-cells_below r f g cells rule below are = below_all r.states cells are.sorted
-    (λ c. subst (λ s. s < r.states) (sym (are.states c)) (stays_in_range r f g c rule below))
+cells_below r f g cells rule below are = listed_below r.states (at r f g) cells (λ c. stays_in_range r f g c rule below) are
+
+-- ---- windows
+
+-- what is seen of states below a number is below it
+pub seen_below : (n : ℕ) (is_seen : Place → Bool) (h : Place → ℕ) → ((c : Place) → h c < n) → (c : Place) → seen_where is_seen h c < n
+seen_below n is_seen h below c = elim (cases_Bool (is_seen c)) [
+  | inl seen ↦ rw seen (below c)
+  | inr hidden ↦ rw hidden (let some = below c in omega (arith, some))
+]
+
+-- where all that is not dead is seen, the map itself is
+seen_all : (is_seen : Place → Bool) (h : Place → ℕ) → ((c : Place) → h c ≢ 0 → is_seen c ≡ true) → AreSameStates (seen_where is_seen h) h
+seen_all is_seen h all c = elim (cases_Bool (is_seen c)) [
+  | inl seen ↦ rw seen refl
+  | inr hidden ↦ rw hidden (dead hidden (h c) refl)
+]
+  where
+    dead : is_seen c ≡ false → (s : ℕ) → h c ≡ s → 0 ≡ h c
+    dead hidden zero is = sym is
+    dead hidden (suc s) is = absurd (let alive : h c ≢ 0 = λ e. omega (arith, is, e) in let seen = all c alive in cc)
 
 -- ---- the law
 
 one_text : (r : GenerationsRule) (g : ℕ) (xs ys : List Cell) (a b : List ℕ) → xs ≡ ys → a ≡ text_of_cells r g xs → b ≡ text_of_cells r g ys → a ≡ b
 one_text r g xs ys a b same is other = is ∙ ap (λ cells. text_of_cells r g cells) same ∙ sym other
 
--- one map has one export
-one_export : (r : GenerationsRule) (f : Place → ℕ) (g limit : ℕ) (a b : Result (List ℕ) ExportFault) → IsExport r f g limit a → IsExport r f g limit b → a ≡ b
-one_export r f g limit (Ok a) (Ok b) is other =
-    ap Ok (one_text r g is.2.cells other.2.cells a b (one_list (at r f g) is.2.cells other.2.cells is.2.are_cells other.2.are_cells) is.2.is_text other.2.is_text)
-one_export r f g limit (Ok a) (Err GenRange) is other = absurd (omega (arith, is.0, other))
-one_export r f g limit (Ok a) (Err TooManyCells) is other = absurd (omega (arith, is.1, other.1))
-one_export r f g limit (Err GenRange) (Ok b) is other = absurd (omega (arith, is, other.0))
-one_export r f g limit (Err GenRange) (Err GenRange) is other = refl
-one_export r f g limit (Err GenRange) (Err TooManyCells) is other = absurd (omega (arith, is, other.0))
-one_export r f g limit (Err TooManyCells) (Ok b) is other = absurd (omega (arith, is.1, other.1))
-one_export r f g limit (Err TooManyCells) (Err GenRange) is other = absurd (omega (arith, is.0, other))
-one_export r f g limit (Err TooManyCells) (Err TooManyCells) is other = refl
-one_export r f g limit (Err StoreFull) b is other = absurd is
-one_export r f g limit (Err Memory) b is other = absurd is
-one_export r f g limit a (Err StoreFull) is other = absurd other
-one_export r f g limit a (Err Memory) is other = absurd other
+-- what is told of one map is one
+one_told : (r : GenerationsRule) (g limit : ℕ) (h : Place → ℕ) (a b : Result (List ℕ) ExportFault) → IsTold r g limit h a → IsTold r g limit h b → a ≡ b
+one_told r g limit h (Ok a) (Ok b) is other =
+    ap Ok (one_text r g is.2.cells other.2.cells a b (one_list h is.2.cells other.2.cells is.2.are_cells other.2.are_cells) is.2.is_text other.2.is_text)
+one_told r g limit h (Ok a) (Err GenRange) is other = absurd (omega (arith, is.0, other))
+one_told r g limit h (Ok a) (Err TooManyCells) is other = absurd (omega (arith, is.1, other.1))
+one_told r g limit h (Err GenRange) (Ok b) is other = absurd (omega (arith, is, other.0))
+one_told r g limit h (Err GenRange) (Err GenRange) is other = refl
+one_told r g limit h (Err GenRange) (Err TooManyCells) is other = absurd (omega (arith, is, other.0))
+one_told r g limit h (Err TooManyCells) (Ok b) is other = absurd (omega (arith, is.1, other.1))
+one_told r g limit h (Err TooManyCells) (Err GenRange) is other = absurd (omega (arith, is.0, other))
+one_told r g limit h (Err TooManyCells) (Err TooManyCells) is other = refl
+one_told r g limit h (Err StoreFull) b is other = absurd is
+one_told r g limit h (Err Memory) b is other = absurd is
+one_told r g limit h a (Err StoreFull) is other = absurd other
+one_told r g limit h a (Err Memory) is other = absurd other
 
 pub has_one_export : HasOneExport
-has_one_export r f h g limit a b same is other = one_export r f g limit a b is (subst (λ k. IsExport r k g limit b) (sym (one_map f h same)) other)
+has_one_export r f h g limit a b same is other = one_told r g limit (at r f g) a b is (subst (λ k. IsExport r k g limit b) (sym (one_map f h same)) other)
+
+pub has_one_cut : HasOneCut
+has_one_cut r f h w g limit a b same is other = one_told r g limit (seen_at r f w g) a b is (subst (λ k. IsCut r k w g limit b) (sym (one_map f h same)) other)
+
+pub cuts_everything : CutsEverything
+cuts_everything r f w g limit a b all is other =
+    one_told r g limit (at r f g) a b (subst (λ k. IsTold r g limit k a) (one_map (seen_at r f w g) (at r f g) (seen_all (is_in_window w) (at r f g) all)) is) other

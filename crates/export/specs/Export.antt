@@ -24,31 +24,43 @@ last_generation = 2 ^ 29
 abbrev pub most_cells : ℕ
 most_cells = 2 ^ 24
 
--- How many cells of a map of states are not dead g generations later. A map on the plane has none outside the universe,
--- x and y from -2^32 to 2^32 - 1, up to the last generation.
-abbrev pub population_at : GenerationsRule → (Place → ℕ) → ℕ → ℕ
-population_at r f g = population (2 ^ 33) (λ u v. at r f g (moved universe_corner (pos u) (pos v)))
+-- How many cells of a map of states are not dead in the universe, x and y from -2^32 to 2^32 - 1. A map on the plane has none
+-- outside it up to the last generation.
+abbrev pub population_in_universe : (Place → ℕ) → ℕ
+population_in_universe h = population (2 ^ 33) (λ u v. h (moved universe_corner (pos u) (pos v)))
 
--- the RLE text of the cells that are not dead then, the rule being applied cell by cell
-pub record IsTextAt (r : GenerationsRule) (f : Place → ℕ) (g : ℕ) (text : List ℕ) : Type 0 where
+-- how many are not dead g generations later
+abbrev pub population_at : GenerationsRule → (Place → ℕ) → ℕ → ℕ
+population_at r f g = population_in_universe (at r f g)
+
+-- the RLE text of the cells of a map of states that are not dead, which stand so at a generation
+pub record IsTextOf (r : GenerationsRule) (g : ℕ) (h : Place → ℕ) (text : List ℕ) : Type 0 where
   pub cells : List Cell
-  pub are_cells : AreCellsOf (at r f g) cells
+  pub are_cells : AreCellsOf h cells
   pub is_text : text ≡ text_of_cells r g cells
 
--- the cells that are not dead then, at most so many, as they may be written
-pub record AreExported (r : GenerationsRule) (f : Place → ℕ) (g limit : ℕ) (cells : List Cell) : Type 0 where
-  pub few : population_at r f g ≤ limit
-  pub are_cells : AreCellsOf (at r f g) cells
+-- the cells of a map of states that are not dead, at most so many, as they may be written
+pub record AreListed (r : GenerationsRule) (h : Place → ℕ) (limit : ℕ) (cells : List Cell) : Type 0 where
+  pub few : population_in_universe h ≤ limit
+  pub are_cells : AreCellsOf h cells
   pub below : are_states_below r.states cells ≡ true
 
--- The answer of an export of a map of states at generation g, of at most so many cells: first whether the generation is one, then
--- whether the cells are too many, then the text.
+-- those that are not dead g generations later, the rule being applied cell by cell
+abbrev pub AreExported : GenerationsRule → (Place → ℕ) → ℕ → ℕ → List Cell → Type 0
+AreExported r f g limit cells = AreListed r (at r f g) limit cells
+
+-- The answer of what tells a map of states as it stands at generation g, of at most so many cells: first whether the generation is
+-- one, then whether the cells are too many, then the text.
+abbrev pub IsTold : GenerationsRule → ℕ → ℕ → (Place → ℕ) → Result (List ℕ) ExportFault → Type 0
+IsTold r g limit h (Ok text) = (g ≤ last_generation) × (population_in_universe h ≤ limit) × IsTextOf r g h text
+IsTold r g limit h (Err GenRange) = last_generation < g
+IsTold r g limit h (Err TooManyCells) = (g ≤ last_generation) × (limit < population_in_universe h)
+IsTold r g limit h (Err StoreFull) = ⊥
+IsTold r g limit h (Err Memory) = ⊥
+
+-- the answer of an export of a map of states: of all cells, g generations later
 abbrev pub IsExport : GenerationsRule → (Place → ℕ) → ℕ → ℕ → Result (List ℕ) ExportFault → Type 0
-IsExport r f g limit (Ok text) = (g ≤ last_generation) × (population_at r f g ≤ limit) × IsTextAt r f g text
-IsExport r f g limit (Err GenRange) = last_generation < g
-IsExport r f g limit (Err TooManyCells) = (g ≤ last_generation) × (limit < population_at r f g)
-IsExport r f g limit (Err StoreFull) = ⊥
-IsExport r f g limit (Err Memory) = ⊥
+IsExport r f g limit answer = IsTold r g limit (at r f g) answer
 
 -- a want of memory or of room: no part of what a call means
 abbrev pub IsWant : ExportFault → Type 0

@@ -1,5 +1,5 @@
 -- What exports obey.
-use Rattle.std.specs.Prelude.{◌≡◌, ◌↔◌, ◌<◌, ◌≤◌, ℕ, List, Result, Err, IsTrue, length}
+use Rattle.std.specs.Prelude.{◌≡◌, ◌≢◌, ◌↔◌, true, ◌<◌, ◌≤◌, ℕ, List, Result, Err, IsTrue, length}
 use Rattle.std.specs.List.{list_all}
 use Rattle.generations_rule.specs.Evolution.{at}
 use Rattle.generations_rule.specs.Place.{Place}
@@ -10,6 +10,10 @@ use Rattle.generation_engine.specs.Universe.{AreSameStates}
 use Rattle.generation_engine.specs.Walk.{AreCellsOf, is_in_middle}
 use Rattle.export.specs.declared.fault.ExportFault.{ExportFault}
 use Rattle.export.specs.declared.fault.ExportFault.TheVariants.{TooManyCells}
+use Rattle.pattern_cells.specs.declared.window.Window.{Window}
+use Rattle.pattern_cells.specs.Window.{is_in_window}
+use Rattle.export.specs.declared.asking.Count.{Count}
+use Rattle.export.specs.Asking.{IsCount, IsCut}
 use Rattle.export.specs.Export.{IsExport, last_generation, population_at}
 
 -- a map of states has one export: the same bytes, or the same refusal
@@ -24,3 +28,18 @@ pub record CountsCells : Type 0 where
       → length cells ≡ population_at r f g
   pub too_many : (r : GenerationsRule) (f : Place → ℕ) (g limit : ℕ) (cells : List Cell) → g ≤ last_generation → AreCellsOf (at r f g) cells → IsTrue (list_all (λ cell. is_in_middle (place_of cell)) cells)
       → (IsExport r f g limit (Err TooManyCells) ↔ (limit < length cells))
+
+-- and one cut by each window
+abbrev pub HasOneCut : Type 0
+HasOneCut = (r : GenerationsRule) (f h : Place → ℕ) (w : Window) (g limit : ℕ) (a b : Result (List ℕ) ExportFault)
+    → AreSameStates f h → IsCut r f w g limit a → IsCut r h w g limit b → a ≡ b
+
+-- the cut by a window that shows each cell that is not dead is the export
+abbrev pub CutsEverything : Type 0
+CutsEverything = (r : GenerationsRule) (f : Place → ℕ) (w : Window) (g limit : ℕ) (a b : Result (List ℕ) ExportFault)
+    → ((c : Place) → at r f g c ≢ 0 → is_in_window w c ≡ true) → IsCut r f w g limit a → IsExport r f g limit b → a ≡ b
+
+-- and one count
+abbrev pub HasOneCount : Type 0
+HasOneCount = (r : GenerationsRule) (f h : Place → ℕ) (g : ℕ) (a b : Result Count ExportFault)
+    → AreSameStates f h → IsCount r f g a → IsCount r h g b → a ≡ b

@@ -1,5 +1,6 @@
 pub mod ExportFault
 pub mod Export
+pub mod Asking
 pub mod Kept
 pub mod Laws
 pub mod Rows

@@ -6,10 +6,11 @@ ghost use Rattle.square_store.specs.Limits.{usual_room};
 ghost use Rattle.stamped_tree.specs.Plane.{map_of};
 ghost use Rattle.generation_engine.specs.Universe.{population_of, states_in_writes, states_of};
 ghost use Rattle.generation_engine.specs.Walk.{AreCellsOf};
-ghost use Rattle.export.specs.Export.{AreExported, IsExport, IsExportRefused, IsRoomWanted, most_cells};
+ghost use Rattle.export.specs.Export.{AreExported, IsExport, IsExportRefused, IsRoomWanted, IsWant, most_cells};
+ghost use Rattle.export.specs.Kept.{IsRunOf};
 
 use crate::fault::ExportFault;
-use generation_engine::Engine;
+use generation_engine::{Engine, EngineFault};
 use generations_rule::Rule;
 use multistate_rle::write;
 use pattern_cells::Cell;
@@ -18,7 +19,7 @@ use stamped_tree::Plane;
 use std::alloc::Global;
 
 /// The last generation.
-pub const LAST: u32 = 0x2000_0000;
+pub const LAST_GENERATION: u32 = 0x2000_0000;
 
 /// How many cells are exported at most if nothing else is said.
 pub const MOST_CELLS: u64 = 0x100_0000;
@@ -72,7 +73,7 @@ pub fn export_in_room(
     ensures err { IfErr result (IsExportRefused rule.now (states_in_writes (map_of plane.now)) generation limit) }
     ensures full { result ≡ Err ExportFault.StoreFull → IsRoomWanted rule.now plane.now generation nodes }
 {
-    if generation > LAST {
+    if generation > LAST_GENERATION {
         return Err(ExportFault::GenRange);
     }
     let cells = cells_at(alloc, rule, plane, generation, limit, nodes)?;
@@ -97,8 +98,26 @@ fn cells_at(
     ensures err { IfErr result (IsExportRefused rule.now (states_in_writes (map_of plane.now)) generation limit) }
     ensures full { result ≡ Err ExportFault.StoreFull → IsRoomWanted rule.now plane.now generation nodes }
 {
-    // For the proof alone: the call tells that what is held is a rule.
-    let _states = rule.states();
+    let engine = engine_at(alloc, rule, plane, generation, nodes)?;
+    cells_of(rule, plane, generation, &engine, limit)
+}
+
+/// A new universe of a plane, with room for so many squares, run to a generation.
+pub(crate) fn engine_at(
+    alloc: Global,
+    rule: &Rule,
+    plane: &Plane,
+    generation: u32,
+    nodes: u32,
+) -> Result<Engine, ExportFault>
+    requires states { HasStatesBelow rule.now.states (map_of plane.now) }
+    requires nodes { 64 ≤ nodes }
+    requires generation { generation ≤ 2 ^ 29 }
+    ensures run { IfOk result (IsRunOf rule.now (states_in_writes (map_of plane.now))) }
+    ensures at { IfOk result (λ engine. engine.generation ≡ generation) }
+    ensures err { IfErr result IsWant }
+    ensures full { result ≡ Err ExportFault.StoreFull → IsRoomWanted rule.now plane.now generation nodes }
+{
     let limits = Limits {
         room: nodes,
         key: plane.key(),
@@ -106,10 +125,35 @@ fn cells_at(
     let mut engine = Engine::within(alloc, *rule, limits)?;
     engine.load(plane)?;
     let run = engine.run(generation);
-    // The same, of the engine, which is what it was where it became full.
+    // For the proof alone: it tells what the engine is where it became full.
     engine.universe_laws();
-    run?;
-    cells_within(&engine, limit)
+    match run {
+        Ok(()) => Ok(engine),
+        Err(EngineFault::StoreFull) => Err(ExportFault::StoreFull),
+        Err(EngineFault::Memory) => Err(ExportFault::Memory),
+        Err(EngineFault::GenRange) => unreachable!(),
+    }
+}
+
+/// The cells that a universe of a plane shows at a generation, if they are at most so many.
+pub(crate) fn cells_of(
+    rule: &Rule,
+    plane: &Plane,
+    generation: u32,
+    engine: &Engine,
+    limit: u64,
+) -> Result<Vec<Cell>, ExportFault>
+    requires states { HasStatesBelow rule.now.states (map_of plane.now) }
+    requires run { IsRunOf rule.now (states_in_writes (map_of plane.now)) engine.now }
+    requires at { engine.now.generation ≡ generation }
+    requires generation { generation ≤ 2 ^ 29 }
+    ensures cells { IfOk result (λ cells. AreExported rule.now (states_in_writes (map_of plane.now)) generation limit cells.items) }
+    ensures err { IfErr result (IsExportRefused rule.now (states_in_writes (map_of plane.now)) generation limit) }
+    ensures not_full { IfErr result (λ fault. (fault ≡ ExportFault.TooManyCells) ⊎ (fault ≡ ExportFault.Memory)) }
+{
+    // For the proof alone: the call tells that what is held is a rule.
+    let _states = rule.states();
+    cells_within(engine, limit)
 }
 
 /// The cells that an engine shows, sorted by `y`, then `x`, if they are at most so many. They are counted,

@@ -5,15 +5,14 @@ ghost use Rattle.edit_stamps.specs.PlaneMap.{HasStatesBelow};
 ghost use Rattle.square_store.specs.Limits.{usual_room};
 ghost use Rattle.stamped_tree.specs.Plane.{map_of};
 ghost use Rattle.generation_engine.specs.Universe.{states_in_writes};
-ghost use Rattle.export.specs.Export.{AreExported, IsExport, IsExportRefused, IsRoomWanted, IsWant, most_cells};
+ghost use Rattle.export.specs.Export.{IsExport, IsExportRefused, IsRoomWanted, IsWant, most_cells};
 ghost use Rattle.export.specs.Kept.{IsRunOf};
 
-use crate::exporting::{LAST, MOST_CELLS, cells_within, export};
+use crate::exporting::{LAST_GENERATION, MOST_CELLS, cells_of, export};
 use crate::fault::ExportFault;
 use generation_engine::{Engine, EngineFault};
 use generations_rule::Rule;
 use multistate_rle::write;
-use pattern_cells::Cell;
 use square_store::Limits;
 use stamped_tree::Plane;
 use std::alloc::Global;
@@ -35,7 +34,7 @@ pub fn export_on(
     ensures full { result ≡ Err ExportFault.StoreFull → IsRoomWanted rule.now plane.now generation usual_room }
     ensures kept { IfSome kept.new (IsRunOf rule.now (states_in_writes (map_of plane.now))) }
 {
-    if generation > LAST {
+    if generation > LAST_GENERATION {
         return Err(ExportFault::GenRange);
     }
     match text_on(alloc, rule, plane, generation, kept) {
@@ -63,7 +62,7 @@ fn text_on(
     ensures kept { IfSome kept.new (IsRunOf rule.now (states_in_writes (map_of plane.now))) }
 {
     let engine = universe_at(alloc, rule, plane, generation, kept.take())?;
-    let cells = cells_of(rule, plane, generation, &engine);
+    let cells = cells_of(rule, plane, generation, &engine, MOST_CELLS);
     *kept = Some(engine);
     let text = write(alloc, rule, u64::from(generation), &cells?)?;
     Ok(text)
@@ -71,7 +70,7 @@ fn text_on(
 
 /// A universe of a plane at a generation: the one that is given, where it is not past it, or else a new one,
 /// run so far.
-fn universe_at(
+pub(crate) fn universe_at(
     alloc: Global,
     rule: &Rule,
     plane: &Plane,
@@ -124,23 +123,4 @@ fn loaded(alloc: Global, rule: &Rule, plane: &Plane) -> Result<Engine, ExportFau
     let mut engine = Engine::within(alloc, *rule, Limits::of_key(plane.key()))?;
     engine.load(plane)?;
     Ok(engine)
-}
-
-/// The cells that a universe of a plane shows at a generation, if they are at most 2^24.
-fn cells_of(
-    rule: &Rule,
-    plane: &Plane,
-    generation: u32,
-    engine: &Engine,
-) -> Result<Vec<Cell>, ExportFault>
-    requires states { HasStatesBelow rule.now.states (map_of plane.now) }
-    requires run { IsRunOf rule.now (states_in_writes (map_of plane.now)) engine.now }
-    requires at { engine.now.generation ≡ generation }
-    requires generation { generation ≤ 2 ^ 29 }
-    ensures cells { IfOk result (λ cells. AreExported rule.now (states_in_writes (map_of plane.now)) generation most_cells cells.items) }
-    ensures err { IfErr result (IsExportRefused rule.now (states_in_writes (map_of plane.now)) generation most_cells) }
-{
-    // For the proof alone: the call tells that what is held is a rule.
-    let _states = rule.states();
-    cells_within(engine, MOST_CELLS)
 }

@@ -5,7 +5,6 @@ ghost use Rattle.document_bodies.specs.Bodies.{AreEditsUnder};
 
 use crate::opening::{opened, tell, tell_unread};
 use devices::{ReadSource, Source, WriteSink};
-use document_files::FileRefusal;
 use documents::{Document, DocumentFault, ListedEdits, read_document, read_edits};
 use genedit_documents::{StateFault, as_state, export_fault, fault_text, run_fault};
 use genedit_io::{RunFault, pull_all, push_output};
@@ -76,17 +75,18 @@ pub(crate) fn tell_document<R: Eprint>(
     Ok(ending.exit_status())
 }
 
-/// That there is no document of a name.
-pub(crate) fn missing() -> FileRefusal {
-    FileRefusal::of(
-        RunFault::Refused(42, None),
-        "there is no such file: genedit new makes one",
-    )
-}
-
 /// What a file is called.
 pub(crate) fn name_of(file: Option<&str>) -> &str {
     file.unwrap_or(STANDARD_INPUT)
+}
+
+/// The file of a name, or standard input.
+pub(crate) fn file_named(name: &str) -> Option<&str> {
+    if name == STANDARD_INPUT {
+        None
+    } else {
+        Some(name)
+    }
 }
 
 /// The document of a file's bytes.

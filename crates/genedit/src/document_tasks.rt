@@ -1,12 +1,14 @@
 //! Documents in files.
 
+ghost use Rattle.std.specs.Prelude.{◌≤◌, IfSome};
 ghost use Rattle.kept_log.specs.Found.{IsReadTo, listed};
 
+use crate::document_file::{found_in, lost_saved};
 use crate::document_reading::{
-    Left, bytes_of, document_in, edits_in, missing, most_of, name_of, printed, tell_document,
+    Left, bytes_of, document_in, edits_in, file_named, most_of, name_of, printed, tell_document,
 };
 use crate::opening::{tell, tell_refused};
-use document_files::{cause_of_file, is_missing, open_found, save_lost, write_refusal};
+use document_files::{cause_of_file, write_refusal};
 use documents::{Document, gather};
 use genedit_documents::{
     Merged, RenumberFault, difference_text, export_fault, export_text, first_edits, log_text,
@@ -35,9 +37,6 @@ const TOLD: u8 = 1;
 
 /// What is asked for is refused.
 const REFUSED: u8 = 2;
-
-/// What standard input is called.
-const STANDARD_INPUT: &str = "-";
 
 /// Makes a document without an edit.
 pub fn new_document<R: Files<File = File> + Print + Eprint>(
@@ -82,6 +81,7 @@ pub(crate) fn write_durably<R: Files<File = File>>(
     write_whole(rt, alloc, path, replaces, text)?;
     match sync_folder(rt, alloc, path) {
         Ok(()) => Ok(()),
+        Err(error) if error.kind() == ErrorKind::OutOfMemory => Err(WriteRefusal::Memory),
         Err(error) => Err(WriteRefusal::System(cause_of_file(error.kind()))),
     }
 }
@@ -101,7 +101,9 @@ pub fn merge<R: Files<File = File> + Input + Print + Eprint>(
     rt: &R,
     alloc: Global,
     task: &MergeTask<'_>,
-) -> Result<u8, RunFault> {
+) -> Result<u8, RunFault>
+    requires { IfSome task.now.renumber (λ number. 1 ≤ number) }
+{
     match merged(rt, alloc, task) {
         Ok(line) => printed(rt, &line, WELL),
         Err(left) => left.end(),
@@ -112,15 +114,11 @@ fn merged<R: Files<File = File> + Input + Eprint>(
     rt: &R,
     alloc: Global,
     task: &MergeTask<'_>,
-) -> Result<Vec<u8>, Left> {
+) -> Result<Vec<u8>, Left>
+    requires { IfSome task.now.renumber (λ number. 1 ≤ number) }
+{
     let path = task.file;
-    if is_missing(rt, path) {
-        return Err(Left::by(tell_refused(rt, alloc, path, missing())));
-    }
-    let found = match open_found(rt, alloc, path) {
-        Ok(found) => found,
-        Err(refusal) => return Err(Left::by(tell_refused(rt, alloc, path, refusal))),
-    };
+    let found = found_in(rt, alloc, path)?;
     let document = document_in(rt, alloc, path, &found.bytes)?;
     let before = document.edits().len();
     let document = with_others(rt, alloc, document, task)?;
@@ -136,7 +134,9 @@ fn with_others<R: Files + Input + Eprint>(
     alloc: Global,
     document: Document,
     task: &MergeTask<'_>,
-) -> Result<Document, Left> {
+) -> Result<Document, Left>
+    requires { IfSome task.now.renumber (λ number. 1 ≤ number) }
+{
     let mut all = document;
     for name in &task.others {
         all = with_other(rt, alloc, &all, name, task.renumber)?;
@@ -151,8 +151,10 @@ fn with_other<R: Files + Input + Eprint>(
     document: &Document,
     name: &str,
     renumber: Option<u16>,
-) -> Result<Document, Left> {
-    let bytes = bytes_of(rt, alloc, named(name))?;
+) -> Result<Document, Left>
+    requires { IfSome renumber (λ number. 1 ≤ number) }
+{
+    let bytes = bytes_of(rt, alloc, file_named(name))?;
     match merged_with(alloc, document, &bytes, renumber) {
         Ok(merged) => {
             tell_passed(rt, name, merged.passed);
@@ -171,11 +173,12 @@ fn merged_with(
     document: &Document,
     bytes: &[u8],
     renumber: Option<u16>,
-) -> Result<Merged, RenumberFault> {
+) -> Result<Merged, RenumberFault>
+    requires { IfSome renumber (λ number. 1 ≤ number) }
+{
     match renumber {
-        // The words give no number below 65.
-        Some(number) if number > 0 => merge_renumbered(alloc, document, bytes, number),
-        _ => match merge_bytes(alloc, document, bytes) {
+        Some(number) => merge_renumbered(alloc, document, bytes, number),
+        None => match merge_bytes(alloc, document, bytes) {
             Ok(merged) => Ok(merged),
             Err(fault) => Err(RenumberFault::Document(fault)),
         },
@@ -189,15 +192,6 @@ fn tell_taken<R: Eprint>(rt: &R, alloc: Global, name: &str) -> Result<u8, RunFau
     )?;
     tell(rt, alloc, why.as_bytes())?;
     Ok(REFUSED)
-}
-
-/// The file of a name, or standard input.
-fn named(name: &str) -> Option<&str> {
-    if name == STANDARD_INPUT {
-        None
-    } else {
-        Some(name)
-    }
 }
 
 /// Says how many bytes of a file were passed over, if any were.
@@ -224,9 +218,7 @@ fn write_document<R: Files<File = File> + Eprint>(
     if text.as_slice() == found.bytes.as_slice() && !found.is_doubtful {
         return Ok(());
     }
-    if let Err(refusal) = save_lost(rt, alloc, &found) {
-        return Err(Left::by(tell_refused(rt, alloc, path, refusal)));
-    }
+    lost_saved(rt, alloc, path, &found)?;
     let mut keep = found.keep;
     match keep.replace(&text) {
         Ok(()) => Ok(()),

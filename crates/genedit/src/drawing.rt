@@ -2,10 +2,11 @@
 
 ghost use Rattle.std.specs.Prelude.{◌≤◌};
 
-use crate::document_reading::{Left, edits_in, missing};
+use crate::document_file::{found_in, log_in};
+use crate::document_reading::{Left, edits_in};
 use crate::opening::{tell, tell_refused};
 use devices::{ReadSource, WriteSink};
-use document_files::{is_missing, open_found, save_lost, write_refusal};
+use document_files::write_refusal;
 use document_pen::Pen;
 use genedit_documents::{export_fault, replica_of};
 use genedit_draw::{DrawFault, Drawn, draw};
@@ -60,25 +61,14 @@ fn pen_of<'a, R: Files<File = File> + Eprint>(
     requires { 1 ≤ task.now.replica }
 {
     let path = task.file;
-    if is_missing(rt, path) {
-        return Err(Left::by(tell_refused(rt, alloc, path, missing())));
-    }
-    let found = match open_found(rt, alloc, path) {
-        Ok(found) => found,
-        Err(refusal) => return Err(Left::by(tell_refused(rt, alloc, path, refusal))),
-    };
+    let found = found_in(rt, alloc, path)?;
     let listed = edits_in(rt, alloc, Some(path), &found.bytes)?;
     let replica = match replica_of(alloc, &listed, None, task.replica, key) {
         Ok(replica) => replica,
         Err(fault) => return Err(Left::Run(export_fault(fault))),
     };
-    if let Err(refusal) = save_lost(rt, alloc, &found) {
-        return Err(Left::by(tell_refused(rt, alloc, path, refusal)));
-    }
-    match found.settle() {
-        Ok(reopened) => Ok(Pen::of(alloc, reopened.log, replica)),
-        Err((_, keep)) => Err(Left::by(tell_refused(rt, alloc, path, write_refusal(&keep)))),
-    }
+    let log = log_in(rt, alloc, path, found)?;
+    Ok(Pen::of(alloc, log, replica))
 }
 
 /// Carries out the commands on standard input; the status of the process. At a terminal that of a drawing that came to

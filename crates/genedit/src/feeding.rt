@@ -1,11 +1,12 @@
 //! Records from standard input, put into a document.
 
-use crate::document_reading::{Left, document_in, missing, printed};
+use crate::document_file::{found_in, log_in};
+use crate::document_reading::{Left, document_in, printed};
 use crate::opening::{tell, tell_refused};
 use base64::DecodeAllocError;
 use base64::engine::general_purpose::STANDARD;
 use devices::{ReadSource, Source};
-use document_files::{is_missing, open_found, save_lost, write_refusal};
+use document_files::write_refusal;
 use document_pen::{Fed, FeedFault, Feeder};
 use genedit_draw::Lines;
 use genedit_io::RunFault;
@@ -84,21 +85,10 @@ fn feeder_of<'a, R: Files<File = File> + Eprint>(
     alloc: Global,
     path: &str,
 ) -> Result<Feeder<FileKeep<'a, R>>, Left> {
-    if is_missing(rt, path) {
-        return Err(Left::by(tell_refused(rt, alloc, path, missing())));
-    }
-    let found = match open_found(rt, alloc, path) {
-        Ok(found) => found,
-        Err(refusal) => return Err(Left::by(tell_refused(rt, alloc, path, refusal))),
-    };
+    let found = found_in(rt, alloc, path)?;
     let document = document_in(rt, alloc, path, &found.bytes)?;
-    if let Err(refusal) = save_lost(rt, alloc, &found) {
-        return Err(Left::by(tell_refused(rt, alloc, path, refusal)));
-    }
-    match found.settle() {
-        Ok(reopened) => Ok(Feeder::of(alloc, reopened.log, document)),
-        Err((_, keep)) => Err(Left::by(tell_refused(rt, alloc, path, write_refusal(&keep)))),
-    }
+    let log = log_in(rt, alloc, path, found)?;
+    Ok(Feeder::of(alloc, log, document))
 }
 
 /// Takes each line of standard input.

@@ -5,6 +5,7 @@ mod bounds;
 mod clients;
 mod closing;
 mod converting;
+mod document_file;
 mod document_reading;
 mod document_tasks;
 mod drawing;

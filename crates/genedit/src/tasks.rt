@@ -144,6 +144,7 @@ pub fn serve<
                 let board = ServedBoard {
                     rule,
                     sessions: server.sessions,
+                    first: server.first,
                     key,
                 };
                 serve_board(rt, alloc, server, board)
@@ -168,7 +169,8 @@ fn serve_board<
         + Sync
         + 'static,
 >(rt: &R, alloc: Global, server: &ServeTask<'_>, board: ServedBoard) -> Result<u8, RunFault>
-    requires { (1 ≤ board.sessions) × (board.sessions ≤ 64) }
+    requires sessions { (1 ≤ board.sessions) × (board.sessions ≤ 64) }
+    requires first { (1 ≤ board.first) × (board.first ≤ 65472) }
 {
     let listener = match listen(rt, server.port) {
         Ok(listener) => listener,
@@ -223,7 +225,8 @@ fn serve_file<
         + Sync
         + 'static,
 >(rt: &R, alloc: Global, server: &ServeTask<'_>, path: &str, key: HashKey) -> Result<u8, RunFault>
-    requires { (1 ≤ server.now.sessions) × (server.now.sessions ≤ 64) }
+    requires sessions { (1 ≤ server.now.sessions) × (server.now.sessions ≤ 64) }
+    requires first { (1 ≤ server.now.first) × (server.now.first ≤ 65472) }
 {
     let file = match open_kept(rt, alloc, path, server.rule) {
         Ok(file) => file,
@@ -240,6 +243,7 @@ fn serve_file<
     let mut sink = WriteSink::new(io::writer(rt));
     let board = KeptBoard {
         sessions: server.sessions,
+        first: server.first,
         key,
         file,
     };

@@ -45,10 +45,12 @@ pub record IsRenumberedAs (number : ℕ) (d : DocumentState) (bytes : List ℕ) 
 abbrev pub IsTaken : ℕ → DocumentState → List ℕ → Type 0
 IsTaken number d bytes = (g : Gathered) × IsGatheredAs d.rule bytes g × ((has_replica number d.edits ≡ true) ⊎ (has_replica number g.document.edits ≡ true))
 
--- they are not taken by that number, or have no union with the document then, and why
+-- neither has an edit of the replica; but they are not taken by that number, or have no union with the document then, and why
 pub record IsNotRenumbered (number : ℕ) (d : DocumentState) (bytes : List ℕ) (fault : DocumentFault) : Type 0 where
   pub gathered : Gathered
   pub told : IsGatheredAs d.rule bytes gathered
+  pub free : has_replica number d.edits ≡ false
+  pub free_there : has_replica number gathered.document.edits ≡ false
   pub refused : IsRenumbered number d.edits gathered.document (Err fault)
       ⊎ ((others : DocumentState) × IsRenumbered number d.edits gathered.document (Ok others) × IsMerged d others (Err fault))
 

@@ -4,19 +4,15 @@ ghost use Rattle.std.specs.Prelude.{IfErr, IfOk};
 ghost use Rattle.delta_exchange.specs.StateText.{IsStateText};
 ghost use Rattle.document_bodies.specs.Bodies.{AreEditsUnder};
 ghost use Rattle.edit_stamps.specs.Edit.{greatest};
-ghost use Rattle.replica_core.specs.Fault.{IsWant};
-ghost use Rattle.genedit_documents.specs.Holding.{IsAsState};
+ghost use Rattle.genedit_documents.specs.Holding.{IsAsState, IsHoldingWant};
 ghost use Rattle.genedit_documents.specs.Listing.{first_of};
 
-use crate::holding::replica_of;
+use crate::holding::{NUMBER, replica_of};
 use documents::{DocumentFault, ListedEdits, read_edits};
 use kept_records::next_record;
 use keyed_hash::HashKey;
 use replica_core::Fault;
 use std::alloc::Global;
-
-/// Some replica's number: none of its own is drawn.
-const NUMBER: u16 = 1;
 
 /// Why a document is not made a state.
 #[derive(Clone, Copy, Debug, PartialEq, Eq)]
@@ -76,7 +72,7 @@ fn state_text(
 ) -> Result<Vec<u8>, Fault>
     requires { AreEditsUnder listed.now.rule listed.now.edits.items }
     ensures text { IfOk result (λ text. IsStateText listed.now.rule (greatest (first_of most listed.now.edits.items)) text.items) }
-    ensures want { IfErr result IsWant }
+    ensures want { IfErr result (IsHoldingWant (first_of most listed.now.edits.items)) }
 {
     let replica = replica_of(alloc, listed, most, NUMBER, key)?;
     match replica.state() {

@@ -37,7 +37,11 @@ abbrev pub needs_server : ClientCommand → Bool
 needs_server (command.Draw drawing) = true
 needs_server (command.Copy at) = true
 needs_server (command.Or at) = true
+needs_server command.Undo = true
+needs_server command.Redo = true
+needs_server (command.Count generation) = true
 needs_server (command.Export generation file) = true
+needs_server (command.Cut window generation file) = true
 needs_server command.Poll = true
 needs_server (command.Wait wait) = true
 needs_server (command.Save file) = true

@@ -16,7 +16,11 @@ abbrev pub asks_ahead : ClientCommand → Bool → Bool
 asks_ahead (command.Draw drawing) awaited = not awaited
 asks_ahead (command.Copy at) awaited = not awaited
 asks_ahead (command.Or at) awaited = not awaited
+asks_ahead command.Undo awaited = not awaited
+asks_ahead command.Redo awaited = not awaited
+asks_ahead (command.Count generation) awaited = true
 asks_ahead (command.Export generation file) awaited = true
+asks_ahead (command.Cut window generation file) awaited = true
 asks_ahead command.Poll awaited = true
 asks_ahead (command.Wait wait) awaited = true
 asks_ahead (command.Save file) awaited = true

@@ -62,7 +62,11 @@ pub(crate) fn needs_server(command: &ClientCommand) -> bool
         ClientCommand::Draw(_)
         | ClientCommand::Copy(_)
         | ClientCommand::Or(_)
+        | ClientCommand::Undo
+        | ClientCommand::Redo
+        | ClientCommand::Count(_)
         | ClientCommand::Export(_, _)
+        | ClientCommand::Cut(_, _, _)
         | ClientCommand::Poll
         | ClientCommand::Wait(_)
         | ClientCommand::Save(_)

@@ -578,7 +578,10 @@ fn asks_ahead(command: &ClientCommand, awaited: bool) -> bool
 {
     match command {
         ClientCommand::Draw(_) | ClientCommand::Copy(_) | ClientCommand::Or(_) => !awaited,
-        ClientCommand::Export(_, _)
+        ClientCommand::Undo | ClientCommand::Redo => !awaited,
+        ClientCommand::Count(_)
+        | ClientCommand::Export(_, _)
+        | ClientCommand::Cut(_, _, _)
         | ClientCommand::Poll
         | ClientCommand::Wait(_)
         | ClientCommand::Save(_) => true,

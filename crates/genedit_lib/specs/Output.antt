@@ -2,6 +2,8 @@
 use Rattle.std.specs.Prelude.{◌≡◌, ℕ, List, [], ◌∷◌, ◌++◌, length, map, if◌then◌else◌, codes, decimal, bytes_eq, option_map, Option, Some, None, Result, Ok, Err}
 use Rattle.std.specs.Fmt.{signed_decimal}
 use Rattle.multistate_rle.specs.declared.fault.RleFault.{RleFault}
+use Rattle.export.specs.declared.asking.Count.{Count}
+use Rattle.pattern_cells.specs.declared.window.Window.{Window}
 use Rattle.pattern_cells.specs.Pattern.{RlePattern}
 use Rattle.multistate_rle.specs.Reading.{parsed}
 use Rattle.multistate_rle.specs.RleFault.{text_fault_number, text_fault_text}
@@ -11,7 +13,7 @@ use Rattle.replica_events.specs.declared.event.Event.{Event}
 use Rattle.replica_events.specs.declared.event.Event.TheVariants.{Draw}
 use Rattle.hex.specs.Hex.{encode_lower}
 use Rattle.replica_core.specs.declared.event.Reply.{Reply}
-use Rattle.replica_core.specs.declared.event.Reply.TheVariants.{Drawn, Sent, Taken, Shown, Same, Bytes, Text, Refused}
+use Rattle.replica_core.specs.declared.event.Reply.TheVariants.{Drawn, Sent, Taken, Shown, Same, Bytes, Text, Counted, Refused}
 use Rattle.replica_events.specs.declared.edit_spec.EditSpec.{EditSpec}
 use Rattle.replica_events.specs.declared.edit_spec.EditSpec.TheVariants.{Copy, Or}
 use Rattle.replica_core.specs.Fault.{replica_fault_number, replica_fault_text}
@@ -39,6 +41,10 @@ pub data OutputLine : Type 0 where
 abbrev pub stamp_text : ℕ → List ℕ
 stamp_text stamp = decimal (counter_in stamp) ++ codes " " ++ decimal (replica_in stamp)
 
+-- what took something back, by what is said of it, and its counter and replica
+abbrev pub taken_back_line : List ℕ → ℕ → List ℕ
+taken_back_line said stamp = said ++ codes " " ++ stamp_text stamp ++ codes "\n"
+
 -- state, counter and replica
 abbrev pub write_text : Write → List ℕ
 write_text write = codes "cell " ++ decimal write.state ++ codes " " ++ stamp_text write.stamp
@@ -46,6 +52,16 @@ write_text write = codes "cell " ++ decimal write.state ++ codes " " ++ stamp_te
 -- a refusal by its number and its name
 abbrev pub refused_text : ℕ → List ℕ → List ℕ
 refused_text number name = codes "refused " ++ decimal number ++ codes " " ++ name
+
+-- the corner and the sides of the least box that has some cells; nothing where there is none
+abbrev pub box_text : Option Window → List ℕ
+box_text None = []
+box_text (Some box) =
+    codes " box " ++ signed_decimal box.x ++ codes " " ++ signed_decimal box.y ++ codes " " ++ decimal box.width ++ codes " " ++ decimal box.height
+
+-- how many cells there are, and where
+abbrev pub count_line : Count → List ℕ
+count_line count = codes "cells " ++ decimal count.cells ++ box_text count.extent ++ codes "\n"
 
 -- what is printed of a reply, with the end of its line; an RLE text has its own
 abbrev pub reply_line : Reply → List ℕ
@@ -56,6 +72,7 @@ reply_line (Shown write) = write_text write ++ codes "\n"
 reply_line (Same same) = if same then codes "same\n" else codes "differ\n"
 reply_line (Bytes text) = encode_lower text ++ codes "\n"
 reply_line (Text text) = text
+reply_line (Counted count) = count_line count
 reply_line (Refused fault) = refused_text (replica_fault_number fault) (replica_fault_text fault) ++ codes "\n"
 
 -- ---- the lines of patterns

@@ -14,7 +14,9 @@ pub use edit_lines::{push_cells, push_edit, push_edits};
 pub use genedit_io::RunFault;
 pub use laws::output_laws;
 pub use naming::give_name;
-pub use output::{no_pattern_text, pattern_text, push_line, push_text, text_refusal};
+pub use output::{
+    no_pattern_text, pattern_text, push_line, push_taken_back, push_text, text_refusal,
+};
 pub use patterns::Patterns;
 pub use plan::{Plan, PlannedLine, planned};
 pub use run::{run_script, run_script_within};

@@ -5,16 +5,16 @@ ghost use Rattle.std.specs.Fmt.{signed_decimal};
 ghost use mathlib.Core.List.{IsPrefix};
 ghost use Rattle.hex.specs.Hex.{encode_lower};
 ghost use Rattle.multistate_rle.specs.RleFault.{text_fault_number, text_fault_text};
-ghost use Rattle.genedit_lib.specs.Output.{no_pattern_line, filled, pattern_line, refused_text, reply_line, stamp_text, write_text};
+ghost use Rattle.genedit_lib.specs.Output.{box_text, count_line, no_pattern_line, filled, pattern_line, refused_text, reply_line, stamp_text, taken_back_line, write_text};
 ghost use Rattle.genedit_lib.specs.Plan.{line_of};
 
 use crate::plan::PlannedLine;
 use crate::step::Text;
-use edit_stamps::{Write, counter_of, replica_of};
+use edit_stamps::{Stamp, Write, counter_of, replica_of};
 use itoa::Buffer;
 use multistate_rle::RleFault;
-use pattern_cells::Pattern;
-use replica_core::Reply;
+use pattern_cells::{Pattern, Window};
+use replica_core::{Count, Reply};
 use std::alloc::{AllocError, Global};
 
 /// The lines, with the replies in their places.
@@ -130,12 +130,50 @@ pub fn push_line(alloc: Global, out: &mut Vec<u8>, reply: &Reply) -> Result<(), 
             out.extend_from_slice(b"\n")
         }
         Reply::Text(text) => out.extend_from_slice(text.as_slice()),
+        Reply::Counted(count) => push_count(out, count),
         Reply::Refused(fault) => {
             let name = fault.to_string(alloc)?;
             push_refusal(out, fault.number(), name.as_bytes())?;
             out.extend_from_slice(b"\n")
         }
     }
+}
+
+/// The line of an edit that took something back, by what is said of it, as `undone C R`.
+pub fn push_taken_back(out: &mut Vec<u8>, said: &str, stamp: Stamp) -> Result<(), AllocError>
+    ensures told { OnOk result (out.new.items ≡ out.old.items ++ taken_back_line said.now stamp) }
+    ensures kept { OnErr result (IsPrefix out.old.items out.new.items) }
+{
+    out.extend_from_slice(said.as_bytes())?;
+    out.push(b' ')?;
+    push_stamp(out, stamp.number())?;
+    out.extend_from_slice(b"\n")
+}
+
+/// How many cells there are, and where.
+fn push_count(out: &mut Vec<u8>, count: &Count) -> Result<(), AllocError>
+    ensures told { OnOk result (out.new.items ≡ out.old.items ++ count_line count.now) }
+    ensures kept { OnErr result (IsPrefix out.old.items out.new.items) }
+{
+    out.extend_from_slice(b"cells ")?;
+    out.extend_from_slice(Buffer::new().format(count.cells).as_bytes())?;
+    push_extent(out, count.extent)?;
+    out.extend_from_slice(b"\n")
+}
+
+/// The corner and the sides of the least box that has some cells; nothing where there is none.
+fn push_extent(out: &mut Vec<u8>, extent: Option<Window>) -> Result<(), AllocError>
+    ensures told { OnOk result (out.new.items ≡ out.old.items ++ box_text extent) }
+    ensures kept { OnErr result (IsPrefix out.old.items out.new.items) }
+{
+    let Some(window) = extent else {
+        return Ok(());
+    };
+    out.extend_from_slice(b" box")?;
+    push_coordinate(out, window.x)?;
+    push_coordinate(out, window.y)?;
+    push_apart(out, u64::from(window.width))?;
+    push_apart(out, u64::from(window.height))
 }
 
 /// Two digits for each byte, in lower case.

@@ -11,7 +11,8 @@ use Rattle.text_scan.specs.Bytes.{◌>=>◌}
 use Rattle.text_scan.specs.Words.{words}
 use Rattle.edit_stamps.specs.declared.rect.Rect.{Rect}
 use Rattle.replica_events.specs.declared.event.Event.{Event}
-use Rattle.replica_events.specs.declared.event.Event.TheVariants.{Draw, SendDelta, SendState, Deliver, Show, Same, Dump, Export}
+use Rattle.pattern_cells.specs.declared.window.Window.{Window}
+use Rattle.replica_events.specs.declared.event.Event.TheVariants.{Draw, SendDelta, SendState, Deliver, Show, Same, Dump, Export, Cut, Count}
 use Rattle.replica_events.specs.declared.edit_spec.EditSpec.TheVariants.{Cells, Clear}
 use Rattle.command_words.specs.declared.dialect.Dialect.TheVariants.{Script}
 use Rattle.command_words.specs.declared.keyword.Keyword.TheVariants as keyword
@@ -45,6 +46,10 @@ replicas_asked line = elim line.keyword [ keyword.Replicas ↦ Some line.replica
 abbrev pub opening_asked : SpelledValue → Option (List ℕ)
 opening_asked line = elim line.keyword [ keyword.Pattern ↦ Some line.name | _ ↦ None ]
 
+-- a window, by its corner and its sides
+abbrev pub window_of : SpelledValue → Window
+window_of line = record { x = line.x; y = line.y; width = line.width; height = line.height }
+
 -- a corner and two sides
 abbrev pub area_of : SpelledValue → Rect
 area_of line = record { x = line.x; y = line.y; width = line.width; height = line.height }
@@ -64,6 +69,8 @@ event_asked line = elim line.keyword [
   | keyword.Same ↦ Some (Same line.replica line.other_replica)
   | keyword.Dump ↦ Some (Dump line.message)
   | keyword.Export ↦ Some (Export line.replica line.generation)
+  | keyword.Cut ↦ Some (Cut line.replica (window_of line) line.generation)
+  | keyword.Count ↦ Some (Count line.replica line.generation)
   | _ ↦ None
 ]
 

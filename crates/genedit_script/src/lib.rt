@@ -14,4 +14,4 @@ pub use fault::ScriptFault;
 pub use laws::script_laws;
 pub use line::{Lines, ScriptLine, says_something, without_return};
 pub use script::{Script, read_script};
-pub use spelling::{area_of, command_in, opened_in, replicas_in, rule_in};
+pub use spelling::{area_of, command_in, opened_in, replicas_in, rule_in, window_of};

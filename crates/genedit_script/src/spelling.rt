@@ -6,12 +6,13 @@ ghost use Rattle.replica_events.specs.declared.event.Event.TheVariants.{Draw};
 ghost use Rattle.replica_events.specs.declared.edit_spec.EditSpec.TheVariants.{Cells};
 ghost use Rattle.command_words.specs.Spelled.{spelled_of};
 ghost use Rattle.command_words.specs.Values.{cells_spelled};
-ghost use Rattle.genedit_script.specs.Script.{area_of, command_asked, command_spelled, event_asked, opening_spelled, paste_of, replicas_spelled, rule_spelled};
+ghost use Rattle.genedit_script.specs.Script.{area_of, command_asked, command_spelled, event_asked, opening_spelled, paste_of, replicas_spelled, rule_spelled, window_of};
 
 use crate::command::{Command, Paste, PatternName};
 use command_words::{Dialect, Keyword, Spelled, cells_in, read_line};
 use edit_stamps::Rect;
 use generations_rule::Rule;
+use pattern_cells::Window;
 use replica_events::{CellList, EditSpec, Event};
 use std::alloc::{AllocError, Global};
 
@@ -87,6 +88,8 @@ fn event_asked(alloc: Global, spelled: &Spelled<'_>) -> Result<Option<Event>, Al
         Keyword::Same => Event::Same(replica, spelled.other_replica),
         Keyword::Dump => Event::Dump(u64::from(spelled.message)),
         Keyword::Export => Event::Export(replica, spelled.generation),
+        Keyword::Cut => Event::Cut(replica, window_of(spelled), spelled.generation),
+        Keyword::Count => Event::Count(replica, spelled.generation),
         _ => return Ok(None),
     };
     Ok(Some(event))
@@ -108,6 +111,18 @@ pub fn area_of(spelled: &Spelled<'_>) -> Rect
     ensures { result ≡ area_of (spelled_of spelled.now) }
 {
     Rect {
+        x: spelled.x,
+        y: spelled.y,
+        width: spelled.width,
+        height: spelled.height,
+    }
+}
+
+/// The window that a line tells: its corner, its width and its height.
+pub fn window_of(spelled: &Spelled<'_>) -> Window
+    ensures { result ≡ window_of (spelled_of spelled.now) }
+{
+    Window {
         x: spelled.x,
         y: spelled.y,
         width: spelled.width,

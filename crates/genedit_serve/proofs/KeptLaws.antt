@@ -23,23 +23,23 @@ use Rattle.genedit_serve.proofs.ServingLaws.{numbered}
 -- ---- seats
 
 -- the first of fresh seats are fresh
-front_fresh : (rule : GenerationsRule) (room n : ℕ) (xs : List Seating) (x : Seating) → AllFresh rule room n (xs ++ x ∷ []) → AllFresh rule room n xs
-front_fresh rule room n [] x all = tt
-front_fresh rule room n (y ∷ xs) x all = (all.0, front_fresh rule room (n + 1) xs x all.1)
+front_fresh : (start : ℕ) (rule : GenerationsRule) (room n : ℕ) (xs : List Seating) (x : Seating) → AllFresh start rule room n (xs ++ x ∷ []) → AllFresh start rule room n xs
+front_fresh start rule room n [] x all = tt
+front_fresh start rule room n (y ∷ xs) x all = (all.0, front_fresh start rule room (n + 1) xs x all.1)
 
 -- and the last stands behind them
-last_place : (rule : GenerationsRule) (room n : ℕ) (xs : List Seating) (x : Seating) → AllFresh rule room n (xs ++ x ∷ []) → x.place ≡ n + length xs
-last_place rule room n [] x all = ap (λ (s : Seating). s.place) all.0 ∙ omega arith
-last_place rule room n (y ∷ xs) x all = last_place rule room (n + 1) xs x all.1 ∙ omega arith
+last_place : (start : ℕ) (rule : GenerationsRule) (room n : ℕ) (xs : List Seating) (x : Seating) → AllFresh start rule room n (xs ++ x ∷ []) → x.place ≡ n + length xs
+last_place start rule room n [] x all = ap (λ (s : Seating). s.place) all.0 ∙ omega arith
+last_place start rule room n (y ∷ xs) x all = last_place start rule room (n + 1) xs x all.1 ∙ omega arith
 
 -- seats that are raised stand where they stood
 raised_numbered : (newest : List ℕ) (n : ℕ) (ss : List Seating) → Numbered n ss → Numbered n (map (raised newest) ss)
 raised_numbered newest n [] order = tt
 raised_numbered newest n (s ∷ ss) order = (order.0, raised_numbered newest (n + 1) ss order.1)
 
-module _ (rule : GenerationsRule) (count : ℕ) (newest : List ℕ) (before after : List Seating) (file : Seating) (fresh : AllFresh rule 64 0 before) (many : length before ≡ count) (are : AreRaised newest before after file) where
-  all_fresh : AllFresh rule 64 0 (are.first ++ are.last ∷ [])
-  all_fresh = subst (AllFresh rule 64 0) are.all fresh
+module _ (start : ℕ) (rule : GenerationsRule) (count : ℕ) (newest : List ℕ) (before after : List Seating) (file : Seating) (fresh : AllFresh start rule 64 0 before) (many : length before ≡ count) (are : AreRaised newest before after file) where
+  all_fresh : AllFresh start rule 64 0 (are.first ++ are.last ∷ [])
+  all_fresh = subst (AllFresh start rule 64 0) are.all fresh
 
   counted : length are.first + 1 ≡ count
   counted = sym (length-append are.first (are.last ∷ [])) ∙ (sym (ap length are.all) ∙ many)
@@ -48,13 +48,13 @@ module _ (rule : GenerationsRule) (count : ℕ) (newest : List ℕ) (before afte
   long = ap length are.raised ∙ length-map are.first (raised newest)
 
   -- what a file had stands on a board: its seats are those of a kept board
-  pub kept_seats : (edits : List Entry) → file.mine ≡ edits → RiseByReplica (edits_of edits) → AreNewestOf (edits_of edits) newest → AreKeptSeats rule (count - 1) after file
+  pub kept_seats : (edits : List Entry) → file.mine ≡ edits → RiseByReplica (edits_of edits) → AreNewestOf (edits_of edits) newest → AreKeptSeats rule start (count - 1) after file
   kept_seats edits mine rise counters = record {
     rise = subst (λ (l : List Entry). RiseByReplica (edits_of l)) (sym mine) rise;
     newest = newest;
     counters = subst (λ (l : List Entry). AreNewestOf (edits_of l) newest) (sym mine) counters;
     unused = are.first;
-    fresh = (front_fresh rule 64 0 are.first are.last all_fresh, omega (arith, counted));
+    fresh = (front_fresh start rule 64 0 are.first are.last all_fresh, omega (arith, counted));
     raised = are.raised;
   }
 
@@ -62,8 +62,8 @@ module _ (rule : GenerationsRule) (count : ℕ) (newest : List ℕ) (before afte
   pub kept_order : (made : ℕ) → made ≡ count → AreInOrder made after file
   kept_order made all = record {
     all = all ∙ (sym counted ∙ ap (λ n. n + 1) (sym long));
-    order = subst (Numbered 0) (sym are.raised) (raised_numbered newest 0 are.first (numbered rule 64 0 are.first (front_fresh rule 64 0 are.first are.last all_fresh)));
-    last = are.same.place ∙ (last_place rule 64 0 are.first are.last all_fresh ∙ omega (arith, long));
+    order = subst (Numbered 0) (sym are.raised) (raised_numbered newest 0 are.first (numbered start rule 64 0 are.first (front_fresh start rule 64 0 are.first are.last all_fresh)));
+    last = are.same.place ∙ (last_place start rule 64 0 are.first are.last all_fresh ∙ omega (arith, long));
   }
 
 -- ---- ends

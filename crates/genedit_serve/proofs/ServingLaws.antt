@@ -21,9 +21,9 @@ use Rattle.genedit_serve.specs.Faults.{run_fault_of_server}
 use Rattle.genedit_serve.specs.Serving.{AreFreshSeats, Fails, IsFreshRelay, IsGivenUp, IsUnserved, Listens, ServesAt}
 
 -- fresh seats stand in the order of their numbers
-pub numbered : (rule : GenerationsRule) (room n : ℕ) (seats : List Seating) → AllFresh rule room n seats → Numbered n seats
-numbered rule room n [] fresh = tt
-numbered rule room n (s ∷ seats) fresh = (ap (λ (s : Seating). s.place) fresh.0, numbered rule room (n + 1) seats fresh.1)
+pub numbered : (first : ℕ) (rule : GenerationsRule) (room n : ℕ) (seats : List Seating) → AllFresh first rule room n seats → Numbered n seats
+numbered first rule room n [] fresh = tt
+numbered first rule room n (s ∷ seats) fresh = (ap (λ (s : Seating). s.place) fresh.0, numbered first rule room (n + 1) seats fresh.1)
 
 -- a push of these bytes that did not fail, whatever its faults would be
 made : {A E : Type 0} (from to : KnownSink) (done : A) (bytes text : List ℕ) → bytes ≡ text → IsPush {A = A} {E = E} from to (Ok done) bytes
@@ -36,30 +36,30 @@ pub listens : {A E : Type 0} (from to : KnownSink) (port : ℕ) (line : List ℕ
 listens from to port line done is_line listened = made from to done line (listening_line port) is_line listened
 
 -- no seat was served, and nothing pushed
-pub unattended : (rule : GenerationsRule) (sessions port : ℕ) (from : KnownSink) (cause : ServerFault) (fault : RunFault) → IsAttendFault cause → fault ≡ run_fault_of_server cause → IsGivenUp rule sessions port from from fault
-unattended rule sessions port from cause fault attend told = subst (λ (f : RunFault). IsGivenUp rule sessions port from from f) (sym told) (by_cause cause attend)
+pub unattended : (rule : GenerationsRule) (first sessions port : ℕ) (from : KnownSink) (cause : ServerFault) (fault : RunFault) → IsAttendFault cause → fault ≡ run_fault_of_server cause → IsGivenUp rule first sessions port from from fault
+unattended rule first sessions port from cause fault attend told = subst (λ (f : RunFault). IsGivenUp rule first sessions port from from f) (sym told) (by_cause cause attend)
   where
-    by_cause : (cause : ServerFault) → IsAttendFault cause → IsGivenUp rule sessions port from from (run_fault_of_server cause)
+    by_cause : (cause : ServerFault) → IsAttendFault cause → IsGivenUp rule first sessions port from from (run_fault_of_server cause)
     by_cause server.Read attend = inl refl
     by_cause (server.Turn fault) attend = absurd attend
     by_cause (server.Finish fault) attend = absurd attend
     by_cause server.Memory attend = inl refl
 
 -- the line of the port was not pushed
-pub untold : (rule : GenerationsRule) (sessions port : ℕ) (from to : KnownSink) (fault : RunFault) → ((fault ≡ Memory) × (to ≡ from)) ⊎ ((fault ≡ Write) × Fails from to) → IsGivenUp rule sessions port from to fault
-untold rule sessions port from to fault (inl want) = subst (λ (f : RunFault). IsGivenUp rule sessions port from to f) (sym want.0) (inl want.1)
-untold rule sessions port from to fault (inr fails) = subst (λ (f : RunFault). IsGivenUp rule sessions port from to f) (sym fails.0) (inl fails.1)
+pub untold : (rule : GenerationsRule) (first sessions port : ℕ) (from to : KnownSink) (fault : RunFault) → ((fault ≡ Memory) × (to ≡ from)) ⊎ ((fault ≡ Write) × Fails from to) → IsGivenUp rule first sessions port from to fault
+untold rule first sessions port from to fault (inl want) = subst (λ (f : RunFault). IsGivenUp rule first sessions port from to f) (sym want.0) (inl want.1)
+untold rule first sessions port from to fault (inr fails) = subst (λ (f : RunFault). IsGivenUp rule first sessions port from to f) (sym fails.0) (inl fails.1)
 
-module _ (rule : GenerationsRule) (sessions : ℕ) (from between : KnownSink) (port : ℕ) (told : Listens port from between) where
+module _ (rule : GenerationsRule) (first sessions : ℕ) (from between : KnownSink) (port : ℕ) (told : Listens port from between) where
   -- the port was told, and nothing behind it
-  pub unserved : (relay : Relaying) (seats : List Seating) (cause : ServerFault) (fault : RunFault) → IsFreshRelay sessions relay → AreFreshSeats rule sessions seats
-      → IsReason 1000 relay seats cause → fault ≡ run_fault_of_server cause → IsGivenUp rule sessions port from between fault
-  unserved relay seats cause fault board fresh reason is = subst (λ (f : RunFault). IsGivenUp rule sessions port from between f) (sym is) (by_cause cause reason)
+  pub unserved : (relay : Relaying) (seats : List Seating) (cause : ServerFault) (fault : RunFault) → IsFreshRelay sessions relay → AreFreshSeats rule first sessions seats
+      → IsReason 1000 relay seats cause → fault ≡ run_fault_of_server cause → IsGivenUp rule first sessions port from between fault
+  unserved relay seats cause fault board fresh reason is = subst (λ (f : RunFault). IsGivenUp rule first sessions port from between f) (sym is) (by_cause cause reason)
     where
-      so : (cause : ServerFault) → IsReason 1000 relay seats cause → IsUnserved rule sessions port from between (run_fault_of_server cause)
+      so : (cause : ServerFault) → IsReason 1000 relay seats cause → IsUnserved rule first sessions port from between (run_fault_of_server cause)
       so cause reason = record { listens = told; relay = relay; board = board; seats = seats; fresh = fresh; cause = cause; told = refl; reason = reason }
 
-      by_cause : (cause : ServerFault) → IsReason 1000 relay seats cause → IsGivenUp rule sessions port from between (run_fault_of_server cause)
+      by_cause : (cause : ServerFault) → IsReason 1000 relay seats cause → IsGivenUp rule first sessions port from between (run_fault_of_server cause)
       by_cause server.Read reason = inr told
       by_cause (server.Turn turn.StoreFull) reason = so (server.Turn turn.StoreFull) reason
       by_cause (server.Turn turn.Memory) reason = inr told
@@ -70,8 +70,8 @@ module _ (rule : GenerationsRule) (sessions : ℕ) (from between : KnownSink) (p
 
   -- the closing lines were pushed too, or that failed
   pub ends : {T : Type 0} (board : Origin) (seats : List Seating) (finished : FinishedValue) (to : KnownSink) (r : Result T RunFault) (text : List ℕ)
-      → board.states ≡ rule.states → AreFreshSeats rule sessions seats → IsServed board seats finished → text ≡ closing_text finished → IsPush between to r text → IfErr r (λ fault. fault ≡ Write)
-      → ServesAt rule sessions port from to r
+      → board.states ≡ rule.states → AreFreshSeats rule first sessions seats → IsServed board seats finished → text ≡ closing_text first finished → IsPush between to r text → IfErr r (λ fault. fault ≡ Write)
+      → ServesAt rule first sessions port from to r
   ends board seats finished to (Ok t) text states fresh served is_text pushed fault = record {
     board = board;
     states = states;
@@ -81,10 +81,10 @@ module _ (rule : GenerationsRule) (sessions : ℕ) (from between : KnownSink) (p
     served = served;
     between = between;
     listens = told;
-    closes = made between to t text (closing_text finished) is_text pushed;
+    closes = made between to t text (closing_text first finished) is_text pushed;
   }
   ends board seats finished to (Err fault) text states fresh served is_text pushed is =
-      subst (λ (f : RunFault). IsGivenUp rule sessions port from to f) (sym is) (inr (between, told, (pushed.pushes, pushed.failures)))
+      subst (λ (f : RunFault). IsGivenUp rule first sessions port from to f) (sym is) (inr (between, told, (pushed.pushes, pushed.failures)))
 
 -- ---- the lines of the sessions
 

@@ -31,5 +31,6 @@ session_lines number _ _ = []
 abbrev pub closed_line : ℕ → List ℕ
 closed_line count = codes "closed " ++ (decimal count ++ codes "\n")
 
-abbrev pub closing_text : FinishedValue → List ℕ
-closing_text f = session_lines 1 f.account.accepted f.ends ++ closed_line (f.account.before + length f.account.published)
+-- the lines of seats that are numbered from the first on, and that of the published list
+abbrev pub closing_text : ℕ → FinishedValue → List ℕ
+closing_text first f = session_lines first f.account.accepted f.ends ++ closed_line (f.account.before + length f.account.published)

@@ -53,12 +53,12 @@ IsUntold edits lost from to StoreFull = ⊥
 
 -- The file's seat brought what the file had, no two edits of one stamp. Nothing was done with the seats of sessions; each
 -- edit of theirs has to be newer than those of its number that the file had.
-pub record AreKeptSeats (r : GenerationsRule) (sessions : ℕ) (seats : List Seating) (file : Seating) : Type 0 where
+pub record AreKeptSeats (r : GenerationsRule) (first sessions : ℕ) (seats : List Seating) (file : Seating) : Type 0 where
   pub rise : RiseByReplica (edits_of file.mine)
   pub newest : List ℕ
   pub counters : AreNewestOf (edits_of file.mine) newest
   pub unused : List Seating
-  pub fresh : AreFreshSeats r sessions unused
+  pub fresh : AreFreshSeats r first sessions unused
   pub raised : seats ≡ map (raised newest) unused
 
 -- the seats stand at their places, the file's behind them, and there are no others
@@ -70,18 +70,18 @@ pub record AreInOrder (made : ℕ) (seats : List Seating) (file : Seating) : Typ
 -- A board under the rule was served to its end, with what its file had: of so many seats each was served over streams that
 -- nobody had used before, one after another. The lines were pushed that tell how many edits were opened again, and the port; behind them those of the sessions and
 -- of the published list, in which stands what was opened.
-pub record IsServedKept (r : GenerationsRule) (sessions port : ℕ) (from to : KnownSink) : Type 0 where
+pub record IsServedKept (r : GenerationsRule) (first sessions port : ℕ) (from to : KnownSink) : Type 0 where
   pub board : Origin
   pub states : board.states ≡ r.states
   pub seats : List Seating
   pub file : Seating
-  pub are : AreKeptSeats r sessions seats file
+  pub are : AreKeptSeats r first sessions seats file
   pub finished : FinishedValue
   pub served : IsServedBeside board seats file finished
   pub lost : ℕ
   pub between : KnownSink
   pub tells : TellsKept (length file.mine) lost port from between
-  pub closes : Pushes between to (closing_text finished)
+  pub closes : Pushes between to (closing_text first finished)
 
 -- nothing was pushed; or the line of the file, or that of the port too
 abbrev pub IsToldSoFar : ℕ → KnownSink → KnownSink → Type 0
@@ -98,10 +98,10 @@ IsKeptGivenUp port from to Memory = IsToldSoFar port from to
 IsKeptGivenUp port from to StoreFull = IsToldSoFar port from to
 
 -- by its result, where it listens at a port
-abbrev pub ServesKeptAt : {A : Type 0} → GenerationsRule → ℕ → ℕ → KnownSink → KnownSink → Result A FileRefusal → Type 0
-ServesKeptAt r sessions port from to (Ok done) = IsServedKept r sessions port from to
-ServesKeptAt r sessions port from to (Err refusal) = IsKeptGivenUp port from to refusal.fault
+abbrev pub ServesKeptAt : {A : Type 0} → GenerationsRule → ℕ → ℕ → ℕ → KnownSink → KnownSink → Result A FileRefusal → Type 0
+ServesKeptAt r first sessions port from to (Ok done) = IsServedKept r first sessions port from to
+ServesKeptAt r first sessions port from to (Err refusal) = IsKeptGivenUp port from to refusal.fault
 
 -- the same at the port of its listener, of which contracts know nothing
-abbrev pub ServesKept : {A : Type 0} → GenerationsRule → ℕ → KnownSink → KnownSink → Result A FileRefusal → Type 0
-ServesKept r sessions from to result = (port : ℕ) × ServesKeptAt r sessions port from to result
+abbrev pub ServesKept : {A : Type 0} → GenerationsRule → ℕ → ℕ → KnownSink → KnownSink → Result A FileRefusal → Type 0
+ServesKept r first sessions from to result = (port : ℕ) × ServesKeptAt r first sessions port from to result

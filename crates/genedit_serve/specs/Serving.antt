@@ -28,23 +28,23 @@ Fails from to = (to.pushes ≡ one_more from.pushes) × (to.failures ≡ one_mor
 abbrev pub Listens : ℕ → KnownSink → KnownSink → Type 0
 Listens port from to = Pushes from to (listening_line port)
 
--- so many seats that nothing was done with, over an inbox for 64 submissions
-abbrev pub AreFreshSeats : GenerationsRule → ℕ → List Seating → Type 0
-AreFreshSeats r sessions seats = AllFresh r 64 0 seats × (length seats ≡ sessions)
+-- so many seats that nothing was done with, numbered from the first on, over an inbox for 64 submissions
+abbrev pub AreFreshSeats : GenerationsRule → ℕ → ℕ → List Seating → Type 0
+AreFreshSeats r first sessions seats = AllFresh first r 64 0 seats × (length seats ≡ sessions)
 
--- A board under the rule was served to its end: of so many seats that nothing had been done with, each was served over streams
+-- A board under the rule was served to its end: of so many seats that nothing had been done with, numbered from the first on, each was served over streams
 -- that nobody had used before; the line that tells the port was pushed, and behind it the lines of the seats and of the
 -- published list.
-pub record IsServedBoard (r : GenerationsRule) (sessions port : ℕ) (from to : KnownSink) : Type 0 where
+pub record IsServedBoard (r : GenerationsRule) (first sessions port : ℕ) (from to : KnownSink) : Type 0 where
   pub board : Origin
   pub states : board.states ≡ r.states
   pub seats : List Seating
-  pub fresh : AreFreshSeats r sessions seats
+  pub fresh : AreFreshSeats r first sessions seats
   pub finished : FinishedValue
   pub served : IsServed board seats finished
   pub between : KnownSink
   pub listens : Listens port from between
-  pub closes : Pushes between to (closing_text finished)
+  pub closes : Pushes between to (closing_text first finished)
 
 -- a relay of so many seats that has taken, kept and published nothing, with room for 2^26 squares
 pub record IsFreshRelay (sessions : ℕ) (relay : Relaying) : Type 0 where
@@ -57,12 +57,12 @@ pub record IsFreshRelay (sessions : ℕ) (relay : Relaying) : Type 0 where
 
 -- The line that tells the port was pushed, and the server of a fresh relay and its seats gave no account, for a reason
 -- that is told so.
-pub record IsUnserved (r : GenerationsRule) (sessions port : ℕ) (from to : KnownSink) (fault : RunFault) : Type 0 where
+pub record IsUnserved (r : GenerationsRule) (first sessions port : ℕ) (from to : KnownSink) (fault : RunFault) : Type 0 where
   pub listens : Listens port from to
   pub relay : Relaying
   pub board : IsFreshRelay sessions relay
   pub seats : List Seating
-  pub fresh : AreFreshSeats r sessions seats
+  pub fresh : AreFreshSeats r first sessions seats
   pub cause : ServerFault
   pub told : fault ≡ run_fault_of_server cause
   pub reason : IsReason 1000 relay seats cause
@@ -70,21 +70,21 @@ pub record IsUnserved (r : GenerationsRule) (sessions port : ℕ) (from to : Kno
 -- Why a board was not served to its end, and what was pushed by then: at most the line that tells the port. A fault of
 -- the sink comes only where this push failed, or the one behind it; a full store, only of a relay that was served; a
 -- refusal, only where there was no place at the start, or where the relay did not finish.
-abbrev pub IsGivenUp : GenerationsRule → ℕ → ℕ → KnownSink → KnownSink → RunFault → Type 0
-IsGivenUp r sessions port from to (Script line) = ⊥
-IsGivenUp r sessions port from to (Refused number place) =
-    ((Refused number place ≡ run_fault_of_start NoPlace) × (to ≡ from)) ⊎ IsUnserved r sessions port from to (Refused number place)
-IsGivenUp r sessions port from to Read = (to ≡ from) ⊎ Listens port from to
-IsGivenUp r sessions port from to Turns = ⊥
-IsGivenUp r sessions port from to Write = Fails from to ⊎ ((between : KnownSink) × Listens port from between × Fails between to)
-IsGivenUp r sessions port from to Memory = (to ≡ from) ⊎ Listens port from to
-IsGivenUp r sessions port from to StoreFull = IsUnserved r sessions port from to StoreFull
+abbrev pub IsGivenUp : GenerationsRule → ℕ → ℕ → ℕ → KnownSink → KnownSink → RunFault → Type 0
+IsGivenUp r first sessions port from to (Script line) = ⊥
+IsGivenUp r first sessions port from to (Refused number place) =
+    ((Refused number place ≡ run_fault_of_start NoPlace) × (to ≡ from)) ⊎ IsUnserved r first sessions port from to (Refused number place)
+IsGivenUp r first sessions port from to Read = (to ≡ from) ⊎ Listens port from to
+IsGivenUp r first sessions port from to Turns = ⊥
+IsGivenUp r first sessions port from to Write = Fails from to ⊎ ((between : KnownSink) × Listens port from between × Fails between to)
+IsGivenUp r first sessions port from to Memory = (to ≡ from) ⊎ Listens port from to
+IsGivenUp r first sessions port from to StoreFull = IsUnserved r first sessions port from to StoreFull
 
 -- by its result, where it listens at a port
-abbrev pub ServesAt : {A : Type 0} → GenerationsRule → ℕ → ℕ → KnownSink → KnownSink → Result A RunFault → Type 0
-ServesAt r sessions port from to (Ok done) = IsServedBoard r sessions port from to
-ServesAt r sessions port from to (Err fault) = IsGivenUp r sessions port from to fault
+abbrev pub ServesAt : {A : Type 0} → GenerationsRule → ℕ → ℕ → ℕ → KnownSink → KnownSink → Result A RunFault → Type 0
+ServesAt r first sessions port from to (Ok done) = IsServedBoard r first sessions port from to
+ServesAt r first sessions port from to (Err fault) = IsGivenUp r first sessions port from to fault
 
 -- the same at the port of its listener, of which contracts know nothing
-abbrev pub Serves : {A : Type 0} → GenerationsRule → ℕ → KnownSink → KnownSink → Result A RunFault → Type 0
-Serves r sessions from to result = (port : ℕ) × ServesAt r sessions port from to result
+abbrev pub Serves : {A : Type 0} → GenerationsRule → ℕ → ℕ → KnownSink → KnownSink → Result A RunFault → Type 0
+Serves r first sessions from to result = (port : ℕ) × ServesAt r first sessions port from to result

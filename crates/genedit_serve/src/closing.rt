@@ -31,13 +31,14 @@ pub fn kept_line(alloc: Global, edits: usize, lost: usize) -> Result<Vec<u8>, Al
     Ok(line)
 }
 
-/// A line for each seat's sessions, and a last one for the published list.
-pub fn closing(alloc: Global, finished: &Finished) -> Result<Vec<u8>, AllocError>
-    ensures { IfOk result (λ text. text.items ≡ closing_text finished.now) }
+/// A line for each seat's sessions, and a last one for the published list. The seats are numbered from `first` on.
+pub fn closing(alloc: Global, first: u16, finished: &Finished) -> Result<Vec<u8>, AllocError>
+    ensures { IfOk result (λ text. text.items ≡ closing_text first finished.now) }
 {
     let mut text = Vec::new(alloc);
     push_sessions(
         &mut text,
+        first,
         finished.account().accepted.as_slice(),
         finished.ends(),
     )?;
@@ -84,15 +85,16 @@ fn push_session(
     Ok(())
 }
 
-/// The lines of all sessions, in the order of their seats.
+/// The lines of all sessions, in the order of their seats, which are numbered from `first` on.
 fn push_sessions(
     out: &mut Vec<u8>,
+    first: u16,
     accepted: &[u64],
     ends: &[Option<SessionEnd>],
 ) -> Result<(), AllocError>
-    ensures { OnOk result (out.new.items ≡ out.old.items ++ session_lines 1 accepted.now ends.now) }
+    ensures { OnOk result (out.new.items ≡ out.old.items ++ session_lines first accepted.now ends.now) }
 {
-    let mut number: u64 = 1;
+    let mut number = u64::from(first);
     for (edits, end) in accepted.iter().zip(ends.iter()) {
         push_session(out, number, *edits, end)?;
         number += 1;

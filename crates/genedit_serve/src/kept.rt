@@ -49,6 +49,8 @@ use std::time::Clock;
 pub struct KeptBoard<'a, F: Files<File = File>> {
     /// How many seats it has for sessions, 1 to 64.
     pub sessions: u16,
+    /// The number of the first, 1 to 65,472; the others follow.
+    pub first: u16,
     /// By its hashes the planes find their squares.
     pub key: HashKey,
     pub file: KeptFile<'a, F>,
@@ -93,11 +95,13 @@ pub fn serve_kept_on<
     sink: &mut K,
 ) -> Result<(), FileRefusal>
     requires sessions { (1 ≤ board.sessions) × (board.sessions ≤ 64) }
+    requires first { (1 ≤ board.first) × (board.first ≤ 65472) }
     requires file { IsKeptFile board.file.rule board.file.found.parts.head board.file.found.parts.bodies.items board.file.found.bytes.items board.file.found.parts.whole }
-    ensures { ServesKept board.entry.file.rule board.entry.sessions (K.known sink.old) (K.known sink.new) result }
+    ensures { ServesKept board.entry.file.rule board.entry.first board.entry.sessions (K.known sink.old) (K.known sink.new) result }
 {
     let KeptBoard {
         sessions,
+        first,
         key,
         file,
     } = board;
@@ -106,6 +110,7 @@ pub fn serve_kept_on<
     };
     let size = BoardSize {
         sessions,
+        first,
         is_kept: true,
         inbox: INBOX,
         limits: Limits::of_key(key),
@@ -152,9 +157,10 @@ fn serve<
     requires some { 0 < opened.count }
     requires rule { place.file.rule ≡ opened.rule }
     requires file { IsKeptFile place.file.rule place.file.found.parts.head place.file.found.parts.bodies.items place.file.found.bytes.items place.file.found.parts.whole }
-    ensures { ServesKeptAt opened.rule (opened.count - 1) place.entry.bound.port (K.known sink.old) (K.known sink.new) result }
+    ensures { ServesKeptAt opened.rule opened.first (opened.count - 1) place.entry.bound.port (K.known sink.old) (K.known sink.new) result }
 {
     let Place { file, bound } = place;
+    let first = opened.first;
     let prepared = match made_ready::<J, R>(rt, alloc, opened, file) {
         Ok(prepared) => prepared,
         Err(refusal) => return Err(refusal),
@@ -181,7 +187,7 @@ fn serve<
     let attendance = KeptAttendance { attendance, file };
     match seats_served(rt, alloc, keeper, attendance, doorway) {
         Err(refusal) => Err(refusal),
-        Ok(finished) => match closed(alloc, &finished, sink) {
+        Ok(finished) => match closed(alloc, first, &finished, sink) {
             Ok(()) => Ok(()),
             Err(fault) => Err(FileRefusal::from(fault)),
         },
@@ -242,7 +248,7 @@ fn made_ready<'a, J: Naming, R: Files<File = File> + Eprint + Wait + Drop>(
     requires some { 0 < opened.count }
     requires rule { file.rule ≡ opened.rule }
     requires file { IsKeptFile file.rule file.found.parts.head file.found.parts.bodies.items file.found.bytes.items file.found.parts.whole }
-    ensures seats { IfOk result (λ p. AreKeptSeats opened.rule (opened.count - 1) p.seats.seats.items p.seats.file) }
+    ensures seats { IfOk result (λ p. AreKeptSeats opened.rule opened.first (opened.count - 1) p.seats.seats.items p.seats.file) }
     ensures order { IfOk result (λ p. AreInOrder p.keeper.relay.made p.seats.seats.items p.seats.file) }
     ensures states { IfOk result (λ p. p.keeper.relay.origin.states ≡ opened.rule.states) }
     ensures edits { IfOk result (λ p. p.edits ≡ length p.seats.file.mine) }
@@ -278,11 +284,16 @@ fn made_ready<'a, J: Naming, R: Files<File = File> + Eprint + Wait + Drop>(
 }
 
 /// Pushes the closing lines.
-fn closed<K: Sink>(alloc: Global, finished: &Finished, sink: &mut K) -> Result<(), RunFault>
-    ensures closed { IfOk result (λ _. Pushes (K.known sink.old) (K.known sink.new) (closing_text finished.now)) }
+fn closed<K: Sink>(
+    alloc: Global,
+    first: u16,
+    finished: &Finished,
+    sink: &mut K,
+) -> Result<(), RunFault>
+    ensures closed { IfOk result (λ _. Pushes (K.known sink.old) (K.known sink.new) (closing_text first finished.now)) }
     ensures unclosed { IfErr result (λ fault. ((fault ≡ RunFault.Memory) × (K.known sink.new ≡ K.known sink.old)) ⊎ ((fault ≡ RunFault.Write) × Fails (K.known sink.old) (K.known sink.new))) }
 {
-    let text = closing(alloc, finished)?;
+    let text = closing(alloc, first, finished)?;
     push_output(sink, &text)
 }
 

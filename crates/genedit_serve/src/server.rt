@@ -45,6 +45,8 @@ pub struct ServedBoard {
     pub rule: Rule,
     /// How many seats it has, 1 to 64.
     pub sessions: u16,
+    /// The number of the first, 1 to 65,472; the others follow.
+    pub first: u16,
     /// By its hashes the planes find their squares. What a sender who does not know it can make them cost is
     /// what ordinary edits of that length cost.
     pub key: HashKey,
@@ -85,14 +87,16 @@ pub fn serve_on<
         + 'static,
     K: Sink,
 >(rt: R, alloc: Global, address: Address, board: ServedBoard, sink: &mut K) -> Result<(), RunFault>
-    requires { (1 ≤ board.sessions) × (board.sessions ≤ 64) }
-    ensures { Serves board.rule board.sessions (K.known sink.old) (K.known sink.new) result }
+    requires sessions { (1 ≤ board.sessions) × (board.sessions ≤ 64) }
+    requires first { (1 ≤ board.first) × (board.first ≤ 65472) }
+    ensures { Serves board.rule board.first board.sessions (K.known sink.old) (K.known sink.new) result }
 {
     let Ok(local) = address.listener.local_addr() else {
         return Err(RunFault::Read);
     };
     let size = BoardSize {
         sessions: board.sessions,
+        first: board.first,
         is_kept: false,
         inbox: INBOX,
         limits: Limits::of_key(board.key),
@@ -127,8 +131,9 @@ fn serve<
     requires inbox { (arc_value opened.drain.queue).table.shared.table_id ≡ J.inbox }
     requires room { ruled_capacity (arc_value opened.drain.queue) ≡ 64 }
     requires squares { opened.tried.store.room ≡ usual_room }
-    ensures { ServesAt opened.rule opened.count bound.port (K.known sink.old) (K.known sink.new) result }
+    ensures { ServesAt opened.rule opened.first opened.count bound.port (K.known sink.old) (K.known sink.new) result }
 {
+    let first = opened.first;
     let (relay, seats) = match opened.named::<J>() {
         Ok(named) => named,
         Err(fault) => return Err(start_fault(fault)),
@@ -148,7 +153,7 @@ fn serve<
     match seats_served(rt, alloc, relay, attendance, doorway) {
         Err(fault) => Err(server_fault(fault)),
         Ok(finished) => {
-            let text = closing(alloc, &finished)?;
+            let text = closing(alloc, first, &finished)?;
             push_output(sink, &text)
         }
     }

@@ -47,6 +47,13 @@ fn event_told(alloc: Global, event: &Event) -> Result<String, AllocError> {
         Event::Same(one, other) => format!(in alloc; "same {one} {other}"),
         Event::Dump(message) => format!(in alloc; "dump {message}"),
         Event::Export(replica, generation) => { format!(in alloc; "export {replica} {generation}") }
+        Event::Cut(replica, window, generation) => {
+            format!(in alloc;
+                "cut {replica} {} {} {} {} {generation}",
+                window.x, window.y, window.width, window.height
+            )
+        }
+        Event::Count(replica, generation) => { format!(in alloc; "count {replica} {generation}") }
     }
 }
 

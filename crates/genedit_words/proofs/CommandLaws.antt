@@ -19,7 +19,7 @@ use Rattle.clap.specs.declared.builder.value_parser.Reading.{Reading}
 use Rattle.clap.specs.declared.builder.value_parser.Reading.TheVariants as reading
 use Rattle.clap.specs.declared.builder.value_parser.ValueParser.TheVariants as vp
 use Rattle.genedit_words.specs.Given.{Has, HasClient, HasConversion, HasDiff, HasDraw, HasExport, HasFeed, HasFlag, HasFollow, HasLog, HasMerge, HasNew, HasNumber, HasNumbering, HasRule, HasServer, HasText, HasTexts, HasView, IsNamed, MayHaveNumber}
-use Rattle.genedit_words.specs.Words.{board_rule, check_shape, convert_shape, diff_shape, draw_shape, edits_option, every_option, export_shape, feed_shape, file_argument, flag, follow_shape, from_option, gen_option, generation_place, genedit_app, join_shape, log_shape, merge_shape, new_document_shape, number_shape, optional, others_argument, place_argument, port_option, renumber_option, replica_option, rle_shape, rule_option, run_shape, serve_shape, sessions_option, view_shape}
+use Rattle.genedit_words.specs.Words.{board_rule, check_shape, convert_shape, diff_shape, draw_shape, edits_option, every_option, export_shape, feed_shape, file_argument, first_option, flag, follow_shape, from_option, gen_option, generation_place, genedit_app, join_shape, log_shape, merge_shape, new_document_shape, number_shape, optional, others_argument, place_argument, port_option, renumber_option, replica_option, rle_shape, rule_option, run_shape, serve_shape, sessions_option, view_shape}
 use Rattle.genedit_words.proofs.Stops.{both_pass, stops_at_help, walk_passes}
 use Rattle.genedit_words.proofs.RowFacts.{IsWellUsed, all_ok, both_true, rows_well}
 use Rattle.genedit_words.proofs.RuleFacts.{AreOrderly, HasValue, IsOrderly, append_orderly, defaults_orderly, drops_minus, first_passes, fits, flag_orderly, found_value, given_value, is_flag_text, keeps_all, no_default, ok, option_orderly, uses_found}
@@ -84,6 +84,9 @@ port_orderly place = option_orderly (given place port_option) refl refl (λ rows
 
 sessions_orderly : (place : ℕ) → IsOrderly (given place sessions_option)
 sessions_orderly place = option_orderly (given place sessions_option) refl refl (λ rows h. cc) (λ v vs passes. first_passes false (vp.Signed (pos 1) (pos 64)) v vs passes)
+
+first_orderly : (place : ℕ) → IsOrderly (given place first_option)
+first_orderly place = option_orderly (given place first_option) refl refl (λ rows h. cc) (λ v vs passes. first_passes false (vp.Signed (pos 1) (pos 65472)) v vs passes)
 
 every_orderly : (place : ℕ) → IsOrderly (given place every_option)
 every_orderly place = option_orderly (given place every_option) refl refl (λ rows h. cc) (λ v vs passes. first_passes false (vp.Signed (pos 1) (pos 60000)) v vs passes)
@@ -152,7 +155,7 @@ convert_rules : AreOrderly (leaf convert_shape).rules
 convert_rules = (in_orderly 1, (out_orderly 2, (own_rule_orderly 3, (gen_orderly 3, (replace_orderly 3, (help_orderly, tt))))))
 
 serve_rules : AreOrderly (leaf (serve_shape false)).rules
-serve_rules = (board_rule_orderly 1, (port_orderly 1, (sessions_orderly 1, (keep_orderly 1, (until_close_orderly 1, (help_orderly, tt))))))
+serve_rules = (board_rule_orderly 1, (port_orderly 1, (sessions_orderly 1, (first_orderly 1, (keep_orderly 1, (until_close_orderly 1, (help_orderly, tt)))))))
 
 join_rules : AreOrderly (leaf join_shape).rules
 join_rules = (port_orderly 1, (every_orderly 1, (follow_orderly 1, (changes_orderly 1, (quiet_orderly 1, (no_rescue_orderly 1, (help_orderly, tt)))))))
@@ -382,6 +385,7 @@ serve_has words passes =
     record {
       port = number_at 0 65535 (codes "port") rows read.fine (given_by (codes "port") (leaf (serve_shape false)).rules rows read.given refl) (λ how v fit. fit);
       sessions = number_at 1 64 (codes "sessions") rows read.fine (given_by (codes "sessions") (leaf (serve_shape false)).rules rows read.given refl) (λ how v fit. fit);
+      first = may_have_number 1 65472 (codes "first") rows read.fine (λ how v fit. fit);
       until_close = has_flag (codes "until-close") rows read.fine (λ how v fit. fit);
     }
 

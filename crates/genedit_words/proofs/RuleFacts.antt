@@ -42,6 +42,7 @@ is_flag_text v = bytes_eq v (codes "true") || bytes_eq v (codes "false")
 abbrev pub fits : Text → Reading → Text → Bool
 fits id how v = if bytes_eq id (codes "port") then drops_minus how && accepts false (vp.Signed (pos 0) (pos 65535)) v
     else if bytes_eq id (codes "sessions") then drops_minus how && accepts false (vp.Signed (pos 1) (pos 64)) v
+    else if bytes_eq id (codes "first") then drops_minus how && accepts false (vp.Signed (pos 1) (pos 65472)) v
     else if bytes_eq id (codes "gen") then drops_minus how && accepts false (vp.Signed (pos 0) (pos 536870912)) v
     else if bytes_eq id (codes "plain") then keeps_all how && is_flag_text v
     else if bytes_eq id (codes "svg") then keeps_all how && is_flag_text v

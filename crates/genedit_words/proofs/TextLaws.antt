@@ -6,8 +6,8 @@ use Rattle.std.specs.Prelude.{map, if◌then◌else◌, option_and_then, option_
 use Rattle.clap.specs.Walk.{Row, Text, first_of}
 use Rattle.generations_rule.specs.Rule.{GenerationsRule}
 use Rattle.genedit_words.specs.Misspelt.{Misspelt}
-use Rattle.genedit_words.specs.Told.{Told}
-use Rattle.genedit_words.specs.Words.{file_asked, has_board, is_set, number_of, rule_asked, rule_if_given, serve_asked, serve_task, server_asked, some_rule, viewing}
+use Rattle.genedit_words.specs.Told.{Served, Told, Serve}
+use Rattle.genedit_words.specs.Words.{file_asked, first_asked, has_board, is_set, number_of, rule_asked, rule_if_given, serve_asked, serve_task, served, server_asked, some_rule, viewing}
 
 pub some_text : (o : Option (Bor (List ℕ))) (text : List ℕ) → option_map (λ s. s.now) o ≡ Some text → IsSome o
 some_text None text h = cc
@@ -61,17 +61,15 @@ is_ruled keep rows rule board same read none =
     go (Some text) kept missing one h = some_ruled (rule_asked text) rule h
 
 -- what the getters read for a server
-pub is_served : (rows : List Row) (keep : Option Text) (until_close : Bool) (rule : Result (Option GenerationsRule) Misspelt) (port sessions : ℕ) → has_board rows ≡ true
-    → number_of (codes "port") rows ≡ Some port → number_of (codes "sessions") rows ≡ Some sessions → keep ≡ first_of (codes "keep") rows → is_set (codes "until-close") rows ≡ until_close
-    → rule ≡ rule_if_given (first_of (codes "rule") rows) → serve_asked rows ≡ Some (serve_task keep until_close rule port sessions)
-is_served rows keep until_close rule port sessions board p s k u r =
-    let closes : Bool = is_set (codes "until-close") rows in
-    let task : ℕ → ℕ → Result Told Misspelt = serve_task (first_of (codes "keep") rows) closes (rule_if_given (first_of (codes "rule") rows)) in
+pub is_served : (rows : List Row) (keep : Option Text) (until_close : Bool) (rule : Option GenerationsRule) (port sessions first : ℕ) → has_board rows ≡ true
+    → number_of (codes "port") rows ≡ Some port → number_of (codes "sessions") rows ≡ Some sessions → first_asked rows ≡ first → keep ≡ first_of (codes "keep") rows
+    → is_set (codes "until-close") rows ≡ until_close → rule_if_given (first_of (codes "rule") rows) ≡ Ok rule
+    → serve_asked rows ≡ Some (Ok (Serve (record { rule = rule; port = port; sessions = sessions; first = first; keep = keep; until_close = until_close })))
+is_served rows keep until_close rule port sessions first board p s f k u r =
+    let task : ℕ → ℕ → Result Told Misspelt = serve_task rows (rule_if_given (first_of (codes "rule") rows)) in
     let there : serve_asked rows ≡ server_asked rows = ap (λ (b : Bool). if b then server_asked rows else None) board in
     let ported : server_asked rows ≡ option_map (task port) (number_of (codes "sessions") rows) = ap (option_and_then (λ (n : ℕ). option_map (task n) (number_of (codes "sessions") rows))) p in
     let seated : option_map (task port) (number_of (codes "sessions") rows) ≡ Some (task port sessions) = ap (option_map (task port)) s in
-    let kept : Some (task port sessions) ≡ Some (serve_task keep closes (rule_if_given (first_of (codes "rule") rows)) port sessions) =
-    ap (λ (o : Option Text). Some (serve_task o closes (rule_if_given (first_of (codes "rule") rows)) port sessions)) (sym k) in
-    let closed : Some (serve_task keep closes (rule_if_given (first_of (codes "rule") rows)) port sessions) ≡ Some (serve_task keep until_close (rule_if_given (first_of (codes "rule") rows)) port sessions) =
-    ap (λ (b : Bool). Some (serve_task keep b (rule_if_given (first_of (codes "rule") rows)) port sessions)) u in
-    there ∙ (ported ∙ (seated ∙ (kept ∙ (closed ∙ ap (λ (given : Result (Option GenerationsRule) Misspelt). Some (serve_task keep until_close given port sessions)) (sym r)))))
+    let ruled : Some (task port sessions) ≡ Some (Ok (Serve (served rows port sessions rule))) = ap (λ (given : Result (Option GenerationsRule) Misspelt). Some (serve_task rows given port sessions)) r in
+    let same : served rows port sessions rule ≡ record { rule = rule; port = port; sessions = sessions; first = first; keep = keep; until_close = until_close } = rw (sym f) (rw k (rw (sym u) refl)) in
+    there ∙ (ported ∙ (seated ∙ (ruled ∙ ap (λ (server : Served). Some (Ok (Serve server))) same)))

@@ -25,6 +25,10 @@ pub record HasNumber (low high : ℕ) (id : Text) (rows : List Row) : Type 0 whe
   pub read : one_of id rows ≡ Some (without_minus text)
   pub within : IsSignedIn (pos low) (pos high) text
 
+-- a number from low to high, or none
+abbrev pub MayHaveNumber : ℕ → ℕ → Text → List Row → Type 0
+MayHaveNumber low high id rows = (one_of id rows ≡ None) ⊎ HasNumber low high id rows
+
 -- a flag that was given, one that was not, or none
 abbrev pub HasFlag : Text → List Row → Type 0
 HasFlag id rows = (one_of id rows ≡ Some (codes "true")) ⊎ ((one_of id rows ≡ Some (codes "false")) ⊎ (one_of id rows ≡ None))
@@ -33,11 +37,8 @@ HasFlag id rows = (one_of id rows ≡ Some (codes "true")) ⊎ ((one_of id rows 
 pub record HasServer (rows : List Row) : Type 0 where
   pub port : HasNumber 0 65535 (codes "port") rows
   pub sessions : HasNumber 1 64 (codes "sessions") rows
+  pub first : MayHaveNumber 1 65472 (codes "first") rows
   pub until_close : HasFlag (codes "until-close") rows
-
--- a number from low to high, or none
-abbrev pub MayHaveNumber : ℕ → ℕ → Text → List Row → Type 0
-MayHaveNumber low high id rows = (one_of id rows ≡ None) ⊎ HasNumber low high id rows
 
 -- what a picture may be asked with
 pub record HasView (rows : List Row) : Type 0 where
@@ -134,9 +135,9 @@ pub record IsNamed (entered : Option (Text × List Row)) : Type 0 where
   pub met : entered ≡ Some (name, rows)
   pub has : Has name rows
 
--- a server that no file is named for has a rule, and any has 1 to 64 sessions
+-- a server that no file is named for has a rule, and any has 1 to 64 sessions, the first of a number from 1 on, the last of one of 16 bits
 abbrev pub IsServable : ServeTask → Type 0
-IsServable server = (server.keep ≡ None → IsSome server.rule) × (1 ≤ server.sessions) × (server.sessions ≤ 64)
+IsServable server = (server.keep ≡ None → IsSome server.rule) × (1 ≤ server.sessions) × (server.sessions ≤ 64) × (1 ≤ server.first) × (server.first ≤ 65472)
 
 -- a server can be served; a client lets 1 to 60,000 milliseconds pass between two polls; whoever draws in a
 -- document has a number that is no seat's, and so has whoever gets edits that clash

@@ -1,9 +1,10 @@
 -- Worked values of the definitions.
-use Rattle.std.specs.Prelude.{◌≡◌, ◌∷◌, [], codes, refl, Ok, Err, Some, None, List, true, false}
+use Rattle.std.specs.Prelude.{◌≡◌, ◌∷◌, [], codes, refl, Result, Ok, Err, Some, None, List, true, false}
 use Rattle.std.specs.Fmt.{digits}
 use Rattle.clap.proofs.OnLiterals.{clap_on_literals}
 use Rattle.clap.specs.Words.{Text, fault_of, is_simple_and_free}
 use Rattle.clap.specs.declared.error.kind.ErrorKind.TheVariants as kind
+use Rattle.generations_rule.specs.Rule.{GenerationsRule}
 use Rattle.generations_rule.specs.RuleText.{rule_of_text}
 use Rattle.generations_rule.specs.declared.fault.RuleFault.TheVariants.{Digit, Slashes, States}
 use Rattle.header_rules.specs.declared.family.OtherFamily.TheVariants.{Bounded, NonTotalistic}
@@ -11,9 +12,9 @@ use Rattle.header_rules.specs.declared.spelling.Misspelling.TheVariants.{Fault, 
 use Rattle.header_rules.specs.Families.{other_names, table_ends, table_fronts}
 use Rattle.header_rules.specs.Names.{rule_names}
 use Rattle.genedit_words.specs.Bound.{bound_words}
-use Rattle.genedit_words.specs.Misspelt.{misspelt_text}
-use Rattle.genedit_words.specs.Told.{Check, Diff, Draw, Export, Feed, Follow, Join, Log, Merge, Number, Run, Serve, View}
-use Rattle.genedit_words.specs.Words.{Asks, LacksRule, genedit_app, new_task, rle_task, rule_asked, rule_if_given, serve_task}
+use Rattle.genedit_words.specs.Misspelt.{Misspelt, misspelt_text}
+use Rattle.genedit_words.specs.Told.{Check, Diff, Draw, Export, Feed, Follow, Join, Log, Merge, Number, Run, Serve, Served, Told, View}
+use Rattle.genedit_words.specs.Words.{Asks, LacksRule, genedit_app, new_task, rle_task, rule_asked, rule_if_given}
 
 abbrev genedit : List Text → List Text
 genedit words = codes "genedit" ∷ words
@@ -130,18 +131,23 @@ form_of_a_file = (refl, refl)
 abbrev serve : List Text → List Text
 serve words = genedit (codes "serve" ∷ words)
 
+-- a server under a rule, or why the rule is none
+abbrev served_by : Result GenerationsRule Misspelt → (GenerationsRule → Served) → Result Told Misspelt
+served_by (Ok rule) server = Ok (Serve (server rule))
+served_by (Err fault) server = Err fault
+
 server : Asks (serve (codes "--rule" ∷ codes "23/3/2" ∷ codes "--port=7020" ∷ codes "--sessions" ∷ codes "64" ∷ []))
-    (serve_task None false (rule_if_given (Some (codes "23/3/2"))) 7020 64)
+    (served_by (rule_asked (codes "23/3/2")) (λ rule. record { rule = Some rule; port = 7020; sessions = 64; first = 1; keep = None; until_close = false }))
 unfolding clap_on_literals
 server = (refl, refl)
 
 server_of_a_file : Asks (serve (codes "--keep" ∷ codes "my.board" ∷ codes "--port=0" ∷ codes "--sessions=2" ∷ []))
-    (Ok (Serve (record { rule = None; port = 0; sessions = 2; keep = Some (codes "my.board"); until_close = false })))
+    (Ok (Serve (record { rule = None; port = 0; sessions = 2; first = 1; keep = Some (codes "my.board"); until_close = false })))
 unfolding clap_on_literals
 server_of_a_file = (refl, refl)
 
-server_of_both : Asks (serve (codes "--rule=/2/3" ∷ codes "--until-close" ∷ codes "--port=0" ∷ codes "--sessions=2" ∷ codes "--keep=" ∷ []))
-    (serve_task (Some []) true (rule_if_given (Some (codes "/2/3"))) 0 2)
+server_of_both : Asks (serve (codes "--rule=/2/3" ∷ codes "--until-close" ∷ codes "--port=0" ∷ codes "--sessions=2" ∷ codes "--first=65472" ∷ codes "--keep=" ∷ []))
+    (served_by (rule_asked (codes "/2/3")) (λ rule. record { rule = Some rule; port = 0; sessions = 2; first = 65472; keep = Some []; until_close = true }))
 unfolding clap_on_literals
 server_of_both = (refl, refl)
 
@@ -234,6 +240,14 @@ no_session = refl
 sixty_five_sessions : fault_of genedit_app (serve (codes "--rule=/2/3" ∷ codes "--port=0" ∷ codes "--sessions=65" ∷ [])) ≡ kind.ValueValidation ∷ []
 unfolding clap_on_literals
 sixty_five_sessions = refl
+
+first_past_the_last_seats : fault_of genedit_app (serve (codes "--rule=/2/3" ∷ codes "--port=0" ∷ codes "--sessions=1" ∷ codes "--first=65473" ∷ [])) ≡ kind.ValueValidation ∷ []
+unfolding clap_on_literals
+first_past_the_last_seats = refl
+
+no_first : fault_of genedit_app (serve (codes "--rule=/2/3" ∷ codes "--port=0" ∷ codes "--sessions=1" ∷ codes "--first=0" ∷ [])) ≡ kind.ValueValidation ∷ []
+unfolding clap_on_literals
+no_first = refl
 
 no_port : fault_of genedit_app (serve (codes "--rule=/2/3" ∷ codes "--sessions=1" ∷ [])) ≡ kind.MissingRequiredArgument ∷ []
 unfolding clap_on_literals

@@ -31,6 +31,7 @@ pub record Served : Type 0 where
   pub rule : Option GenerationsRule
   pub port : ℕ
   pub sessions : ℕ
+  pub first : ℕ
   pub keep : Option (List ℕ)
   pub until_close : Bool
 
@@ -60,6 +61,7 @@ told_of (task.Serve server) = Serve (record {
   rule = server.rule;
   port = server.port;
   sessions = server.sessions;
+  first = server.first;
   keep = option_map (λ s. s.now) server.keep;
   until_close = server.until_close;
 })

@@ -24,7 +24,7 @@ use Rattle.genedit_words.specs.declared.task.Task.{Task}
 use Rattle.genedit_words.specs.declared.words.NoTask.{NoTask}
 use Rattle.genedit_words.specs.declared.words.NoTask.TheVariants as no_task
 use Rattle.genedit_words.specs.Subcommands.{subcommand_named}
-use Rattle.genedit_words.specs.Told.{Told, Conversion, Viewed, Check, Convert, Diff, Draw, Export, Feed, Follow, Join, Log, Merge, New, Number, Rle, Run, Serve, View, told_of}
+use Rattle.genedit_words.specs.Told.{Told, Conversion, Served, Viewed, Check, Convert, Diff, Draw, Export, Feed, Follow, Join, Log, Merge, New, Number, Rle, Run, Serve, View, told_of}
 
 -- the rule, or the word that spells none
 abbrev pub rule_or_misspelt : Text → Result GenerationsRule Misspelling → Result GenerationsRule Misspelt
@@ -71,6 +71,10 @@ port_option = record (option (codes "port")) { parser = Some (vp.Signed (pos 0) 
 abbrev pub sessions_option : Rule
 sessions_option = record (option (codes "sessions")) { parser = Some (vp.Signed (pos 1) (pos 64)) }
 
+-- the number of a server's first seat: 1 to 65472, so that the last of 64 has at most 65535
+abbrev pub first_option : Rule
+first_option = record (optional (codes "first")) { parser = Some (vp.Signed (pos 1) (pos 65472)) }
+
 -- milliseconds between two polls: 1 to 60,000
 abbrev pub every_option : Rule
 every_option = record (optional (codes "every")) { parser = Some (vp.Signed (pos 1) (pos 60000)) }
@@ -90,7 +94,7 @@ abbrev pub board_rule : Bool → Rule
 board_rule is_needed = record (optional (codes "rule")) { required = is_needed }
 
 abbrev pub serve_shape : Bool → Shape
-serve_shape needs_rule = record (new_shape (codes "serve")) { rules = board_rule needs_rule ∷ port_option ∷ sessions_option ∷ optional (codes "keep") ∷ flag (codes "until-close") ∷ [] }
+serve_shape needs_rule = record (new_shape (codes "serve")) { rules = board_rule needs_rule ∷ port_option ∷ sessions_option ∷ first_option ∷ optional (codes "keep") ∷ flag (codes "until-close") ∷ [] }
 
 abbrev pub check_shape : Shape
 check_shape = record (new_shape (codes "check")) { rules = file_argument ∷ [] }
@@ -263,15 +267,31 @@ has_board rows = is_some (first_of (codes "rule") rows) || is_some (first_of (co
 abbrev pub lacks_rule : Text × List Row → Bool
 lacks_rule subcommand = bytes_eq subcommand.0 (codes "serve") && not (has_board subcommand.1)
 
-abbrev pub serve_task : Option Text → Bool → Result (Option GenerationsRule) Misspelt → ℕ → ℕ → Result Told Misspelt
-serve_task keep until_close (Ok rule) port sessions = Ok (Serve (record { rule = rule; port = port; sessions = sessions; keep = keep; until_close = until_close }))
-serve_task keep until_close (Err fault) port sessions = Err fault
+-- the number of a server's first seat: 1 where none is given
+abbrev pub first_asked : List Row → ℕ
+first_asked rows = unwrap_or (number_of (codes "first") rows) 1
+
+-- a server at a port, of so many sessions, under a rule if there is one, and what else the words tell of it
+abbrev pub served : List Row → ℕ → ℕ → Option GenerationsRule → Served
+served rows port sessions rule = record {
+  rule = rule;
+  port = port;
+  sessions = sessions;
+  first = first_asked rows;
+  keep = first_of (codes "keep") rows;
+  until_close = is_set (codes "until-close") rows;
+}
+
+abbrev pub serve_task : List Row → Result (Option GenerationsRule) Misspelt → ℕ → ℕ → Result Told Misspelt
+serve_task rows (Ok rule) port sessions = Ok (Serve (served rows port sessions rule))
+serve_task rows (Err fault) port sessions = Err fault
 
 -- a server under the rule that the option spells if it is given, at the port and of as many sessions as the
--- options spell, of a board that is kept in the file that is named, if one is, which a line may end where that is asked for
+-- options spell, its seats numbered from the first on, of a board that is kept in the file that is named, if one is, which a
+-- line may end where that is asked for
 abbrev pub server_asked : List Row → Option (Result Told Misspelt)
 server_asked rows = option_and_then (λ port.
-    option_map (λ sessions. serve_task (first_of (codes "keep") rows) (is_set (codes "until-close") rows) (rule_if_given (first_of (codes "rule") rows)) port sessions)
+    option_map (λ sessions. serve_task rows (rule_if_given (first_of (codes "rule") rows)) port sessions)
     (number_of (codes "sessions") rows)) (number_of (codes "port") rows)
 
 -- such a server, of words that tell a rule or a file

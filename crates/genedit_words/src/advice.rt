@@ -5,10 +5,11 @@ use clap::error::ErrorKind;
 use std::alloc::{AllocError, Global};
 
 /// The options with a value, and what has to stand at a place, as `clap` names them, and an example of each.
-const EXAMPLES: [(&str, &str); 22] = [
+const EXAMPLES: [(&str, &str); 23] = [
     ("--rule <", " --rule 23/3/2"),
     ("--port <", " --port 7020"),
     ("--sessions <", " --sessions 64"),
+    ("--first <", " --first 101"),
     ("--keep <", " --keep my.board"),
     ("--every <", " --every 50"),
     ("--at <", " --at -3,4"),

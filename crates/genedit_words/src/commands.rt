@@ -4,7 +4,7 @@ ghost use Rattle.std.specs.Prelude.{◌≡◌, IfOk, false, codes};
 ghost use Rattle.clap.specs.Simple.{new_app};
 ghost use Rattle.clap.specs.Words.{app_of, rule_of, shape_of};
 ghost use Rattle.clap.specs.declared.builder.command.Command.TheViews.{out-Command as fields_of};
-ghost use Rattle.genedit_words.specs.Words.{app_by, board_app, board_rule, check_shape, convert_shape, every_option, file_argument, flag, gen_option, join_shape, option, optional, place_argument, port_option, rle_shape, run_shape, serve_shape, sessions_option, text_app, top_app, view_shape};
+ghost use Rattle.genedit_words.specs.Words.{app_by, board_app, board_rule, check_shape, convert_shape, every_option, file_argument, first_option, flag, gen_option, join_shape, option, optional, place_argument, port_option, rle_shape, run_shape, serve_shape, sessions_option, text_app, top_app, view_shape};
 
 use crate::document_commands::{
     diff_command, draw_command, edits_argument, export_command, feed_command, follow_command,
@@ -34,9 +34,12 @@ generation and the rule that its text tells are passed over. y grows downwards.
   same A B               prints whether replicas A and B hold the same at every cell: same or differ
   dump M                 prints the bytes of message M in hexadecimal
   export R G             prints replica R's cells G generations later, 0 to 2^29, as an RLE text
+  cut R x y w h G        the same of the cells in a window, w wide and h high
+  count R [G]            prints how many cells replica R has G generations later, 0 if none is given
 
 Each prints a line: what draws `drawn COUNTER REPLICA`, state and delta `sent M`, deliver `taken`, show
-`cell STATE COUNTER REPLICA`, a pattern its box and its number of cells, and an export its text.
+`cell STATE COUNTER REPLICA`, a pattern its box and its number of cells, an export and a cut their text,
+and count `cells N box x y w h`, the least box that has them, or `cells 0`.
 What is refused prints `refused NUMBER NAME`, and the script goes on. `genedit check` tells beforehand
 what is wrong with a script, each mistake with its place and its cure.
 
@@ -124,6 +127,10 @@ the disk. A server that is started again on FILE goes on with its board; --rule 
 is there. Seats come back: whoever leaves makes room, N is how many sit at once, and whoever comes gets a
 seat that nobody had, else the one that was left longest ago, once there is one within a second.
 
+Seats are numbered from 1 on, and with --first R from R on: files that are to come together by `genedit merge`
+may not have edits of one number, so two servers need numbers apart, as do a server and whoever draws in a
+document.
+
 Examples:
   genedit serve --rule B3/S23 --port 7020 --sessions 64      a class draws Life
   genedit serve --keep my.board --port 7020 --sessions 64    the board that my.board keeps goes on
@@ -133,8 +140,8 @@ From another machine: ssh -L 7020:127.0.0.1:7020 HOST, and connect to port 7020 
 
 /// How `serve` is used: with a rule, or with a file that names one.
 const SERVE_USAGE: &str = "\
-genedit serve --rule <TEXT> --port <P> --sessions <N> [--keep <FILE>] [--until-close]
-       genedit serve --keep <FILE> --port <P> --sessions <N> [--until-close]";
+genedit serve --rule <TEXT> --port <P> --sessions <N> [--first <R>] [--keep <FILE>] [--until-close]
+       genedit serve --keep <FILE> --port <P> --sessions <N> [--first <R>] [--until-close]";
 
 /// What `genedit join --help` tells of clients: a line for each of their keywords, and what it does.
 pub const JOIN_HELP: &str = "\
@@ -147,29 +154,36 @@ polls, so that the drawing goes over all that others drew by then.
   pattern NAME           the lines up to a line `end` are an RLE text; keeps its pattern by name
   copy NAME x y          draws the pattern's whole box there, dead cells too
   or NAME x y            draws the pattern's live and dying cells there
+  undo                   takes your last drawing back; the cells that others drew since stay
+  redo                   takes an undo back
   show x y               prints a cell as it was at the last poll: `cell STATE COUNTER SEAT`
+  count [G]              prints how many cells there are G generations later, and their box
   export G [FILE]        prints the cells G generations later, or writes them to a file, as an RLE text
+  cut x y w h G [FILE]   as export, of the cells in a window, w wide and h high
   save FILE              writes the board to a file as a state, with its stamps
   export! G FILE         as export, and replaces a file that is there
+  cut! x y w h G FILE    as cut, and replaces a file that is there
   save! FILE             as save, and replaces a file that is there
   open FILE              draws the live and dying cells of a state, a document, RLE, .mcl or .cells
   poll                   prints what others drew, and `edits K`
   wait N [MS]            polls until others drew N edits, or until MS milliseconds, 10000 if none are
                          given, are over: `edits K` or `late K`
   sleep MS               does nothing for so long
-  help, ?                prints the commands in ten lines
+  help, ?                prints the commands in short
   bye, quit, exit        leaves the board, as does the end of the input
 
-A drawing prints `drawn COUNTER SEAT`. Edits of others are told as `edit COUNTER SEAT cells x y s ..`, a
+A drawing prints `drawn COUNTER SEAT`, an undo `undone COUNTER SEAT`, a redo `redone COUNTER SEAT`. The last
+100 drawings can be undone, of 2^22 cells in all; one that changed more says `too much to undo`, and where
+there is none it is `nothing to undo`. Edits of others are told as `edit COUNTER SEAT cells x y s ..`, a
 cleared area as `area x y w h` before `cells`; with --changes as `now x y s ..`, the cells that look
 different now, also those by drawings of your own. `whole` says that more came than can be told; with
---changes the cells that look different follow it. With --quiet no edit is told. A file is written whole
-or not at all: `wrote BYTES FILE`; its name is no number alone, but in double quotes it may be any, with
-blanks too; `-` is standard output. One that is there is replaced only by export! and save!, or where this
+--changes the cells that look different follow it. With --quiet no edit is told. A file is written whole or
+not at all: `wrote BYTES FILE`; its name is no number alone, but in double quotes it may be any, with blanks
+too; `-` is standard output. One that is there is replaced only by export!, cut! and save!, or where this
 client wrote it. What is refused prints `refused NUMBER NAME`, of a file with its name and the cause, and
 what would be right is told on standard error, as it is of a line at fault, with its place, as `genedit
-check` does; and both go on. Of a board that `open` draws in several edits none is drawn behind one
-that is refused.
+check` does; and both go on. Of a board that `open` draws in several edits none is drawn behind one that is
+refused.
 
 Where the server goes away a client at a terminal keeps its board: save, export, show, pattern and bye go on.
 Any other writes its board, unless it was saved, to pazgrot-PORT-SEAT-K.state in its folder, K the first
@@ -420,6 +434,7 @@ fn serve_command<'a>(alloc: Global, needs_rule: bool) -> Result<Command<'a>, All
         .arg(board_rule(alloc, needs_rule))?
         .arg(port_argument(alloc, "The port to listen at, 0 for any that is free"))?
         .arg(sessions_argument(alloc))?
+        .arg(first_argument(alloc))?
         .arg(optional(
             alloc,
             "keep",
@@ -511,6 +526,19 @@ fn sessions_argument<'a>(alloc: Global) -> Arg<'a>
         "How many seats the board has, 1 to 64",
     );
     sessions.value_parser(value_parser!(u16).range(1..=64))
+}
+
+fn first_argument<'a>(alloc: Global) -> Arg<'a>
+    ensures rule { rule_of result ≡ first_option }
+    ensures local { result.global ≡ false }
+{
+    let first = optional(
+        alloc,
+        "first",
+        "R",
+        "The number of the first seat, 1 to 65472; else 1",
+    );
+    first.value_parser(value_parser!(u16).range(1..=65_472))
 }
 
 /// An option that has to be given, with a value.

@@ -28,13 +28,21 @@ before a line, or after it. N is the number of whoever draws, 65 to 65535: two p
   pattern NAME           the lines up to a line `end` are an RLE text; keeps its pattern by name
   copy NAME x y          draws the pattern's whole box there, dead cells too
   or NAME x y            draws the pattern's live and dying cells there
+  undo                   takes the last drawing back: `undone COUNTER N`, or `nothing to undo`
+  redo                   takes an undo back: `redone COUNTER N`
   show x y               prints a cell: `cell STATE COUNTER N`
+  count [G]              prints how many cells there are G generations later, and their box
   export G [FILE]        prints the cells G generations later, or writes them to a file, as an RLE text
   export! G FILE         as export, and replaces a file that is there
+  cut x y w h G [FILE]   as export, of the cells in a window, w wide and h high
+  cut! x y w h G FILE    as cut, and replaces a file that is there
   open FILE              draws the live and dying cells of a state, a document, RLE, .mcl or .cells
   sleep MS               does nothing for so long
-  help, ?                prints the commands in ten lines
+  help, ?                prints the commands in short
   bye, quit, exit        ends, as does the end of the input
+
+The last 100 drawings of a run can be undone, of 2^22 cells in all; one that changed more says `too much to
+undo`. What others drew since stays.
 
 What is refused prints `refused NUMBER NAME`, and what would be right is told on standard error, as it is of a
 line at fault, with its place; both go on. Refused at the beginning, with nothing written: 43 where another
@@ -100,22 +108,26 @@ Examples:
   genedit export board.glwl 30 --edits 100 | genedit view";
 
 const FOLLOW_HELP: &str = "\
-Prints each record of FILE, and then each that comes, as a line of base64; with --raw as bytes. The first record names
-the rule; each further one is an edit. Where FILE is replaced, as `genedit merge` does, what is new in it follows. With
---from N the first N records are passed over. It ends by Ctrl-C, or where nobody reads any more.
+Prints each record of FILE, and then each that comes, as a line of base64; with --raw as bytes. The first
+record names the rule; each further one is an edit. Where FILE is replaced, as `genedit merge` does, what is
+new in it follows. With --from N the first N records are passed over. It ends by Ctrl-C, or where nobody
+reads any more.
 
 Examples:
   genedit follow my.glwl | mosquitto_pub -t board -l
   genedit follow my.glwl --raw | ssh host 'cat > copy.glwl'";
 
 const FEED_HELP: &str = "\
-Takes lines from standard input, as `genedit follow` prints them, in any order, repeated, some lost, and puts each edit
-that is new into FILE, on the disk, as it comes. At the end of the input it prints `new K`. A line that is no record,
-is of another rule (16), or has a second edit of one counter and replica (41) is skipped, and told on standard error
-with its number.
+Takes lines from standard input, as `genedit follow` prints them, in any order, repeated, some lost, and puts
+each edit that is new into FILE, on the disk, as it comes. At the end of the input it prints `new K`. A line
+that is no record, is of another rule (16), or has a second edit of one counter and replica (41) is skipped,
+and told on standard error with its number.
 
-The status is 0, or 2 where a line was skipped. Refused at the beginning, with nothing written: 43 where another process
-has FILE, and 42 where it holds no document.
+Refused at the beginning, with nothing written: 43 where another process has FILE, and 42 where it holds no
+document. What stands behind the last whole record of FILE is saved to FILE.lost first, which is said.
+
+The status is 0; 2 where a line was skipped; 3 where standard input cannot be read; 4 where FILE or standard
+output failed; 5 without memory.
 
 Examples:
   mosquitto_sub -t board | genedit feed my.glwl

@@ -19,6 +19,8 @@ pub struct ServeTask<'a> {
     pub port: u16,
     /// 1 to 64.
     pub sessions: u16,
+    /// The number of its first seat, 1 to 65,472, so that the last of 64 has one of 16 bits.
+    pub first: u16,
     /// The file in which the board is kept; it is kept nowhere if none is given.
     pub keep: Option<&'a str>,
     /// Whether a line `close` on standard input ends it.

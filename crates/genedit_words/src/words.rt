@@ -6,7 +6,7 @@ ghost use Rattle.clap.specs.Walk.{all_of};
 ghost use Rattle.genedit_words.specs.Misspelt.{Misspelt};
 ghost use Rattle.genedit_words.specs.Given.{HasClient, HasConversion, HasDiff, HasDraw, HasExport, HasFeed, HasFlag, HasFollow, HasFor, HasLog, HasMerge, HasNew, HasNumber, HasNumbering, HasRule, HasServer, HasText, HasTexts, HasView, IsInRange, IsNamed, MayHaveNumber};
 ghost use Rattle.genedit_words.specs.Told.{Told, or_misspelt, told, told_of};
-ghost use Rattle.genedit_words.specs.Words.{Asks, EndsWords, IsAsked, asked_by, check_asked, convert_asked, diff_asked, draw_asked, export_asked, feed_asked, file_asked, follow_asked, has_board, interval_asked, is_set, join_asked, lacks_rule, log_asked, merge_asked, named_file, new_asked, number_asked, number_of, rle_asked, rule_asked, rule_if_given, run_asked, serve_asked, task_of, view_asked};
+ghost use Rattle.genedit_words.specs.Words.{Asks, EndsWords, IsAsked, asked_by, check_asked, convert_asked, diff_asked, draw_asked, export_asked, feed_asked, file_asked, first_asked, follow_asked, has_board, interval_asked, is_set, join_asked, lacks_rule, log_asked, merge_asked, named_file, new_asked, number_asked, number_of, rle_asked, rule_asked, rule_if_given, run_asked, serve_asked, task_of, view_asked};
 
 use crate::commands::command;
 use crate::ending::Ending;
@@ -321,9 +321,22 @@ fn serve<'a>(words: &ArgMatches<'a>) -> Result<Task<'a>, MisspeltRule<'a>>
         rule,
         port,
         sessions,
+        first: first_seat(words),
         keep: words.get_str("keep"),
         until_close: is_set(words, "until-close"),
     }))
+}
+
+/// The number of a server's first seat: 1 where none is given.
+fn first_seat(words: &ArgMatches<'_>) -> u16
+    requires { MayHaveNumber 1 65472 (codes "first") (rows_of (found_of words.now)) }
+    ensures value { first_asked (rows_of (found_of words.now)) ≡ result }
+    ensures range { (1 ≤ result) × (result ≤ 65472) }
+{
+    match words.get_one::<u16>("first") {
+        Some(first) => first,
+        None => 1,
+    }
 }
 
 /// What `join` asks for.

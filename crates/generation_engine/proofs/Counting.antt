@@ -50,7 +50,7 @@ unfolding sum_from
 sum_of_none s zero = refl
 sum_of_none s (suc n) = let rest = sum_of_none (suc s) n in omega (arith, rest)
 
-sum_at_most : (s n m : ℕ) (f : ℕ → ℕ) → ((i : ℕ) → f i ≤ m) → sum_from s n f ≤ n * m
+pub sum_at_most : (s n m : ℕ) (f : ℕ → ℕ) → ((i : ℕ) → f i ≤ m) → sum_from s n f ≤ n * m
 unfolding sum_from
 sum_at_most s zero m f most = omega arith
 sum_at_most s (suc n) m f most = let rest = sum_at_most (suc s) n m f most in let own = most s in omega (arith, rest, own)
@@ -63,7 +63,7 @@ population_same n f g same = sum_same 0 n _ _ (λ v l hv. sum_same 0 n _ _ (λ u
 pub population_none : (n : ℕ) → population n (λ u v. 0) ≡ 0
 population_none n = sum_same 0 n _ _ (λ v l h. sum_of_none 0 n) ∙ sum_of_none 0 n
 
-one_at_most : (s : ℕ) → one_unless_dead s ≤ 1
+pub one_at_most : (s : ℕ) → one_unless_dead s ≤ 1
 one_at_most s = grind (arith, nat_tests)
 
 pub population_at_most : (n : ℕ) (f : ℕ → ℕ → ℕ) → population n f ≤ n * n

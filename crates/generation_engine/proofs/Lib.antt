@@ -16,3 +16,8 @@ pub mod Passes
 pub mod Blocks
 pub mod Sixteen
 pub mod Universes
+pub mod Seen
+pub mod Beside
+pub mod Windows
+pub mod Extents
+pub mod WindowLaws

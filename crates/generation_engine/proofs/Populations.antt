@@ -25,16 +25,16 @@ dead_square : (n : ℕ) (f : ℕ → ℕ → ℕ) → ((u v : ℕ) → u < n →
 dead_square n f dead = population_same n f (λ u v. 0) dead ∙ population_none n
 
 -- what is not in the middle no generation has reached
-not_reached_beside : (g x : ℕ) (y : ℤ) → g ≤ 536870912 → x < 2147483648 → is_in_reach g (record { x = negsuc 4294967295 +ℤ pos x; y = y }) ≡ false
+pub not_reached_beside : (g x : ℕ) (y : ℤ) → g ≤ 536870912 → x < 2147483648 → is_in_reach g (record { x = negsuc 4294967295 +ℤ pos x; y = y }) ≡ false
 not_reached_beside g x y few h = grind (arith, ints, few, h)
 
-not_reached_behind : (g x : ℕ) (y : ℤ) → g ≤ 536870912 → 6442450944 ≤ x → is_in_reach g (record { x = negsuc 4294967295 +ℤ pos x; y = y }) ≡ false
+pub not_reached_behind : (g x : ℕ) (y : ℤ) → g ≤ 536870912 → 6442450944 ≤ x → is_in_reach g (record { x = negsuc 4294967295 +ℤ pos x; y = y }) ≡ false
 not_reached_behind g x y few h = grind (arith, ints, few, h)
 
-not_reached_above : (g y : ℕ) (x : ℤ) → g ≤ 536870912 → y < 2147483648 → is_in_reach g (record { x = x; y = negsuc 4294967295 +ℤ pos y }) ≡ false
+pub not_reached_above : (g y : ℕ) (x : ℤ) → g ≤ 536870912 → y < 2147483648 → is_in_reach g (record { x = x; y = negsuc 4294967295 +ℤ pos y }) ≡ false
 not_reached_above g y x few h = grind (arith, ints, few, h)
 
-not_reached_below : (g y : ℕ) (x : ℤ) → g ≤ 536870912 → 6442450944 ≤ y → is_in_reach g (record { x = x; y = negsuc 4294967295 +ℤ pos y }) ≡ false
+pub not_reached_below : (g y : ℕ) (x : ℤ) → g ≤ 536870912 → 6442450944 ≤ y → is_in_reach g (record { x = x; y = negsuc 4294967295 +ℤ pos y }) ≡ false
 not_reached_below g y x few h = grind (arith, ints, few, h)
 
 -- sixteen squares of which the four in the middle count

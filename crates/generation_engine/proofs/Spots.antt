@@ -12,7 +12,7 @@ use Rattle.stamped_tree.proofs.Gathering.{contains_head, contains_tail}
 use Rattle.generation_engine.specs.Walk.{AreInMiddle, cell_of_middle, from_middle_edge, middle_order, row_order, spot_of}
 
 -- a column or a row of the middle is told by its coordinate
-edge_of : (n : ℕ) → n < 4294967296 → from_middle_edge (negsuc (2 ^ 31 - 1) +ℤ pos n) ≡ n
+pub edge_of : (n : ℕ) → n < 4294967296 → from_middle_edge (negsuc (2 ^ 31 - 1) +ℤ pos n) ≡ n
 edge_of n h = grind (arith, ints, h)
 
 pub spot_of_cell : (c : ListedCell) → c.column < 4294967296 → c.row < 4294967296 → spot_of (cell_of_middle c) ≡ c

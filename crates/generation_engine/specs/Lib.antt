@@ -2,6 +2,10 @@ pub mod EngineLeaf
 pub mod Universe
 pub mod Loading
 pub mod Walk
+pub mod Window
+pub mod Region
+pub mod Extent
+pub mod Placed
 pub mod Results
 pub mod Rows
 pub mod Kept

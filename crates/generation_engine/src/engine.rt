@@ -3,6 +3,7 @@
 ghost use Rattle.std.specs.Prelude.{◌≡◌, ◌+◌, ◌^◌, ◌<◌, ◌≤◌, ◌↔◌, ℕ, length, IfOk, OnOk, OnErr, Err};
 ghost use Rattle.generations_rule.specs.Place.{Place};
 ghost use Rattle.generations_rule.specs.Evolution.{at};
+ghost use Rattle.pattern_cells.specs.Window.{is_in_window, seen_where};
 ghost use Rattle.edit_stamps.specs.PlaneMap.{HasStatesBelow};
 ghost use Rattle.stamped_tree.specs.Plane.{map_of};
 ghost use Rattle.square_store.specs.Limits.{usual_room};
@@ -12,13 +13,17 @@ ghost use Rattle.generation_engine.specs.Loading.{IsStoreFull, IsTooSmallFor};
 ghost use Rattle.generation_engine.specs.Running.{HasSameCells, IsEvolutionOf};
 ghost use Rattle.generation_engine.specs.Universe.{AreSameStates, IsEngine, population_of, states_in_writes, states_of};
 ghost use Rattle.generation_engine.specs.Walk.{AreCellsOf};
+ghost use Rattle.generation_engine.specs.Window.{IsExtent, population_in};
 
+use crate::extent::extent_of;
 use crate::fault::EngineFault;
 use crate::load::universe_of;
+use crate::region::Region;
 use crate::results::ResultStore;
 use crate::walk::middle_cells;
+use crate::window::{region_cells, region_population};
 use generations_rule::Rule;
-use pattern_cells::Cell;
+use pattern_cells::{Cell, Window};
 use square_store::{Limits, Part, Store, StoreFault};
 use stamped_tree::Plane;
 use std::alloc::{AllocError, Global};
@@ -168,6 +173,36 @@ impl Engine {
         ensures { result ≡ population_of self.now }
     {
         self.squares.store().summary(self.root)
+    }
+
+    /// The cells that are not dead in a window, sorted by `y`, then `x`. Squares that the window does not
+    /// meet are not gone into. The only error is want of memory.
+    pub fn cells_in(&self, window: Window) -> Result<Vec<Cell>, AllocError>
+        ensures cells { IfOk result (λ cells. AreCellsOf (seen_where (is_in_window window) (states_of self.now)) cells.items) }
+        ensures count { IfOk result (λ cells. length cells.items ≡ population_in window self.now) }
+    {
+        let region = Region::of_window(window);
+        let seen = region_cells(self.alloc, self.squares.store(), self.root, region)?;
+        Ok(seen)
+    }
+
+    /// How many cells are not dead in a window. Squares that lie in it as a whole, or not at all, are not
+    /// gone into.
+    pub fn population_in(&self, window: Window) -> u128
+        ensures { result ≡ population_in window self.now }
+    {
+        let region = Region::of_window(window);
+        region_population(self.squares.store(), self.root, region)
+    }
+
+    /// The least window that has all cells that are not dead; `None` where all are. Squares that lie in
+    /// what was found already are not gone into, so it costs by the outline of a full pattern and not by its
+    /// cells.
+    pub fn extent(&self) -> Option<Window>
+        ensures { IsExtent (states_of self.now) result }
+    {
+        let region = extent_of(self.squares.store(), self.root)?;
+        Some(region.window())
     }
 
     /// How many squares the engine stores, of its room. The dead square counts once, whatever its level,

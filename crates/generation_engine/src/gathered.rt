@@ -10,7 +10,7 @@ use std::alloc::{AllocError, Global};
 use std::marker::Model;
 
 /// The least coordinate of the middle.
-const LEAST: i64 = -0x8000_0000;
+pub(crate) const LEAST: i64 = -0x8000_0000;
 
 /// Cells of the middle of a universe, by column and row. Each is kept as it will be listed, so that all
 /// are held once.

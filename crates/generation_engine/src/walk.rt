@@ -55,7 +55,7 @@ pub(crate) fn middle_cells(
 }
 
 /// Puts the cells of a square last.
-fn gather(
+pub(crate) fn gather(
     store: &Store<EngineLeaf>,
     level: u32,
     part: Part,
@@ -114,7 +114,8 @@ fn gather_leaf(
     Ok(())
 }
 
-fn push_live(cell: ListedCell, found: &mut GatheredCells) -> Result<(), AllocError>
+/// Puts a cell last, unless it is dead.
+pub(crate) fn push_live(cell: ListedCell, found: &mut GatheredCells) -> Result<(), AllocError>
     ensures { OnOk result (GathersOne cell found.old found.new) }
 {
     if cell.state != 0 {
@@ -124,7 +125,7 @@ fn push_live(cell: ListedCell, found: &mut GatheredCells) -> Result<(), AllocErr
 }
 
 /// How many columns a square of a level has.
-fn side_of(level: u32) -> u32
+pub(crate) fn side_of(level: u32) -> u32
     requires { level ≤ 28 }
     ensures { result ≡ side_at 8 level }
 {

@@ -30,7 +30,20 @@ pub type Stamped = (u64, u16);
 pub fn kept_board<R: Wait + Drop>(rt: R, alloc: Global, sessions: u16) -> Result<Opened<R>, Fail>
     ensures { IfOk result (λ board. 0 < board.count) }
 {
+    kept_board_from(rt, alloc, 1, sessions)
+}
+
+/// The same of sessions that are numbered from a first one on.
+pub fn kept_board_from<R: Wait + Drop>(
+    rt: R,
+    alloc: Global,
+    first: u16,
+    sessions: u16,
+) -> Result<Opened<R>, Fail>
+    ensures { IfOk result (λ board. 0 < board.count) }
+{
     let size = BoardSize {
+        first,
         sessions,
         inbox: 128,
         is_kept: true,

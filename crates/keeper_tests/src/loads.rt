@@ -3,7 +3,9 @@
 ghost use Rattle.std.specs.Prelude.{◌≡◌, ◌<◌};
 ghost use Rattle.std.specs.Arc.{arc_value};
 
-use crate::boards::{Kept, Stamped, Unkept, add_record, document, kept_board, submitted, taken_up};
+use crate::boards::{
+    Kept, Stamped, Unkept, add_record, document, kept_board, kept_board_from, submitted, taken_up,
+};
 use board_keeper::{HeadFault, KeeperTurn, LoadFault};
 use document_bodies::BodyFault;
 use edit_stamps::Stamp;
@@ -83,6 +85,23 @@ fn a_file_goes_on(rt: HostRuntime) -> Result<(), Fail> {
     let stamps = [(4, 1), (2, 2), (9, 2), (1, 700)];
     let keep = MemoryKeep::new(alloc, &document(alloc, &stamps)?)?;
     let board = kept_board(rt, alloc, 2)?;
+    let came = goes_on::<Brand, _>(rt, alloc, board, keep)?;
+    for told in &came.told {
+        assert!(rt; told.as_slice() == stamps.as_slice());
+    }
+    assert_eq!(rt; came.old, Some(SubmitFault::OldStamp));
+    assert_eq!(rt; came.new, None);
+    assert_eq!(rt; came.turn, KeeperTurn::Published(1));
+    Ok(())
+}
+
+#[test]
+fn numbers_from_100_on_go_on_above_their_own_counters(rt: HostRuntime) -> Result<(), Fail> {
+    let alloc = rt.alloc();
+    // the second seat has the number 101: the counter of another number is no floor of it
+    let stamps = [(4, 100), (9, 101), (70, 1), (80, 2), (90, 102)];
+    let keep = MemoryKeep::new(alloc, &document(alloc, &stamps)?)?;
+    let board = kept_board_from(rt, alloc, 100, 2)?;
     let came = goes_on::<Brand, _>(rt, alloc, board, keep)?;
     for told in &came.told {
         assert!(rt; told.as_slice() == stamps.as_slice());

@@ -1,2 +1,3 @@
 pub mod Cells
 pub mod Pattern
+pub mod Window

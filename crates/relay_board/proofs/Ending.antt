@@ -23,14 +23,14 @@ pub record Goes (inbox : TableId) (first now : Drain) (all left : List Seating) 
   pub rest : Numbered (length (view now.pass).known) left
 
 -- one fresh seat more, at the next place
-pub fresh_more : (rule : GenerationsRule) (room n m : ℕ) (ss : List Seating) (s : Seating) → AllFresh rule room n ss → n + length ss ≡ m → s ≡ fresh m rule room → AllFresh rule room n (ss ++ s ∷ [])
-fresh_more rule room n m [] s h len is = (is ∙ ap (λ k. fresh k rule room) (omega arith), tt)
-fresh_more rule room n m (x ∷ xs) s h len is = (h.0, fresh_more rule room (n + 1) m xs s h.1 (omega arith) is)
+pub fresh_more : (first : ℕ) (rule : GenerationsRule) (room n m : ℕ) (ss : List Seating) (s : Seating) → AllFresh first rule room n ss → n + length ss ≡ m → s ≡ fresh first m rule room → AllFresh first rule room n (ss ++ s ∷ [])
+fresh_more first rule room n m [] s h len is = (is ∙ ap (λ k. fresh first k rule room) (omega arith), tt)
+fresh_more first rule room n m (x ∷ xs) s h len is = (h.0, fresh_more first rule room (n + 1) m xs s h.1 (omega arith) is)
 
 -- fresh seats are numbered
-pub fresh_numbered : (rule : GenerationsRule) (room n : ℕ) (ss : List Seating) → AllFresh rule room n ss → Numbered n ss
-fresh_numbered rule room n [] h = tt
-fresh_numbered rule room n (s ∷ ss) h = (ap (λ (x : Seating). x.place) h.0, fresh_numbered rule room (n + 1) ss h.1)
+pub fresh_numbered : (first : ℕ) (rule : GenerationsRule) (room n : ℕ) (ss : List Seating) → AllFresh first rule room n ss → Numbered n ss
+fresh_numbered first rule room n [] h = tt
+fresh_numbered first rule room n (s ∷ ss) h = (ap (λ (x : Seating). x.place) h.0, fresh_numbered first rule room (n + 1) ss h.1)
 
 -- a list whose places are its numbers is numbered
 pub numbered_by : (n : ℕ) (ss : List Seating) → ((k : ℕ) (s : Seating) → slice_get ss k ≡ Some s → s.place ≡ n + k) → Numbered n ss

@@ -135,54 +135,54 @@ whose list seats file all i e here =
     ]
 
 -- what is known of an entry of a seat that is above some entries
-seat_entry : (entries : List Entry) (s : Seating) (r : ℕ) (e : Entry) → (above : IsAbove entries s) → slice_get s.mine r ≡ Some e → (replica_in e.edit.stamp ≡ s.place + 1) × (above.floor < counter_in e.edit.stamp)
+seat_entry : (entries : List Entry) (s : Seating) (r : ℕ) (e : Entry) → (above : IsAbove entries s) → slice_get s.mine r ≡ Some e → (replica_in e.edit.stamp ≡ s.number) × (above.floor < counter_in e.edit.stamp)
 seat_entry entries s r e above here =
-    let rises : IsRising (Some above.floor) (s.place + 1) s.mine = subst (λ (o : Option ℕ). IsRising o (s.place + 1) s.mine) above.has above.rises in
-    (of_replica (s.place + 1) s.mine r e rises.1 here, rises_above above.floor s.mine r e rises.0 here)
+    let rises : IsRising (Some above.floor) s.number s.mine = subst (λ (o : Option ℕ). IsRising o s.number s.mine) above.has above.rises in
+    (of_replica s.number s.mine r e rises.1 here, rises_above above.floor s.mine r e rises.0 here)
 
-abbrev AreAbove : List Seating → Seating → Type 0
-AreAbove seats file = (k : ℕ) (s : Seating) → slice_get seats k ≡ Some s → (s.place ≡ k) × IsAbove file.mine s
+abbrev AreAbove : ℕ → List Seating → Seating → Type 0
+AreAbove first seats file = (k : ℕ) (s : Seating) → slice_get seats k ≡ Some s → (s.place ≡ k) × (s.number ≡ first + k) × IsAbove file.mine s
 
 -- an entry of a seat has not the stamp of one of the file
-seat_file : (seats : List Seating) (file : Seating) → AreAbove seats file → (s : Seating) (r t : ℕ) (e f : Entry) → slice_get seats e.seat ≡ Some s → slice_get s.mine r ≡ Some e → slice_get file.mine t ≡ Some f → e.edit.stamp ≡ f.edit.stamp → ⊥
-seat_file seats file are s r t e f is here there same =
-    let above = are e.seat s is in
-    let own = seat_entry file.mine s r e above.1 here in
-    let replica : replica_in f.edit.stamp ≡ s.place + 1 = ap replica_in (sym same) ∙ own.0 in
-    let below : counter_in f.edit.stamp ≤ above.1.floor = above.1.above t f there replica in
-    let more : above.1.floor < counter_in e.edit.stamp = own.1 in
+seat_file : (first : ℕ) (seats : List Seating) (file : Seating) → AreAbove first seats file → (s : Seating) (r t : ℕ) (e f : Entry) → slice_get seats e.seat ≡ Some s → slice_get s.mine r ≡ Some e → slice_get file.mine t ≡ Some f → e.edit.stamp ≡ f.edit.stamp → ⊥
+seat_file first seats file are s r t e f is here there same =
+    let above = (are e.seat s is).2 in
+    let own = seat_entry file.mine s r e above here in
+    let replica : replica_in f.edit.stamp ≡ s.number = ap replica_in (sym same) ∙ own.0 in
+    let below : counter_in f.edit.stamp ≤ above.floor = above.above t f there replica in
+    let more : above.floor < counter_in e.edit.stamp = own.1 in
     let alike : counter_in e.edit.stamp ≡ counter_in f.edit.stamp = ap counter_in same in
     omega arith
 
-across_all : (list : List Entry) (seats : List Seating) (file : Seating) → AreAbove seats file → IsOf list (mines_of (seats ++ file ∷ [])) → DifferAcross list
-across_all list seats file are all i j e f here there differ same = elim (whose list seats file all i e here) [
+across_all : (first : ℕ) (list : List Entry) (seats : List Seating) (file : Seating) → AreAbove first seats file → IsOf list (mines_of (seats ++ file ∷ [])) → DifferAcross list
+across_all first list seats file are all i j e f here there differ same = elim (whose list seats file all i e here) [
   | inl h ↦ elim (whose list seats file all j f there) [
     | inl g ↦
         let left = are e.seat h.0 h.2 in
         let right = are f.seat g.0 g.2 in
-        let one = (seat_entry file.mine h.0 h.1 e left.1 h.3).0 in
-        let other = (seat_entry file.mine g.0 g.1 f right.1 g.3).0 in
+        let one = (seat_entry file.mine h.0 h.1 e left.2 h.3).0 in
+        let other = (seat_entry file.mine g.0 g.1 f right.2 g.3).0 in
         let alike : replica_in e.edit.stamp ≡ replica_in f.edit.stamp = ap replica_in same in
-        let place : h.0.place ≡ e.seat = left.0 in
-        let there : g.0.place ≡ f.seat = right.0 in
-        let equal : h.0.place + 1 ≡ g.0.place + 1 = sym one ∙ (alike ∙ other) in
-        differ (omega (arith, place, there, equal))
-    | inr g ↦ seat_file seats file are h.0 h.1 g.0 e f h.2 h.3 g.1 same
+        let here : h.0.number ≡ first + e.seat = left.1 in
+        let there : g.0.number ≡ first + f.seat = right.1 in
+        let equal : h.0.number ≡ g.0.number = sym one ∙ (alike ∙ other) in
+        differ (omega (arith, here, there, equal))
+    | inr g ↦ seat_file first seats file are h.0 h.1 g.0 e f h.2 h.3 g.1 same
   ]
   | inr h ↦ elim (whose list seats file all j f there) [
-    | inl g ↦ seat_file seats file are g.0 g.1 h.0 f e g.2 g.3 h.1 (sym same)
+    | inl g ↦ seat_file first seats file are g.0 g.1 h.0 f e g.2 g.3 h.1 (sym same)
     | inr g ↦ differ (h.2 ∙ sym g.2)
   ]
 ]
 
-own_all : (list : List Entry) (seats : List Seating) (file : Seating) → AreAbove seats file → HasEachOnce file.mine → IsOf list (mines_of (seats ++ file ∷ [])) → (k : ℕ) → HasEachOnce (of k list)
-own_all list seats file are each all k =
+own_all : (first : ℕ) (list : List Entry) (seats : List Seating) (file : Seating) → AreAbove first seats file → HasEachOnce file.mine → IsOf list (mines_of (seats ++ file ∷ [])) → (k : ℕ) → HasEachOnce (of k list)
+own_all first list seats file are each all k =
     let puts : List (List Entry) = mines_of (seats ++ file ∷ []) in
     elim (cases_lt k (length puts)) [
       | inl lt ↦ subst HasEachOnce (sym (all.each k lt)) (elim (where_put seats file k lt) [
         | inl h ↦
-            let above = (are k h.0 h.1).1 in
-            let rises : IsRising (Some above.floor) (h.0.place + 1) h.0.mine = subst (λ (o : Option ℕ). IsRising o (h.0.place + 1) h.0.mine) above.has above.rises in
+            let above = (are k h.0 h.1).2 in
+            let rises : IsRising (Some above.floor) h.0.number h.0.mine = subst (λ (o : Option ℕ). IsRising o h.0.number h.0.mine) above.has above.rises in
             subst HasEachOnce (sym h.2) (rising_once above.floor h.0.mine rises.0)
         | inr h ↦ subst HasEachOnce (sym h.0) each
       ])
@@ -190,4 +190,4 @@ own_all list seats file are each all k =
     ]
 
 pub keeps_stamps : KeepsStamps
-keeps_stamps list seats file are each all = once list (own_all list seats file are each all) (across_all list seats file are all)
+keeps_stamps first list seats file are each all = once list (own_all first list seats file are each all) (across_all first list seats file are all)

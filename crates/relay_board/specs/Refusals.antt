@@ -1,5 +1,5 @@
 -- Which refusals of a submission there are, in their order, and what is known of an inbox that was full.
-use Rattle.std.specs.Prelude.{◌≡◌, ℕ, ◌+◌, ◌==◌, Bool, true, false, List, ◌++◌}
+use Rattle.std.specs.Prelude.{◌≡◌, ℕ, ◌==◌, Bool, true, false, List, ◌++◌}
 use Rattle.crossbeam_queue.specs.Fifo.{Held}
 use Rattle.board.specs.declared.entry.Entry.{Entry}
 use Rattle.inbox.specs.declared.submission.Submission.{Submission}
@@ -21,7 +21,7 @@ pub record Looks : Type 0 where
 
 -- what is looked at of an edit that a seat submits
 abbrev pub looks_at : Seating → PlaneEdit → Looks
-looks_at s edit = record { mine = replica_in edit.stamp == s.place + 1; below = has_states_below s.rule.states edit; newer = is_newer s.floor s.mine edit }
+looks_at s edit = record { mine = replica_in edit.stamp == s.number; below = has_states_below s.rule.states edit; newer = is_newer s.floor s.mine edit }
 
 -- none of the three first refusals holds
 abbrev pub Passes : Looks → Type 0

@@ -51,12 +51,12 @@ HasEachOnce list = (i j : ℕ) (e f : Entry) → slice_get list i ≡ Some e →
 pub record IsAbove (entries : List Entry) (s : Seating) : Type 0 where
   pub floor : ℕ
   pub has : s.floor ≡ Some floor
-  pub rises : IsRising s.floor (s.place + 1) s.mine
-  pub above : (i : ℕ) (e : Entry) → slice_get entries i ≡ Some e → replica_in e.edit.stamp ≡ s.place + 1 → counter_in e.edit.stamp ≤ floor
+  pub rises : IsRising s.floor s.number s.mine
+  pub above : (i : ℕ) (e : Entry) → slice_get entries i ≡ Some e → replica_in e.edit.stamp ≡ s.number → counter_in e.edit.stamp ≤ floor
 
--- A list that has just what these seats and a file put, the file's behind them all, no two of one stamp among the file's, and
--- each seat above these: no stamp stands for two entries of it.
+-- A list that has just what these seats and a file put, the file's behind them all, no two of one stamp among the file's, the
+-- seats' numbers one after another from a first on, and each seat above the file's: no stamp stands for two entries of it.
 abbrev pub KeepsStamps : Type 0
 KeepsStamps =
-    (list : List Entry) (seats : List Seating) (file : Seating) → ((k : ℕ) (s : Seating) → slice_get seats k ≡ Some s → (s.place ≡ k) × IsAbove file.mine s)
+    (first : ℕ) (list : List Entry) (seats : List Seating) (file : Seating) → ((k : ℕ) (s : Seating) → slice_get seats k ≡ Some s → (s.place ≡ k) × (s.number ≡ first + k) × IsAbove file.mine s)
     → HasEachOnce file.mine → IsOf list (mines_of (seats ++ file ∷ [])) → HasEachOnce list

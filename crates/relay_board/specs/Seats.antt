@@ -1,5 +1,5 @@
 -- Seats: what is seen of them, and which board and inbox they are of.
-use Rattle.std.specs.Prelude.{◌≡◌, ◌+◌, IfSome}
+use Rattle.std.specs.Prelude.{◌≡◌, IfSome}
 use Rattle.std.specs.Arc.{arc_value}
 use Rattle.atomic_table.specs.Seated.{TableId}
 use Rattle.crossbeam_queue.specs.Passes.{view, ruled_capacity}
@@ -15,6 +15,7 @@ use Rattle.relay_board.specs.Seating.{Seating}
 abbrev pub seating_of : {J : Type 0} → Inside J → Seating
 seating_of s = record {
   place = s.post.seat;
+  number = s.number;
   rule = s.rule;
   floor = s.floor;
   mine = (view s.post.pass).put;
@@ -24,10 +25,9 @@ seating_of s = record {
   room = ruled_capacity (arc_value s.post.queue);
 }
 
--- Its number is one more than its place, and its rule has the board's number of states; its end of the inbox is of this
--- table, and what it has seen, and its entries, are of this board; where it has a floor its edits rise, and it knows the last.
+-- Its rule has the board's number of states; its end of the inbox is of this table, and what it has seen, and its entries, are
+-- of this board; where it has a floor its edits rise, and it knows the last.
 pub record IsSeatOf {J : Type 0} (board : Origin) (inbox : TableId) (s : Inside J) : Type 0 where
-  pub numbered : s.number ≡ s.post.seat + 1
   pub ruled : s.rule.states ≡ s.reader.window.front.states
   pub table : (arc_value s.post.queue).table.shared.table_id ≡ inbox
   pub sees : origin s.reader.window.front ≡ board

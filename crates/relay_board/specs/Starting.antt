@@ -3,9 +3,9 @@ use Rattle.std.specs.Prelude.{◌≡◌, ℕ, Bool, true, false, ◌+◌, ◌&&�
 use Rattle.relay_board.specs.declared.fault.StartFault.{StartFault}
 use Rattle.relay_board.specs.declared.fault.StartFault.TheVariants.{Size, NoPlace, Memory}
 
--- 1 to 64 sessions, and room for 1 to 1,024 submissions
-abbrev pub fits : ℕ → ℕ → Bool
-fits sessions inbox = nat_le 1 sessions && nat_le sessions 64 && nat_le 1 inbox && nat_le inbox 1024
+-- 1 to 64 sessions, whose numbers from the first on are 1 to 65,535, and room for 1 to 1,024 submissions
+abbrev pub fits : ℕ → ℕ → ℕ → Bool
+fits first sessions inbox = nat_le 1 first && nat_le (first + sessions) 65536 && nat_le 1 sessions && nat_le sessions 64 && nat_le 1 inbox && nat_le inbox 1024
 
 -- how many seats it has, one more where it is kept in a file, which puts what it has by the last of them
 abbrev pub seats_of : ℕ → Bool → ℕ

@@ -126,7 +126,7 @@ impl Error for TurnFault {}
 /// Why a board does not start.
 #[derive(Clone, Copy, Debug, PartialEq, Eq)]
 pub enum StartFault {
-    /// Sessions are not 1 to 64, or the inbox's room is not 1 to 1,024.
+    /// Sessions are not 1 to 64, or their numbers are not 1 to 65,535, or the inbox's room is not 1 to 1,024.
     Size,
     /// `left_right` gave no reader's place. It does not tell want of memory apart.
     NoPlace,

@@ -47,12 +47,12 @@ pub struct Account {
     pub front: Front,
 }
 
-/// Whether the seats stand in the order of their numbers.
+/// Whether the seats stand in the order of their places.
 pub fn in_order<J: Naming>(seats: &[Seat<J>]) -> bool
     ensures { IsTrue result ↔ Numbered 0 seats.now }
 {
     for k in 0..seats.len() {
-        if usize::from(seats[k].number()) != k + 1 {
+        if seats[k].place() != k as u64 {
             return false;
         }
     }
@@ -60,7 +60,7 @@ pub fn in_order<J: Naming>(seats: &[Seat<J>]) -> bool
 }
 
 /// Whether the relay may finish with these seats: it was closed, and they are all that it made, in the order of
-/// their numbers. A test for a relay and seats that have been on other threads.
+/// their places. A test for a relay and seats that have been on other threads.
 pub fn is_whole<J: Naming, R: Wait + Drop>(relay: &Relay<J, R>, seats: &[Seat<J>]) -> bool
     ensures closed { IsTrue result → relay.now.closed ≡ true }
     ensures all { IsTrue result → relay.now.made ≡ length seats.now }

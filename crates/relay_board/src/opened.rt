@@ -16,7 +16,7 @@ ghost use Rattle.relay_board.specs.Turns.{most_ready};
 use crate::door::Door;
 use crate::fault::StartFault;
 use crate::naming::Naming;
-use crate::new_seats::seats;
+use crate::new_seats::{SeatPlan, seats};
 use crate::relay::{MOST_READY, Relay};
 use crate::seat::Seat;
 use board::Publisher;
@@ -35,9 +35,14 @@ pub const MOST_SESSIONS: u16 = 64;
 /// The most submissions that an inbox has room for.
 pub const MOST_INBOX: u16 = 1024;
 
+/// How many numbers a stamp has for replicas, with 0, which is none.
+const NUMBERS: u32 = 1 << 16;
+
 /// What a board is opened for.
 #[derive(Clone, Copy)]
 pub struct BoardSize {
+    /// The number of its first seat, from 1 on; that of the last session's is at most 65,535.
+    pub first: u16,
     /// How many seats it has for sessions, 1 to 64.
     pub sessions: u16,
     /// For how many submissions the inbox has room, 1 to 1,024.
@@ -56,6 +61,7 @@ pub struct Opened<R: Wait + Drop> {
     door: Arc<Door, Global>,
     alloc: Global,
     pub rule: Rule,
+    pub first: u16,
     pub count: u16,
     rt: R,
     pub ghost board: { (publisher.list ≡ []) × (publisher.announced ≡ []) },
@@ -75,6 +81,7 @@ impl<R: Wait + Drop> Drop for Opened<R> {
             door: _,
             alloc: _,
             rule: _,
+            first: _,
             count: _,
             rt,
         } = self;
@@ -82,11 +89,16 @@ impl<R: Wait + Drop> Drop for Opened<R> {
     }
 }
 
-/// Whether so many sessions and so much room may be.
-fn fits(sessions: u16, inbox: u16) -> bool
-    ensures { result ≡ fits sessions inbox }
+/// Whether so many sessions, with numbers from the first on, and so much room may be.
+fn fits(first: u16, sessions: u16, inbox: u16) -> bool
+    ensures { result ≡ fits first sessions inbox }
 {
-    1 <= sessions && sessions <= MOST_SESSIONS && 1 <= inbox && inbox <= MOST_INBOX
+    1 <= first
+        && u32::from(first) + u32::from(sessions) <= NUMBERS
+        && 1 <= sessions
+        && sessions <= MOST_SESSIONS
+        && 1 <= inbox
+        && inbox <= MOST_INBOX
 }
 
 /// How many seats there are, with the file's.
@@ -94,11 +106,12 @@ fn seats_of(sessions: u16, is_kept: bool) -> u16
     requires { sessions ≤ 64 }
     ensures value { result ≡ seats_of sessions is_kept }
     ensures within { (sessions ≤ result) × (result ≤ sessions + 1) }
+    ensures few { result ≤ 65 }
 {
     if is_kept { sessions + 1 } else { sessions }
 }
 
-/// A board for so many sessions, 1 to 64, under a rule, with an inbox for so many submissions, 1 to 1,024,
+/// A board for so many sessions, 1 to 64, with numbers from 1 on, under a rule, with an inbox for so many submissions, 1 to 1,024,
 /// and room for 2^26 squares in the relay's own plane.
 pub fn start<R: Wait + Drop>(
     rt: R,
@@ -107,10 +120,12 @@ pub fn start<R: Wait + Drop>(
     sessions: u16,
     inbox: u16,
 ) -> Result<Opened<R>, StartFault>
-    ensures ok { IfOk result (λ o. (fits sessions inbox ≡ true) × (o.count ≡ sessions) × (o.rule ≡ rule) × (o.tried.store.room ≡ usual_room) × (ruled_capacity (arc_value o.drain.queue) ≡ inbox)) }
-    ensures err { IfErr result (λ f. Starts f (fits sessions inbox)) }
+    ensures ok { IfOk result (λ o. (fits 1 sessions inbox ≡ true) × (o.count ≡ sessions) × (o.rule ≡ rule) × (o.tried.store.room ≡ usual_room) × (ruled_capacity (arc_value o.drain.queue) ≡ inbox)) }
+    ensures first { IfOk result (λ o. o.first ≡ 1) }
+    ensures err { IfErr result (λ f. Starts f (fits 1 sessions inbox)) }
 {
     let size = BoardSize {
+        first: 1,
         sessions,
         inbox,
         is_kept: false,
@@ -119,7 +134,7 @@ pub fn start<R: Wait + Drop>(
     start_within(rt, alloc, rule, size)
 }
 
-/// The same of another size: with room for so many squares in the relay's own plane, with planes that find
+/// The same of another size: with numbers from any first one on, with room for so many squares in the relay's own plane, with planes that find
 /// their squares by a key's hashes, and with one seat more where the board is kept in a file.
 pub fn start_within<R: Wait + Drop>(
     rt: R,
@@ -128,16 +143,18 @@ pub fn start_within<R: Wait + Drop>(
     size: BoardSize,
 ) -> Result<Opened<R>, StartFault>
     requires { 1 ≤ size.limits.room }
-    ensures ok { IfOk result (λ o. (fits size.sessions size.inbox ≡ true) × (o.count ≡ seats_of size.sessions size.is_kept) × (o.rule ≡ rule) × (o.tried.store.room ≡ size.limits.room) × (ruled_capacity (arc_value o.drain.queue) ≡ size.inbox)) }
-    ensures err { IfErr result (λ f. Starts f (fits size.sessions size.inbox)) }
+    ensures ok { IfOk result (λ o. (fits size.first size.sessions size.inbox ≡ true) × (o.count ≡ seats_of size.sessions size.is_kept) × (o.rule ≡ rule) × (o.tried.store.room ≡ size.limits.room) × (ruled_capacity (arc_value o.drain.queue) ≡ size.inbox)) }
+    ensures first { IfOk result (λ o. o.first ≡ size.first) }
+    ensures err { IfErr result (λ f. Starts f (fits size.first size.sessions size.inbox)) }
 {
     let BoardSize {
+        first,
         sessions,
         inbox,
         is_kept,
         limits,
     } = size;
-    if !fits(sessions, inbox) {
+    if !fits(first, sessions, inbox) {
         return Err(StartFault::Size);
     }
     let count = seats_of(sessions, is_kept);
@@ -156,6 +173,7 @@ pub fn start_within<R: Wait + Drop>(
         door,
         alloc,
         rule,
+        first,
         count,
         rt,
     })
@@ -175,8 +193,8 @@ fn rooms(
 }
 
 impl<R: Wait + Drop> Opened<R> {
-    /// The relay, and the seats in the order of their numbers, 1 to as many as were asked for, and then the
-    /// file's, where the board is kept in one. `NoPlace` where `left_right` gave no reader's place, which may be
+    /// The relay, and as many seats as were asked for, in the order of their numbers, which follow one another
+    /// from the first on, and then the file's, where the board is kept in one. `NoPlace` where `left_right` gave no reader's place, which may be
     /// want of memory too.
     pub fn named<J: Naming>(self) -> Result<(Relay<J, R>, Vec<Seat<J>>), StartFault>
         requires origin { self.publisher.origin ≡ J.origin }
@@ -184,7 +202,7 @@ impl<R: Wait + Drop> Opened<R> {
         ensures relay { IfOk result (λ r. (r.0.list ≡ []) × (r.0.out ≡ []) × (r.0.kept ≡ []) × (r.0.made ≡ self.count) × (r.0.closed ≡ false) × (r.0.empties ≡ 0) × (r.0.room ≡ self.tried.store.room)) }
         ensures ready { IfOk result (λ r. r.0.ready ≡ 0) }
         ensures states { IfOk result (λ r. r.0.origin.states ≡ self.rule.states) }
-        ensures seats { IfOk result (λ r. AllFresh self.rule (ruled_capacity (arc_value self.drain.queue)) 0 r.1.items × (length r.1.items ≡ self.count)) }
+        ensures seats { IfOk result (λ r. AllFresh self.first self.rule (ruled_capacity (arc_value self.drain.queue)) 0 r.1.items × (length r.1.items ≡ self.count)) }
         ensures err { IfErr result (λ f. f ≢ StartFault.Size) }
     {
         let Self {
@@ -194,6 +212,7 @@ impl<R: Wait + Drop> Opened<R> {
             door,
             alloc,
             rule,
+            first,
             count,
             rt,
         } = self;
@@ -204,7 +223,8 @@ impl<R: Wait + Drop> Opened<R> {
                 return Err(StartFault::Memory);
             }
         };
-        let all = match seats::<J>(alloc, rule, &mut publisher, &mut drain, &door, count) {
+        let plan = SeatPlan { alloc, rule, first };
+        let all = match seats::<J>(&plan, &mut publisher, &mut drain, &door, count) {
             Ok(all) => all,
             Err(fault) => {
                 publisher.end(&rt);

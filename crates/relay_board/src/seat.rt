@@ -37,7 +37,7 @@ use std::marker::{Model, PhantomData};
 use std::sync::{Arc, Wait};
 use std::thread::Promise;
 
-/// Who submits edits and reads the published list. Contracts see its place and rule, what it put, what it
+/// Who submits edits and reads the published list. Contracts see its place, number and rule, what it put, what it
 /// has seen, and how much of that it was handed.
 #[derive(Drop)]
 pub struct Seat<J: Naming> {
@@ -99,11 +99,18 @@ fn is_newer(edit: &Edit, floor: Option<u64>, newest: u64) -> bool
 }
 
 impl<J: Naming> Seat<J> {
-    /// Its number, from 1.
+    /// Its number: the replica whose edits it submits, from 1.
     pub fn number(&self) -> u16
-        ensures { result ≡ self.now.place + 1 }
+        ensures { result ≡ self.now.number }
     {
         self.number
+    }
+
+    /// Its place among the seats, from 0.
+    pub(crate) fn place(&self) -> u64
+        ensures { result ≡ self.now.place }
+    {
+        self.post.seat
     }
 
     /// The rule that the board was started with: each state of what is published is one of its states.
@@ -137,7 +144,7 @@ impl<J: Naming> Seat<J> {
     /// The counter above which those of its edits rise, where they have to.
     pub fn floor(&self) -> Option<u64>
         ensures value { result ≡ self.now.floor }
-        ensures rises { IsRising self.now.floor (self.now.place + 1) self.now.mine }
+        ensures rises { IsRising self.now.floor self.now.number self.now.mine }
     {
         self.floor
     }
@@ -179,7 +186,7 @@ impl<J: Naming> Seat<J> {
         edit: Edit,
     ) -> Result<Pending<J>, (Edit, SubmitFault)>
         requires below { has_states_below self.old.rule.states edit ≡ true }
-        requires goes_on { GoesOn self.old.floor (self.old.place + 1) self.old.mine edit }
+        requires goes_on { GoesOn self.old.floor self.old.number self.old.mine edit }
         ensures same { IsSame self.old self.new × (self.new.seen ≡ self.old.seen) × (self.new.handed ≡ self.old.handed) }
         ensures put { IfOk result (λ p. (p ≡ entry self.old.place (counted (length self.old.mine + 1)) edit) × (self.new.mine ≡ self.old.mine ++ p ∷ []) × (self.new.full ≡ self.old.full)) }
         ensures denied { IfErr result (λ r. (r.0 ≡ edit) × (self.new.mine ≡ self.old.mine)) }
@@ -369,7 +376,7 @@ impl<J: Naming> Seat<J> {
 pub struct IsSeat(pub u16);
 
 impl<J: Naming> Promise<Seat<J>> for IsSeat {
-    ghost use Rattle.std.specs.Prelude.{◌≡◌, ◌+◌};
+    ghost use Rattle.std.specs.Prelude.{◌≡◌};
 
-    ghost kept_by = { λ p s. s.place + 1 ≡ p.0 };
+    ghost kept_by = { λ p s. s.number ≡ p.0 };
 }

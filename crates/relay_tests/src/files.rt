@@ -23,6 +23,7 @@ fn kept_board<R: Wait + Drop>(
     inbox: u16,
 ) -> Result<Opened<R>, Fail> {
     let size = BoardSize {
+        first: 1,
         sessions,
         inbox,
         is_kept: true,

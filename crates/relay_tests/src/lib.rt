@@ -14,6 +14,8 @@ mod files;
 #[cfg(test)]
 mod handing;
 #[cfg(test)]
+mod numbers;
+#[cfg(test)]
 mod pairs;
 #[cfg(test)]
 mod readiness;

@@ -256,6 +256,7 @@ fn packed<J: Naming, R: Wait + Drop + Copy>(
 #[test]
 fn what_is_ready_is_shown_before_a_full_store(rt: HostRuntime) -> Result<(), Fail> {
     let size = BoardSize {
+        first: 1,
         sessions: 1,
         inbox: 8,
         is_kept: false,

@@ -25,10 +25,10 @@ fn keep_above<J: Naming>(seat: &mut Seat<J>, counter: u64) -> Result<(), Fail> {
 }
 
 /// An edit under a rule with a state of it, and its stamp.
-type Drawn = (&'static [u8], u8, (u64, u16));
+pub type Drawn = (&'static [u8], u8, (u64, u16));
 
 /// What comes of edits that a seat submits.
-fn submit_all<J: Naming, R: Wait>(
+pub fn submit_all<J: Naming, R: Wait>(
     rt: &R,
     alloc: Global,
     seat: &mut Seat<J>,

@@ -92,6 +92,7 @@ fn keeps<J: Naming, R: Wait + Drop + Copy>(
 #[test]
 fn a_full_store_keeps_what_was_submitted(rt: HostRuntime) -> Result<(), Fail> {
     let size = BoardSize {
+        first: 1,
         sessions: 1,
         inbox: 2,
         is_kept: false,

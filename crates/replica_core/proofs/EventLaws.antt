@@ -9,7 +9,7 @@ use Rattle.edit_stamps.specs.Edit.{PlaneEdit, IsEdit, greatest, greatest_counter
 use Rattle.stamped_writes.specs.Write.{AreSame}
 use Rattle.stamped_tree.specs.Plane.{map_of}
 use Rattle.replica_events.specs.declared.event.Event.{Event}
-use Rattle.replica_events.specs.declared.event.Event.TheVariants.{Draw, SendDelta, SendState, Deliver, Show, Same, Dump, Export}
+use Rattle.replica_events.specs.declared.event.Event.TheVariants.{Draw, SendDelta, SendState, Deliver, Show, Same, Dump, Export, Cut, Count}
 use Rattle.replica_core.specs.declared.event.Reply.{Reply}
 use Rattle.replica_core.specs.declared.event.Reply.TheVariants as replies
 use Rattle.replica_core.specs.declared.fault.Fault.{Fault}
@@ -20,10 +20,9 @@ use Rattle.delta_exchange.specs.Spelling.{delta_text}
 use Rattle.replica_core.specs.Exchange.{entries}
 use Rattle.replica_core.specs.Replica.{ReplicaState, edit_drawn}
 use Rattle.generation_engine.specs.Universe.{states_in_writes}
-use Rattle.export.specs.declared.fault.ExportFault.{ExportFault}
-use Rattle.export.specs.Export.{IsExport, most_cells}
-use Rattle.replica_core.specs.Exporting.{IsExportOf}
-use Rattle.replica_core.specs.World.{TellsExport, export_reply, IsEditUnder, History, ReplicaHistory, Sent, Delta, State, TellsBytes, named_entries, AreEdits, Given, IsReply, StandSideBySide, StandsFor, StandsForSent, StandsForWorld, WorldState, after, after_drawing, after_message, changed, delivered, drawn, message, next_message, numbered, replica, with_message, with_replica}
+use Rattle.replica_core.specs.declared.event.Question.{Question}
+use Rattle.replica_core.specs.Exporting.{Tells}
+use Rattle.replica_core.specs.World.{IsReplyToQuestion, TellsOfEdits, IsEditUnder, History, ReplicaHistory, Sent, Delta, State, TellsBytes, named_entries, AreEdits, Given, IsReply, StandSideBySide, StandsFor, StandsForSent, StandsForWorld, WorldState, after, after_drawing, after_message, changed, delivered, drawn, message, next_message, numbered, replica, with_message, with_replica}
 use Rattle.replica_core.proofs.HistoryLaws.{edits_drawn}
 use Rattle.replica_core.proofs.SideBySide.{beside, numbered_at, numbered_past, set_same, side_set, side_push}
 
@@ -190,20 +189,17 @@ dumps_in_world w ms m j text sides one at there =
     let is : message w m ≡ Ok near.other = found w.messages m j near.other faults.NoMessage one at near.there in
     subst (λ (o : Result Sent Fault). Given o (replies.Bytes text) (λ sent. TellsBytes w.rule sent (replies.Bytes text))) (sym is) (text, refl, near.stands.spelt)
 
--- ---- exports
+-- ---- questions
 
-pub exports_in_world : (w : History) (rs : List ReplicaState) (r i g : ℕ) (held : ReplicaState) (answer : Result (List ℕ) ExportFault) (reply : Reply)
+pub tells_in_world : (w : History) (rs : List ReplicaState) (r i : ℕ) (question : Question) (held : ReplicaState) (reply : Reply)
     → StandSideBySide (StandsFor w.rule) w.replicas rs → 1 ≤ r → i ≡ r - 1 → slice_get rs i ≡ Some held
-    → IsExportOf held g answer → reply ≡ export_reply answer → IsReply w (Export r g) reply
-exports_in_world w rs r i g held answer reply side one at there exported replied =
+    → Tells held.rule (states_in_writes (map_of held.plane)) question reply → IsReplyToQuestion w r question reply
+tells_in_world w rs r i question held reply side one at there told =
     let near = beside (StandsFor w.rule) w.replicas rs i held side there in
     let is : replica w r ≡ Ok near.other = found w.replicas r i near.other faults.NoReplica one at near.there in
-    subst (λ (o : Result ReplicaHistory Fault). Given o reply (λ h. TellsExport w.rule h.taken g reply)) (sym is) (
-      answer,
-      subst (λ t. IsExport t (states_in_writes (greatest near.other.taken)) g most_cells answer) near.stands.same_rule
-          (subst (λ f. IsExport held.rule f g most_cells answer) (λ k c. (near.stands.map c k).state) exported),
-      replied,
-    )
+    subst (λ (o : Result ReplicaHistory Fault). Given o reply (λ h. TellsOfEdits w.rule h.taken question reply)) (sym is)
+    (subst (λ t. Tells t (states_in_writes (greatest near.other.taken)) question reply) near.stands.same_rule
+    (subst (λ f. Tells held.rule f question reply) (λ k c. (near.stands.map c k).state) told))
 
 -- ---- looks
 
@@ -244,6 +240,8 @@ keeps_rule w (Show r x y) = refl
 keeps_rule w (Same a b) = refl
 keeps_rule w (Dump m) = refl
 keeps_rule w (Export r g) = refl
+keeps_rule w (Cut r window g) = refl
+keeps_rule w (Count r g) = refl
 
 draw_keeps_messages : (w : History) (r : ℕ) (spec : EditSpec) → (after w (Draw r spec)).messages ≡ w.messages
 draw_keeps_messages w r spec = unchanged (λ v. v.messages) w (drawn w r spec) (λ d. with_replica w r d.1) (λ d. refl)

@@ -14,7 +14,9 @@ use Rattle.replica_core.specs.Replica.{ReplicaState}
 use Rattle.generation_engine.specs.Universe.{states_in_writes}
 use Rattle.export.specs.Export.{IsExport, most_cells}
 use Rattle.export.proofs.ExportLaws.{has_one_export}
-use Rattle.replica_core.specs.Headline.{Agrees, ExportsGreatest, ExportsSameBytes, HasOneEditAStamp, HasOneWinner, HoldsGreatest, IsAt, IsGreatestOf, NeverGoesDown, SendsTexts, WritesSameBytes}
+use Rattle.replica_core.specs.Exporting.{Tells}
+use Rattle.replica_core.proofs.ReplyLaws.{one_told}
+use Rattle.replica_core.specs.Headline.{Agrees, AnswersAlike, ExportsGreatest, ExportsSameBytes, HasOneEditAStamp, HasOneWinner, HoldsGreatest, IsAt, IsGreatestOf, NeverGoesDown, SendsTexts, WritesSameBytes}
 use Rattle.replica_core.specs.World.{History, ReplicaHistory, Sent, IsTextOfSent, after, after_all, message, numbered, opening, replica}
 use Rattle.delta_exchange.proofs.StateLaws.{has_one_state_text}
 use Rattle.delta_exchange.specs.StateText.{IsStateText}
@@ -79,6 +81,15 @@ exports_same_bytes rule n m events others r s h k held other g a b at at_other s
     has_one_export rule (states_in_writes (greatest h.taken)) (states_in_writes (greatest k.taken)) g most_cells a b
     (λ c. ap (λ w. w.state) (depends_on_members h.taken k.taken same c))
     (exports_greatest rule n events r h held g a at is) (exports_greatest rule m others s k other g b at_other is_other)
+
+pub answers_alike : AnswersAlike
+answers_alike rule n m events others r s h k held other question a b at there same is is_other =
+    let f = states_in_writes (map_of held.plane) in
+    let g = states_in_writes (map_of other.plane) in
+    let one : f ≡ g = λ i c. (agrees rule rule n m events others r s h k held other at there same c i).state in
+    one_told rule f question a b
+    (subst (λ t. Tells t f question a) (held_rule rule n events r h held at) is)
+    (subst (λ t. Tells t f question b) (held_rule rule m others s k other there) (subst (λ q. Tells other.rule q question b) (sym one) is_other))
 
 pub writes_same_bytes : WritesSameBytes
 writes_same_bytes rule n m events others r s h k held other a b at there same one two =

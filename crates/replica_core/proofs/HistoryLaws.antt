@@ -12,7 +12,7 @@ use Rattle.generations_rule.specs.Rule.{GenerationsRule}
 use Rattle.edit_stamps.specs.Edit.{PlaneEdit, greatest_counter}
 use Rattle.edit_stamps.specs.Stamp.{counter_in, last_counter, replica_in, stamp_of}
 use Rattle.replica_events.specs.declared.event.Event.{Event}
-use Rattle.replica_events.specs.declared.event.Event.TheVariants.{Draw, SendDelta, SendState, Deliver, Show, Same, Dump, Export}
+use Rattle.replica_events.specs.declared.event.Event.TheVariants.{Draw, SendDelta, SendState, Deliver, Show, Same, Dump, Export, Cut, Count}
 use Rattle.replica_core.specs.declared.fault.Fault.{Fault}
 use Rattle.replica_core.specs.declared.fault.Fault.TheVariants as faults
 use Rattle.replica_events.specs.declared.edit_spec.EditSpec.{EditSpec}
@@ -195,6 +195,8 @@ comes_from w (Show r x y) e inside = inl inside
 comes_from w (Same a b) e inside = inl inside
 comes_from w (Dump m) e inside = inl inside
 comes_from w (Export r g) e inside = inl inside
+comes_from w (Cut r window g) e inside = inl inside
+comes_from w (Count r g) e inside = inl inside
 
 -- ---- a drawn edit
 
@@ -311,6 +313,8 @@ grows w (Show r x y) s k there = kept_as_it_was w s k there
 grows w (Same a b) s k there = kept_as_it_was w s k there
 grows w (Dump m) s k there = kept_as_it_was w s k there
 grows w (Export r g) s k there = kept_as_it_was w s k there
+grows w (Cut r window g) s k there = kept_as_it_was w s k there
+grows w (Count r g) s k there = kept_as_it_was w s k there
 
 -- behind events too
 pub grows_along : (w : History) (events : List Event) (s : ℕ) (k : ReplicaHistory) → replica w s ≡ Ok k → IsGrown (after_all w events) s k
@@ -339,6 +343,8 @@ keeps_count w (Show r x y) = refl
 keeps_count w (Same a b) = refl
 keeps_count w (Dump m) = refl
 keeps_count w (Export r g) = refl
+keeps_count w (Cut r window g) = refl
+keeps_count w (Count r g) = refl
 
 -- a drawn edit is taken by its replica
 drawn_is_taken : (w : History) (event : Event) (e : PlaneEdit) (d : IsDrawnAt w event e) → Contains (after_drawing d.held e).taken e

@@ -15,3 +15,4 @@ pub mod NotedEdits
 mod AgainLaws
 pub mod StateLaws
 pub mod UniverseLaws
+pub mod TellLaws

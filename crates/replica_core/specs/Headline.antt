@@ -14,7 +14,8 @@ use Rattle.replica_events.specs.declared.event.Event.{Event}
 use Rattle.replica_core.specs.declared.event.Reply.{Reply}
 use Rattle.replica_core.specs.declared.event.Reply.TheVariants.{Refused}
 use Rattle.replica_core.specs.declared.fault.Fault.{Fault}
-use Rattle.replica_core.specs.Exporting.{IsExportOf}
+use Rattle.replica_core.specs.declared.event.Question.{Question}
+use Rattle.replica_core.specs.Exporting.{IsExportOf, Tells}
 use Rattle.replica_core.specs.Replica.{ReplicaState}
 use Rattle.replica_core.specs.World.{History, ReplicaHistory, Sent, WorldState, AreReplies, IsIn, IsReply, IsTextOfSent, StandsForWorld, after, after_all, message, numbered, opening, replica}
 
@@ -62,6 +63,12 @@ abbrev pub ExportsSameBytes : Type 0
 ExportsSameBytes = (rule : GenerationsRule) (n m : ℕ) (events others : List Event) (r s : ℕ) (h k : ReplicaHistory) (held other : ReplicaState) (g : ℕ) (a b : Result (List ℕ) ExportFault)
     → IsAt rule n events r h held → IsAt rule m others s k other → HaveSameEdits h.taken k.taken
     → IsExportOf held g a → IsExportOf other g b → a ≡ b
+
+-- and they tell the same of every generation that is exported, cut by a window, or counted
+abbrev pub AnswersAlike : Type 0
+AnswersAlike = (rule : GenerationsRule) (n m : ℕ) (events others : List Event) (r s : ℕ) (h k : ReplicaHistory) (held other : ReplicaState) (question : Question) (a b : Reply)
+    → IsAt rule n events r h held → IsAt rule m others s k other → HaveSameEdits h.taken k.taken
+    → Tells held.rule (states_in_writes (map_of held.plane)) question a → Tells other.rule (states_in_writes (map_of other.plane)) question b → a ≡ b
 
 -- the bytes of each message are the text of what was sent
 abbrev pub SendsTexts : Type 0

@@ -11,7 +11,7 @@ use Rattle.edit_stamps.specs.Edit.{PlaneEdit, IsEdit, greatest, greatest_counter
 use Rattle.stamped_tree.specs.Plane.{StampedPlane, map_of}
 use Rattle.stamped_writes.specs.Write.{AreSame}
 use Rattle.replica_events.specs.declared.event.Event.{Event}
-use Rattle.replica_events.specs.declared.event.Event.TheVariants.{Draw, SendDelta, SendState, Deliver, Show, Same, Dump, Export}
+use Rattle.replica_events.specs.declared.event.Event.TheVariants.{Draw, SendDelta, SendState, Deliver, Show, Same, Dump, Export, Cut, Count}
 use Rattle.replica_core.specs.declared.event.Reply.{Reply}
 use Rattle.replica_core.specs.declared.event.Reply.TheVariants as replies
 use Rattle.replica_core.specs.declared.event.Stop.{Stop}
@@ -29,10 +29,11 @@ use Rattle.delta_exchange.specs.State.{IsTellableMap}
 use Rattle.delta_exchange.specs.StateText.{IsStateText}
 use Rattle.edit_journal.specs.Journal.{noted}
 use Rattle.generation_engine.specs.Universe.{EngineValue, states_in_writes}
-use Rattle.export.specs.declared.fault.ExportFault.{ExportFault}
-use Rattle.export.specs.Export.{IsExport, IsRoomWanted, most_cells}
+use Rattle.export.specs.Export.{IsRoomWanted}
 use Rattle.export.specs.Kept.{IsRunOf}
-use Rattle.replica_core.specs.Fault.{fault_of_export}
+use Rattle.replica_core.specs.declared.event.Question.{Question}
+use Rattle.replica_core.specs.declared.event.Question.TheVariants as questions
+use Rattle.replica_core.specs.Exporting.{Tells}
 use Rattle.replica_core.specs.Exchange.{entries}
 use Rattle.replica_core.specs.Replica.{ReplicaState, edit_drawn}
 use Rattle.replica_core.specs.Room.{IsFullFor}
@@ -122,6 +123,8 @@ after w (Show r x y) = w
 after w (Same a b) = w
 after w (Dump m) = w
 after w (Export r g) = w
+after w (Cut r window g) = w
+after w (Count r g) = w
 
 abbrev pub after_all : History → List Event → History
 after_all w [] = w
@@ -155,14 +158,13 @@ IsTextOfSent rule (State edits) text = IsStateText rule (greatest edits) text
 abbrev pub TellsBytes : GenerationsRule → Sent → Reply → Type 0
 TellsBytes rule sent reply = (text : List ℕ) × (reply ≡ replies.Bytes text) × IsTextOfSent rule sent text
 
--- what an export answers, as a reply
-abbrev pub export_reply : Result (List ℕ) ExportFault → Reply
-export_reply (Ok text) = replies.Text text
-export_reply (Err fault) = replies.Refused (fault_of_export fault)
+-- the reply that tells what is asked of the greatest writes of edits
+abbrev pub TellsOfEdits : GenerationsRule → List PlaneEdit → Question → Reply → Type 0
+TellsOfEdits rule taken question reply = Tells rule (states_in_writes (greatest taken)) question reply
 
--- the reply that tells the text of a generation of the greatest writes of edits, or why there is none
-abbrev pub TellsExport : GenerationsRule → List PlaneEdit → ℕ → Reply → Type 0
-TellsExport rule taken g reply = (answer : Result (List ℕ) ExportFault) × IsExport rule (states_in_writes (greatest taken)) g most_cells answer × (reply ≡ export_reply answer)
+-- the reply to a question of what a replica holds
+abbrev pub IsReplyToQuestion : History → ℕ → Question → Reply → Type 0
+IsReplyToQuestion w r question reply = Given (replica w r) reply (λ h. TellsOfEdits w.rule h.taken question reply)
 
 -- the reply to an event
 abbrev pub IsReply : History → Event → Reply → Type 0
@@ -173,7 +175,9 @@ IsReply w (Deliver m r) reply = Given (delivered w m r) reply (λ h. reply ≡ r
 IsReply w (Show r x y) reply = Given (replica w r) reply (λ h. reply ≡ replies.Shown (greatest h.taken (at_place x y)))
 IsReply w (Same a b) reply = Given (both w a b) reply (λ hs. TellsSame hs.0.taken hs.1.taken reply)
 IsReply w (Dump m) reply = Given (message w m) reply (λ sent. TellsBytes w.rule sent reply)
-IsReply w (Export r g) reply = Given (replica w r) reply (λ h. TellsExport w.rule h.taken g reply)
+IsReply w (Export r g) reply = IsReplyToQuestion w r (questions.Export g) reply
+IsReply w (Cut r window g) reply = IsReplyToQuestion w r (questions.Cut (record { window = window; generation = g })) reply
+IsReply w (Count r g) reply = IsReplyToQuestion w r (questions.Count g) reply
 
 -- the replies to events one after another
 abbrev pub AreReplies : History → List Event → List Reply → Type 0
@@ -210,7 +214,7 @@ pub record IsDeliveryFull (nodes : ℕ) (w : History) (number_sent number : ℕ)
   pub given : message w number_sent ≡ Ok sent
   pub full : IsFullFor nodes held.taken (Carries sent) ⊎ IsTooLargeToRead sent
 
--- the universe of an export of what a replica took wants more room than 2^26 squares
+-- the universe by which a question is answered of what a replica took wants more room than 2^26 squares
 pub record IsExportFull (w : History) (number g : ℕ) : Type 0 where
   pub held : ReplicaHistory
   pub there : replica w number ≡ Ok held
@@ -223,6 +227,8 @@ abbrev pub WantsRoom : ℕ → History → Event → Type 0
 WantsRoom nodes w (Draw r spec) = IsDrawFull nodes w r spec
 WantsRoom nodes w (Deliver m r) = IsDeliveryFull nodes w m r
 WantsRoom nodes w (Export r g) = IsExportFull w r g
+WantsRoom nodes w (Cut r window g) = IsExportFull w r g
+WantsRoom nodes w (Count r g) = IsExportFull w r g
 WantsRoom nodes w (SendDelta r from count) = ⊥
 WantsRoom nodes w (SendState r) = ⊥
 WantsRoom nodes w (Show r x y) = ⊥
@@ -336,7 +342,7 @@ pub record AreCurrent (replicas : List ReplicaState) (messages : List (List ℕ)
 abbrev pub IsRemembered : ReplicaState → ReplicaState → Option ℕ → Option ℕ → Type 0
 IsRemembered was is before now = (place : ℕ) → now ≡ Some place → (before ≡ Some place) × ((text : List ℕ) → IsStateOf was text → IsStateOf is text)
 
--- ---- the universe of the last export
+-- ---- the universe of the last question
 
 -- a universe, kept with a place counted from 0, runs the map of the replica there
 pub record IsUniverseOf (replicas : List ReplicaState) (place : ℕ) (e : EngineValue) : Type 0 where

@@ -2,6 +2,7 @@
 
 use crate::fault::Fault;
 use edit_stamps::{Stamp, Write};
+use export::{Count, Cut};
 use lists::ListOf;
 use std::alloc::{AllocError, AllocFailed};
 use std::error::Error;
@@ -25,11 +26,24 @@ pub enum Reply {
     Same(bool),
     /// The bytes of the message.
     Bytes(ByteList),
-    /// The cells of the generation, in Golly's multi-state RLE.
+    /// The cells of the generation, or those in a window, in Golly's multi-state RLE.
     Text(ByteList),
+    /// How many cells are not dead at the generation, and where.
+    Counted(Count),
     /// Why nothing happened. All that names a replica is refused for want of it first, a delivery for
     /// want of the message before. It is never `Fault::Memory` or `Fault::StoreFull`.
     Refused(Fault),
+}
+
+/// What is asked about a map some generations later.
+#[derive(Clone, Copy, Debug, PartialEq, Eq)]
+pub enum Question {
+    /// The text of its cells, so many generations later.
+    Export(u32),
+    /// The text of those in a window.
+    Cut(Cut),
+    /// How many cells are not dead, so many generations later, and where.
+    Count(u32),
 }
 
 /// Why a list of events was not run to its end. What was done by then is dropped.

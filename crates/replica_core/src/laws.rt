@@ -1,7 +1,7 @@
 //! What holds of replicas, for all edits, and of worlds of them, for all events: the contracts of functions
 //! that do nothing.
 
-ghost use Rattle.replica_core.specs.Headline.{Agrees, ExportsGreatest, ExportsSameBytes, HasOneEditAStamp, HasOneListOfReplies, HasOneWinner, HoldsGreatest, NeverGoesDown, RefusalsChangeNothing, SendsTexts, WritesSameBytes};
+ghost use Rattle.replica_core.specs.Headline.{Agrees, AnswersAlike, ExportsGreatest, ExportsSameBytes, HasOneEditAStamp, HasOneListOfReplies, HasOneWinner, HoldsGreatest, NeverGoesDown, RefusalsChangeNothing, SendsTexts, WritesSameBytes};
 ghost use Rattle.replica_core.specs.Peers.{HoldsWhatItTook, PeersAgree};
 
 /// What holds of every world after every list of events.
@@ -11,6 +11,7 @@ pub fn world_laws()
     ensures bytes { WritesSameBytes }
     ensures exports { ExportsGreatest }
     ensures same_exports { ExportsSameBytes }
+    ensures answers { AnswersAlike }
     ensures messages { SendsTexts }
     ensures stamps { HasOneEditAStamp }
     ensures winner { HasOneWinner }

@@ -9,7 +9,8 @@ mod world;
 
 pub use delta_exchange::Message;
 pub use devices::{Failed, ReadSource, Sink, Source, WriteSink};
-pub use event::{ByteList, Reply, Stop};
+pub use event::{ByteList, Question, Reply, Stop};
+pub use export::{Count, Cut};
 pub use fault::Fault;
 pub use laws::{peer_laws, world_laws};
 pub use replica::Replica;

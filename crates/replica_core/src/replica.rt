@@ -12,6 +12,9 @@ ghost use Rattle.edit_stamps.specs.Edit.{PlaneEdit, IsEdit, has_states_below, wr
 ghost use Rattle.edit_journal.specs.Journal.{noted};
 ghost use Rattle.held_plane.specs.Held.{IsAsBefore, IsJoinedAt, added_writes};
 ghost use Rattle.held_plane.specs.Wanted.{IsJoinedSoFar, IsWantedOf};
+ghost use Rattle.export.specs.Export.{IsRoomWanted, last_generation};
+ghost use Rattle.replica_core.specs.Exporting.{Tells, generation_of, refusal_or_stop, reply_or_stop};
+ghost use Rattle.replica_core.specs.declared.event.Reply.TheVariants as replies;
 ghost use Rattle.replica_core.specs.Fault.{IsWant};
 ghost use Rattle.delta_exchange.specs.Message.{edits_in, writes_in, IsBelowStates};
 ghost use Rattle.replica_core.specs.Replica.{made, or_edit_fault, stamp_after};
@@ -20,11 +23,12 @@ ghost use Rattle.stamped_tree.specs.Plane.{map_of};
 ghost use Rattle.generation_engine.specs.Universe.{states_in_writes};
 ghost use Rattle.export.specs.Kept.{IsRunOf};
 
+use crate::event::{ByteList, Question, Reply, Stop};
 use crate::fault::Fault;
 use delta_exchange::{Content, Message, read_within, write_delta, write_state};
 use edit_journal::Journal;
 use edit_stamps::{Edit, Stamp, Write, counter_of};
-use export::{export, export_on};
+use export::{Count, ExportFault, count_on, cut_on, export, export_on};
 use generation_engine::Engine;
 use generations_rule::Rule;
 use held_plane::{Added, HeldPlane};
@@ -78,8 +82,8 @@ impl Replica {
     ghost use Rattle.delta_exchange.specs.StateText.{IsStateText};
     ghost use Rattle.delta_exchange.specs.Versions.{IsReadableStateText};
     ghost use Rattle.replica_core.specs.Exchange.{delta_given, IsTakingMap, IsTakingOf, IsTakingText};
-    ghost use Rattle.export.specs.Export.{IsRoomWanted};
-    ghost use Rattle.replica_core.specs.Exporting.{IsExportFault, IsExportOf};
+    ghost use Rattle.export.specs.Export.{IsRoomWanted, last_generation};
+    ghost use Rattle.replica_core.specs.Exporting.{IsExportFault, IsExportOf, Tells, generation_of};
     ghost use Rattle.replica_core.specs.Replica.{edit_drawn, IsDraw, IsJournalOf, IsMadeAs, IsNew, IsReplica, IsSnapshot, IsTaking, Takes};
 
     /// A replica that holds nothing, with room for 2^26 squares. The only error is want of memory.
@@ -332,25 +336,91 @@ impl Replica {
         ensures err { IfErr result (IsExportFault self.now generation) }
         ensures full { result ≡ Err Fault.StoreFull → IsRoomWanted self.now.rule self.now.plane generation usual_room }
     {
-        Ok(export(self.alloc, &self.rule, self.plane.plane(), generation)?)
-    }
-
-    /// `export`, by the universe that an earlier export of the same map left, if there is one.
-    pub(crate) fn export_on(
-        &self,
-        generation: u32,
-        kept: &mut Option<Engine>,
-    ) -> Result<Vec<u8>, Fault>
-        requires { IfSome kept.old (IsRunOf self.now.rule (states_in_writes (map_of self.now.plane))) }
-        ensures text { IfOk result (λ text. IsExportOf self.now generation (Ok text.items)) }
-        ensures err { IfErr result (IsExportFault self.now generation) }
-        ensures full { result ≡ Err Fault.StoreFull → IsRoomWanted self.now.rule self.now.plane generation usual_room }
-        ensures kept { IfSome kept.new (IsRunOf self.now.rule (states_in_writes (map_of self.now.plane))) }
-    {
-        match export_on(self.alloc, &self.rule, self.plane.plane(), generation, kept) {
+        match export(self.alloc, &self.rule, self.plane.plane(), generation) {
             Ok(text) => Ok(text),
             Err(fault) => Err(Fault::from(fault)),
         }
+    }
+
+    /// What is told of a question about this replica's map: a text, a count, or a refusal, as `export` refuses. The only
+    /// errors are want of memory, and of room for 2^26 squares, at a generation that is one.
+    pub fn tell(&self, question: Question) -> Result<Reply, Stop>
+        ensures told { IfOk result (Tells self.now.rule (states_in_writes (map_of self.now.plane)) question) }
+        ensures err { IfErr result (λ _. generation_of question ≤ last_generation) }
+        ensures full { result ≡ Err Stop.StoreFull → IsRoomWanted self.now.rule self.now.plane (generation_of question) usual_room }
+    {
+        let mut none = None;
+        self.tell_on(question, &mut none)
+    }
+
+    /// `tell`, by the universe that an earlier question about the same map left, if there is one.
+    pub(crate) fn tell_on(
+        &self,
+        question: Question,
+        kept: &mut Option<Engine>,
+    ) -> Result<Reply, Stop>
+        requires { IfSome kept.old (IsRunOf self.now.rule (states_in_writes (map_of self.now.plane))) }
+        ensures told { IfOk result (Tells self.now.rule (states_in_writes (map_of self.now.plane)) question) }
+        ensures err { IfErr result (λ _. generation_of question ≤ last_generation) }
+        ensures full { result ≡ Err Stop.StoreFull → IsRoomWanted self.now.rule self.now.plane (generation_of question) usual_room }
+        ensures kept { IfSome kept.new (IsRunOf self.now.rule (states_in_writes (map_of self.now.plane))) }
+    {
+        tell_of(self.alloc, &self.rule, self.plane.plane(), question, kept)
+    }
+}
+
+/// What is told of a question about a plane under a rule, by the universe that an earlier one left.
+fn tell_of(
+    alloc: Global,
+    rule: &Rule,
+    plane: &Plane,
+    question: Question,
+    kept: &mut Option<Engine>,
+) -> Result<Reply, Stop>
+    requires states { HasStatesBelow rule.now.states (map_of plane.now) }
+    requires kept { IfSome kept.old (IsRunOf rule.now (states_in_writes (map_of plane.now))) }
+    ensures told { IfOk result (Tells rule.now (states_in_writes (map_of plane.now)) question) }
+    ensures err { IfErr result (λ _. generation_of question ≤ last_generation) }
+    ensures full { result ≡ Err Stop.StoreFull → IsRoomWanted rule.now plane.now (generation_of question) usual_room }
+    ensures kept { IfSome kept.new (IsRunOf rule.now (states_in_writes (map_of plane.now))) }
+{
+    match question {
+        Question::Export(generation) => {
+            text_reply(export_on(alloc, rule, plane, generation, kept))
+        }
+        Question::Cut(cut) => text_reply(cut_on(alloc, rule, plane, cut, kept)),
+        Question::Count(generation) => count_reply(count_on(alloc, rule, plane, generation, kept)),
+    }
+}
+
+/// The reply of a text, or of its refusal.
+fn text_reply(answer: Result<Vec<u8>, ExportFault>) -> Result<Reply, Stop>
+    ensures { result ≡ reply_or_stop (λ text. replies.Text text.items) answer }
+{
+    match answer {
+        Ok(text) => Ok(Reply::Text(ByteList::of_vec(text))),
+        Err(fault) => refusal(fault),
+    }
+}
+
+/// The reply of a count, or of its refusal.
+fn count_reply(answer: Result<Count, ExportFault>) -> Result<Reply, Stop>
+    ensures { result ≡ reply_or_stop replies.Counted answer }
+{
+    match answer {
+        Ok(count) => Ok(Reply::Counted(count)),
+        Err(fault) => refusal(fault),
+    }
+}
+
+/// The reply of a refusal; a want is none.
+fn refusal(fault: ExportFault) -> Result<Reply, Stop>
+    ensures { result ≡ refusal_or_stop fault }
+{
+    match fault {
+        ExportFault::Memory => Err(Stop::Memory),
+        ExportFault::StoreFull => Err(Stop::StoreFull),
+        refusal => Ok(Reply::Refused(Fault::Export(refusal))),
     }
 }
 

@@ -10,16 +10,17 @@ ghost use Rattle.generation_engine.specs.Universe.{states_in_writes};
 ghost use Rattle.stamped_tree.specs.Plane.{map_of};
 ghost use Rattle.replica_events.specs.declared.event.Event.TheVariants as events;
 ghost use Rattle.replica_core.specs.declared.event.Reply.TheVariants as replies;
-ghost use Rattle.replica_core.specs.Exporting.{IsExportFault, IsExportOf};
+ghost use Rattle.replica_core.specs.Exporting.{Tells, generation_of};
 ghost use Rattle.replica_core.specs.Fault.{IsWant, stop_of};
 ghost use Rattle.replica_core.specs.Replica.{edit_drawn, IsNew, ReplicaState};
 ghost use Rattle.replica_core.specs.Room.{IsFullFor};
 ghost use Rattle.delta_exchange.specs.declared.message.Content.TheVariants as contents;
-ghost use Rattle.replica_core.specs.World.{Carries, History, IsDeliveryFull, IsDrawFull, IsEditUnder, IsExportFull, IsThere, IsTooLargeToRead, ReplicaHistory, Sent, opening, after, after_all, after_drawing, after_message, numbered, AreCurrent, AreEdits, AreReplies, HaveRoom, IsRemembered, IsReply, IsStateMessage, IsStateOf, IsStopOf, IsUniverseOf, MayStop, StandSideBySide, StandsFor, StandsForSent, StandsForWorld};
+ghost use Rattle.replica_core.specs.World.{Carries, History, IsDeliveryFull, IsDrawFull, IsEditUnder, IsExportFull, IsThere, IsTooLargeToRead, ReplicaHistory, Sent, opening, after, after_all, after_drawing, after_message, numbered, AreCurrent, AreEdits, AreReplies, HaveRoom, IsRemembered, IsReply, IsStateMessage, IsStateOf, IsReplyToQuestion, IsStopOf, IsUniverseOf, MayStop, StandSideBySide, StandsFor, StandsForSent, StandsForWorld};
 
-use crate::event::{ByteList, Reply, Stop};
+use crate::event::{ByteList, Question, Reply, Stop};
 use crate::fault::Fault;
 use crate::replica::Replica;
+use export::Cut;
 use generation_engine::Engine;
 use generations_rule::Rule;
 use replica_events::{EditSpec, Event};
@@ -42,11 +43,11 @@ struct Remembered {
     /// For each replica the place of a message with the state text of its map as it is now, where one
     /// was sent.
     current: Vec<Option<usize>>,
-    /// The universe of the last export, for the next one of the same map.
+    /// The universe of the last question, for the next one about the same map.
     universe: Option<KeptUniverse>,
 }
 
-/// A universe that was run for an export, and the place of the replica whose map it runs.
+/// A universe that was run for a question, and the place of the replica whose map it runs.
 #[derive(Drop)]
 struct KeptUniverse {
     place: usize,
@@ -132,7 +133,7 @@ impl World {
 /// Runs a world of replicas 1 to `n` through events, in order: the world behind the last event, and
 /// the reply to each. A refused event changes nothing, and the next one follows. The only errors are
 /// want of memory, and of room: each replica has room for 2^26 squares, and so has the plane that a state
-/// is read into, and the universe that an export runs.
+/// is read into, and the universe that is run for a question.
 pub fn replay(
     alloc: Global,
     rule: Rule,
@@ -243,11 +244,26 @@ fn happen(world: &mut World, event: &Event) -> Result<Reply, Stop>
         Event::Show(number, x, y) => Ok(show(&world.replicas, *number, *x, *y)),
         Event::Same(a, b) => same(&world.replicas, *a, *b),
         Event::Dump(number) => dump(world.alloc, &world.messages, *number),
-        Event::Export(number, generation) => export(
+        Event::Export(number, generation) => ask(
             &world.replicas,
             &mut world.remembered.universe,
             *number,
-            *generation,
+            Question::Export(*generation),
+        ),
+        Event::Cut(number, window, generation) => ask(
+            &world.replicas,
+            &mut world.remembered.universe,
+            *number,
+            Question::Cut(Cut {
+                window: *window,
+                generation: *generation,
+            }),
+        ),
+        Event::Count(number, generation) => ask(
+            &world.replicas,
+            &mut world.remembered.universe,
+            *number,
+            Question::Count(*generation),
         ),
     }
 }
@@ -497,46 +513,44 @@ fn same(replicas: &[Replica], a: u32, b: u32) -> Result<Reply, Stop>
     Ok(Reply::Same(same))
 }
 
-/// What a replica exports, by the universe of the last export where that was of the same map.
-fn export(
+/// What is told of a question about a replica's map, by the universe of the last one where that was about the same
+/// map.
+fn ask(
     replicas: &[Replica],
     universe: &mut Option<KeptUniverse>,
     number: u32,
-    generation: u32,
+    question: Question,
 ) -> Result<Reply, Stop>
     requires { IfSome universe.old (λ kept. IsUniverseOf replicas.now kept.place kept.engine) }
-    ensures step { IfOk result (λ reply. (w : History) → StandSideBySide (StandsFor w.rule) w.replicas replicas.now → IsReply w (events.Export number generation) reply) }
+    ensures step { IfOk result (λ reply. (w : History) → StandSideBySide (StandsFor w.rule) w.replicas replicas.now → IsReplyToQuestion w number question reply) }
     ensures universe { IfSome universe.new (λ kept. IsUniverseOf replicas.now kept.place kept.engine) }
-    ensures err { IfErr result (λ _. IsThere number (length replicas.now) × (generation ≤ last_generation)) }
-    ensures full { result ≡ Err Stop.StoreFull → (w : History) → StandSideBySide (StandsFor w.rule) w.replicas replicas.now → IsExportFull w number generation }
+    ensures err { IfErr result (λ _. IsThere number (length replicas.now) × (generation_of question ≤ last_generation)) }
+    ensures full { result ≡ Err Stop.StoreFull → (w : History) → StandSideBySide (StandsFor w.rule) w.replicas replicas.now → IsExportFull w number (generation_of question) }
 {
     let Some(index) = index_of(u64::from(number), replicas.len()) else {
         return Ok(Reply::Refused(Fault::NoReplica));
     };
-    match export_at(&replicas[index], universe, index, generation) {
-        Ok(text) => Ok(Reply::Text(ByteList::of_vec(text))),
-        Err(fault) => refused(fault),
-    }
+    tell_at(&replicas[index], universe, index, question)
 }
 
-/// What the replica at a place exports. Its universe is kept then, and that of another is dropped.
-fn export_at(
+/// What the replica at a place tells. Its universe is kept then, and that of another is dropped.
+fn tell_at(
     replica: &Replica,
     universe: &mut Option<KeptUniverse>,
     place: usize,
-    generation: u32,
-) -> Result<Vec<u8>, Fault>
+    question: Question,
+) -> Result<Reply, Stop>
     requires { IfSome universe.old (λ kept. kept.place ≡ place → IsRunOf replica.now.rule (states_in_writes (map_of replica.now.plane)) kept.engine) }
-    ensures text { IfOk result (λ text. IsExportOf replica.now generation (Ok text.items)) }
-    ensures err { IfErr result (IsExportFault replica.now generation) }
-    ensures full { result ≡ Err Fault.StoreFull → IsRoomWanted replica.now.rule replica.now.plane generation usual_room }
+    ensures told { IfOk result (Tells replica.now.rule (states_in_writes (map_of replica.now.plane)) question) }
+    ensures err { IfErr result (λ _. generation_of question ≤ last_generation) }
+    ensures full { result ≡ Err Stop.StoreFull → IsRoomWanted replica.now.rule replica.now.plane (generation_of question) usual_room }
     ensures universe { IfSome universe.new (λ kept. (kept.place ≡ place) × IsRunOf replica.now.rule (states_in_writes (map_of replica.now.plane)) kept.engine) }
 {
     let mut engine = match universe.take() {
         Some(kept) if kept.place == place => Some(kept.engine),
         _ => None,
     };
-    let answer = replica.export_on(generation, &mut engine);
+    let answer = replica.tell_on(question, &mut engine);
     if let Some(engine) = engine {
         *universe = Some(KeptUniverse { place, engine });
     }

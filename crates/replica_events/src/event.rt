@@ -1,6 +1,7 @@
 //! What happens in a world of replicas.
 
 use crate::edit_spec::EditSpec;
+use pattern_cells::Window;
 
 /// What happens in a world. Replicas are named by their numbers, from 1; messages by theirs, from 1
 /// in the order in which they were sent.
@@ -23,4 +24,8 @@ pub enum Event {
     Dump(u64),
     /// Somebody asks for the text of a replica's cells so many generations later.
     Export(u32, u32),
+    /// The same of the cells in a window.
+    Cut(u32, Window, u32),
+    /// Somebody asks how many cells of a replica are not dead so many generations later, and where.
+    Count(u32, u32),
 }

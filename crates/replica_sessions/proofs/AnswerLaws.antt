@@ -3,12 +3,13 @@ use Rattle.std.proofs.Common.{◌≡◌, ℕ, List, Some, None, Ok, Err, refl, i
 use Rattle.std.specs.Prelude.{◌⊎◌}
 use Rattle.generations_rule.specs.Rule.{GenerationsRule}
 use Rattle.edit_stamps.specs.Edit.{PlaneEdit}
+use Rattle.pattern_cells.specs.declared.window.Window.{Window}
 use Rattle.stamped_tree.specs.Plane.{StampedPlane}
 use Rattle.session_hub.specs.declared.fault.HubFault.{HubFault}
 use Rattle.session_hub.specs.HubCall.{HubCall, Pushes, Shows}
 use Rattle.session_hub.specs.HubFault.{hub_fault_number}
-use Rattle.session_hub.specs.Request.{Request, Push, Whole, Export, Many}
-use Rattle.session_hub.specs.Replies.{Kept, RepliesOrWants, IsWanting, IsPlaneReply, IsExportReply, AreExportReplies, pushed_of, refusal}
+use Rattle.session_hub.specs.Request.{Request, Push, Whole, Export, Cut, Many}
+use Rattle.session_hub.specs.Replies.{Kept, RepliesOrWants, IsWanting, IsCutReply, IsPlaneReply, IsExportReply, AreExportReplies, pushed_of, refusal}
 use Rattle.replica_sessions.specs.Answer.{IsAnswer}
 
 module _ {H : Type 0} (allows : H → HubCall → H → Type 0) (r : GenerationsRule) (seat : ℕ) (old : H) where
@@ -28,6 +29,9 @@ module _ (r : GenerationsRule) (seat : ℕ) (kept : Kept) where
 
   pub refused_export : (g : ℕ) (fault : HubFault) (n : ℕ) (out : List (List ℕ)) → n ≡ hub_fault_number fault → out ≡ refusal n → RepliesOrWants r seat kept (Export g) (Some (Shows (Err fault))) out kept
   refused_export g fault n out number is = inl (rw number at is, refl)
+
+  pub refused_cut : (w : Window) (g : ℕ) (fault : HubFault) (n : ℕ) (out : List (List ℕ)) → n ≡ hub_fault_number fault → out ≡ refusal n → RepliesOrWants r seat kept (Cut w g) (Some (Shows (Err fault))) out kept
+  refused_cut w g fault n out number is = inl (rw number at is, refl)
 
   pub refused_many : (gs : List ℕ) (fault : HubFault) (n : ℕ) (out : List (List ℕ)) → n ≡ hub_fault_number fault → out ≡ refusal n → RepliesOrWants r seat kept (Many gs) (Some (Shows (Err fault))) out kept
   refused_many gs fault n out number is = inl (rw number at is, refl)
@@ -49,6 +53,9 @@ module _ (r : GenerationsRule) (seat : ℕ) (kept : Kept) where
     pub shown_export : (g : ℕ) → IsExportReply r p g out → RepliesOrWants r seat kept (Export g) (Some (Shows (Ok p))) out kept
     shown_export g is = inl (is, refl)
 
+    pub shown_cut : (w : Window) (g : ℕ) → IsCutReply r p w g out → RepliesOrWants r seat kept (Cut w g) (Some (Shows (Ok p))) out kept
+    shown_cut w g is = inl (is, refl)
+
     pub shown_many : (gs : List ℕ) → AreExportReplies r p gs out → RepliesOrWants r seat kept (Many gs) (Some (Shows (Ok p))) out kept
     shown_many gs is = inl (is, refl)
 
@@ -57,6 +64,9 @@ module _ (r : GenerationsRule) (seat : ℕ) (kept : Kept) where
 
     pub wanting_export : (g : ℕ) → out ≡ refusal 255 → RepliesOrWants r seat kept (Export g) (Some (Shows (Ok p))) out kept
     wanting_export g is = inr (is, refl)
+
+    pub wanting_cut : (w : Window) (g : ℕ) → out ≡ refusal 255 → RepliesOrWants r seat kept (Cut w g) (Some (Shows (Ok p))) out kept
+    wanting_cut w g is = inr (is, refl)
 
     pub wanting_many : (gs : List ℕ) → out ≡ refusal 255 → RepliesOrWants r seat kept (Many gs) (Some (Shows (Ok p))) out kept
     wanting_many gs is = inr (is, refl)

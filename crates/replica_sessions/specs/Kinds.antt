@@ -3,7 +3,7 @@ use Rattle.std.specs.Prelude.{◌≡◌, ⊤, ℕ, ◌+◌, ◌*◌, List, lengt
 use Rattle.session_hub.specs.Request.{Request, numbers}
 use Rattle.session_hub.specs.Request as requests
 use Rattle.replica_sessions.specs.declared.kind.Kind.{Kind}
-use Rattle.replica_sessions.specs.declared.kind.Kind.TheVariants.{Hello, Push, Poll, Whole, Export, Bye, Many, Await, Pieces, Faulty}
+use Rattle.replica_sessions.specs.declared.kind.Kind.TheVariants.{Hello, Push, Poll, Whole, Export, Cut, Bye, Many, Await, Pieces, Faulty}
 
 -- the request of a kind, with the bytes behind the kind
 abbrev pub request_by : Kind → List ℕ → Request
@@ -12,6 +12,7 @@ request_by Push rest = requests.Push rest
 request_by Poll rest = requests.Poll
 request_by Whole rest = requests.Whole
 request_by (Export g) rest = requests.Export g
+request_by (Cut cut) rest = requests.Cut cut.window cut.generation
 request_by Bye rest = requests.Bye
 request_by (Many count) rest = requests.Many (numbers count (drop 2 rest))
 request_by (Await milliseconds) rest = requests.Await milliseconds

@@ -1,8 +1,12 @@
 //! Requests by their kinds.
 
-ghost use Rattle.std.specs.Prelude.{◌≡◌};
+ghost use Rattle.std.specs.Prelude.{◌≡◌, length};
+ghost use Rattle.std.specs.Int.{cast_signed, from_be_bytes, w32};
 ghost use Rattle.session_hub.specs.Request.{request_of, request_as, sized, many_of, await_of};
 ghost use Rattle.replica_sessions.specs.Kinds.{request_by, IsWholeRest};
+
+use export::Cut;
+use pattern_cells::Window;
 
 /// The longest that a request may await news, in milliseconds: a minute.
 const MOST_WAIT: u32 = 60_000;
@@ -16,6 +20,8 @@ pub enum Kind {
     Poll,
     Whole,
     Export(u32),
+    /// The cells in a window, so many generations later.
+    Cut(Cut),
     Bye,
     Many(u16),
     /// A poll that waits for news, for so many milliseconds at most.
@@ -56,6 +62,8 @@ fn kind_by(kind: u8, rest: &[u8]) -> Kind
         many_by(rest)
     } else if kind == 8 {
         await_by(rest)
+    } else if kind == 10 {
+        cut_by(rest)
     } else if kind == 11 {
         bare(Kind::Pieces, rest)
     } else {
@@ -81,6 +89,46 @@ fn export_by(rest: &[u8]) -> Kind
     } else {
         Kind::Faulty
     }
+}
+
+/// A window by its corner and its sides, and a generation, of four bytes each.
+fn cut_by(rest: &[u8]) -> Kind
+    ensures request { request_as 10 rest.now ≡ request_by result rest.now }
+    ensures whole { IsWholeRest result rest.now }
+{
+    if rest.len() != 20 {
+        return Kind::Faulty;
+    }
+    let (x, behind) = rest.split_at(4);
+    let (y, behind) = behind.split_at(4);
+    let (width, behind) = behind.split_at(4);
+    let (height, behind) = behind.split_at(4);
+    let (generation, _behind) = behind.split_at(4);
+    Kind::Cut(Cut {
+        window: Window {
+            x: coordinate_of(x),
+            y: coordinate_of(y),
+            width: number_of(width),
+            height: number_of(height),
+        },
+        generation: number_of(generation),
+    })
+}
+
+/// The coordinate in four bytes, in two's complement.
+fn coordinate_of(bytes: &[u8]) -> i32
+    requires { length bytes.now ≡ 4 }
+    ensures { result ≡ cast_signed w32 (from_be_bytes w32 bytes.now) }
+{
+    i32::from_be_bytes([bytes[0], bytes[1], bytes[2], bytes[3]])
+}
+
+/// The number in four bytes.
+pub(crate) fn number_of(bytes: &[u8]) -> u32
+    requires { length bytes.now ≡ 4 }
+    ensures { result ≡ from_be_bytes w32 bytes.now }
+{
+    u32::from_be_bytes([bytes[0], bytes[1], bytes[2], bytes[3]])
 }
 
 fn many_by(rest: &[u8]) -> Kind

@@ -1,19 +1,19 @@
 //! Requests that need the hub's plane.
 
 ghost use Rattle.std.specs.Prelude.{◌≡◌, ◌⊎◌, ◌+◌, ◌*◌, ◌≤◌, ◌∷◌, ◌++◌, [], length, map, unwrap_or, IfOk, OnOk, drop};
-ghost use Rattle.std.specs.Int.{w32, from_be_bytes};
 ghost use Rattle.edit_stamps.specs.PlaneMap.{HasStatesBelow};
 ghost use Rattle.stamped_tree.specs.Plane.{map_of};
 ghost use Rattle.message_frames.specs.Frames.{most_body};
-ghost use Rattle.session_hub.specs.Request.{Export as AsksExport, Many as AsksMany, Whole as AsksWhole, numbers};
-ghost use Rattle.session_hub.specs.Replies.{Kept, export_body, refusal, IsPlaneReply, IsExportReply, AreExportReplies};
+ghost use Rattle.session_hub.specs.Request.{Cut as AsksCut, Export as AsksExport, Many as AsksMany, Whole as AsksWhole, numbers};
+ghost use Rattle.session_hub.specs.Replies.{Kept, export_body, refusal, IsCutReply, IsPlaneReply, IsExportReply, AreExportReplies};
 ghost use Rattle.replica_sessions.specs.Answer.{IsAnswer};
 
 use crate::bodies::{framed, one_frame, short_count, text_frame, text_frames};
 use crate::fault::SessionFault;
+use crate::kind::number_of;
 use crate::room::Room;
 use delta_exchange::write_state;
-use export::export;
+use export::{Cut, cut_out, export};
 use export_workers::{Export, Free, Text, export_many};
 use frame_service::FrameList;
 use generations_rule::Rule;
@@ -53,6 +53,23 @@ pub fn export_reply<H: Hub>(alloc: Global, hub: &mut H, room: Room, generation: 
     match hub.plane() {
         Err(fault) => room.refusal(fault.number()),
         Ok(plane) => match export_frames(alloc, &rule, &plane, generation) {
+            Err(_) => room.refusal(SessionFault::Memory.number()),
+            Ok(None) => room.refusal(SessionFault::FrameTooLong.number()),
+            Ok(Some(frames)) => frames,
+        },
+    }
+}
+
+/// The reply to a request for one cut.
+pub fn cut_reply<H: Hub>(alloc: Global, hub: &mut H, room: Room, asked: Cut) -> FrameList
+    ensures answer { (kept : Kept) → IsAnswer H.allows (H.rule_of hub.old) (H.number_of hub.old) (AsksCut asked.window asked.generation) hub.old kept result hub.new kept }
+    ensures rule { H.rule_of hub.new ≡ H.rule_of hub.old }
+    ensures number { H.number_of hub.new ≡ H.number_of hub.old }
+{
+    let rule = hub.rule();
+    match hub.plane() {
+        Err(fault) => room.refusal(fault.number()),
+        Ok(plane) => match cut_frames(alloc, &rule, &plane, asked) {
             Err(_) => room.refusal(SessionFault::Memory.number()),
             Ok(None) => room.refusal(SessionFault::FrameTooLong.number()),
             Ok(Some(frames)) => frames,
@@ -107,6 +124,23 @@ fn export_frames(
     ensures { IfOk result (λ frames. IsExportReply rule.now plane.now generation (unwrap_or frames (refusal 21))) }
 {
     let answer = match export(alloc, rule, plane, generation) {
+        Ok(text) => Ok(Text::of_vec(text)),
+        Err(fault) => Err(fault),
+    };
+    answer_frames(alloc, answer)
+}
+
+/// The frame of a cut; none where its text is too long for one.
+fn cut_frames(
+    alloc: Global,
+    rule: &Rule,
+    plane: &Plane,
+    asked: Cut,
+) -> Result<Option<FrameList>, AllocError>
+    requires { HasStatesBelow rule.now.states (map_of plane.now) }
+    ensures { IfOk result (λ frames. IsCutReply rule.now plane.now asked.window asked.generation (unwrap_or frames (refusal 21))) }
+{
+    let answer = match cut_out(alloc, rule, plane, asked) {
         Ok(text) => Ok(Text::of_vec(text)),
         Err(fault) => Err(fault),
     };
@@ -183,12 +217,4 @@ fn numbers_of(alloc: Global, count: u16, bytes: &[u8]) -> Result<Vec<u32>, Alloc
         rest = others;
     }
     Ok(all)
-}
-
-/// The number in four bytes.
-fn number_of(bytes: &[u8]) -> u32
-    requires { length bytes.now ≡ 4 }
-    ensures { result ≡ from_be_bytes w32 bytes.now }
-{
-    u32::from_be_bytes([bytes[0], bytes[1], bytes[2], bytes[3]])
 }

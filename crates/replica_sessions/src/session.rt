@@ -13,7 +13,7 @@ use crate::fault::SessionFault;
 use crate::kept::KeptNews;
 use crate::kind::{Kind, kind_of};
 use crate::pieces::pieces_reply;
-use crate::planes::{export_reply, many_reply, plane_reply};
+use crate::planes::{cut_reply, export_reply, many_reply, plane_reply};
 use crate::polls::poll_reply;
 use crate::pushes::push_reply;
 use crate::room::Room;
@@ -81,6 +81,7 @@ impl<H: Hub, R: Threads + Sync + Drop> Session<H, R> {
             Kind::Poll | Kind::Await(_) => poll_reply(alloc, hub, kept, room),
             Kind::Whole => plane_reply(alloc, hub, room),
             Kind::Export(generation) => export_reply(alloc, hub, room, generation),
+            Kind::Cut(cut) => cut_reply(alloc, hub, room, cut),
             Kind::Bye => room.refusal(0),
             Kind::Many(count) => many_reply(&self.rt, alloc, hub, room, count, rest),
             Kind::Pieces => pieces_reply(alloc, hub, kept, room),
@@ -125,6 +126,7 @@ fn is_last(kind: Kind) -> bool
         | Kind::Poll
         | Kind::Whole
         | Kind::Export(_)
+        | Kind::Cut(_)
         | Kind::Many(_)
         | Kind::Await(_)
         | Kind::Pieces

@@ -4,7 +4,8 @@ ghost use Rattle.std.specs.Prelude.{◌≤◌, ◌<◌};
 
 use edit_stamps::{Cell, Write};
 use generations_rule::Rule;
-use replica_core::{CellList, EditSpec, Event, Reply, Stop, World, replay, replay_within};
+use pattern_cells::Window;
+use replica_core::{CellList, Count, EditSpec, Event, Reply, Stop, World, replay, replay_within};
 use std::alloc::{AllocError, Global};
 
 /// An event whose cell takes no memory yet.
@@ -18,6 +19,8 @@ enum Step {
     Same(u32, u32),
     Dump(u64),
     Export(u32, u32),
+    Cut(u32, Window, u32),
+    Count(u32, u32),
 }
 
 fn event(alloc: Global, step: Step) -> Result<Event, AllocError> {
@@ -33,6 +36,8 @@ fn event(alloc: Global, step: Step) -> Result<Event, AllocError> {
         Step::Same(a, b) => Event::Same(a, b),
         Step::Dump(message) => Event::Dump(message),
         Step::Export(number, generation) => Event::Export(number, generation),
+        Step::Cut(number, window, generation) => Event::Cut(number, window, generation),
+        Step::Count(number, generation) => Event::Count(number, generation),
     })
 }
 
@@ -58,8 +63,19 @@ fn reply_told(alloc: Global, reply: &Reply) -> Result<String, AllocError> {
         Reply::Same(same) => format!(in alloc; "same {same}"),
         Reply::Bytes(text) => format!(in alloc; "{} bytes", text.as_slice().len()),
         Reply::Text(text) => String::from_utf8_lossy(alloc, text.as_slice()),
+        Reply::Counted(count) => count_told(alloc, *count),
         Reply::Refused(fault) => fault.to_string(alloc),
     }
+}
+
+fn count_told(alloc: Global, count: Count) -> Result<String, AllocError> {
+    let Some(window) = count.extent else {
+        return format!(in alloc; "{} cells", count.cells);
+    };
+    format!(in alloc;
+        "{} cells in {} {} {} {}",
+        count.cells, window.x, window.y, window.width, window.height
+    )
 }
 
 fn events(alloc: Global, steps: &[Step]) -> Result<Vec<Event>, AllocError> {
@@ -147,6 +163,35 @@ static ASKED: [Step; 7] = [
 fn tells_the_same_from_the_different(rt: HostRuntime) {
     let lines = "same true\ndrawn 1 1\nsame false\nsent 1\ntaken\nsame true\nNoReplica\n";
     assert!(rt; is_answered(rt.alloc(), 2, &ASKED, lines) == Ok(true));
+}
+
+const SQUARE: Window = Window {
+    x: -1,
+    y: -1,
+    width: 3,
+    height: 3,
+};
+
+/// Two cells that the square has, and one that it has not. A generation later all are dying, and four are born.
+static SEEN: [Step; 9] = [
+    Step::Count(1, 0),
+    Step::Draw(1, 0, 0, 1),
+    Step::Draw(1, 1, 0, 1),
+    Step::Draw(1, 9, 9, 1),
+    Step::Count(1, 0),
+    Step::Cut(1, SQUARE, 0),
+    Step::Cut(1, SQUARE, 1),
+    Step::Count(1, 1),
+    Step::Count(2, 0),
+];
+
+#[test]
+fn counts_and_cuts(rt: HostRuntime) {
+    let lines = "0 cells\ndrawn 1 1\ndrawn 2 1\ndrawn 3 1\n3 cells in 0 0 10 10\n\
+        #CXRLE Pos=0,0 Gen=0\nx = 2, y = 1, rule = /2/3\n2A!\n\n\
+        #CXRLE Pos=0,-1 Gen=1\nx = 2, y = 3, rule = /2/3\n2A$2B$2A!\n\n\
+        7 cells in 0 -1 10 11\nNoReplica\n";
+    assert!(rt; is_answered(rt.alloc(), 1, &SEEN, lines) == Ok(true));
 }
 
 /// How many replies come where each replica has so much room.

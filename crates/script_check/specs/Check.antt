@@ -5,7 +5,7 @@ use Rattle.std.specs.Str.{bytes_eq}
 use Rattle.text_scan.specs.Bytes.{decimal_number}
 use Rattle.text_scan.specs.Words.{words}
 use Rattle.replica_core.specs.declared.event.Reply.{Reply}
-use Rattle.replica_core.specs.declared.event.Reply.TheVariants.{Drawn, Sent, Taken, Shown, Same, Bytes, Text, Refused}
+use Rattle.replica_core.specs.declared.event.Reply.TheVariants.{Drawn, Sent, Taken, Shown, Same, Bytes, Text, Counted, Refused}
 use Rattle.replica_core.specs.Fault.{replica_fault_number}
 use Rattle.replica_core.specs.World.{opening, AreReplies}
 use Rattle.genedit_script.specs.Script.{NumberedLine, ScriptValue, lines_from, script_of}
@@ -49,6 +49,7 @@ refusal_in_reply place (Shown write) = None
 refusal_in_reply place (Same same) = None
 refusal_in_reply place (Bytes text) = None
 refusal_in_reply place (Text text) = None
+refusal_in_reply place (Counted counted) = None
 
 -- the refusals of the commands at these places of a script's lines, by what is printed at each and the replies in order
 abbrev pub refusals_among : List NumberedLine → List Place → List OutputLine → List Reply → List Refusal

@@ -85,12 +85,14 @@ fn front_of_file(line: &[u8]) -> &[u8]
     let Some(word) = words.next_word() else {
         return line;
     };
-    match Dialect::Client.keyword(word.text) {
-        None | Some(Keyword::Save | Keyword::SaveOver | Keyword::Open) => {}
-        Some(Keyword::Export | Keyword::ExportOver) => {
-            let _generation = words.next_word();
-        }
+    let numbers = match Dialect::Client.keyword(word.text) {
+        None | Some(Keyword::Save | Keyword::SaveOver | Keyword::Open) => 0u32,
+        Some(Keyword::Export | Keyword::ExportOver) => 1,
+        Some(Keyword::Cut | Keyword::CutOver) => 5,
         Some(_) => return line,
+    };
+    for _number in 0..numbers {
+        let _word = words.next_word();
     }
     words.read()
 }

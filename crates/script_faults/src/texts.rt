@@ -185,7 +185,13 @@ fn surplus_text(alloc: Global, dialect: Dialect, keyword: Keyword) -> Result<Str
 fn names_file(keyword: Keyword) -> bool {
     matches!(
         keyword,
-        Keyword::Export | Keyword::ExportOver | Keyword::Save | Keyword::SaveOver | Keyword::Open
+        Keyword::Export
+            | Keyword::ExportOver
+            | Keyword::Cut
+            | Keyword::CutOver
+            | Keyword::Save
+            | Keyword::SaveOver
+            | Keyword::Open
     )
 }
 

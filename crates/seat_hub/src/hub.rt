@@ -36,12 +36,11 @@ impl<J: Naming, R: Wait + Drop> SeatHub<J, R> {
 }
 
 impl<J: Naming, R: Wait + Drop> Hub for SeatHub<J, R> {
-    ghost use Rattle.std.specs.Prelude.{◌+◌};
     ghost use Rattle.seat_hub.specs.SeatCalls.{IsSeatCall};
 
     ghost rule_of = { λ h. h.seat.rule };
 
-    ghost number_of = { λ h. h.seat.place + 1 };
+    ghost number_of = { λ h. h.seat.number };
 
     ghost allows = { λ a call b. IsSeatCall a.seat call b.seat };
 

@@ -11,7 +11,9 @@ use Rattle.stamped_writes.specs.Write.{AreSame, Writes}
 use Rattle.stamped_tree.specs.Plane.{StampedPlane, map_of}
 use Rattle.generation_engine.specs.Universe.{states_in_writes}
 use Rattle.export.specs.declared.fault.ExportFault.{ExportFault}
+use Rattle.export.specs.Asking.{IsCut, IsCutRefused}
 use Rattle.export.specs.Export.{IsExport, IsExportRefused, most_cells}
+use Rattle.pattern_cells.specs.declared.window.Window.{Window}
 use Rattle.export_workers.specs.Exports.{AreExportAnswers, IsExportAnswer}
 use Rattle.frame_service.specs.declared.reply.Reply.{Reply}
 use Rattle.frame_service.specs.Exchanges.{AreAnswered, Exchange, frames_of}
@@ -28,10 +30,10 @@ use Rattle.session_hub.specs.declared.fault.HubFault.{HubFault}
 use Rattle.session_hub.specs.declared.fault.HubFault.TheVariants.{NotYours, StateRange, OldStamp, Full, Closed, StoreFull, Memory}
 use Rattle.session_hub.specs.HubFault.{hub_fault_number}
 use Rattle.session_hub.specs.HubCall.{AllowsAtMost, Hands, HubCall, Polls, Pushes, Shows}
-use Rattle.session_hub.specs.Request.{Await, Bye, Export, Faulty, Hello, Many, Pieces, Poll, Push, Request, Whole, request_of}
-use Rattle.session_hub.specs.Replies.{IsKeptReply, IsPiecesReply, IsPollReply, IsPushReply, IsReply, IsReplyOf, IsShownReply, IsWanting, IsWholeReply, KeepsAll, KeepsNews, Kept, RepliesOrWants, edits_frames, edits_left, edits_reply, most_edits, nothing_kept, pushed_of, refusal, with_plane}
+use Rattle.session_hub.specs.Request.{Await, Bye, Cut, Export, Faulty, Hello, Many, Pieces, Poll, Push, Request, Whole, request_of}
+use Rattle.session_hub.specs.Replies.{IsCutAnswer, IsKeptReply, IsPiecesReply, IsPollReply, IsPushReply, IsReply, IsReplyOf, IsShownReply, IsWanting, IsWholeReply, KeepsAll, KeepsNews, Kept, RepliesOrWants, edits_frames, edits_left, edits_reply, most_edits, nothing_kept, pushed_of, refusal, with_plane}
 use Rattle.seat_server.specs.Sessions.{AreAttended, AreVisits, VisitValue, number_of, rule_of, session_at}
-use Rattle.seat_server.specs.OneList.{AreTextsOf, AreToldBehind, AreToldSeats, AreToldVisits, BeginsWithWant, Counted, Edits, HasAccepted, HaveSeenHanded, IsAccepted, IsForNews, IsTextOf, IsToldBehind, IsToldOf, Nothing, Plane, Telling, Tells, TellsNothing, TellsOfOneList, Texts}
+use Rattle.seat_server.specs.OneList.{AreTextsOf, AreToldBehind, AreToldSeats, AreToldVisits, BeginsWithWant, Counted, CutText, Edits, HasAccepted, HaveSeenHanded, IsAccepted, IsCutTextOf, IsForNews, IsTextOf, IsToldBehind, IsToldOf, Nothing, Plane, Telling, Tells, TellsNothing, TellsOfOneList, Texts}
 
 -- ---- beginnings
 
@@ -121,6 +123,11 @@ text_of : (r : GenerationsRule) (p : StampedPlane) (edits : List PlaneEdit) (g :
     → IsExportAnswer r p g answer → IsTextOf r edits g answer
 text_of r p edits g (Ok text) same is = subst (λ (f : Place → ℕ). IsExport r f g most_cells (Ok text)) (states_same (map_of p) (greatest edits) same) is
 text_of r p edits g (Err fault) same is = subst (λ (f : Place → ℕ). IsExportRefused r f g most_cells fault) (states_same (map_of p) (greatest edits) same) is.0
+
+cut_text_of : (r : GenerationsRule) (p : StampedPlane) (edits : List PlaneEdit) (w : Window) (g : ℕ) (answer : Result (List ℕ) ExportFault) → AreSame (map_of p) (greatest edits)
+    → IsCutAnswer r p w g answer → IsCutTextOf r edits w g answer
+cut_text_of r p edits w g (Ok text) same is = subst (λ (f : Place → ℕ). IsCut r f w g most_cells (Ok text)) (states_same (map_of p) (greatest edits) same) is
+cut_text_of r p edits w g (Err fault) same is = subst (λ (f : Place → ℕ). IsCutRefused r f w g most_cells fault) (states_same (map_of p) (greatest edits) same) is.0
 
 texts_of : (r : GenerationsRule) (p : StampedPlane) (edits : List PlaneEdit) (gs : List ℕ) (answers : List (Result (List ℕ) ExportFault)) → AreSame (map_of p) (greatest edits)
     → AreExportAnswers r p gs answers → AreTextsOf r edits gs answers
@@ -387,6 +394,9 @@ module _ (r : GenerationsRule) (seat : ℕ) (earlier : List Exchange) (bytes : L
   plane_told b left p (Export g) is own call same of =
       quiet b left call.0.read.seen call.0.handed same own (Texts (g ∷ []) (of.answer ∷ [])) (asked (Export g) (Texts (g ∷ []) (of.answer ∷ [])) is (refl, of.frames))
       (text_of r p (edits_of b.seen) g of.answer call.1 of.is_export, tt)
+  plane_told b left p (Cut w g) is own call same of =
+      quiet b left call.0.read.seen call.0.handed same own (CutText w g of.answer) (asked (Cut w g) (CutText w g of.answer) is (refl, refl, of.frames))
+      (cut_text_of r p (edits_of b.seen) w g of.answer call.1 of.is_cut)
   plane_told b left p (Many gs) is own call same of =
       quiet b left call.0.read.seen call.0.handed same own (Texts gs of.answers) (asked (Many gs) (Texts gs of.answers) is (refl, of.frames))
       (texts_of r p (edits_of b.seen) gs of.answers call.1 of.are_exports)
@@ -462,6 +472,7 @@ module _ (r : GenerationsRule) (seat : ℕ) (earlier : List Exchange) (bytes : L
   replied b left Pieces call is allowed of = in_pieces b left call is (no_push b Pieces is (λ text clash. cc)) allowed of
   replied b left Whole call is allowed of = shown b left Whole call is (no_push b Whole is (λ text clash. cc)) allowed of.1 of.0
   replied b left (Export g) call is allowed of = shown b left (Export g) call is (no_push b (Export g) is (λ text clash. cc)) allowed of.1 of.0
+  replied b left (Cut w g) call is allowed of = shown b left (Cut w g) call is (no_push b (Cut w g) is (λ text clash. cc)) allowed of.1 of.0
   replied b left (Many gs) call is allowed of = shown b left (Many gs) call is (no_push b (Many gs) is (λ text clash. cc)) allowed of.1 of.0
 
   -- a want of memory
@@ -481,6 +492,7 @@ module _ (r : GenerationsRule) (seat : ℕ) (earlier : List Exchange) (bytes : L
       plane_kept b left given.0 (subst IsForNews (sym is) tt) out allowed.0.read.seen allowed.0.handed allowed.1 keeps
   wanted b left Whole (Some (Shows (Ok p))) is allowed out keeps = show_wanted b left p allowed out keeps
   wanted b left (Export g) (Some (Shows (Ok p))) is allowed out keeps = show_wanted b left p allowed out keeps
+  wanted b left (Cut w g) (Some (Shows (Ok p))) is allowed out keeps = show_wanted b left p allowed out keeps
   wanted b left (Many gs) (Some (Shows (Ok p))) is allowed out keeps = show_wanted b left p allowed out keeps
   wanted b left Faulty call is allowed out keeps = absurd keeps
   wanted b left Bye call is allowed out keeps = absurd keeps
@@ -509,6 +521,11 @@ module _ (r : GenerationsRule) (seat : ℕ) (earlier : List Exchange) (bytes : L
   wanted b left (Export g) (Some (Pushes e answer)) is allowed out keeps = absurd keeps
   wanted b left (Export g) (Some (Polls answer)) is allowed out keeps = absurd keeps
   wanted b left (Export g) (Some (Hands answer)) is allowed out keeps = absurd keeps
+  wanted b left (Cut w g) None is allowed out keeps = absurd keeps
+  wanted b left (Cut w g) (Some (Shows (Err fault))) is allowed out keeps = absurd keeps
+  wanted b left (Cut w g) (Some (Pushes e answer)) is allowed out keeps = absurd keeps
+  wanted b left (Cut w g) (Some (Polls answer)) is allowed out keeps = absurd keeps
+  wanted b left (Cut w g) (Some (Hands answer)) is allowed out keeps = absurd keeps
   wanted b left (Many gs) (Some (Shows (Err fault))) is allowed out keeps = absurd keeps
   wanted b left (Many gs) (Some (Pushes e answer)) is allowed out keeps = absurd keeps
   wanted b left (Many gs) (Some (Polls answer)) is allowed out keeps = absurd keeps
@@ -527,6 +544,7 @@ module _ (r : GenerationsRule) (seat : ℕ) (earlier : List Exchange) (bytes : L
   by_want b left Pieces call is allowed out keeps = wanted b left Pieces call is allowed out keeps
   by_want b left Whole call is allowed out keeps = wanted b left Whole call is allowed out keeps
   by_want b left (Export g) call is allowed out keeps = wanted b left (Export g) call is allowed out keeps
+  by_want b left (Cut w g) call is allowed out keeps = wanted b left (Cut w g) call is allowed out keeps
   by_want b left (Many gs) call is allowed out keeps = wanted b left (Many gs) call is allowed out keeps
 
   either : (b : Seating) (left : Kept) (call : Option HubCall) → AllowsAtMost IsSeatCall a call b → RepliesOrWants r seat kept (request_of bytes) call (frames_of reply) left

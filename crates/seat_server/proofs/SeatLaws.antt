@@ -1,6 +1,6 @@
 -- A session over a hub that has a seat is a session over the seat, and leaves it at its place.
-use Rattle.std.proofs.Common.{◌≡◌, ℕ, ◌+◌, ◌^◌, ◌++◌, List, [], ◌∷◌, Option, Some, None, ap, refl, sym, subst, ◌∙◌, arith}
-use Rattle.std.specs.Prelude.{Result}
+use Rattle.std.proofs.Common.{◌≡◌, ℕ, ◌^◌, ◌++◌, List, [], ◌∷◌, Option, Some, None, inl, inr, ap, refl, sym, subst, ◌∙◌}
+use Rattle.std.specs.Prelude.{Result, Ok, Err}
 use Rattle.devices.specs.Source.{KnownSource}
 use Rattle.devices.specs.Sink.{KnownSink}
 use Rattle.generations_rule.specs.Rule.{GenerationsRule}
@@ -12,7 +12,8 @@ use Rattle.frame_service.specs.Service.{IsService}
 use Rattle.relay_board.specs.Seating.{Seating, again}
 use Rattle.replica_sessions.specs.Answer.{AnswersAs, IsAnswered, SessionState}
 use Rattle.seat_hub.specs.SeatCalls.{IsSeatCall}
-use Rattle.session_hub.specs.HubCall.{AllowsAtMost, HubCall}
+use Rattle.session_hub.specs.HubCall.{AllowsAtMost, Hands, HubCall, Polls, Pushes, Shows}
+use Rattle.session_hub.specs.declared.fault.HubFault.TheVariants.{NotYours, StateRange, OldStamp, Full, Closed, StoreFull, Memory}
 use Rattle.session_hub.specs.Replies.{Kept, nothing_kept}
 use Rattle.session_hub.specs.Request.{Request, request_of}
 use Rattle.seat_server.specs.Sessions.{AreVisits, IsFirstVisit, IsSeated, IsVisit, SessionEnd, VisitValue, last_end_behind, number_of, rule_of, session_at}
@@ -81,15 +82,57 @@ module _ {H : Type 0} (seat_of : H → Seating) where
 
 -- ---- a seat stays at its place
 
-same_place : (a b : ℕ) → a + 1 ≡ b + 1 → a ≡ b
-same_place a b same = omega arith
+call_stays : (a b : Seating) (call : HubCall) → IsSeatCall a call b → b.place ≡ a.place
+call_stays a b (Pushes edit (Ok done)) did = did.read.same.place ∙ did.submits.same.place
+call_stays a b (Pushes edit (Err NotYours)) did = did.same.place
+call_stays a b (Pushes edit (Err StateRange)) did = did.same.place
+call_stays a b (Pushes edit (Err OldStamp)) did = did.same.place
+call_stays a b (Pushes edit (Err Full)) did = did.same.place
+call_stays a b (Pushes edit (Err Closed)) (inl did) = did.same.place
+call_stays a b (Pushes edit (Err Closed)) (inr did) = did.same.place
+call_stays a b (Pushes edit (Err StoreFull)) did = absurd did
+call_stays a b (Pushes edit (Err Memory)) did = did.same.place
+call_stays a b (Polls (Ok news)) did = did.0.read.same.place
+call_stays a b (Polls (Err NotYours)) did = absurd did
+call_stays a b (Polls (Err StateRange)) did = absurd did
+call_stays a b (Polls (Err OldStamp)) did = absurd did
+call_stays a b (Polls (Err Full)) did = absurd did
+call_stays a b (Polls (Err Closed)) did = did.0.read.same.place
+call_stays a b (Polls (Err StoreFull)) did = absurd did
+call_stays a b (Polls (Err Memory)) did = did.read.same.place
+call_stays a b (Hands (Ok given)) did = did.0.read.same.place
+call_stays a b (Hands (Err NotYours)) did = absurd did
+call_stays a b (Hands (Err StateRange)) did = absurd did
+call_stays a b (Hands (Err OldStamp)) did = absurd did
+call_stays a b (Hands (Err Full)) did = absurd did
+call_stays a b (Hands (Err Closed)) did = did.0.read.same.place
+call_stays a b (Hands (Err StoreFull)) did = absurd did
+call_stays a b (Hands (Err Memory)) did = did.read.same.place
+call_stays a b (Shows (Ok plane)) did = did.0.read.same.place
+call_stays a b (Shows (Err NotYours)) did = absurd did
+call_stays a b (Shows (Err StateRange)) did = absurd did
+call_stays a b (Shows (Err OldStamp)) did = absurd did
+call_stays a b (Shows (Err Full)) did = absurd did
+call_stays a b (Shows (Err Closed)) did = did.0.read.same.place
+call_stays a b (Shows (Err StoreFull)) did = absurd did
+call_stays a b (Shows (Err Memory)) did = did.read.same.place
 
-numbers_stay : (xs : List Exchange) (s t : SessionState Seating) → AreAnswered (AnswersAs IsSeatCall rule_of number_of) s xs t → t.hub.place ≡ s.hub.place
-numbers_stay [] s t same = ap (λ (u : SessionState Seating). u.hub.place) same
-numbers_stay (x ∷ xs) s t (next, first, rest) = numbers_stay xs next t rest ∙ same_place next.hub.place s.hub.place first.number
+at_most_stays : (a b : Seating) (call : Option HubCall) → AllowsAtMost IsSeatCall a call b → b.place ≡ a.place
+at_most_stays a b None same = ap (λ (s : Seating). s.place) same
+at_most_stays a b (Some call) did = call_stays a b call did
+
+answer_stays : (r : GenerationsRule) (seat : ℕ) (request : Request) (reply : Option Reply) (a : Seating) (kept : Kept) (b : Seating) (left : Kept)
+    → IsAnswered IsSeatCall r seat request reply a kept b left → b.place ≡ a.place
+answer_stays r seat request None a kept b left same = ap (λ (s : Seating). s.place) same.0
+answer_stays r seat request (Some reply) a kept b left answer = at_most_stays a b answer.0.call answer.0.allowed
+
+all_stay : (xs : List Exchange) (s t : SessionState Seating) → AreAnswered (AnswersAs IsSeatCall rule_of number_of) s xs t → t.hub.place ≡ s.hub.place
+all_stay [] s t same = ap (λ (u : SessionState Seating). u.hub.place) same
+all_stay (x ∷ xs) s t (next, first, rest) =
+    all_stay xs next t rest ∙ answer_stays (rule_of s.hub) (number_of s.hub) (request_of x.request) x.reply s.hub s.kept next.hub next.kept first.answered
 
 place_stays : (a b : Seating) (v : VisitValue) → IsVisit a v b → b.place ≡ a.place
-place_stays a b v one = numbers_stay one.service.exchanges _ _ one.service.exchanged.answered
+place_stays a b v one = all_stay one.service.exchanges _ _ one.service.exchanged.answered
 
 pub places_stay : (visits : List VisitValue) (a b : Seating) → AreVisits a visits b → b.place ≡ a.place
 places_stay [] a b same = ap (λ (s : Seating). s.place) same

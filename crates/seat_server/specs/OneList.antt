@@ -8,7 +8,9 @@ use Rattle.edit_stamps.specs.Edit.{PlaneEdit, greatest}
 use Rattle.stamped_writes.specs.Write.{AreSame, Writes}
 use Rattle.generation_engine.specs.Universe.{states_in_writes}
 use Rattle.export.specs.declared.fault.ExportFault.{ExportFault}
+use Rattle.export.specs.Asking.{IsCut, IsCutRefused}
 use Rattle.export.specs.Export.{IsExport, IsExportRefused, most_cells}
+use Rattle.pattern_cells.specs.declared.window.Window.{Window}
 use Rattle.delta_exchange.specs.StateText.{IsStateText}
 use Rattle.message_frames.specs.FrameLaws.{IsTakenTo}
 use Rattle.frame_service.specs.Exchanges.{Exchange, frames_of, requests_of}
@@ -18,7 +20,7 @@ use Rattle.board.specs.Entries.{edits_of}
 use Rattle.board.specs.Origins.{list_of}
 use Rattle.board.specs.Showing.{Origin}
 use Rattle.relay_board.specs.Seating.{Seating}
-use Rattle.session_hub.specs.Request.{Request, Await, Export, Hello, Many, Pieces, Poll, Push, Whole, request_of}
+use Rattle.session_hub.specs.Request.{Request, Await, Cut, Export, Hello, Many, Pieces, Poll, Push, Whole, request_of}
 use Rattle.session_hub.specs.Replies.{IsInPieces, done, edits_frames, export_body, hello_body, most_edits, pieces_reply, pushed_of, refusal, text_body, whole_frames}
 use Rattle.seat_server.specs.Serving.{FinishedValue, IsServed}
 use Rattle.seat_server.specs.Sessions.{VisitValue, number_of, rule_of}
@@ -34,6 +36,8 @@ pub data Telling : Type 0 where
   Counted : (map : Writes) (count : ℕ) → Telling
   -- of each of some generations the text, or why there is none
   Texts : (generations : List ℕ) (answers : List (Result (List ℕ) ExportFault)) → Telling
+  -- the text of the cells in a window at a generation, or why there is none
+  CutText : (window : Window) (generation : ℕ) (answer : Result (List ℕ) ExportFault) → Telling
 
 -- ---- of which list it is
 
@@ -48,6 +52,11 @@ AreTextsOf r edits (g ∷ gs) (answer ∷ answers) = IsTextOf r edits g answer �
 AreTextsOf r edits [] (answer ∷ answers) = ⊥
 AreTextsOf r edits (g ∷ gs) [] = ⊥
 
+-- the answer is a cut of them
+abbrev pub IsCutTextOf : GenerationsRule → List PlaneEdit → Window → ℕ → Result (List ℕ) ExportFault → Type 0
+IsCutTextOf r edits w g (Ok text) = IsCut r (states_in_writes (greatest edits)) w g most_cells (Ok text)
+IsCutTextOf r edits w g (Err fault) = IsCutRefused r (states_in_writes (greatest edits)) w g most_cells fault
+
 -- this is told of a board on which these edits were published, and no other
 abbrev pub IsToldOf : GenerationsRule → List PlaneEdit → Telling → Type 0
 IsToldOf r all Nothing = ⊤
@@ -55,6 +64,7 @@ IsToldOf r all (Edits edits) = (before : List PlaneEdit) × (all ≡ before ++ e
 IsToldOf r all (Plane map) = AreSame map (greatest all)
 IsToldOf r all (Counted map count) = AreSame map (greatest all) × (count ≡ length all)
 IsToldOf r all (Texts gs answers) = AreTextsOf r all gs answers
+IsToldOf r all (CutText w g answer) = IsCutTextOf r all w g answer
 
 -- ---- by which frames it is told
 
@@ -73,6 +83,7 @@ Tells r seat (Await milliseconds) (Plane map) frames = (text : List ℕ) × IsSt
 Tells r seat Pieces (Counted map count) frames = (text : List ℕ) × (pieces : List (List ℕ)) × IsStateText r map text × IsInPieces text pieces × (frames ≡ pieces_reply count pieces)
 Tells r seat Whole (Plane map) frames = (text : List ℕ) × IsStateText r map text × (frames ≡ text_body text ∷ [])
 Tells r seat (Export g) (Texts gs answers) frames = (gs ≡ g ∷ []) × (frames ≡ map export_body answers)
+Tells r seat (Cut w g) (CutText v n answer) frames = (v ≡ w) × (n ≡ g) × (frames ≡ export_body answer ∷ [])
 Tells r seat (Many asked) (Texts gs answers) frames = (gs ≡ asked) × (frames ≡ (0 ∷ to_be_bytes w16 (length gs)) ∷ map export_body answers)
 Tells r seat request told frames = ⊥
 

@@ -1,5 +1,5 @@
 -- What a session does to its seat.
-use Rattle.std.specs.Prelude.{◌≡◌, ⊤, ℕ, ◌+◌, ◌^◌, List, [], ◌∷◌, map, Option, Some, None, Result}
+use Rattle.std.specs.Prelude.{◌≡◌, ⊤, ℕ, ◌^◌, List, [], ◌∷◌, map, Option, Some, None, Result}
 use Rattle.devices.specs.Source.{KnownSource}
 use Rattle.devices.specs.Sink.{KnownSink}
 use Rattle.generations_rule.specs.Rule.{GenerationsRule}
@@ -14,9 +14,9 @@ use Rattle.session_hub.specs.Replies.{Kept, nothing_kept}
 abbrev pub rule_of : Seating → GenerationsRule
 rule_of s = s.rule
 
--- its number, from 1
+-- its number: the replica whose edits it puts
 abbrev pub number_of : Seating → ℕ
-number_of s = s.place + 1
+number_of s = s.number
 
 -- a session over a seat
 abbrev pub session_at : Seating → Kept → SessionState Seating

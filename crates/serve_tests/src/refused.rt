@@ -64,6 +64,7 @@ fn an_output_that_takes_nothing(rt: HostRuntime) -> Result<(), Fail> {
     let board = ServedBoard {
         rule,
         sessions: 1,
+        first: 1,
         key: HashKey::fixed(),
     };
     assert_eq!(&rt;

@@ -84,6 +84,7 @@ fn run<
     let board = ServedBoard {
         rule,
         sessions,
+        first: 1,
         key: HashKey::fixed(),
     };
     let mut printed = Vec::new(alloc);

@@ -9,7 +9,11 @@ use Rattle.edit_stamps.specs.Edit.{PlaneEdit}
 use Rattle.stamped_tree.specs.Plane.{StampedPlane, map_of}
 use Rattle.export.specs.declared.fault.ExportFault.{ExportFault}
 use Rattle.export.specs.ExportFault.{export_fault_number}
-use Rattle.export_workers.specs.Exports.{AreExportAnswers, IsExportAnswer}
+use Rattle.export.specs.Asking.{IsCut, IsCutRefused}
+use Rattle.export.specs.Export.{most_cells}
+use Rattle.generation_engine.specs.Universe.{states_in_writes}
+use Rattle.pattern_cells.specs.declared.window.Window.{Window}
+use Rattle.export_workers.specs.Exports.{AreExportAnswers, IsExportAnswer, TellsRoom}
 use Rattle.delta_exchange.specs.declared.fault.ReadFault.{ReadFault}
 use Rattle.delta_exchange.specs.Fault.{read_fault_number}
 use Rattle.message_frames.specs.Frames.{most_body}
@@ -24,7 +28,7 @@ use Rattle.poll_news.specs.declared.news.News.{News}
 use Rattle.poll_news.specs.declared.news.News.TheVariants as news
 use Rattle.session_hub.specs.HubFault.{hub_fault_number}
 use Rattle.session_hub.specs.HubCall.{HubCall, Pushes, Polls, Shows, Hands}
-use Rattle.session_hub.specs.Request.{Request, Hello, Push, Poll, Whole, Export, Bye, Many, Await, Pieces, Faulty}
+use Rattle.session_hub.specs.Request.{Request, Hello, Push, Poll, Whole, Export, Cut, Bye, Many, Await, Pieces, Faulty}
 
 -- what is kept of what the hub handed out where the reply found no memory: edits in order, or a whole plane
 pub record Kept : Type 0 where
@@ -176,6 +180,17 @@ pub record IsExportReply (r : GenerationsRule) (p : StampedPlane) (g : ℕ) (out
   pub is_export : IsExportAnswer r p g answer
   pub frames : out ≡ export_body answer ∷ []
 
+-- the answer of a cut of a plane: its text, its refusal, or a want
+abbrev pub IsCutAnswer : GenerationsRule → StampedPlane → Window → ℕ → Result (List ℕ) ExportFault → Type 0
+IsCutAnswer r p w g (Ok text) = IsCut r (states_in_writes (map_of p)) w g most_cells (Ok text)
+IsCutAnswer r p w g (Err fault) = IsCutRefused r (states_in_writes (map_of p)) w g most_cells fault × TellsRoom r p g fault
+
+-- one cut
+pub record IsCutReply (r : GenerationsRule) (p : StampedPlane) (w : Window) (g : ℕ) (out : List (List ℕ)) : Type 0 where
+  pub answer : Result (List ℕ) ExportFault
+  pub is_cut : IsCutAnswer r p w g answer
+  pub frames : out ≡ export_body answer ∷ []
+
 -- how many exports, and each in a frame of its own
 pub record AreExportReplies (r : GenerationsRule) (p : StampedPlane) (gs : List ℕ) (out : List (List ℕ)) : Type 0 where
   pub answers : List (Result (List ℕ) ExportFault)
@@ -186,6 +201,7 @@ pub record AreExportReplies (r : GenerationsRule) (p : StampedPlane) (gs : List 
 abbrev pub IsReplyOf : GenerationsRule → Request → StampedPlane → List (List ℕ) → Type 0
 IsReplyOf r Whole p out = IsPlaneReply r p out
 IsReplyOf r (Export g) p out = IsExportReply r p g out
+IsReplyOf r (Cut w g) p out = IsCutReply r p w g out
 IsReplyOf r (Many gs) p out = AreExportReplies r p gs out
 IsReplyOf r _ p out = ⊥
 
@@ -209,6 +225,7 @@ IsReply r seat kept (Await milliseconds) call out left = IsKeptReply r kept kept
 IsReply r seat kept Pieces call out left = IsPiecesReply r kept call out left
 IsReply r seat kept Whole call out left = IsShownReply r Whole call out × (left ≡ kept)
 IsReply r seat kept (Export g) call out left = IsShownReply r (Export g) call out × (left ≡ kept)
+IsReply r seat kept (Cut w g) call out left = IsShownReply r (Cut w g) call out × (left ≡ kept)
 IsReply r seat kept (Many gs) call out left = IsShownReply r (Many gs) call out × (left ≡ kept)
 IsReply r seat kept _ _ out left = ⊥
 
@@ -230,6 +247,7 @@ KeepsAll kept (Await milliseconds) (Some (Polls (Ok given))) left = (kept.plane 
 KeepsAll kept Pieces (Some (Hands (Ok given))) left = left ≡ with_plane given.0
 KeepsAll kept Whole (Some (Shows (Ok p))) left = left ≡ kept
 KeepsAll kept (Export g) (Some (Shows (Ok p))) left = left ≡ kept
+KeepsAll kept (Cut w g) (Some (Shows (Ok p))) left = left ≡ kept
 KeepsAll kept (Many gs) None left = left ≡ kept
 KeepsAll kept (Many gs) (Some (Shows (Ok p))) left = left ≡ kept
 KeepsAll kept _ _ left = ⊥

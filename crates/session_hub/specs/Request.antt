@@ -1,6 +1,7 @@
 -- The requests of a session, as bytes and as data. Numbers stand with their greatest byte first.
 use Rattle.std.specs.Prelude.{ℕ, zero, suc, ◌+◌, ◌*◌, Bool, true, false, ◌&&◌, ◌==◌, nat_le, if◌then◌else◌, List, [], ◌∷◌, length, take, drop}
-use Rattle.std.specs.Int.{w16, w32, from_be_bytes}
+use Rattle.std.specs.Int.{cast_signed, w16, w32, from_be_bytes}
+use Rattle.pattern_cells.specs.declared.window.Window.{Window}
 
 pub data Request : Type 0 where
   Hello : Request
@@ -9,6 +10,8 @@ pub data Request : Type 0 where
   Poll : Request
   Whole : Request
   Export : (generation : ℕ) → Request
+  -- the cells in a window, so many generations later
+  Cut : (window : Window) → (generation : ℕ) → Request
   Bye : Request
   Many : (generations : List ℕ) → Request
   -- a poll that waits for news, for so many milliseconds at most
@@ -30,6 +33,11 @@ announced rest = from_be_bytes w16 (take 2 rest)
 -- a number in two bytes, and so many generations
 abbrev pub many_of : List ℕ → Request
 many_of rest = if nat_le 2 (length rest) && length rest == 2 + 4 * announced rest then Many (numbers (announced rest) (drop 2 rest)) else Faulty
+
+-- a window by its corner, in two's complement, and its sides; and a generation
+abbrev pub cut_of : List ℕ → Request
+cut_of (x ∷ y ∷ width ∷ height ∷ generation ∷ []) = Cut (record { x = cast_signed w32 x; y = cast_signed w32 y; width = width; height = height }) generation
+cut_of _ = Faulty
 
 -- the longest that a poll may wait, in milliseconds: a minute
 abbrev pub most_wait : ℕ
@@ -54,8 +62,9 @@ request_as kind rest =
     else (if kind == 6 then sized 0 rest Bye
     else (if kind == 7 then many_of rest
     else (if kind == 8 then await_of rest
+    else (if kind == 10 then sized 20 rest (cut_of (numbers 5 rest))
     else (if kind == 11 then sized 0 rest Pieces
-    else Faulty))))))))
+    else Faulty)))))))))
 
 -- the request of a body: its first byte is the kind
 abbrev pub request_of : List ℕ → Request

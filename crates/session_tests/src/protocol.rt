@@ -48,6 +48,16 @@ const EXPORTS: &str = "\
 07 0000 -> 00000003 000000
 ";
 
+/// Windows of them: the first column, no column at all, the second cell alone; a generation that is too late, and a
+/// request that is too short.
+const CUTS: &str = "\
+0a 00000000 ffffffff 00000001 00000005 00000001 -> 00000038 00 #CXRLE Pos=0,-1 Gen=1|x = 1, y = 3, rule = /2/3|A$B$A!|
+0a 00000000 00000000 00000000 ffffffff 00000000 -> 00000032 00 #CXRLE Pos=0,0 Gen=0|x = 0, y = 0, rule = /2/3|!|
+0a 00000001 80000000 00000001 ffffffff 00000000 -> 00000033 00 #CXRLE Pos=1,0 Gen=0|x = 1, y = 1, rule = /2/3|A!|
+0a 00000000 00000000 00000001 00000001 20000001 -> 00000001 16
+0a 00000000 00000000 00000001 00000001 000000 -> 00000001 21
+";
+
 /// Seat 2 pushes an edit of replica 1, and a state of version 1.
 const OTHER_SEAT: &str = "\
 02 474c5744 01 04 2f322f33 00000001 0000000000010001 00 00000001 40000000 40000000 01 -> 00000001 1c
@@ -61,7 +71,7 @@ struct Spoken {
     text: &'static str,
 }
 
-static DIALOGUES: [Spoken; 6] = [
+static DIALOGUES: [Spoken; 7] = [
     Spoken {
         start: Start {
             number: 1,
@@ -101,6 +111,14 @@ static DIALOGUES: [Spoken; 6] = [
             behind: 0,
         },
         text: EXPORTS,
+    },
+    Spoken {
+        start: Start {
+            number: 1,
+            cells: 2,
+            behind: 0,
+        },
+        text: CUTS,
     },
     Spoken {
         start: Start {

@@ -113,6 +113,7 @@ fn ended<
 fn a_server_that_gives_up_waits_for_no_stream(rt: HostRuntime) -> Result<(), Fail> {
     let alloc = rt.alloc();
     let size = BoardSize {
+        first: 1,
         sessions: 2,
         is_kept: false,
         inbox: 2,

@@ -26,7 +26,7 @@ use Rattle.frame_service.specs.Exchanges.{Exchange, frames_of, pushed_of as all_
 use Rattle.board.specs.declared.entry.Entry.{Entry}
 use Rattle.board.specs.Entries.{edits_of}
 use Rattle.client_protocol.specs.Spelling.{pieced_body, polled_body}
-use Rattle.session_hub.specs.Request.{Await, Bye, Export, Faulty, Hello, Many, Pieces, Poll, Push, Request, Whole, await_of, most_wait, request_of}
+use Rattle.session_hub.specs.Request.{Await, Bye, Cut, Export, Faulty, Hello, Many, Pieces, Poll, Push, Request, Whole, await_of, most_wait, request_of}
 use Rattle.session_hub.specs.Replies.{IsInPieces, hello_body, most_edits, pieces_frames, pieces_reply, pushed_of, refusal, whole_frames, whole_mark}
 use Rattle.replica_core.specs.Peers.{HoldsEdits}
 use Rattle.replica_core.specs.Replica.{ReplicaState}
@@ -38,7 +38,7 @@ use Rattle.board_client.specs.Drawing.{IsEditAlone}
 use Rattle.board_client.specs.Hearing.{AreTaken, IsTaken}
 use Rattle.board_client.specs.Laws.{TellEdits}
 use Rattle.board_client.proofs.ClientLaws.{taken_edits, taken_plane}
-use Rattle.seat_server.specs.OneList.{AreToldBehind, Counted, Edits, HasAccepted, IsAccepted, IsToldBehind, IsToldOf, Nothing, Plane, Telling, Tells, Texts}
+use Rattle.seat_server.specs.OneList.{AreToldBehind, Counted, CutText, Edits, HasAccepted, IsAccepted, IsToldBehind, IsToldOf, Nothing, Plane, Telling, Tells, Texts}
 use Rattle.shown_laws.specs.Turns as turns
 use Rattle.shown_laws.specs.Turns.{AreTurns, Asking, Hearing, IsAskable, IsTurn, Turn, heard_by, heard_in, put_together, request_in, said_by}
 use Rattle.shown_laws.specs.Shown.{ShowsOf, ShowsOfOneList}
@@ -146,6 +146,7 @@ module _ (r : GenerationsRule) (seat : ℕ) (list : List Entry) (rule : IsRule r
   frames_fit Whole (Plane m) frames tells within = rw (tells.2, text_is_body tells.0) refl
   frames_fit (Export g) (Texts gs answers) frames tells within = rw tells.1 (exports_bodies answers)
   frames_fit (Many asked) (Texts gs answers) frames tells within = rw tells.1 (exports_bodies answers)
+  frames_fit (Cut w g) (CutText v n answer) frames tells within = rw tells.2 (exports_bodies (answer ∷ []))
   frames_fit Hello (Edits edits) frames tells within = absurd tells
   frames_fit (Push text) (Edits edits) frames tells within = absurd tells
   frames_fit Whole (Edits edits) frames tells within = absurd tells
@@ -178,6 +179,20 @@ module _ (r : GenerationsRule) (seat : ℕ) (list : List Entry) (rule : IsRule r
   frames_fit (Many asked) (Counted m count) frames tells within = absurd tells
   frames_fit (Await milliseconds) (Counted m count) frames tells within = absurd tells
   frames_fit Faulty (Counted m count) frames tells within = absurd tells
+  frames_fit (Cut w g) (Edits edits) frames tells within = absurd tells
+  frames_fit (Cut w g) (Plane m) frames tells within = absurd tells
+  frames_fit (Cut w g) (Texts gs answers) frames tells within = absurd tells
+  frames_fit (Cut w g) (Counted m count) frames tells within = absurd tells
+  frames_fit Hello (CutText v n answer) frames tells within = absurd tells
+  frames_fit (Push text) (CutText v n answer) frames tells within = absurd tells
+  frames_fit Poll (CutText v n answer) frames tells within = absurd tells
+  frames_fit Whole (CutText v n answer) frames tells within = absurd tells
+  frames_fit (Export g) (CutText v n answer) frames tells within = absurd tells
+  frames_fit Bye (CutText v n answer) frames tells within = absurd tells
+  frames_fit (Many asked) (CutText v n answer) frames tells within = absurd tells
+  frames_fit (Await milliseconds) (CutText v n answer) frames tells within = absurd tells
+  frames_fit Pieces (CutText v n answer) frames tells within = absurd tells
+  frames_fit Faulty (CutText v n answer) frames tells within = absurd tells
 
   reply_fits : (earlier : List Exchange) (x : Exchange) → IsToldBehind r seat list earlier x → list_all is_body (frames_of x.reply) ≡ true
   reply_fits earlier x behind =
@@ -199,6 +214,7 @@ module _ (r : GenerationsRule) (seat : ℕ) (list : List Entry) (rule : IsRule r
   hello_alone (Edits edits) frames tells = absurd tells
   hello_alone (Plane m) frames tells = absurd tells
   hello_alone (Texts gs answers) frames tells = absurd tells
+  hello_alone (CutText v n answer) frames tells = absurd tells
   hello_alone (Counted m count) frames tells = absurd tells
 
   push_alone : (text : List ℕ) (told : Telling) (frames : List (List ℕ)) → Tells r seat (Push text) told frames → (f : List ℕ) × (frames ≡ f ∷ [])
@@ -207,6 +223,7 @@ module _ (r : GenerationsRule) (seat : ℕ) (list : List Entry) (rule : IsRule r
   push_alone text (Edits edits) frames tells = absurd tells
   push_alone text (Plane m) frames tells = absurd tells
   push_alone text (Texts gs answers) frames tells = absurd tells
+  push_alone text (CutText v n answer) frames tells = absurd tells
   push_alone text (Counted m count) frames tells = absurd tells
 
   bye_alone : (told : Telling) (frames : List (List ℕ)) → Tells r seat Bye told frames → (f : List ℕ) × (frames ≡ f ∷ [])
@@ -215,6 +232,7 @@ module _ (r : GenerationsRule) (seat : ℕ) (list : List Entry) (rule : IsRule r
   bye_alone (Edits edits) frames tells = absurd tells
   bye_alone (Plane m) frames tells = absurd tells
   bye_alone (Texts gs answers) frames tells = absurd tells
+  bye_alone (CutText v n answer) frames tells = absurd tells
   bye_alone (Counted m count) frames tells = absurd tells
 
   -- ---- what is heard of a poll
@@ -228,6 +246,7 @@ module _ (r : GenerationsRule) (seat : ℕ) (list : List Entry) (rule : IsRule r
     waiting (Edits edits) tells = tells
     waiting (Plane m) tells = tells
     waiting (Texts gs answers) tells = absurd tells
+    waiting (CutText v n answer) tells = absurd tells
     waiting (Counted m count) tells = absurd tells
   awaits q told frames (inr faulty) tells = refused told (subst (λ p. Tells r seat p told frames) faulty tells) where
     refused : (told : Telling) → Tells r seat Faulty told frames → Tells r seat Poll told frames
@@ -236,6 +255,7 @@ module _ (r : GenerationsRule) (seat : ℕ) (list : List Entry) (rule : IsRule r
     refused (Edits edits) tells = absurd tells
     refused (Plane m) tells = absurd tells
     refused (Texts gs answers) tells = absurd tells
+    refused (CutText v n answer) tells = absurd tells
     refused (Counted m count) tells = absurd tells
 
   -- a whole plane's frames, or their refusal
@@ -255,6 +275,7 @@ module _ (r : GenerationsRule) (seat : ℕ) (list : List Entry) (rule : IsRule r
     | inr refused ↦ alone (number ∷ []) (21 ∷ []) frames rest more (tells.2 ∙ refused) same
   ]
   refusal_heard number (Texts gs answers) frames rest more tells same = absurd tells
+  refusal_heard number (CutText v n answer) frames rest more tells same = absurd tells
   refusal_heard number (Counted m count) frames rest more tells same = absurd tells
 
   -- a count of edits, and their texts
@@ -288,6 +309,7 @@ module _ (r : GenerationsRule) (seat : ℕ) (list : List Entry) (rule : IsRule r
     | inr refused ↦ (let one : polled_body (length texts) ∷ (texts ++ rest) ≡ (21 ∷ []) ∷ more = same ∙ ap (λ fs. fs ++ more) (tells.2 ∙ refused) in absurd (no_count 21 (length texts) cc))
   ]
   edits_heard texts (Texts gs answers) frames rest more few tells same = absurd tells
+  edits_heard texts (CutText v n answer) frames rest more few tells same = absurd tells
   edits_heard texts (Counted m count) frames rest more few tells same = absurd tells
 
   -- the mark, and the text of a plane
@@ -321,6 +343,7 @@ module _ (r : GenerationsRule) (seat : ℕ) (list : List Entry) (rule : IsRule r
     | inr refused ↦ (let one : polled_body whole_mark ∷ (text ∷ rest) ≡ (21 ∷ []) ∷ more = same ∙ ap (λ fs. fs ++ more) (tells.2 ∙ refused) in absurd (no_count 21 whole_mark cc))
   ]
   plane_heard text (Texts gs answers) frames rest more tells same = absurd tells
+  plane_heard text (CutText v n answer) frames rest more tells same = absurd tells
   plane_heard text (Counted m count) frames rest more tells same = absurd tells
 
   -- ---- what is heard of a plane in pieces
@@ -342,6 +365,7 @@ module _ (r : GenerationsRule) (seat : ℕ) (list : List Entry) (rule : IsRule r
   pieces_refused number (Edits edits) frames rest more tells same = absurd tells
   pieces_refused number (Plane m) frames rest more tells same = absurd tells
   pieces_refused number (Texts gs answers) frames rest more tells same = absurd tells
+  pieces_refused number (CutText v n answer) frames rest more tells same = absurd tells
 
   -- how many edits and pieces, and the pieces, which are the text of a plane together
   record ArePieces (count : ℕ) (pieces : List (List ℕ)) (told : Telling) (frames rest more : List (List ℕ)) : Type 0 where
@@ -376,6 +400,7 @@ module _ (r : GenerationsRule) (seat : ℕ) (list : List Entry) (rule : IsRule r
   pieces_heard count pieces (Edits edits) frames rest more few tells same = absurd tells
   pieces_heard count pieces (Plane m) frames rest more few tells same = absurd tells
   pieces_heard count pieces (Texts gs answers) frames rest more few tells same = absurd tells
+  pieces_heard count pieces (CutText v n answer) frames rest more few tells same = absurd tells
 
   -- ---- one turn
 

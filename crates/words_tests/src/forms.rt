@@ -3,7 +3,7 @@
 use command_words::Dialect;
 use std::alloc::{AllocError, Global};
 
-static SCRIPT: [&str; 15] = [
+static SCRIPT: [&str; 17] = [
     "rule S/B/C",
     "replicas N",
     "cells R x y state ..",
@@ -19,18 +19,25 @@ static SCRIPT: [&str; 15] = [
     "same A B",
     "dump M",
     "export R G",
+    "cut R x y w h G",
+    "count R [G]",
 ];
 
-static CLIENT: [&str; 20] = [
+static CLIENT: [&str; 25] = [
     "cells x y state ..",
     "clear x y w h",
     "pattern NAME",
     "end",
     "copy NAME x y",
     "or NAME x y",
+    "undo",
+    "redo",
     "show x y",
+    "count [G]",
     "export G [FILE]",
     "export! G FILE",
+    "cut x y w h G [FILE]",
+    "cut! x y w h G FILE",
     "poll",
     "wait N [MS]",
     "sleep MS",
@@ -57,14 +64,14 @@ fn alike(alloc: Global, dialect: Dialect, forms: &[&str]) -> Result<usize, Alloc
 
 #[test]
 fn forms_of_scripts(rt: HostRuntime) -> Result<(), AllocError> {
-    assert_eq!(rt; Dialect::Script.keywords().len(), 15);
-    assert_eq!(rt; alike(rt.alloc(), Dialect::Script, &SCRIPT)?, 15);
+    assert_eq!(rt; Dialect::Script.keywords().len(), 17);
+    assert_eq!(rt; alike(rt.alloc(), Dialect::Script, &SCRIPT)?, 17);
     Ok(())
 }
 
 #[test]
 fn forms_of_clients(rt: HostRuntime) -> Result<(), AllocError> {
-    assert_eq!(rt; Dialect::Client.keywords().len(), 20);
-    assert_eq!(rt; alike(rt.alloc(), Dialect::Client, &CLIENT)?, 20);
+    assert_eq!(rt; Dialect::Client.keywords().len(), 25);
+    assert_eq!(rt; alike(rt.alloc(), Dialect::Client, &CLIENT)?, 25);
     Ok(())
 }

@@ -2,7 +2,7 @@
 
 use edit_stamps::Rect;
 use genedit_script::{Command, Paste, Script};
-use pattern_cells::Cell;
+use pattern_cells::{Cell, Window};
 use replica_events::{EditSpec, Event};
 use std::alloc::{AllocError, Global};
 
@@ -108,8 +108,40 @@ fn push_event(alloc: Global, all: &mut Vec<u8>, event: &Event) -> Result<(), All
             "export",
             &[i64::from(*replica), i64::from(*generation)],
         ),
+        Event::Cut(replica, window, generation) => {
+            push_cut(alloc, all, *replica, *window, *generation)
+        }
+        Event::Count(replica, generation) => push_words(
+            alloc,
+            all,
+            "count",
+            &[i64::from(*replica), i64::from(*generation)],
+        ),
         Event::Draw(..) => Ok(()),
     }
+}
+
+/// A cut.
+fn push_cut(
+    alloc: Global,
+    all: &mut Vec<u8>,
+    replica: u32,
+    window: Window,
+    generation: u32,
+) -> Result<(), AllocError> {
+    push_words(
+        alloc,
+        all,
+        "cut",
+        &[
+            i64::from(replica),
+            i64::from(window.x),
+            i64::from(window.y),
+            i64::from(window.width),
+            i64::from(window.height),
+            i64::from(generation),
+        ],
+    )
 }
 
 /// A draw: no command of a script that was only read draws a pattern.

@@ -45,6 +45,7 @@ fn opened<R: Wait + Drop + Copy>(
     match way.room {
         Some(nodes) if nodes > 0 => {
             let size = BoardSize {
+                first: 1,
                 sessions: way.seats,
                 is_kept: false,
                 inbox: 2,

@@ -18,7 +18,7 @@ enum Word {
 }
 
 /// The words behind the name of each command, of `cells` those of its replica and one cell.
-static COMMANDS: [(&[u8], &[Word]); 12] = [
+static COMMANDS: [(&[u8], &[Word]); 13] = [
     (
         b"clear",
         &[
@@ -44,6 +44,17 @@ static COMMANDS: [(&[u8], &[Word]); 12] = [
     (b"same", &[Word::Number, Word::Number]),
     (b"dump", &[Word::Number]),
     (b"export", &[Word::Number, Word::Number]),
+    (
+        b"cut",
+        &[
+            Word::Number,
+            Word::Coordinate,
+            Word::Coordinate,
+            Word::Number,
+            Word::Number,
+            Word::Number,
+        ],
+    ),
     (b"pattern", &[Word::Name]),
     (
         b"cells",
@@ -189,12 +200,26 @@ fn command_line(alloc: Global, words: &[Vec<u8>]) -> Result<Option<Vec<u8>>, All
     let Some((name, arguments)) = words.split_first() else {
         return Ok(None);
     };
+    if name.as_slice() == b"count".as_slice() {
+        return count_line(alloc, arguments);
+    }
     for (command, wanted) in COMMANDS {
         if name.as_slice() == command {
             return spelling(alloc, name, arguments, wanted);
         }
     }
     Ok(None)
+}
+
+/// `count R G`; without a G it is 0.
+fn count_line(alloc: Global, arguments: &[Vec<u8>]) -> Result<Option<Vec<u8>>, AllocError> {
+    if arguments.len() != 1 {
+        return spelling(alloc, b"count", arguments, &[Word::Number, Word::Number]);
+    }
+    match spelling(alloc, b"count", arguments, &[Word::Number])? {
+        Some(line) => Ok(Some(joined(alloc, &line, b" 0")?)),
+        None => Ok(None),
+    }
 }
 
 /// The spelling of a command whose words are as wanted; behind a cell of `cells` further ones may stand.

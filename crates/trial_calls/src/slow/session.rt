@@ -54,6 +54,10 @@ impl SlowSession {
                 self.many(&[0, *high, *low], generations)
             }
             [8, a, b, c, d] if u32::from_be_bytes([*a, *b, *c, *d]) <= MOST_WAIT => self.poll(),
+            [10, window @ ..] if window.len() == 20 => {
+                let text = self.cut(&mut Fields::of(window))?;
+                self.one(text)
+            }
             [11] => self.pieces(),
             _ => self.number(NO_REQUEST),
         }
@@ -129,6 +133,37 @@ impl SlowSession {
         Vec::from_slice(self.alloc, text.as_bytes())
     }
 
+    /// What a window shows of the block, which is that of an export where it has all of it.
+    fn cut(&self, window: &mut Fields) -> Result<Vec<u8>, AllocError> {
+        let mut words = [0_u32; 5];
+        for word in words.iter_mut() {
+            *word = window.word().unwrap_or(0);
+        }
+        let [x, y, width, height, generation] = words;
+        if generation > LAST_GENERATION {
+            return Vec::from_slice(self.alloc, &[LATE]);
+        }
+        let (left, columns) = seen(x, width);
+        let (top, rows) = seen(y, height);
+        let text = match (columns, rows) {
+            (0, _) | (_, 0) => format!(in self.alloc;
+                "\0#CXRLE Pos=0,0 Gen={generation}\nx = 0, y = 0, rule = 23/3/2\n!\n"
+            )?,
+            _ => {
+                let row = if columns == 2 { "2o" } else { "o" };
+                let rest = if rows == 2 {
+                    format!(in self.alloc; "${row}")?
+                } else {
+                    String::new(self.alloc)
+                };
+                format!(in self.alloc;
+                    "\0#CXRLE Pos={left},{top} Gen={generation}\nx = {columns}, y = {rows}, rule = 23/3/2\n{row}{rest}!\n"
+                )?
+            }
+        };
+        Vec::from_slice(self.alloc, text.as_bytes())
+    }
+
     fn many(&self, head: &[u8], generations: &[u8]) -> Result<Vec<Vec<u8>>, AllocError> {
         let mut bodies = self.one(Vec::from_slice(self.alloc, head)?)?;
         let mut fields = Fields::of(generations);
@@ -140,6 +175,14 @@ impl SlowSession {
         }
         Ok(bodies)
     }
+}
+
+/// The first of the columns 0 and 1 that a window has, by its first, with a sign, and how many it has; and rows likewise.
+fn seen(first: u32, count: u32) -> (i64, i64) {
+    let first = i64::from(first as i32);
+    let begin = first.max(0);
+    let end = first.saturating_add(i64::from(count)).min(2);
+    (begin, end.saturating_sub(begin).max(0))
 }
 
 /// The number with which a push of this is refused, if it is.

@@ -7,18 +7,18 @@ use Rattle.board_keeper.proofs.loading.load_board.Goals as goal
 pub of-file-requires : goal.of-file-requires
 of-file-requires g c =
     let f = c.requires.fresh in
-    (fresh_last f.0 f.1 0 c.pop.new.self.items c.in-Some.last (subst (AllFresh f.0 f.1 0) c.in-Some.ensures.items f.2)).0
+    (fresh_last f.0 f.1 f.2 0 c.pop.new.self.items c.in-Some.last (subst (AllFresh f.0 f.1 f.2 0) c.in-Some.ensures.items f.3)).0
 
 pub load-requires-clause-mine : goal.load-requires-clause-mine
 load-requires-clause-mine g c =
     let f = c.requires.fresh in
-    ap (λ (s : Seating). s.mine) c.of-file.ensures ∙ (fresh_last f.0 f.1 0 c.pop.new.self.items c.in-Some.last (subst (AllFresh f.0 f.1 0) c.in-Some.ensures.items f.2)).1
+    ap (λ (s : Seating). s.mine) c.of-file.ensures ∙ (fresh_last f.0 f.1 f.2 0 c.pop.new.self.items c.in-Some.last (subst (AllFresh f.0 f.1 f.2 0) c.in-Some.ensures.items f.3)).1
 
 pub raise_all-requires : goal.raise_all-requires
 raise_all-requires g c =
     let f = c.requires.fresh in
     subst (λ (xs : List Seating). (k : ℕ) (d : Seating) → k < length xs → (get_or xs k d).mine ≡ []) (sym c.deref_mut.ensures.value)
-    (fresh_each f.0 f.1 0 c.pop.new.self.items c.in-Some.last (subst (AllFresh f.0 f.1 0) c.in-Some.ensures.items f.2))
+    (fresh_each f.0 f.1 f.2 0 c.pop.new.self.items c.in-Some.last (subst (AllFresh f.0 f.1 f.2 0) c.in-Some.ensures.items f.3))
 
 pub returns-in-Ok-clause-loaded : goal.returns-in-Ok-clause-loaded
 returns-in-Ok-clause-loaded g c =

@@ -11,5 +11,5 @@ decreases-loop-rest g l = length l.rest
 -- what is left to be drawn makes the drawing of all
 abbrev pub invariant-loop-rest : goal.invariant-loop-rest
 invariant-loop-rest g l = (n : Moment) (result : Result Outcome CommandFault)
-    → DrawsAll l.after l.rest l.client n result
-    → DrawsAll l.after l.cells l.fn.client n result
+    → DrawsAll l.part l.rest l.client n result
+    → DrawsAll l.part l.cells l.fn.client n result

@@ -11,4 +11,4 @@ returns c =
       | inl empty ↦ inl empty.1.0
       | inr empty ↦ inr empty.1.0
     ] in
-    no_line c.loop-edits.out.items (c.args.out.now.items ++ session_lines 1 c.args.accepted.now c.args.ends.now) c.loop-edits.number accepted ends none c.loop-edits.invariant.0
+    no_line c.loop-edits.out.items (c.args.out.now.items ++ session_lines c.args.first c.args.accepted.now c.args.ends.now) c.loop-edits.number accepted ends none c.loop-edits.invariant.0

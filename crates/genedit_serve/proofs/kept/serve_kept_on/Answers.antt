@@ -12,6 +12,7 @@ returns-in-Ok-start_within g c =
     let port : ℕ = c.port.result in
     let many : c.in-Ok-start_within.opened.count ≡ c.args.board.sessions + 1 = c.in-Ok-start_within.ensures.ok.1 in (
       port,
-      subst (λ (rule : GenerationsRule). ServesKeptAt rule c.args.board.sessions port from to c.serve.result) c.in-Ok-start_within.ensures.ok.2
-          (subst (λ (n : ℕ). ServesKeptAt c.in-Ok-start_within.opened.rule n port from to c.serve.result) (omega (arith, many)) c.serve.ensures),
+      subst (λ (rule : GenerationsRule). ServesKeptAt rule c.args.board.first c.args.board.sessions port from to c.serve.result) c.in-Ok-start_within.ensures.ok.2
+          (subst (λ (first : ℕ). ServesKeptAt c.in-Ok-start_within.opened.rule first c.args.board.sessions port from to c.serve.result) c.in-Ok-start_within.ensures.first
+          (subst (λ (n : ℕ). ServesKeptAt c.in-Ok-start_within.opened.rule c.in-Ok-start_within.opened.first n port from to c.serve.result) (omega (arith, many)) c.serve.ensures)),
     )

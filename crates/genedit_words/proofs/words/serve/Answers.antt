@@ -17,10 +17,10 @@ number-sessions-requires c = is_wider 1 64 (codes "sessions") (rows_of (found_of
 pub returns-clause-asked : goal.returns-clause-asked
 returns-clause-asked c =
     let rows = rows_of (found_of c.args.words.now) in
-    let ruled : Ok c.in_ok-rule.rule ≡ rule_if_given (first_of (codes "rule") rows) =
-    sym (ap (λ (r : Result (Option GenerationsRule) MisspeltRule). or_misspelt r) c.in_ok-rule.was) ∙ c.rule_if_given.ensures in
-    is_served rows (option_map (λ s. s.now) c.get_str.result) c.is_set.result (Ok c.in_ok-rule.rule) c.number-port.result c.number-sessions.result c.requires.board
-    c.number-port.ensures.value c.number-sessions.ensures.value (c.get_str.ensures ∙ first_value-rows (found_of c.args.words.now) (codes "keep")) c.is_set.ensures ruled
+    let ruled : rule_if_given (first_of (codes "rule") rows) ≡ Ok c.in_ok-rule.rule =
+    sym c.rule_if_given.ensures ∙ ap (λ (r : Result (Option GenerationsRule) MisspeltRule). or_misspelt r) c.in_ok-rule.was in
+    is_served rows (option_map (λ s. s.now) c.get_str.result) c.is_set.result c.in_ok-rule.rule c.number-port.result c.number-sessions.result c.first_seat.result c.requires.board
+    c.number-port.ensures.value c.number-sessions.ensures.value c.first_seat.ensures.value (c.get_str.ensures ∙ first_value-rows (found_of c.args.words.now) (codes "keep")) c.is_set.ensures ruled
 
 pub returns-clause-range : goal.returns-clause-range
 returns-clause-range c =
@@ -31,4 +31,6 @@ returns-clause-range c =
       is_ruled c.get_str.result rows c.in_ok-rule.rule c.requires.board (c.get_str.ensures ∙ first_value-rows (found_of c.args.words.now) (codes "keep")) ruled,
       seats.0,
       seats.1,
+      c.first_seat.ensures.range.0,
+      c.first_seat.ensures.range.1,
     )

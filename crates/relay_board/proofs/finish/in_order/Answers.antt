@@ -8,7 +8,7 @@ pub loop-k-preserved : goal.loop-k-preserved
 loop-k-preserved g c =
     let seats = c.args.seats.now in
     let here : slice_get seats c.loop-k.k ≡ Some c.index-seats-k.result = get_at seats c.loop-k.k c.index-seats-k.result (sym c.index-seats-k.is) c.loop-k-test.true in
-    let place : c.index-seats-k.result.place ≡ c.loop-k.k = omega (arith, c.number.ensures, c.from.ensures, c.if-from-k.false) in
+    let place : c.index-seats-k.result.place ≡ c.loop-k.k = omega (arith, c.place.ensures, c.if-place-k.false) in
     below_more (λ j. (s : Seating) → slice_get seats j ≡ Some s → s.place ≡ j) c.loop-k.k c.loop-k.invariant
     (λ s at. let same : s ≡ c.index-seats-k.result = cc (here, at) in ap (λ (t : Seating). t.place) same ∙ place)
 
@@ -18,10 +18,10 @@ returns g c = (
   (λ _. refl),
 )
 
-pub returns-then-from-k : goal.returns-then-from-k
-returns-then-from-k g c =
+pub returns-then-place-k : goal.returns-then-place-k
+returns-then-place-k g c =
     let seats = c.args.seats.now in
     let here : slice_get seats c.loop-k.k ≡ Some c.index-seats-k.result = get_at seats c.loop-k.k c.index-seats-k.result (sym c.index-seats-k.is) c.loop-k-test.true in (
       (λ no. absurd (cc (no))),
-      (λ numbered. let place = numbered_at 0 seats c.loop-k.k c.index-seats-k.result numbered here in absurd (c.if-from-k.true (omega (arith, c.number.ensures, c.from.ensures, place)))),
+      (λ numbered. let place = numbered_at 0 seats c.loop-k.k c.index-seats-k.result numbered here in absurd (c.if-place-k.true (omega (arith, c.place.ensures, place)))),
     )

@@ -10,14 +10,14 @@ loop-place-preserved g c =
     let i = c.loop-place.invariant in
     let s = c.in_ok-next.ensures in
     let capacity = ruled_capacity (arc_value c.args.drain.now.queue) in
-    let next = s.fresh ∙ ap (λ q. fresh c.loop-place.place c.args.rule (ruled_capacity (arc_value q))) i.1 in (
+    let next = s.fresh ∙ ap (λ q. fresh c.args.plan.now.first c.loop-place.place c.args.plan.now.rule (ruled_capacity (arc_value q))) i.1 in (
       s.publisher ∙ i.0,
       s.drain.0 ∙ i.1,
       s.drain.1 ∙ i.2,
       s.drain.2 ∙ i.3,
       s.drain.3 ∙ i.4,
       s.drain.4 ∙ i.5,
-      rw c.in_ok-push.ensures.items (fresh_more c.args.rule capacity 0 c.loop-place.place c.loop-place.seats.items c.in_ok-next.next i.6 (omega (arith, i.7)) next),
+      rw c.in_ok-push.ensures.items (fresh_more c.args.plan.now.first c.args.plan.now.rule capacity 0 c.loop-place.place c.loop-place.seats.items c.in_ok-next.next i.6 (omega (arith, i.7)) next),
       rw c.in_ok-push.ensures.items (length-append c.loop-place.seats.items (c.in_ok-next.next ∷ []) ∙ ap (λ k. k + 1) i.7),
       s.made,
     )

@@ -1,4 +1,4 @@
-use Rattle.replica_core.proofs.HeadlineLaws.{agrees, exports_greatest, exports_same_bytes, writes_same_bytes, sends_texts, has_one_edit_a_stamp, has_one_winner, holds_greatest, never_goes_down}
+use Rattle.replica_core.proofs.HeadlineLaws.{agrees, answers_alike, exports_greatest, exports_same_bytes, writes_same_bytes, sends_texts, has_one_edit_a_stamp, has_one_winner, holds_greatest, never_goes_down}
 use Rattle.replica_core.proofs.ReplyLaws.{has_one_list_of_replies}
 use Rattle.replica_core.proofs.laws.world_laws.Goals as goal
 
@@ -31,3 +31,6 @@ returns-clause-same_exports c = exports_same_bytes
 
 pub returns-clause-one_list : goal.returns-clause-one_list
 returns-clause-one_list c = has_one_list_of_replies
+
+pub returns-clause-answers : goal.returns-clause-answers
+returns-clause-answers c = answers_alike

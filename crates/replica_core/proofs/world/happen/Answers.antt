@@ -89,10 +89,6 @@ returns-in-Deliver-clause-room c = λ nodes all.
     subst (HaveRoom nodes) (sym (with_items_is replicas c.deliver.new.replicas (c.deliver.ensures.as_many ∙ ap length c.deref_mut-in-Deliver.ensures.value ∙ sym replicas.ok.0)))
     (c.deliver.ensures.room nodes (subst (HaveRoom nodes) (sym c.deref_mut-in-Deliver.ensures.value) (subst (λ s. HaveRoom nodes s.replicas) (sym c.world.view_is) all)))
 
-pub returns-in-Export-clause-edits : goal.returns-in-Export-clause-edits
-returns-in-Export-clause-edits c = IfOk-weaker c.export.result _ _ (λ reply step w valid stands.
-    subst (λ e. AreEdits (after w e)) (sym c.in-Export.is) valid) c.export.ensures.step
-
 pub invariant_of-world : goal.invariant_of-world
 invariant_of-world c =
     let replicas = c.world.inside.replicas in
@@ -105,10 +101,6 @@ invariant_of-world c =
       subst (λ (l : List ReplicaState). IfSome c.draw.new.remembered.universe (λ kept. IsUniverseOf l kept.place kept.engine)) (sym changed)
           (c.draw.ensures.universe (subst (λ (l : List ReplicaState). IfSome c.world.inside.remembered.universe (λ kept. IsUniverseOf l kept.place kept.engine)) (sym c.deref_mut.ensures.value) c.world.invariant.1)),
     )
-
-pub returns-in-Export-clause-room : goal.returns-in-Export-clause-room
-returns-in-Export-clause-room c = λ nodes all.
-    subst (λ s. HaveRoom nodes s.replicas) (sym c.world.view_is) all
 
 pub returns-in-Draw-clause-err : goal.returns-in-Draw-clause-err
 returns-in-Draw-clause-err c = may_stop c.draw.result c.args.event.now _ (λ is w nodes valid stands room.
@@ -125,12 +117,6 @@ returns-in-Deliver-clause-err c = may_stop c.deliver.result c.args.event.now _ (
     (subst (StandSideBySide (λ k. StandsForSent w.rule) w.messages) (sym c.deref-in-Deliver.ensures.value) inside.messages)
     (subst (HaveRoom nodes) (sym c.deref_mut-in-Deliver.ensures.value) (subst (λ s. HaveRoom nodes s.replicas) (sym c.world.view_is) room))))
 
-pub returns-in-Export-clause-err : goal.returns-in-Export-clause-err
-returns-in-Export-clause-err c = may_stop c.export.result c.args.event.now _ (λ is w nodes valid stands room.
-    let inside = subst (StandsForWorld w) (sym c.world.view_is) stands in
-    subst (λ e. WantsRoom nodes w e) (sym c.in-Export.is)
-    (c.export.ensures.full is w (subst (StandSideBySide (StandsFor w.rule) w.replicas) (sym c.deref-in-Export.ensures.value) inside.replicas)))
-
 pub returns-in-SendDelta-clause-err : goal.returns-in-SendDelta-clause-err
 returns-in-SendDelta-clause-err c = memory_stops c.send_delta.result c.args.event.now _ _ c.send_delta.ensures.err
 
@@ -142,3 +128,45 @@ returns-in-Same-clause-err c = memory_stops_both c.same.result c.args.event.now 
 
 pub returns-in-Dump-clause-err : goal.returns-in-Dump-clause-err
 returns-in-Dump-clause-err c = memory_stops c.dump.result c.args.event.now _ _ c.dump.ensures.err
+
+pub returns-in-Export-clause-edits : goal.returns-in-Export-clause-edits
+returns-in-Export-clause-edits c = IfOk-weaker c.ask.result _ _ (λ reply step w valid stands.
+    subst (λ e. AreEdits (after w e)) (sym c.in-Export.is) valid) c.ask.ensures.step
+
+pub returns-in-Export-clause-room : goal.returns-in-Export-clause-room
+returns-in-Export-clause-room c = λ nodes all.
+    subst (λ s. HaveRoom nodes s.replicas) (sym c.world.view_is) all
+
+pub returns-in-Export-clause-err : goal.returns-in-Export-clause-err
+returns-in-Export-clause-err c = may_stop c.ask.result c.args.event.now _ (λ is w nodes valid stands room.
+    let inside = subst (StandsForWorld w) (sym c.world.view_is) stands in
+    subst (λ e. WantsRoom nodes w e) (sym c.in-Export.is)
+    (c.ask.ensures.full is w (subst (StandSideBySide (StandsFor w.rule) w.replicas) (sym c.deref-in-Export.ensures.value) inside.replicas)))
+
+pub returns-in-Cut-clause-edits : goal.returns-in-Cut-clause-edits
+returns-in-Cut-clause-edits c = IfOk-weaker c.ask-in-Cut.result _ _ (λ reply step w valid stands.
+    subst (λ e. AreEdits (after w e)) (sym c.in-Cut.is) valid) c.ask-in-Cut.ensures.step
+
+pub returns-in-Cut-clause-room : goal.returns-in-Cut-clause-room
+returns-in-Cut-clause-room c = λ nodes all.
+    subst (λ s. HaveRoom nodes s.replicas) (sym c.world.view_is) all
+
+pub returns-in-Cut-clause-err : goal.returns-in-Cut-clause-err
+returns-in-Cut-clause-err c = may_stop c.ask-in-Cut.result c.args.event.now _ (λ is w nodes valid stands room.
+    let inside = subst (StandsForWorld w) (sym c.world.view_is) stands in
+    subst (λ e. WantsRoom nodes w e) (sym c.in-Cut.is)
+    (c.ask-in-Cut.ensures.full is w (subst (StandSideBySide (StandsFor w.rule) w.replicas) (sym c.deref-in-Cut.ensures.value) inside.replicas)))
+
+pub returns-in-Count-clause-edits : goal.returns-in-Count-clause-edits
+returns-in-Count-clause-edits c = IfOk-weaker c.ask-in-Count.result _ _ (λ reply step w valid stands.
+    subst (λ e. AreEdits (after w e)) (sym c.in-Count.is) valid) c.ask-in-Count.ensures.step
+
+pub returns-in-Count-clause-room : goal.returns-in-Count-clause-room
+returns-in-Count-clause-room c = λ nodes all.
+    subst (λ s. HaveRoom nodes s.replicas) (sym c.world.view_is) all
+
+pub returns-in-Count-clause-err : goal.returns-in-Count-clause-err
+returns-in-Count-clause-err c = may_stop c.ask-in-Count.result c.args.event.now _ (λ is w nodes valid stands room.
+    let inside = subst (StandsForWorld w) (sym c.world.view_is) stands in
+    subst (λ e. WantsRoom nodes w e) (sym c.in-Count.is)
+    (c.ask-in-Count.ensures.full is w (subst (StandSideBySide (StandsFor w.rule) w.replicas) (sym c.deref-in-Count.ensures.value) inside.replicas)))

@@ -1,4 +1,4 @@
-use Rattle.std.proofs.Common.{◌≡◌, ◌+◌, ◌++◌, ◌∷◌, [], List, IfSome, sym, ap, subst, ◌∙◌}
+use Rattle.std.proofs.Common.{◌≡◌, ◌++◌, ◌∷◌, [], List, IfSome, sym, ap, subst, ◌∙◌}
 use Rattle.crossbeam_channel.specs.Claims.{view as claim}
 use Rattle.crossbeam_queue.specs.Passes.{view}
 use Rattle.edit_stamps.specs.Edit.{PlaneEdit}
@@ -19,10 +19,9 @@ invariant_of-self g c =
     let e : Entry = (claim c.in-Ok.pending.pass).entry in
     let own : e.edit ≡ edit = ap (λ (t : Topic). t.entry.edit) c.in-Ok.ensures.pending in
     let more : (view c.put.new.self.pass).put ≡ mine ++ e ∷ [] = c.in-Ok.ensures.put in
-    let on : GoesOn s.floor (s.post.seat + 1) mine edit = subst (λ (r : Seating). GoesOn r.floor (r.place + 1) r.mine edit) (sym c.self.view_is) c.requires.goes_on in
-    let goes : GoesOn s.floor s.number mine e.edit = subst (λ (x : PlaneEdit). GoesOn s.floor s.number mine x) (sym own) (subst (λ n. GoesOn s.floor n mine edit) (sym i.numbered) on) in
+    let on : GoesOn s.floor s.number mine edit = subst (λ (r : Seating). GoesOn r.floor r.number r.mine edit) (sym c.self.view_is) c.requires.goes_on in
+    let goes : GoesOn s.floor s.number mine e.edit = subst (λ (x : PlaneEdit). GoesOn s.floor s.number mine x) (sym own) on in
     let counter : c.counter-last.result ≡ counter_in e.edit.stamp = c.counter-last.ensures ∙ (ap counter_in c.stamp.ensures ∙ ap (λ (x : PlaneEdit). counter_in x.stamp) (sym own)) in record {
-      numbered = i.numbered ∙ ap (λ n. n + 1) (sym c.in-Ok.ensures.same.1);
       ruled = i.ruled;
       table = cc (c.in-Ok.ensures.same.0, i.table);
       sees = i.sees;

@@ -1,0 +1,160 @@
+//! Windows of later generations, and how many cells there are then.
+
+ghost use Rattle.std.specs.Prelude.{◌≡◌, ◌^◌, ◌≤◌, ◌⊎◌, IfErr, IfOk, IfSome, Ok, Err};
+ghost use Rattle.edit_stamps.specs.PlaneMap.{HasStatesBelow};
+ghost use Rattle.square_store.specs.Limits.{usual_room};
+ghost use Rattle.stamped_tree.specs.Plane.{map_of};
+ghost use Rattle.generation_engine.specs.Universe.{states_in_writes};
+ghost use Rattle.export.specs.Asking.{CountsAt, IsCount, IsCountRefused, IsCut, IsCutRefused, seen_at};
+ghost use Rattle.export.specs.Export.{AreListed, IsRoomWanted, IsWant, most_cells};
+ghost use Rattle.export.specs.Kept.{IsRunOf};
+
+use crate::exporting::{LAST_GENERATION, MOST_CELLS, engine_at};
+use crate::fault::ExportFault;
+use crate::kept::universe_at;
+use generation_engine::Engine;
+use generations_rule::Rule;
+use multistate_rle::write;
+use pattern_cells::{Cell, Window};
+use square_store::ROOM;
+use stamped_tree::Plane;
+use std::alloc::Global;
+
+/// What is cut out: the cells in a window, so many generations later.
+#[derive(Clone, Copy, Debug, PartialEq, Eq)]
+pub struct Cut {
+    pub window: Window,
+    pub generation: u32,
+}
+
+/// How many cells are not dead, and the least window that has them; none where all are dead.
+#[derive(Clone, Copy, Debug, PartialEq, Eq)]
+pub struct Count {
+    pub cells: u128,
+    pub extent: Option<Window>,
+}
+
+/// The cells of a plane in a window some generations later, as `export` gives those of the whole plane: the
+/// position, the box and the limit of 2^24 cells are of those in the window. First of all `GenRange` is answered,
+/// exactly where the generation is greater than 2^29, then `TooManyCells`. The universe that an earlier call left
+/// for the plane is run on from where it is, unless the generation is earlier.
+pub fn cut_on(
+    alloc: Global,
+    rule: &Rule,
+    plane: &Plane,
+    cut: Cut,
+    kept: &mut Option<Engine>,
+) -> Result<Vec<u8>, ExportFault>
+    requires states { HasStatesBelow rule.now.states (map_of plane.now) }
+    requires kept { IfSome kept.old (IsRunOf rule.now (states_in_writes (map_of plane.now))) }
+    ensures text { IfOk result (λ text. IsCut rule.now (states_in_writes (map_of plane.now)) cut.window cut.generation most_cells (Ok text.items)) }
+    ensures err { IfErr result (IsCutRefused rule.now (states_in_writes (map_of plane.now)) cut.window cut.generation most_cells) }
+    ensures full { result ≡ Err ExportFault.StoreFull → IsRoomWanted rule.now plane.now cut.generation usual_room }
+    ensures kept { IfSome kept.new (IsRunOf rule.now (states_in_writes (map_of plane.now))) }
+{
+    if cut.generation > LAST_GENERATION {
+        return Err(ExportFault::GenRange);
+    }
+    let engine = universe_on(alloc, rule, plane, cut.generation, kept.take())?;
+    let cells = cells_seen(rule, plane, cut, &engine);
+    *kept = Some(engine);
+    let text = write(alloc, rule, u64::from(cut.generation), &cells?)?;
+    Ok(text)
+}
+
+/// How many cells of a plane are not dead some generations later, and the least window that has them. `GenRange`
+/// is answered exactly where the generation is greater than 2^29. The universe that an earlier call left for the
+/// plane is run on from where it is, unless the generation is earlier.
+pub fn count_on(
+    alloc: Global,
+    rule: &Rule,
+    plane: &Plane,
+    generation: u32,
+    kept: &mut Option<Engine>,
+) -> Result<Count, ExportFault>
+    requires states { HasStatesBelow rule.now.states (map_of plane.now) }
+    requires kept { IfSome kept.old (IsRunOf rule.now (states_in_writes (map_of plane.now))) }
+    ensures count { IfOk result (λ count. IsCount rule.now (states_in_writes (map_of plane.now)) generation (Ok count)) }
+    ensures err { IfErr result (IsCountRefused rule.now (states_in_writes (map_of plane.now)) generation) }
+    ensures full { result ≡ Err ExportFault.StoreFull → IsRoomWanted rule.now plane.now generation usual_room }
+    ensures kept { IfSome kept.new (IsRunOf rule.now (states_in_writes (map_of plane.now))) }
+{
+    if generation > LAST_GENERATION {
+        return Err(ExportFault::GenRange);
+    }
+    let engine = universe_on(alloc, rule, plane, generation, kept.take())?;
+    let count = counted(rule, plane, generation, &engine);
+    *kept = Some(engine);
+    Ok(count)
+}
+
+/// `cut_on` without a universe that was left.
+pub fn cut_out(alloc: Global, rule: &Rule, plane: &Plane, cut: Cut) -> Result<Vec<u8>, ExportFault>
+    requires { HasStatesBelow rule.now.states (map_of plane.now) }
+    ensures text { IfOk result (λ text. IsCut rule.now (states_in_writes (map_of plane.now)) cut.window cut.generation most_cells (Ok text.items)) }
+    ensures err { IfErr result (IsCutRefused rule.now (states_in_writes (map_of plane.now)) cut.window cut.generation most_cells) }
+    ensures full { result ≡ Err ExportFault.StoreFull → IsRoomWanted rule.now plane.now cut.generation usual_room }
+{
+    let mut none = None;
+    cut_on(alloc, rule, plane, cut, &mut none)
+}
+
+/// A universe of a plane at a generation: the one that is given, where it is not past it, run on. Where that finds
+/// no room or no memory, it is given back, and a new one is run.
+fn universe_on(
+    alloc: Global,
+    rule: &Rule,
+    plane: &Plane,
+    generation: u32,
+    given: Option<Engine>,
+) -> Result<Engine, ExportFault>
+    requires states { HasStatesBelow rule.now.states (map_of plane.now) }
+    requires given { IfSome given (IsRunOf rule.now (states_in_writes (map_of plane.now))) }
+    requires generation { generation ≤ 2 ^ 29 }
+    ensures run { IfOk result (IsRunOf rule.now (states_in_writes (map_of plane.now))) }
+    ensures at { IfOk result (λ engine. engine.generation ≡ generation) }
+    ensures err { IfErr result IsWant }
+    ensures full { result ≡ Err ExportFault.StoreFull → IsRoomWanted rule.now plane.now generation usual_room }
+{
+    match universe_at(alloc, rule, plane, generation, given) {
+        Ok(engine) => Ok(engine),
+        Err(_) => engine_at(alloc, rule, plane, generation, ROOM),
+    }
+}
+
+/// The cells that a universe of a plane shows in a window, if they are at most 2^24. They are counted before they
+/// are listed.
+fn cells_seen(
+    rule: &Rule,
+    plane: &Plane,
+    cut: Cut,
+    engine: &Engine,
+) -> Result<Vec<Cell>, ExportFault>
+    requires states { HasStatesBelow rule.now.states (map_of plane.now) }
+    requires run { IsRunOf rule.now (states_in_writes (map_of plane.now)) engine.now }
+    requires at { engine.now.generation ≡ cut.generation }
+    requires generation { cut.generation ≤ 2 ^ 29 }
+    ensures cells { IfOk result (λ cells. AreListed rule.now (seen_at rule.now (states_in_writes (map_of plane.now)) cut.window cut.generation) most_cells cells.items) }
+    ensures err { IfErr result (IsCutRefused rule.now (states_in_writes (map_of plane.now)) cut.window cut.generation most_cells) }
+    ensures not_full { IfErr result (λ fault. (fault ≡ ExportFault.TooManyCells) ⊎ (fault ≡ ExportFault.Memory)) }
+{
+    // For the proof alone: the call tells that what is held is a rule.
+    let _states = rule.states();
+    if engine.population_in(cut.window) > u128::from(MOST_CELLS) {
+        return Err(ExportFault::TooManyCells);
+    }
+    let cells = engine.cells_in(cut.window)?;
+    Ok(cells)
+}
+
+/// How many cells a universe of a plane shows, and where. The rule and the plane are named in the contract alone.
+fn counted(rule: &Rule, plane: &Plane, generation: u32, engine: &Engine) -> Count
+    requires run { IsRunOf rule.now (states_in_writes (map_of plane.now)) engine.now }
+    requires at { engine.now.generation ≡ generation }
+    ensures { CountsAt rule.now (states_in_writes (map_of plane.now)) generation result }
+{
+    Count {
+        cells: engine.population(),
+        extent: engine.extent(),
+    }
+}
