@@ -179,7 +179,7 @@ impl SlowSession {
 
 /// The first of the columns 0 and 1 that a window has, by its first, with a sign, and how many it has; and rows likewise.
 fn seen(first: u32, count: u32) -> (i64, i64) {
-    let first = i64::from(first as i32);
+    let first = i64::from(i32::from_be_bytes(first.to_be_bytes()));
     let begin = first.max(0);
     let end = first.saturating_add(i64::from(count)).min(2);
     (begin, end.saturating_sub(begin).max(0))
