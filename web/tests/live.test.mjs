@@ -10,7 +10,7 @@ import { Plane } from "../src/plane.js";
 import { readRule } from "../src/rules.js";
 import { readState } from "../src/states.js";
 import { chance, seedOf } from "./chance.mjs";
-import { bodiesOf, framed } from "./doors.mjs";
+import { bodiesOf, framed } from "./frames.mjs";
 import { mapOf } from "./server.mjs";
 import { soup, stepped } from "./soups.mjs";
 import { otherSpellings, writeState } from "./states.mjs";

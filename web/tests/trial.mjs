@@ -2,28 +2,45 @@
 // GENEDIT=PROGRAM node trial.mjs OUT writes screenshots into the folder OUT. `--speed` measures, `--twenty` opens twenty pages.
 import { spawn, spawnSync } from "node:child_process";
 import { mkdtempSync, readFileSync, rmSync, writeFileSync } from "node:fs";
+import { createServer } from "node:net";
 import { tmpdir } from "node:os";
 import { join } from "node:path";
 import { Chromium, sleep } from "./chromium.mjs";
-import { openDoors } from "./doors.mjs";
+import { openLine } from "./line.mjs";
 
 const [out, ...flags] = process.argv.slice(2), program = process.env.GENEDIT;
 if (!out || !program) throw new Error("GENEDIT=PROGRAM node trial.mjs OUT");
 const file = new URL("../out/pazgrot.html", import.meta.url).pathname, dir = mkdtempSync(join(tmpdir(), "trial-"));
 const GUN = "x = 36, y = 9, rule = B3/S23\n24bo$22bobo$12b2o6b2o12b2o$11bo3bo4b2o12b2o$2o8bo5bo3b2o$2o8bo3bob2o4bobo$10bo5bo7bo$11bo3bo$12b2o!\n";
-let passed = 0, failed = 0;
+let passed = 0, failed = 0, boards = 0;
 const check = (name, good, more = "") => { good ? passed++ : failed++; console.log(good ? "ok  " : "FAIL", name, more); };
 
-/** A server of the program, and doors before it. */
+/** A port that is free, for now. */
+const freePort = () => new Promise(done => {
+  const server = createServer().listen(0, "127.0.0.1", () => { const { port } = server.address(); server.close(() => done(port)); });
+});
+
+/**
+ * A server of the program, whose pages come by a line that can be cut. Its link and its ports outlive it: at `restart` it is
+ * killed, and begins with an empty board.
+ */
 async function serve(rule, sessions = 64) {
+  const board = join(dir, `board-${boards++}.glwl`), web = await freePort(), line = await openLine(web);
+  const words = ["serve", "--rule", rule, "--keep", board, "--sessions", sessions, "--web", web, "--url", line.url, "--port"];
   let server;
-  const begin = async at => {
-    server = spawn(program, ["serve", "--rule", rule, "--port", String(at), "--sessions", String(sessions)], { stdio: ["ignore", "pipe", "ignore"] });
-    return new Promise(done => server.stdout.once("data", d => done(Number(/listening (\d+)/.exec(d)[1]))));
-  };
-  const port = await begin(0), doors = await openDoors(port, readFileSync(file));
-  const restart = async () => { const ended = new Promise(done => server.once("exit", done)); server.kill(); await ended; await begin(port); };
-  return { port, doors, restart, end: () => { doors.close(); server.kill(); } };
+  const begin = at => new Promise((done, fail) => {
+    let told = "";
+    server = spawn(program, [...words, at].map(String), { stdio: ["ignore", "pipe", "ignore"] });
+    server.stdout.on("data", piece => {
+      const found = /open (\S+)\nlistening (\d+)\n/.exec(told += piece);
+      if (found) done({ link: found[1], port: Number(found[2]) });
+    });
+    server.once("error", fail);
+  });
+  const killed = async () => { const ended = new Promise(done => server.once("exit", done)); server.kill(); await ended; };
+  const { link, port } = await begin(0);
+  const restart = async () => { await killed(); rmSync(board); await begin(port); };
+  return { port, link, line, restart, end: () => { line.close(); server.kill(); } };
 }
 
 /** A file that the product's client writes of a generation. */
@@ -129,7 +146,7 @@ async function narrow(chromium) {
 }
 
 async function together(chromium) {
-  const { port, doors, restart, end } = await serve("23/3/2"), a = await chromium.open(doors.link), b = await chromium.open(doors.link);
+  const { port, link, line, restart, end } = await serve("23/3/2"), a = await chromium.open(link), b = await chromium.open(link);
   const both = async () => { for (const p of [a, b, a, b]) await p.settled(); await sleep(120); };
   const same = async () => (await both(), await a.cells() === await b.cells());
   await both();
@@ -184,14 +201,15 @@ async function together(chromium) {
   await a.js("document.getElementById('mode').value = 'or'; document.querySelector('[data-tool=draw]').click()");
 
   const keyOf = page => page.js("sessionStorage.getItem('key ' + pazgrot.token)"), key = await keyOf(a);
+  const seatOf = page => page.js("pazgrot.board.seat"), seat = await seatOf(a);
   await a.js("window.old = true");
   await a.call("Page.reload"); await a.until("!window.old && typeof pazgrot !== 'undefined' && pazgrot.board.state === 'open'");
-  check("a reload shows the same, and keeps its key", await same() && await a.cells() === held && await keyOf(a) === key && key.length === 32);
+  check("a reload shows the same, and keeps its key and its seat", await same() && await a.cells() === held && await keyOf(a) === key && key.length === 32 && await seatOf(a) === seat);
   const copy = await chromium.copy(a);
   await copy.settled();
   check("a copy of a tab takes a key of its own", await keyOf(copy) !== key && await keyOf(a) === key && await copy.cells() === held);
   await a.look(0, 0, 16);
-  doors.cut();
+  line.cut();
   await a.until("pazgrot.board.state !== 'open'");
   await a.stroke([await a.at(-28, -12), await a.at(-22, -12)]);
   check("what is drawn while the line is lost is drawn on the board when it is back", await same() && await b.js("pazgrot.board.plane.state(-25, -12)") === 1);
@@ -201,7 +219,7 @@ async function together(chromium) {
 
   await a.js("pazgrot.hold('x = 1, y = 1, rule = 23/3/2\\no!')"); await a.key("Escape");
   if (flags.includes("--speed")) await speed(a, b);
-  if (flags.includes("--twenty")) await twenty(chromium, doors.link, [a, b]);
+  if (flags.includes("--twenty")) await twenty(chromium, link, [a, b]);
   const last = await a.cells();
   await restart();
   await a.until("document.getElementById('say').textContent.includes('began anew')", 20000);
@@ -215,12 +233,12 @@ async function together(chromium) {
 }
 
 async function full(chromium) {
-  const { doors, end } = await serve("/2/3", 1), a = await chromium.open(doors.link);
+  const { link, end } = await serve("/2/3", 1), a = await chromium.open(link);
   await a.settled();
-  const b = await chromium.open(doors.link);
+  const b = await chromium.open(link);
   await b.until("pazgrot.board.state === 'full'");
   check("no seat left is told in words", (await b.said()).includes("All seats"), await b.said());
-  const c = await chromium.open(doors.link.split("#")[0]);
+  const c = await chromium.open(link.split("#")[0]);
   await sleep(300);
   check("a link without its token is told in words", (await c.said()).includes("printed, whole"), await c.said());
   end();

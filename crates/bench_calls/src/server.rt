@@ -86,8 +86,10 @@ fn printed<R: Networked>(
         key: HashKey::fixed(),
     };
     let address = Address {
-        listener,
+        listener: Some(listener),
+        web: None,
         closing: None,
+        until_idle: None,
     };
     match serve_on(rt, alloc, address, board, &mut sink) {
         Ok(()) => text,

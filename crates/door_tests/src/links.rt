@@ -93,11 +93,7 @@ fn what_is_no_beginning_of_links_is_refused(rt: HostRuntime) {
         "https://draw.example.org:65536",
         "//draw.example.org",
     ] {
-        assert_eq!(rt;
-            BoardUrl::read(rt.alloc(), text).err(),
-            Some(UrlFault::Misspelt),
-            "of {text}"
-        );
+        assert!(rt; BoardUrl::read(rt.alloc(), text).err() == Some(UrlFault::Misspelt));
     }
 }
 
@@ -135,6 +131,6 @@ fn what_is_no_token_is_none(rt: HostRuntime) {
         "0123456789abcdef0123456789abcdef\r\n",
         " 0123456789abcdef0123456789abcde",
     ] {
-        assert_eq!(rt; token_in(text.as_bytes()), None, "of {text}");
+        assert!(rt; token_in(text.as_bytes()).is_none());
     }
 }

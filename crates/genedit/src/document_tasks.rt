@@ -87,7 +87,11 @@ pub(crate) fn write_durably<R: Files<File = File>>(
 }
 
 /// Syncs the folder of a file.
-fn sync_folder<R: Files<File = File>>(rt: &R, alloc: Global, path: &str) -> io::Result<()> {
+pub(crate) fn sync_folder<R: Files<File = File>>(
+    rt: &R,
+    alloc: Global,
+    path: &str,
+) -> io::Result<()> {
     let whole = rt.canonicalize(alloc, path)?.into_string();
     let Some(folder) = Path::new(whole.as_str()).parent() else {
         return Err(io::Error::from(ErrorKind::InvalidInput));

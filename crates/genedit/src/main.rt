@@ -14,7 +14,10 @@ mod following;
 mod numbering;
 mod opening;
 mod pictures;
+mod serving;
 mod tasks;
+mod token;
+mod web;
 
 ghost use Rattle.genedit_words.specs.Given.{IsInRange};
 
@@ -26,7 +29,8 @@ use crate::feeding::feed;
 use crate::following::follow;
 use crate::numbering::number;
 use crate::pictures::view;
-use crate::tasks::{check, rle, run, serve};
+use crate::serving::serve;
+use crate::tasks::{check, rle, run};
 use genedit_io::RunFault;
 use genedit_words::{Ending, Task, asked, given};
 use std::alloc::{AllocGlobal, Global};

@@ -1,6 +1,7 @@
 -- Boards that are kept: their seats, and how they end.
 use Rattle.std.proofs.Common.{◌≡◌, ◌⊎◌, ◌∙◌, ◌++◌, ◌+◌, ◌-◌, ℕ, List, [], ◌∷◌, length, map, ap, refl, sym, subst, inl, inr, arith, length-append}
 use Rattle.std.proofs.lemmas.List.{length-map}
+use Rattle.std.specs.Prelude.{Result}
 use Rattle.board.specs.Entries.{edits_of}
 use Rattle.board.specs.declared.entry.Entry.{Entry}
 use Rattle.board_keeper.specs.Loading.{AreRaised, raised}
@@ -16,8 +17,11 @@ use Rattle.seat_server.specs.Faults.{IsAttendFault}
 use Rattle.seat_server.specs.declared.fault.ServerFault.{ServerFault}
 use Rattle.seat_server.specs.declared.fault.ServerFault.TheVariants as server
 use Rattle.genedit_serve.specs.Faults.{run_fault_of_server}
-use Rattle.genedit_serve.specs.Keeping.{AreInOrder, AreKeptSeats, IsKeptGivenUp, IsToldSoFar, IsUnopened, IsUntold, TellsKept}
-use Rattle.genedit_serve.specs.Serving.{Fails}
+use Rattle.genedit_serve.specs.Keeping.{AreInOrder, AreKeptSeats, IsKeptGivenUp, IsToldSoFar, IsUnopened, IsUntold, ServesKept, ServesKeptAt, TellsKept}
+use Rattle.genedit_serve.specs.Serving.{Fails, IsUnbound}
+use Rattle.genedit_serve.specs.Closing.{address_text}
+use Rattle.genedit_serve.specs.declared.address.Address.{Address}
+use Rattle.document_files.specs.declared.refusal.FileRefusal.{FileRefusal}
 use Rattle.genedit_serve.proofs.ServingLaws.{numbered}
 
 -- ---- seats
@@ -69,24 +73,34 @@ module _ (start : ℕ) (rule : GenerationsRule) (count : ℕ) (newest : List ℕ
 -- ---- ends
 
 -- no fault of a script ends it, wherever the lines were
-pub given_up : (port : ℕ) (from to : KnownSink) (fault : RunFault) → IsUnopened fault → IsToldSoFar port from to → IsKeptGivenUp port from to fault
-given_up port from to (Script line) unscripted so_far = absurd unscripted
-given_up port from to (Refused number place) unscripted so_far = so_far
-given_up port from to Read unscripted so_far = so_far
-given_up port from to Turns unscripted so_far = absurd unscripted
-given_up port from to Write unscripted so_far = inl so_far
-given_up port from to Memory unscripted so_far = so_far
-given_up port from to StoreFull unscripted so_far = so_far
+pub given_up : (lines : List ℕ) (from to : KnownSink) (fault : RunFault) → IsUnopened fault → IsToldSoFar lines from to → IsKeptGivenUp lines from to fault
+given_up lines from to (Script line) unscripted so_far = absurd unscripted
+given_up lines from to (Refused number place) unscripted so_far = so_far
+given_up lines from to Read unscripted so_far = so_far
+given_up lines from to Turns unscripted so_far = absurd unscripted
+given_up lines from to Write unscripted so_far = inl so_far
+given_up lines from to Memory unscripted so_far = so_far
+given_up lines from to StoreFull unscripted so_far = so_far
 
 -- before any line
-pub untold_yet : (port : ℕ) (from : KnownSink) (fault told : RunFault) → told ≡ fault → IsUnopened fault → IsKeptGivenUp port from from told
-untold_yet port from fault told same unscripted = subst (λ (f : RunFault). IsKeptGivenUp port from from f) (sym same) (given_up port from from fault unscripted (inl refl))
+pub untold_yet : (lines : List ℕ) (from : KnownSink) (fault told : RunFault) → told ≡ fault → IsUnopened fault → IsKeptGivenUp lines from from told
+untold_yet lines from fault told same unscripted = subst (λ (f : RunFault). IsKeptGivenUp lines from from f) (sym same) (given_up lines from from fault unscripted (inl refl))
 
--- amid the two lines
-pub untold : (port edits lost : ℕ) (from to : KnownSink) (fault told : RunFault) → told ≡ fault → IsUntold edits lost from to fault → IsKeptGivenUp port from to told
-untold port edits lost from to fault told same h = subst (λ (f : RunFault). IsKeptGivenUp port from to f) (sym same) (go fault h)
+-- it is not known where it would listen
+pub unbound : (lines : List ℕ) (from : KnownSink) (fault told : RunFault) → told ≡ fault → IsUnbound fault → IsKeptGivenUp lines from from told
+unbound lines from fault told same (inl read) = subst (λ (f : RunFault). IsKeptGivenUp lines from from f) (sym (same ∙ read)) (inl refl)
+unbound lines from fault told same (inr want) = subst (λ (f : RunFault). IsKeptGivenUp lines from from f) (sym (same ∙ want)) (inl refl)
+
+-- where it listens is told as its address says
+pub serves_at : {A : Type 0} (rule : GenerationsRule) (first sessions : ℕ) (address : Address) (from to : KnownSink) (result : Result A FileRefusal) (lines : List ℕ)
+    → (port : ℕ) × (lines ≡ address_text address port) → ServesKeptAt rule first sessions lines from to result → ServesKept rule first sessions address from to result
+serves_at rule first sessions address from to result lines told serves = (told.0, subst (λ (text : List ℕ). ServesKeptAt rule first sessions text from to result) told.1 serves)
+
+-- amid the two pushes
+pub untold : (lines : List ℕ) (edits lost : ℕ) (from to : KnownSink) (fault told : RunFault) → told ≡ fault → IsUntold edits lost from to fault → IsKeptGivenUp lines from to told
+untold lines edits lost from to fault told same h = subst (λ (f : RunFault). IsKeptGivenUp lines from to f) (sym same) (go fault h)
   where
-    go : (fault : RunFault) → IsUntold edits lost from to fault → IsKeptGivenUp port from to fault
+    go : (fault : RunFault) → IsUntold edits lost from to fault → IsKeptGivenUp lines from to fault
     go (Script line) h = absurd h
     go (Refused number place) h = absurd h
     go Read h = absurd h
@@ -98,16 +112,16 @@ untold port edits lost from to fault told same h = subst (λ (f : RunFault). IsK
     go StoreFull h = absurd h
 
 -- behind them
-pub told_both : (port edits lost : ℕ) (from to : KnownSink) (fault : RunFault) → TellsKept edits lost port from to → IsUnopened fault → IsKeptGivenUp port from to fault
-told_both port edits lost from to fault tells unscripted = given_up port from to fault unscripted (inr (edits, lost, inr tells))
+pub told_both : (lines : List ℕ) (edits lost : ℕ) (from to : KnownSink) (fault : RunFault) → TellsKept edits lost lines from to → IsUnopened fault → IsKeptGivenUp lines from to fault
+told_both lines edits lost from to fault tells unscripted = given_up lines from to fault unscripted (inr (edits, lost, inr tells))
 
 -- and the closing lines were not pushed
-pub unclosed : (port edits lost : ℕ) (from between to : KnownSink) (fault told : RunFault) → TellsKept edits lost port from between → told ≡ fault
-    → ((fault ≡ Memory) × (to ≡ between)) ⊎ ((fault ≡ Write) × Fails between to) → IsKeptGivenUp port from to told
-unclosed port edits lost from between to fault told tells same (inl want) =
-    subst (λ (f : RunFault). IsKeptGivenUp port from to f) (sym (same ∙ want.0)) (subst (IsToldSoFar port from) (sym want.1) (inr (edits, lost, inr tells)))
-unclosed port edits lost from between to fault told tells same (inr fails) =
-    subst (λ (f : RunFault). IsKeptGivenUp port from to f) (sym (same ∙ fails.0)) (inr (between, inr (edits, lost, inr tells), fails.1))
+pub unclosed : (lines : List ℕ) (edits lost : ℕ) (from between to : KnownSink) (fault told : RunFault) → TellsKept edits lost lines from between → told ≡ fault
+    → ((fault ≡ Memory) × (to ≡ between)) ⊎ ((fault ≡ Write) × Fails between to) → IsKeptGivenUp lines from to told
+unclosed lines edits lost from between to fault told tells same (inl want) =
+    subst (λ (f : RunFault). IsKeptGivenUp lines from to f) (sym (same ∙ want.0)) (subst (IsToldSoFar lines from) (sym want.1) (inr (edits, lost, inr tells)))
+unclosed lines edits lost from between to fault told tells same (inr fails) =
+    subst (λ (f : RunFault). IsKeptGivenUp lines from to f) (sym (same ∙ fails.0)) (inr (between, inr (edits, lost, inr tells), fails.1))
 
 -- ---- edits
 
@@ -125,8 +139,8 @@ attend_unopened (server.Finish fault) attend = absurd attend
 attend_unopened server.Memory attend = tt
 
 -- before any line
-pub unattended_yet : (port : ℕ) (from : KnownSink) (cause : ServerFault) (fault told : RunFault) → told ≡ fault → fault ≡ run_fault_of_server cause → IsAttendFault cause → IsKeptGivenUp port from from told
-unattended_yet port from cause fault told same is attend = untold_yet port from (run_fault_of_server cause) told (same ∙ is) (attend_unopened cause attend)
+pub unattended_yet : (lines : List ℕ) (from : KnownSink) (cause : ServerFault) (fault told : RunFault) → told ≡ fault → fault ≡ run_fault_of_server cause → IsAttendFault cause → IsKeptGivenUp lines from from told
+unattended_yet lines from cause fault told same is attend = untold_yet lines from (run_fault_of_server cause) told (same ∙ is) (attend_unopened cause attend)
 
 -- seats that are served stand in the order of those that they were
 pub attended_order : (made : ℕ) (seats attended : List Seating) (file : Seating) → attended ≡ seats → AreInOrder made seats file → AreInOrder made attended file

@@ -6,7 +6,7 @@ use Rattle.board.specs.Showing.{Origin}
 use Rattle.devices.specs.Sink.{IsPush, KnownSink}
 use Rattle.generations_rule.specs.Rule.{GenerationsRule}
 use Rattle.genedit_io.specs.declared.fault.RunFault.{RunFault}
-use Rattle.genedit_io.specs.declared.fault.RunFault.TheVariants.{Memory, Write}
+use Rattle.genedit_io.specs.declared.fault.RunFault.TheVariants.{Write}
 use Rattle.relay_board.specs.Seating.{AllFresh, Numbered, Seating}
 use Rattle.relay_board.specs.declared.fault.FinishFault.TheVariants as finish
 use Rattle.relay_board.specs.Relaying.{Relaying}
@@ -16,9 +16,10 @@ use Rattle.seat_server.specs.Serving.{FinishedValue, IsServed}
 use Rattle.seat_server.specs.Sessions.{SessionEnd}
 use Rattle.seat_server.specs.declared.fault.ServerFault.{ServerFault}
 use Rattle.seat_server.specs.declared.fault.ServerFault.TheVariants as server
-use Rattle.genedit_serve.specs.Closing.{closing_text, listening_line, session_lines}
+use Rattle.genedit_serve.specs.Closing.{address_text, closing_text, session_lines}
 use Rattle.genedit_serve.specs.Faults.{run_fault_of_server}
-use Rattle.genedit_serve.specs.Serving.{AreFreshSeats, Fails, IsFreshRelay, IsGivenUp, IsUnserved, Listens, ServesAt}
+use Rattle.genedit_serve.specs.declared.address.Address.{Address}
+use Rattle.genedit_serve.specs.Serving.{AreFreshSeats, Fails, IsFreshRelay, IsGivenUp, IsUnbound, IsUnserved, Pushes, Serves, ServesAt}
 
 -- fresh seats stand in the order of their numbers
 pub numbered : (first : ℕ) (rule : GenerationsRule) (room n : ℕ) (seats : List Seating) → AllFresh first rule room n seats → Numbered n seats
@@ -31,35 +32,40 @@ made : {A E : Type 0} (from to : KnownSink) (done : A) (bytes text : List ℕ) �
 made {A} {E} from to done bytes text is push =
     subst (λ (b : List ℕ). IsPush {A = Unit {0}} {E = Unit {0}} from to (Ok tt) b) is (record { added = push.added; pushes = push.pushes; failures = push.failures })
 
--- the line of the port was pushed
-pub listens : {A E : Type 0} (from to : KnownSink) (port : ℕ) (line : List ℕ) (done : A) → line ≡ listening_line port → IsPush {A = A} {E = E} from to (Ok done) line → Listens port from to
-listens from to port line done is_line listened = made from to done line (listening_line port) is_line listened
-
 -- no seat was served, and nothing pushed
-pub unattended : (rule : GenerationsRule) (first sessions port : ℕ) (from : KnownSink) (cause : ServerFault) (fault : RunFault) → IsAttendFault cause → fault ≡ run_fault_of_server cause → IsGivenUp rule first sessions port from from fault
-unattended rule first sessions port from cause fault attend told = subst (λ (f : RunFault). IsGivenUp rule first sessions port from from f) (sym told) (by_cause cause attend)
+pub unattended : (rule : GenerationsRule) (first sessions : ℕ) (lines : List ℕ) (from : KnownSink) (cause : ServerFault) (fault : RunFault) → IsAttendFault cause → fault ≡ run_fault_of_server cause → IsGivenUp rule first sessions lines from from fault
+unattended rule first sessions lines from cause fault attend is = subst (λ (f : RunFault). IsGivenUp rule first sessions lines from from f) (sym is) (by_cause cause attend)
   where
-    by_cause : (cause : ServerFault) → IsAttendFault cause → IsGivenUp rule first sessions port from from (run_fault_of_server cause)
+    by_cause : (cause : ServerFault) → IsAttendFault cause → IsGivenUp rule first sessions lines from from (run_fault_of_server cause)
     by_cause server.Read attend = inl refl
     by_cause (server.Turn fault) attend = absurd attend
     by_cause (server.Finish fault) attend = absurd attend
     by_cause server.Memory attend = inl refl
 
--- the line of the port was not pushed
-pub untold : (rule : GenerationsRule) (first sessions port : ℕ) (from to : KnownSink) (fault : RunFault) → ((fault ≡ Memory) × (to ≡ from)) ⊎ ((fault ≡ Write) × Fails from to) → IsGivenUp rule first sessions port from to fault
-untold rule first sessions port from to fault (inl want) = subst (λ (f : RunFault). IsGivenUp rule first sessions port from to f) (sym want.0) (inl want.1)
-untold rule first sessions port from to fault (inr fails) = subst (λ (f : RunFault). IsGivenUp rule first sessions port from to f) (sym fails.0) (inl fails.1)
+-- what tells where it listens was not pushed
+pub untold : (rule : GenerationsRule) (first sessions : ℕ) (lines : List ℕ) (from to : KnownSink) (fault : RunFault) → (fault ≡ Write) × Fails from to → IsGivenUp rule first sessions lines from to fault
+untold rule first sessions lines from to fault fails = subst (λ (f : RunFault). IsGivenUp rule first sessions lines from to f) (sym fails.0) (inl fails.1)
 
-module _ (rule : GenerationsRule) (first sessions : ℕ) (from between : KnownSink) (port : ℕ) (told : Listens port from between) where
-  -- the port was told, and nothing behind it
+-- it is not known where it would listen, and nothing was pushed
+pub unbound : (rule : GenerationsRule) (first sessions : ℕ) (lines : List ℕ) (from : KnownSink) (fault : RunFault) → IsUnbound fault → IsGivenUp rule first sessions lines from from fault
+unbound rule first sessions lines from fault (inl read) = subst (λ (f : RunFault). IsGivenUp rule first sessions lines from from f) (sym read) (inl refl)
+unbound rule first sessions lines from fault (inr want) = subst (λ (f : RunFault). IsGivenUp rule first sessions lines from from f) (sym want) (inl refl)
+
+-- where it listens is told as its address says
+pub serves_at : {A : Type 0} (rule : GenerationsRule) (first sessions : ℕ) (address : Address) (from to : KnownSink) (result : Result A RunFault) (lines : List ℕ)
+    → (port : ℕ) × (lines ≡ address_text address port) → ServesAt rule first sessions lines from to result → Serves rule first sessions address from to result
+serves_at rule first sessions address from to result lines told serves = (told.0, subst (λ (text : List ℕ). ServesAt rule first sessions text from to result) told.1 serves)
+
+module _ (rule : GenerationsRule) (first sessions : ℕ) (from between : KnownSink) (lines : List ℕ) (told : Pushes from between lines) where
+  -- it was told where it listens, and nothing behind that
   pub unserved : (relay : Relaying) (seats : List Seating) (cause : ServerFault) (fault : RunFault) → IsFreshRelay sessions relay → AreFreshSeats rule first sessions seats
-      → IsReason 1000 relay seats cause → fault ≡ run_fault_of_server cause → IsGivenUp rule first sessions port from between fault
-  unserved relay seats cause fault board fresh reason is = subst (λ (f : RunFault). IsGivenUp rule first sessions port from between f) (sym is) (by_cause cause reason)
+      → IsReason 1000 relay seats cause → fault ≡ run_fault_of_server cause → IsGivenUp rule first sessions lines from between fault
+  unserved relay seats cause fault board fresh reason is = subst (λ (f : RunFault). IsGivenUp rule first sessions lines from between f) (sym is) (by_cause cause reason)
     where
-      so : (cause : ServerFault) → IsReason 1000 relay seats cause → IsUnserved rule first sessions port from between (run_fault_of_server cause)
-      so cause reason = record { listens = told; relay = relay; board = board; seats = seats; fresh = fresh; cause = cause; told = refl; reason = reason }
+      so : (cause : ServerFault) → IsReason 1000 relay seats cause → IsUnserved rule first sessions lines from between (run_fault_of_server cause)
+      so cause reason = record { listens = told; relay = relay; board = board; seats = seats; fresh = fresh; cause = cause; named = refl; reason = reason }
 
-      by_cause : (cause : ServerFault) → IsReason 1000 relay seats cause → IsGivenUp rule first sessions port from between (run_fault_of_server cause)
+      by_cause : (cause : ServerFault) → IsReason 1000 relay seats cause → IsGivenUp rule first sessions lines from between (run_fault_of_server cause)
       by_cause server.Read reason = inr told
       by_cause (server.Turn turn.StoreFull) reason = so (server.Turn turn.StoreFull) reason
       by_cause (server.Turn turn.Memory) reason = inr told
@@ -71,7 +77,7 @@ module _ (rule : GenerationsRule) (first sessions : ℕ) (from between : KnownSi
   -- the closing lines were pushed too, or that failed
   pub ends : {T : Type 0} (board : Origin) (seats : List Seating) (finished : FinishedValue) (to : KnownSink) (r : Result T RunFault) (text : List ℕ)
       → board.states ≡ rule.states → AreFreshSeats rule first sessions seats → IsServed board seats finished → text ≡ closing_text first finished → IsPush between to r text → IfErr r (λ fault. fault ≡ Write)
-      → ServesAt rule first sessions port from to r
+      → ServesAt rule first sessions lines from to r
   ends board seats finished to (Ok t) text states fresh served is_text pushed fault = record {
     board = board;
     states = states;
@@ -84,7 +90,7 @@ module _ (rule : GenerationsRule) (first sessions : ℕ) (from between : KnownSi
     closes = made between to t text (closing_text first finished) is_text pushed;
   }
   ends board seats finished to (Err fault) text states fresh served is_text pushed is =
-      subst (λ (f : RunFault). IsGivenUp rule first sessions port from to f) (sym is) (inr (between, told, (pushed.pushes, pushed.failures)))
+      subst (λ (f : RunFault). IsGivenUp rule first sessions lines from to f) (sym is) (inr (between, told, (pushed.pushes, pushed.failures)))
 
 -- ---- the lines of the sessions
 

@@ -3,10 +3,31 @@ use Rattle.std.specs.Prelude.{ℕ, ◌+◌, List, [], ◌∷◌, ◌++◌, lengt
 use Rattle.frame_service.specs.ServeFault.{serve_fault_number}
 use Rattle.seat_server.specs.Serving.{FinishedValue}
 use Rattle.seat_server.specs.Sessions.{SessionEnd}
+use Rattle.std.specs.declared.net.tcp.TcpListener.{TcpListener}
+use Rattle.genedit_serve.specs.declared.address.Address.{Address}
+use Rattle.genedit_serve.specs.declared.address.WebAddress.{WebAddress}
 
 -- that it listens at a port
 abbrev pub listening_line : ℕ → List ℕ
 listening_line port = codes "listening " ++ (decimal port ++ codes "\n")
+
+-- the link by which a browser opens the board: behind # the token, which a browser sends to no server
+abbrev pub link_line : List ℕ → List ℕ → List ℕ
+link_line url token = codes "open " ++ (url ++ (codes "/#" ++ (token ++ codes "\n")))
+
+-- where browsers come, if they do
+abbrev pub web_text : Option WebAddress → List ℕ
+web_text None = []
+web_text (Some web) = link_line web.url.items web.front.house.token
+
+-- where connections of frames come, if they do
+abbrev pub port_text : Option TcpListener → ℕ → List ℕ
+port_text None port = []
+port_text (Some listener) port = listening_line port
+
+-- what is told of an address whose listener is at this port
+abbrev pub address_text : Address → ℕ → List ℕ
+address_text address port = web_text address.web ++ port_text address.listener port
 
 -- how many edits of a file were opened again, and how many bytes behind its last whole record were cut off
 abbrev pub kept_line : ℕ → ℕ → List ℕ

@@ -15,15 +15,16 @@ use Rattle.genedit_io.specs.declared.fault.RunFault.TheVariants.{Script, Refused
 use Rattle.kept_server.specs.Serving.{IsServedBeside}
 use Rattle.relay_board.specs.Seating.{Numbered, Seating}
 use Rattle.seat_server.specs.Serving.{FinishedValue}
-use Rattle.genedit_serve.specs.Closing.{closing_text, kept_line, listening_line}
+use Rattle.genedit_serve.specs.Closing.{address_text, closing_text, kept_line}
 use Rattle.genedit_serve.specs.Serving.{AreFreshSeats, Fails, Pushes}
+use Rattle.genedit_serve.specs.declared.address.Address.{Address}
 use Rattle.document_files.specs.declared.refusal.FileRefusal.{FileRefusal}
 
--- the line of the file was pushed, and then that of the port
-pub record TellsKept (edits lost port : ℕ) (from to : KnownSink) : Type 0 where
-  pub told : KnownSink
-  pub keeps : Pushes from told (kept_line edits lost)
-  pub listens : Pushes told to (listening_line port)
+-- the line of the file was pushed, and then what tells where it listens
+pub record TellsKept (edits lost : ℕ) (told : List ℕ) (from to : KnownSink) : Type 0 where
+  pub between : KnownSink
+  pub keeps : Pushes from between (kept_line edits lost)
+  pub listens : Pushes between to told
 
 -- a file of these bytes is read up to a place: it has the head of a document under the rule and these bodies, or it has none
 pub record IsKeptFile (r : GenerationsRule) (first : Option (Vec ℕ Global)) (bodies : List (Vec ℕ Global)) (bytes : List ℕ) (whole : ℕ) : Type 0 where
@@ -41,7 +42,7 @@ IsUnopened Write = ⊤
 IsUnopened Memory = ⊤
 IsUnopened StoreFull = ⊤
 
--- the two lines were not pushed, for this cause; the first may have been
+-- the line of the file and what is told behind it were not pushed, for this cause; the first may have been
 abbrev pub IsUntold : ℕ → ℕ → KnownSink → KnownSink → RunFault → Type 0
 IsUntold edits lost from to (Script line) = ⊥
 IsUntold edits lost from to (Refused number place) = ⊥
@@ -68,9 +69,9 @@ pub record AreInOrder (made : ℕ) (seats : List Seating) (file : Seating) : Typ
   pub last : file.place ≡ length seats
 
 -- A board under the rule was served to its end, with what its file had: of so many seats each was served over streams that
--- nobody had used before, one after another. The lines were pushed that tell how many edits were opened again, and the port; behind them those of the sessions and
+-- nobody had used before, one after another. The lines were pushed that tell how many edits were opened again, and where it listens; behind them those of the sessions and
 -- of the published list, in which stands what was opened.
-pub record IsServedKept (r : GenerationsRule) (first sessions port : ℕ) (from to : KnownSink) : Type 0 where
+pub record IsServedKept (r : GenerationsRule) (first sessions : ℕ) (told : List ℕ) (from to : KnownSink) : Type 0 where
   pub board : Origin
   pub states : board.states ≡ r.states
   pub seats : List Seating
@@ -80,28 +81,28 @@ pub record IsServedKept (r : GenerationsRule) (first sessions port : ℕ) (from 
   pub served : IsServedBeside board seats file finished
   pub lost : ℕ
   pub between : KnownSink
-  pub tells : TellsKept (length file.mine) lost port from between
+  pub tells : TellsKept (length file.mine) lost told from between
   pub closes : Pushes between to (closing_text first finished)
 
--- nothing was pushed; or the line of the file, or that of the port too
-abbrev pub IsToldSoFar : ℕ → KnownSink → KnownSink → Type 0
-IsToldSoFar port from to = (to ≡ from) ⊎ ((edits : ℕ) × (lost : ℕ) × (Pushes from to (kept_line edits lost) ⊎ TellsKept edits lost port from to))
+-- nothing was pushed; or the line of the file, or what tells where it listens too
+abbrev pub IsToldSoFar : List ℕ → KnownSink → KnownSink → Type 0
+IsToldSoFar told from to = (to ≡ from) ⊎ ((edits : ℕ) × (lost : ℕ) × (Pushes from to (kept_line edits lost) ⊎ TellsKept edits lost told from to))
 
 -- Why a kept board was not served to its end, and what was pushed by then. A failed push is told as that of the file is.
-abbrev pub IsKeptGivenUp : ℕ → KnownSink → KnownSink → RunFault → Type 0
-IsKeptGivenUp port from to (Script line) = ⊥
-IsKeptGivenUp port from to (Refused number place) = IsToldSoFar port from to
-IsKeptGivenUp port from to Read = IsToldSoFar port from to
-IsKeptGivenUp port from to Turns = ⊥
-IsKeptGivenUp port from to Write = IsToldSoFar port from to ⊎ ((between : KnownSink) × IsToldSoFar port from between × Fails between to)
-IsKeptGivenUp port from to Memory = IsToldSoFar port from to
-IsKeptGivenUp port from to StoreFull = IsToldSoFar port from to
+abbrev pub IsKeptGivenUp : List ℕ → KnownSink → KnownSink → RunFault → Type 0
+IsKeptGivenUp told from to (Script line) = ⊥
+IsKeptGivenUp told from to (Refused number place) = IsToldSoFar told from to
+IsKeptGivenUp told from to Read = IsToldSoFar told from to
+IsKeptGivenUp told from to Turns = ⊥
+IsKeptGivenUp told from to Write = IsToldSoFar told from to ⊎ ((between : KnownSink) × IsToldSoFar told from between × Fails between to)
+IsKeptGivenUp told from to Memory = IsToldSoFar told from to
+IsKeptGivenUp told from to StoreFull = IsToldSoFar told from to
 
--- by its result, where it listens at a port
-abbrev pub ServesKeptAt : {A : Type 0} → GenerationsRule → ℕ → ℕ → ℕ → KnownSink → KnownSink → Result A FileRefusal → Type 0
-ServesKeptAt r first sessions port from to (Ok done) = IsServedKept r first sessions port from to
-ServesKeptAt r first sessions port from to (Err refusal) = IsKeptGivenUp port from to refusal.fault
+-- by its result, where this tells where it listens
+abbrev pub ServesKeptAt : {A : Type 0} → GenerationsRule → ℕ → ℕ → List ℕ → KnownSink → KnownSink → Result A FileRefusal → Type 0
+ServesKeptAt r first sessions told from to (Ok done) = IsServedKept r first sessions told from to
+ServesKeptAt r first sessions told from to (Err refusal) = IsKeptGivenUp told from to refusal.fault
 
--- the same at the port of its listener, of which contracts know nothing
-abbrev pub ServesKept : {A : Type 0} → GenerationsRule → ℕ → ℕ → KnownSink → KnownSink → Result A FileRefusal → Type 0
-ServesKept r first sessions from to result = (port : ℕ) × ServesKeptAt r first sessions port from to result
+-- the same at its address; of the port of its listener contracts know nothing
+abbrev pub ServesKept : {A : Type 0} → GenerationsRule → ℕ → ℕ → Address → KnownSink → KnownSink → Result A FileRefusal → Type 0
+ServesKept r first sessions address from to result = (port : ℕ) × ServesKeptAt r first sessions (address_text address port) from to result

@@ -2,11 +2,15 @@
 use Rattle.std.specs.Prelude.{◌≡◌, ◌∷◌, [], codes, refl, true, Some, None, Ok, Err}
 use Rattle.std.specs.Fmt.{digits}
 use Rattle.frame_service.specs.declared.fault.ServeFault.TheVariants.{FrameTooLong}
-use Rattle.genedit_serve.specs.Closing.{closed_line, listening_line, session_line, session_lines}
+use Rattle.genedit_serve.specs.Closing.{closed_line, link_line, listening_line, session_line, session_lines}
 
 listens : listening_line 4711 ≡ codes "listening 4711\n"
 unfolding digits
 listens = refl
+
+opens : link_line (codes "http://127.0.0.1:7080") (codes "00112233445566778899aabbccddeeff") ≡ codes "open http://127.0.0.1:7080/#00112233445566778899aabbccddeeff\n"
+unfolding digits
+opens = refl
 
 bye : session_line 1 3 (Some (Ok (record { requests = 5; bye = true }))) ≡ codes "session 1 edits 3\n"
 unfolding digits

@@ -127,4 +127,11 @@ impl Alarms {
             alarm.shut(rt, side);
         }
     }
+
+    /// The same of one seat's.
+    pub(crate) fn shut_at<R: Wait>(&self, rt: &R, at: usize, side: Shutdown) {
+        if let Some(alarm) = self.all.get(at) {
+            alarm.shut(rt, side);
+        }
+    }
 }

@@ -1,9 +1,12 @@
-//! Chairs: where the sessions of a seat get their connections.
+//! Chairs: where the sessions of a seat get their guests.
 
 use crate::alarm::Alarm;
 use crate::connections::Connection;
 use crate::desk::Desk;
 use crate::ears::Ears;
+use crate::guest::Guest;
+use crate::incoming::{Incoming, PageReader};
+use crate::outgoing::Outgoing;
 use crossbeam_channel::Receiver;
 use devices::{ReadSource, WriteSink};
 use seat_server::{Accept, Ends};
@@ -11,30 +14,41 @@ use std::alloc::Global;
 use std::net::{Shutdown, TcpStream};
 use std::sync::{Arc, Mutex, Wait};
 use std::time::Clock;
+use web_doors::SeatVisitor;
+use web_streams::{TcpHalf, open_socket};
 
-/// The chair of a seat. It gives one connection after another, or just one.
+/// The chair of a seat. It gives one guest after another, or just one.
 #[derive(Drop)]
 pub struct Chair<R> {
     pub(crate) rt: R,
+    pub(crate) alloc: Global,
     /// Its place at the desk.
     pub(crate) at: usize,
     pub(crate) desk: Arc<Mutex<Desk>, Global>,
-    pub(crate) guests: Receiver<Connection, Global>,
+    pub(crate) guests: Receiver<Guest, Global>,
     pub(crate) alarm: Arc<Alarm, Global>,
-    /// Whether it gives a further connection where a session has ended.
+    /// Whether it gives a further guest where a session has ended.
     pub(crate) comes_back: bool,
-    /// Whether a connection was given.
+    /// Whether a guest was given.
     pub(crate) has_given: bool,
 }
 
-impl<R: Wait + Copy> Chair<R> {
-    /// The next connection; none where nobody more is seated here.
-    fn next_connection(&mut self) -> Option<Connection> {
+/// What a session over a guest reads from, writes to and waits by.
+struct Place<R> {
+    incoming: Incoming,
+    outgoing: Outgoing,
+    ears: Ears<R>,
+}
+
+impl<R: Clock + Wait + Copy> Chair<R> {
+    /// The next guest; none where nobody more is seated here.
+    fn next_guest(&mut self) -> Option<Guest> {
         if self.has_given {
             if !self.comes_back {
+                self.desk.lock(&self.rt).depart(&self.rt);
                 return None;
             }
-            let next = self.desk.lock(&self.rt).leave(self.at);
+            let next = self.desk.lock(&self.rt).leave(&self.rt, self.at);
             if next.is_some() {
                 return next;
             }
@@ -42,29 +56,95 @@ impl<R: Wait + Copy> Chair<R> {
         self.has_given = true;
         self.guests.recv(&self.rt).ok()
     }
-}
 
-impl<R: Clock + Wait + Copy> Accept<ReadSource<TcpStream>, WriteSink<TcpStream>, Ears<R>>
-    for Chair<R> {
-    fn accept(&mut self) -> Option<Ends<ReadSource<TcpStream>, WriteSink<TcpStream>, Ears<R>>> {
+    /// What the session over a guest is served over; none where their connection, the system or memory fails.
+    fn place_of(&self, guest: Guest) -> Option<Place<R>> {
+        match guest {
+            Guest::Frames(connection) => self.place_of_frames(connection),
+            Guest::Page(visitor) => {
+                let place = self.place_of_page(visitor);
+                if place.is_none() {
+                    self.alarm.let_go();
+                }
+                place
+            }
+        }
+    }
+
+    fn place_of_frames(&self, connection: Connection) -> Option<Place<R>> {
         let Connection {
             read,
             write,
             wait,
             held,
-        } = self.next_connection()?;
+        } = connection;
         let alarm = Arc::try_clone(&self.alarm).ok()?;
         if let Some(held) = held {
-            alarm.hold(&self.rt, held);
-            // Whoever closed the desk before has not seen this connection.
-            if self.desk.lock(&self.rt).is_closed() {
-                alarm.shut(&self.rt, Shutdown::Read);
+            self.hold(held);
+        }
+        Some(Place {
+            incoming: Incoming::Frames(read),
+            outgoing: Outgoing::Frames(write),
+            ears: Ears::of(self.rt, wait, alarm, None),
+        })
+    }
+
+    /// The handshake is answered here.
+    fn place_of_page(&self, visitor: SeatVisitor) -> Option<Place<R>> {
+        let SeatVisitor {
+            stream,
+            request,
+            behind,
+        } = visitor;
+        let wait = stream.try_clone().ok()?;
+        let held = stream.try_clone().ok()?;
+        let alarm = Arc::try_clone(&self.alarm).ok()?;
+        self.hold(held);
+        let (reader, writer) = open_socket(self.alloc, TcpHalf::of(stream), &request, behind).ok()?;
+        let reader = PageReader::new(self.alloc, reader).ok()?;
+        let theirs = reader.shared().ok()?;
+        Some(Place {
+            incoming: Incoming::Page(reader),
+            outgoing: Outgoing::Page(writer),
+            ears: Ears::of(self.rt, wait, alarm, Some(theirs)),
+        })
+    }
+
+    /// From now on this connection can be ended from outside. Whoever closed the desk before, or came as the same page again,
+    /// has not seen it.
+    fn hold(&self, held: TcpStream) {
+        self.alarm.hold(&self.rt, held);
+        let desk = self.desk.lock(&self.rt);
+        if desk.is_closed() {
+            self.alarm.shut(&self.rt, Shutdown::Read);
+        }
+        if desk.is_awaited(self.at) {
+            self.alarm.shut(&self.rt, Shutdown::Both);
+        }
+    }
+}
+
+impl<R: Clock + Wait + Copy> Accept<ReadSource<Incoming>, WriteSink<Outgoing>, Ears<R>>
+    for Chair<R> {
+    fn accept(&mut self) -> Option<Ends<ReadSource<Incoming>, WriteSink<Outgoing>, Ears<R>>> {
+        let rt = self.rt;
+        for _ in rt.forever() {
+            let guest = self.next_guest()?;
+            if let Some(
+                Place {
+                    incoming,
+                    outgoing,
+                    ears,
+                },
+            ) = self.place_of(guest)
+            {
+                return Some(Ends {
+                    source: ReadSource::new(incoming),
+                    sink: WriteSink::new(outgoing),
+                    ears,
+                });
             }
         }
-        Some(Ends {
-            source: ReadSource::new(read),
-            sink: WriteSink::new(write),
-            ears: Ears::of(self.rt, wait, alarm),
-        })
+        unreachable!()
     }
 }

@@ -1,21 +1,23 @@
 //! What the server prints.
 
 ghost use Rattle.std.specs.Prelude.{◌≡◌, ◌++◌, ◌+◌, length, OnOk, IfOk, decimal};
-ghost use Rattle.genedit_serve.specs.Closing.{kept_line, listening_line, end_word, session_line, session_lines, closed_line, closing_text};
+ghost use Rattle.genedit_serve.specs.Closing.{address_text, kept_line, link_line, listening_line, port_text, web_text, end_word, session_line, session_lines, closed_line, closing_text};
 
+use crate::address::{Address, WebAddress};
 use itoa::Buffer;
 use seat_server::{Finished, SessionEnd};
 use std::alloc::{AllocError, Global};
+use std::net::TcpListener;
+use web_requests::Token;
 
-/// That the server listens at a port.
-pub fn listening(alloc: Global, port: u16) -> Result<Vec<u8>, AllocError>
-    ensures { IfOk result (λ line. line.items ≡ listening_line port) }
+/// Where browsers and connections come: the link, and the port at which the listener is.
+pub fn address_text(alloc: Global, address: &Address, port: u16) -> Result<Vec<u8>, AllocError>
+    ensures { IfOk result (λ text. text.items ≡ address_text address.now port) }
 {
-    let mut line = Vec::new(alloc);
-    line.extend_from_slice(b"listening ")?;
-    push_number(&mut line, u64::from(port))?;
-    line.push(b'\n')?;
-    Ok(line)
+    let mut text = Vec::new(alloc);
+    push_web(&mut text, &address.web)?;
+    push_port(&mut text, &address.listener, port)?;
+    Ok(text)
 }
 
 /// That so many edits of a file were opened again, and so many bytes behind its last whole record cut off.
@@ -52,6 +54,48 @@ fn push_number(out: &mut Vec<u8>, number: u64) -> Result<(), AllocError>
     ensures { OnOk result (out.new.items ≡ out.old.items ++ decimal number) }
 {
     out.extend_from_slice(Buffer::new().format(number).as_bytes())
+}
+
+/// Where browsers come, if they do.
+fn push_web(out: &mut Vec<u8>, web: &Option<WebAddress>) -> Result<(), AllocError>
+    ensures { OnOk result (out.new.items ≡ out.old.items ++ web_text web.now) }
+{
+    match web {
+        None => Ok(()),
+        Some(web) => push_link(out, &web.url, &web.front.house.token),
+    }
+}
+
+/// The link by which a browser opens the board.
+fn push_link(out: &mut Vec<u8>, url: &[u8], token: &Token) -> Result<(), AllocError>
+    ensures { OnOk result (out.new.items ≡ out.old.items ++ link_line url.now token.now) }
+{
+    out.extend_from_slice(b"open ")?;
+    out.extend_from_slice(url)?;
+    out.extend_from_slice(b"/#")?;
+    out.extend_from_slice(token)?;
+    out.push(b'\n')?;
+    Ok(())
+}
+
+/// Where connections of frames come, if they do.
+fn push_port(out: &mut Vec<u8>, listener: &Option<TcpListener>, port: u16) -> Result<(), AllocError>
+    ensures { OnOk result (out.new.items ≡ out.old.items ++ port_text listener.now port) }
+{
+    match listener {
+        None => Ok(()),
+        Some(_) => push_listening(out, port),
+    }
+}
+
+/// That the server listens at a port.
+fn push_listening(out: &mut Vec<u8>, port: u16) -> Result<(), AllocError>
+    ensures { OnOk result (out.new.items ≡ out.old.items ++ listening_line port) }
+{
+    out.extend_from_slice(b"listening ")?;
+    push_number(out, u64::from(port))?;
+    out.push(b'\n')?;
+    Ok(())
 }
 
 /// The fault of the last session of a seat, if it ended by one.

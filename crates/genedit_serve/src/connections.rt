@@ -1,8 +1,7 @@
 //! Connections.
 
-use crate::address::address;
 use std::io::ErrorKind;
-use std::net::{Net, TcpListener, TcpStream};
+use std::net::{IpAddr, Ipv4Addr, Ipv6Addr, Net, SocketAddr, TcpListener, TcpStream};
 use std::thread;
 use std::time::{Clock, Duration};
 
@@ -58,15 +57,29 @@ pub(crate) fn accepted(listener: &TcpListener) -> Option<TcpStream> {
 /// How often it is knocked where the system gives no connection: for an hour.
 const KNOCKS: u32 = 36_000;
 
-/// Makes a connection of one's own to a port of this machine, which lets an `accept` there return. Where a
+/// Makes a connection of one's own to where a listener of this machine is, which lets an `accept` there return. Where a
 /// connection is refused, nobody listens any more, and so nobody waits. Where the system has no descriptor left, it
 /// has some again once sessions have ended.
-pub(crate) fn knock<R: Net + Clock>(rt: &R, port: u16) {
+pub(crate) fn knock<R: Net + Clock>(rt: &R, local: SocketAddr) {
+    let local = within_reach(local);
     for _knock in 0..KNOCKS {
-        match TcpStream::connect(rt, address(port)) {
+        match TcpStream::connect(rt, local) {
             Ok(_) => return,
             Err(error) if error.kind() == ErrorKind::ConnectionRefused => return,
             Err(_) => thread::sleep(rt, pause()),
         }
+    }
+}
+
+/// Where a listener is reached from this machine: one at every address of it, by the loopback.
+fn within_reach(local: SocketAddr) -> SocketAddr {
+    match local.ip() {
+        IpAddr::V4(ip) if ip.is_unspecified() => {
+            SocketAddr::new(IpAddr::V4(Ipv4Addr::LOCALHOST), local.port())
+        }
+        IpAddr::V6(ip) if ip.is_unspecified() => {
+            SocketAddr::new(IpAddr::V6(Ipv6Addr::LOCALHOST), local.port())
+        }
+        _ => local,
     }
 }

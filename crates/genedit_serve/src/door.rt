@@ -6,11 +6,12 @@ ghost use Rattle.seat_server.specs.Faults.{IsAttendFault};
 
 use crate::connections::{Connection, accepted, knock, pause};
 use crate::desk::Received;
+use crate::guest::Guest;
 use crate::house::{House, Manners};
 use crate::latecomers::Latecomers;
 use seat_server::{Progress, ServerFault};
 use std::alloc::Global;
-use std::net::{Net, TcpListener, TcpStream};
+use std::net::{Net, SocketAddr, TcpListener};
 use std::sync::atomic::{AtomicBool, Ordering};
 use std::sync::{Arc, Wait};
 use std::thread;
@@ -30,11 +31,12 @@ pub(crate) struct Entrance {
 #[derive(Drop)]
 pub(crate) struct Doorkeeper {
     is_over: Arc<AtomicBool, Global>,
+    local: SocketAddr,
     thread: JoinHandle<()>,
 }
 
 impl Doorkeeper {
-    /// Starts it. `Read` where the system refuses the thread.
+    /// Starts it. `Read` where the system refuses the thread, or does not tell where the listener is.
     pub(crate) fn start<R: Net + Threads + Wait + Clock + Copy + Drop + Send + Sync + 'static>(
         rt: R,
         alloc: Global,
@@ -42,6 +44,9 @@ impl Doorkeeper {
     ) -> Result<Doorkeeper, ServerFault>
         ensures { IfErr result IsAttendFault }
     {
+        let Ok(local) = entrance.listener.local_addr() else {
+            return Err(ServerFault::Read);
+        };
         let is_over = Arc::new(alloc, AtomicBool::new(false))?;
         let theirs = Arc::try_clone(&is_over)?;
         let latecomers = Latecomers::new(rt, alloc, &entrance.house.desk, &is_over)?;
@@ -52,15 +57,19 @@ impl Doorkeeper {
             { keep_door(rt, &entrance, latecomers, &theirs) },
         );
         match begun {
-            Ok(thread) => Ok(Doorkeeper { is_over, thread }),
+            Ok(thread) => Ok(Doorkeeper {
+                is_over,
+                local,
+                thread,
+            }),
             Err(_) => Err(ServerFault::Read),
         }
     }
 
     /// Ends it: a last connection lets it look up.
-    pub(crate) fn end<R: Threads + Net + Clock>(self, rt: &R, port: u16) {
+    pub(crate) fn end<R: Threads + Net + Clock>(self, rt: &R) {
         self.is_over.store(true, Ordering::SeqCst);
-        knock(rt, port);
+        knock(rt, self.local);
         self.thread.join(rt);
     }
 }
@@ -107,18 +116,23 @@ fn receive<R: Threads + Wait + Clock + Copy + Drop + Send + Sync + 'static>(
     latecomers: &mut Latecomers<R>,
     connection: Connection,
 ) {
-    if !entrance.manners.comes_back {
-        let seated = entrance.house.desk.lock(rt).seat(rt, connection);
-        if let Err(connection) = seated {
-            latecomers.turn_away(connection);
+    let guest = Guest::Frames(connection);
+    let received = if entrance.manners.comes_back {
+        entrance.house.desk.lock(rt).seat_or_wait(rt, guest)
+    } else {
+        match entrance.house.desk.lock(rt).seat(rt, guest) {
+            Ok(()) => Received::Seated,
+            Err(guest) => Received::Back(guest),
         }
-        return;
-    }
-    let received = entrance.house.desk.lock(rt).seat_or_wait(rt, connection);
+    };
     match received {
         Received::Seated => {}
         Received::Waits(number) => latecomers.see_to(number),
-        Received::Back(connection) => latecomers.turn_away(connection),
+        Received::Back(guest) => {
+            if let Some(connection) = guest.into_connection() {
+                latecomers.turn_away(connection);
+            }
+        }
     }
 }
 

@@ -1,6 +1,7 @@
 //! What a session over a connection waits by.
 
 use crate::alarm::Alarm;
+use crate::incoming::PageReader;
 use session_service::{Came, Listen};
 use socket_watch::Watch;
 use std::alloc::Global;
@@ -12,7 +13,7 @@ use std::time::{Clock, Duration, Instant};
 /// How long a look at the socket takes at most, in milliseconds.
 const LOOK: u64 = 2;
 
-/// What the session of a connection waits by: its socket, its seat's alarm, and the clock.
+/// What the session of a guest waits by: its socket, its seat's alarm, and the clock.
 pub struct Ears<R> {
     rt: R,
     socket: TcpStream,
@@ -21,11 +22,18 @@ pub struct Ears<R> {
     watch: Option<Watch>,
     /// When the time is over; none where the clock, or the socket, cannot be asked.
     end: Option<Instant>,
+    /// A page's messages: of what comes at its socket, bytes of a whole one count, and a ping does not.
+    page: Option<PageReader>,
 }
 
 impl<R> Ears<R> {
     /// Those of the next session over a seat whose alarm this is.
-    pub(crate) fn of(rt: R, socket: TcpStream, alarm: Arc<Alarm, Global>) -> Ears<R> {
+    pub(crate) fn of(
+        rt: R,
+        socket: TcpStream,
+        alarm: Arc<Alarm, Global>,
+        page: Option<PageReader>,
+    ) -> Ears<R> {
         let watch = alarm.take_watch();
         Ears {
             rt,
@@ -33,6 +41,15 @@ impl<R> Ears<R> {
             alarm,
             watch,
             end: None,
+            page,
+        }
+    }
+
+    /// Whether a page's message, or its end, is there to be read; none where frames come, of which each byte counts.
+    fn has_message(&self) -> Option<bool> {
+        match &self.page {
+            None => None,
+            Some(page) => Some(page.has_come()),
         }
     }
 }
@@ -47,6 +64,7 @@ impl<R: Drop> Drop for Ears<R> {
             alarm,
             watch,
             end: _,
+            page: _,
         } = self;
         if let Some(watch) = watch {
             let mut watch = watch;
@@ -75,20 +93,29 @@ impl<R: Clock> Listen for Ears<R> {
         }
     }
 
-    /// News are told also where there may be none: whoever asked looks, and waits again.
+    /// News are told also where there may be none: whoever asked looks, and waits again. A page's messages are asked for
+    /// first: what has come may stand in its reader, where the system does not see it.
     fn wait(&mut self) -> Came {
-        let Some(left) = time_until(&self.rt, self.end) else {
-            return Came::Nothing;
-        };
-        let has_byte = match &mut self.watch {
-            None => Ok(looked(&self.socket)),
-            Some(watch) => has_byte(watch, left),
-        };
-        match has_byte {
-            Ok(true) => Came::Byte,
-            Ok(false) => Came::News,
-            Err(_) => Came::Nothing,
+        for _look in 0..u64::MAX {
+            let message = self.has_message();
+            if message == Some(true) {
+                return Came::Byte;
+            }
+            let Some(left) = time_until(&self.rt, self.end) else {
+                return Came::Nothing;
+            };
+            let has_byte = match &mut self.watch {
+                None => Ok(looked(&self.socket)),
+                Some(watch) => has_byte(watch, left),
+            };
+            match has_byte {
+                Ok(true) if message.is_some() => {}
+                Ok(true) => return Came::Byte,
+                Ok(false) => return Came::News,
+                Err(_) => return Came::Nothing,
+            }
         }
+        Came::Nothing
     }
 
     fn end(&mut self) {

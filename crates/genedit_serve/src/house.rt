@@ -2,8 +2,8 @@
 
 use crate::alarm::Alarms;
 use crate::chair::Chair;
-use crate::connections::Connection;
-use crate::desk::Desk;
+use crate::desk::{Desk, DeskChairs};
+use crate::guest::Guest;
 use chairs::Plan;
 use crossbeam_channel::unbounded;
 use document_files::cause_of_file;
@@ -16,6 +16,7 @@ use std::fs::File;
 use std::net::{Net, Shutdown};
 use std::rt::Files;
 use std::sync::{Arc, Mutex, Wait};
+use std::time::Clock;
 
 /// Which connections a board takes.
 #[derive(Clone, Copy)]
@@ -36,7 +37,7 @@ pub(crate) struct House {
 
 impl House {
     /// That of so many seats at which nobody has sat, and their chairs, in order.
-    pub(crate) fn new<R: Net + Copy>(
+    pub(crate) fn new<R: Net + Clock + Copy>(
         rt: R,
         alloc: Global,
         count: usize,
@@ -45,18 +46,24 @@ impl House {
         let mut senders = Vec::new(alloc);
         let mut receivers = Vec::new(alloc);
         for _seat in 0..count {
-            let (sender, receiver) = unbounded::<Connection, _>(alloc)?;
+            let (sender, receiver) = unbounded::<Guest, _>(alloc)?;
             senders.push(sender)?;
             receivers.push(receiver)?;
         }
-        let desk = Desk::new(alloc, Plan::new(alloc, count)?, senders);
-        let alarms = Alarms::new(&rt, alloc, count)?;
-        let house = House::of(alloc, desk, alarms)?;
+        let alarms = shared(alloc, Alarms::new(&rt, alloc, count)?)?;
+        let given = DeskChairs {
+            plan: Plan::new(alloc, count)?,
+            guests: senders,
+            alarms: Arc::try_clone(&alarms)?,
+        };
+        let desk = shared(alloc, Mutex::new(Desk::new(&rt, alloc, given)?))?;
+        let house = House { desk, alarms };
         let mut chairs = Vec::new(alloc);
         let theirs = house.alarms.shared(alloc)?;
         for (at, (guests, alarm)) in receivers.into_iter().zip(theirs).enumerate() {
             chairs.push(Chair {
                 rt,
+                alloc,
                 at,
                 desk: Arc::try_clone(&house.desk)?,
                 guests,
@@ -66,14 +73,6 @@ impl House {
             })?;
         }
         Ok((house, chairs))
-    }
-
-    fn of(alloc: Global, desk: Desk, alarms: Alarms) -> Result<House, AllocError> {
-        let (Ok(desk), Ok(alarms)) = (Arc::new(alloc, Mutex::new(desk)), Arc::new(alloc, alarms))
-        else {
-            return Err(AllocError);
-        };
-        Ok(House { desk, alarms })
     }
 
     /// The same house.
@@ -89,6 +88,14 @@ impl House {
         self.desk.lock(rt).close();
         self.alarms.shut(rt, Shutdown::Read);
         self.alarms.ring();
+    }
+}
+
+/// A value that is shared.
+fn shared<T: Drop>(alloc: Global, value: T) -> Result<Arc<T, Global>, AllocError> {
+    match Arc::new(alloc, value) {
+        Ok(value) => Ok(value),
+        Err(_) => Err(AllocError),
     }
 }
 

@@ -14,12 +14,15 @@ ghost use Rattle.genedit_serve.specs.Faults.{run_fault_of_kept};
 ghost use Rattle.genedit_serve.specs.Keeping.{AreInOrder, AreKeptSeats, IsKeptFile, IsUnopened, IsUntold, ServesKept, ServesKeptAt, TellsKept};
 ghost use Rattle.genedit_serve.specs.Serving.{Fails, Pushes};
 
-use crate::closing::{closing, kept_line, listening};
+use crate::address::Address;
+use crate::bound::Bound;
+use crate::closing::{closing, kept_line};
 use crate::document::KeptFile;
+use crate::doorway::Doorway;
 use crate::fault::{kept_fault, server_fault, start_fault};
 use crate::refusal::load_refusal;
-use crate::seated::{Address, Doorway, Reception, Seated, seated};
-use crate::server::{Bound, INBOX};
+use crate::seated::{Reception, Seated, seated};
+use crate::server::INBOX;
 use board_keeper::{
     KeepFault, Keeper, KeptBodies, KeptSeats, LoadedBoard, OpenFault, OpenLog, load_board, opened,
 };
@@ -27,12 +30,11 @@ use devices::Sink;
 use document_files::{FileRefusal, save_lost, write_refusal};
 use genedit_io::{RunFault, push_output};
 use generations_rule::Rule;
-use kept_devices::Keep;
 use kept_file::FileKeep;
 use kept_log::{Found, Log};
 use kept_server::{KeptAttendance, KeptFault, serve_kept};
 use keyed_hash::HashKey;
-use relay_board::{BoardSize, Naming, Opened, Seat, start_within};
+use relay_board::{BoardSize, Naming, Opened, Relay, Seat, start_within};
 use seat_server::{Finished, ServerFault};
 use square_store::Limits;
 use std::alloc::Global;
@@ -56,7 +58,7 @@ pub struct KeptBoard<'a, F: Files<File = File>> {
     pub file: KeptFile<'a, F>,
 }
 
-/// What is served, and where: the board's file, and the listener.
+/// What is served, and where: the board's file, and the address.
 #[derive(Drop)]
 struct Place<'a, F: Files<File = File>> {
     file: KeptFile<'a, F>,
@@ -65,8 +67,8 @@ struct Place<'a, F: Files<File = File>> {
 
 /// Serves the board of a file, as `serve_on` does, but that seats come back: where each has had a connection, the next
 /// one gets the seat that was left longest ago, once there is one within a second, and so it ends only where it is asked
-/// to. Before `listening PORT` stands the line of the file,
-/// `kept N lost B`: so many edits were opened again, and so many bytes behind the last whole record were cut off,
+/// to, or where nobody sits at a seat for as long as the address says. Before what tells where it listens stands the line
+/// of the file, `kept N lost B`: so many edits were opened again, and so many bytes behind the last whole record were cut off,
 /// which stand in the file beside it whose name ends with `.lost`. Each edit that a client is told as published
 /// is on the disk before; `closed L` counts those that were opened again, too.
 ///
@@ -97,7 +99,7 @@ pub fn serve_kept_on<
     requires sessions { (1 ≤ board.sessions) × (board.sessions ≤ 64) }
     requires first { (1 ≤ board.first) × (board.first ≤ 65472) }
     requires file { IsKeptFile board.file.rule board.file.found.parts.head board.file.found.parts.bodies.items board.file.found.bytes.items board.file.found.parts.whole }
-    ensures { ServesKept board.entry.file.rule board.entry.first board.entry.sessions (K.known sink.old) (K.known sink.new) result }
+    ensures { ServesKept board.entry.file.rule board.entry.first board.entry.sessions address (K.known sink.old) (K.known sink.new) result }
 {
     let KeptBoard {
         sessions,
@@ -105,8 +107,9 @@ pub fn serve_kept_on<
         key,
         file,
     } = board;
-    let Ok(local) = address.listener.local_addr() else {
-        return Err(FileRefusal::from(RunFault::Read));
+    let bound = match Bound::of(alloc, address) {
+        Ok(bound) => bound,
+        Err(fault) => return Err(FileRefusal::from(fault)),
     };
     let size = BoardSize {
         sessions,
@@ -117,10 +120,6 @@ pub fn serve_kept_on<
     };
     match start_within(*rt, alloc, file.rule, size) {
         Ok(opened) => {
-            let bound = Bound {
-                address,
-                port: local.port(),
-            };
             let place = Place { file, bound };
             serve::<Brand, R, K>(rt, alloc, opened, place, sink)
         }
@@ -157,7 +156,7 @@ fn serve<
     requires some { 0 < opened.count }
     requires rule { place.file.rule ≡ opened.rule }
     requires file { IsKeptFile place.file.rule place.file.found.parts.head place.file.found.parts.bodies.items place.file.found.bytes.items place.file.found.parts.whole }
-    ensures { ServesKeptAt opened.rule opened.first (opened.count - 1) place.entry.bound.port (K.known sink.old) (K.known sink.new) result }
+    ensures { ServesKeptAt opened.rule opened.first (opened.count - 1) place.entry.bound.told.items (K.known sink.old) (K.known sink.new) result }
 {
     let Place { file, bound } = place;
     let first = opened.first;
@@ -171,13 +170,13 @@ fn serve<
         edits,
         lost,
     } = prepared;
-    let Bound { address, port } = bound;
+    let Bound { address, told } = bound;
     let KeptSeats { seats, file } = seats;
-    let (attendance, doorway) = match begun(*rt, alloc, &keeper, seats, address) {
+    let (attendance, doorway) = match begun(*rt, alloc, keeper.relay(), seats, address) {
         Ok(seated) => seated,
         Err(fault) => return Err(FileRefusal::from(server_fault(fault))),
     };
-    match told(alloc, (edits, lost), port, sink) {
+    match tell(alloc, (edits, lost), told, sink) {
         Ok(()) => {}
         Err(fault) => {
             attendance.dismiss(rt, &doorway.rousing(rt));
@@ -194,7 +193,7 @@ fn serve<
     }
 }
 
-/// Has the seats of a keeper wait at their chairs, to which whoever comes again comes back.
+/// Has the seats of a relay wait at their chairs, to which whoever comes again comes back.
 fn begun<
     J: Naming + Send + 'static,
     R: Net<Listener = TcpListener, Stream = TcpStream>
@@ -206,18 +205,17 @@ fn begun<
         + Send
         + Sync
         + 'static,
-    D: Keep,
 >(
     rt: R,
     alloc: Global,
-    keeper: &Keeper<J, R, D>,
+    relay: &Relay<J, R>,
     seats: Vec<Seat<J>>,
     address: Address,
 ) -> Result<Seated<J>, ServerFault>
     ensures seats { IfOk result (λ s. s.0 ≡ seats.items) }
     ensures fault { IfErr result IsAttendFault }
 {
-    let bell = keeper.bell()?;
+    let bell = relay.bell()?;
     let reception = Reception {
         address,
         comes_back: true,
@@ -297,20 +295,19 @@ fn closed<K: Sink>(
     push_output(sink, &text)
 }
 
-/// Tells what was opened, and at which port the server listens.
-fn told<K: Sink>(
+/// Tells what was opened, and where the server listens.
+fn tell<K: Sink>(
     alloc: Global,
     opened: (usize, usize),
-    port: u16,
+    lines: Vec<u8>,
     sink: &mut K,
 ) -> Result<(), RunFault>
-    ensures told { IfOk result (λ _. TellsKept opened.0 opened.1 port (K.known sink.old) (K.known sink.new)) }
+    ensures told { IfOk result (λ _. TellsKept opened.0 opened.1 lines.items (K.known sink.old) (K.known sink.new)) }
     ensures untold { IfErr result (IsUntold opened.0 opened.1 (K.known sink.old) (K.known sink.new)) }
 {
     let line = kept_line(alloc, opened.0, opened.1)?;
     push_output(sink, &line)?;
-    let line = listening(alloc, port)?;
-    push_output(sink, &line)
+    push_output(sink, &lines)
 }
 
 /// Opens the file of a board: what stands behind its last record is saved beside it, and cut off.
@@ -344,7 +341,7 @@ fn end_refusal<F: Files<File = File>>(fault: KeptFault, log: &Log<FileKeep<'_, F
     }
 }
 
-/// Serves the seats of a keeper to the connections of a listener, and turns away whoever comes after the last; at
+/// Serves the seats of a keeper to those who come, and turns away whoever finds none; at
 /// the end how the sessions ended, and the account.
 fn seats_served<
     'a,
@@ -371,9 +368,11 @@ fn seats_served<
     ensures served { IfOk result (λ f. IsServedBeside keeper.entry.relay.origin seats.attendance seats.file f) }
     ensures refused { IfErr result (λ refusal. IsUnopened refusal.fault) }
 {
+    let mut doorway = doorway;
+    let opened = doorway.open(*rt, alloc);
     let rousing = doorway.rousing(rt);
-    let doorkeeper = match doorway.open(*rt, alloc) {
-        Ok(doorkeeper) => doorkeeper,
+    let doors = match opened {
+        Ok(doors) => doors,
         Err(fault) => {
             let KeptAttendance {
                 attendance,
@@ -384,7 +383,7 @@ fn seats_served<
         }
     };
     let served = serve_kept(rt, alloc, keeper, seats, &rousing);
-    doorway.close(rt, doorkeeper);
+    doorway.close(rt, doors);
     match served {
         Ok((finished, _log)) => Ok(finished),
         Err((fault, log)) => Err(end_refusal(fault, &log)),

@@ -7,6 +7,7 @@ ghost use Rattle.message_frames.specs.Frames.{frame_text};
 use crate::anteroom::Anteroom;
 use crate::connections::Connection;
 use crate::desk::Desk;
+use crate::guest::Guest;
 use std::alloc::{AllocError, Global};
 use std::io::{Read, Write};
 use std::net::{Shutdown, TcpStream};
@@ -20,7 +21,7 @@ use std::time::{Clock, Duration, Instant};
 const PIECES: u64 = 4200;
 
 /// How long somebody waits for a seat: a second.
-fn patience() -> Duration {
+pub(crate) fn patience() -> Duration {
     Duration::from_millis(1000)
 }
 
@@ -93,7 +94,7 @@ impl<R: Threads + Wait + Clock + Copy + Drop + Send + Sync + 'static> Latecomers
     pub(crate) fn see_to(&mut self, number: u64) {
         if !self.try_see_to(number) {
             let left = self.desk.lock(&self.rt).take_back(number);
-            if let Some(connection) = left {
+            if let Some(connection) = left.and_then(Guest::into_connection) {
                 answer(connection.read);
             }
         }
@@ -118,8 +119,8 @@ impl<R: Threads + Wait + Clock + Copy + Drop + Send + Sync + 'static> Latecomers
                 requires { IsSend R.row × IsSync R.row }
             {
                 thread::sleep(&rt, patience());
-                let left = desk.lock(&rt).take_back(number);
-                if let Some(connection) = left {
+                let left = desk.lock(&rt).seat_at_last(&rt, number);
+                if let Some(connection) = left.and_then(Guest::into_connection) {
                     turn_away(&rt, connection.read, &over);
                 }
                 anteroom.leave(&rt);

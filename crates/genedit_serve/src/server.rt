@@ -9,12 +9,14 @@ ghost use Rattle.relay_board.specs.Seating.{Numbered};
 ghost use Rattle.seat_server.specs.Faults.{IsAttendFault, IsReason};
 ghost use Rattle.seat_server.specs.Serving.{GoesOnFrom, IsServed};
 ghost use Rattle.square_store.specs.Limits.{usual_room};
-ghost use Rattle.genedit_serve.specs.Serving.{Fails, Listens, Serves, ServesAt};
+ghost use Rattle.genedit_serve.specs.Serving.{Fails, Pushes, Serves, ServesAt};
 
-use crate::address::address;
-use crate::closing::{closing, listening};
+use crate::address::{Address, loopback};
+use crate::bound::Bound;
+use crate::closing::closing;
+use crate::doorway::Doorway;
 use crate::fault::{server_fault, start_fault};
-use crate::seated::{Address, Doorway, Reception, Seated, seated};
+use crate::seated::{Reception, Seated, seated};
 use devices::Sink;
 use genedit_io::{Cause, RunFault, cause_of, push_output};
 use generations_rule::Rule;
@@ -31,13 +33,6 @@ use std::time::Clock;
 
 /// How many submissions the inbox of a served board has room for. A session has one at a time.
 pub const INBOX: u16 = 64;
-
-/// Where a server listens, and the port of that.
-#[derive(Drop)]
-pub(crate) struct Bound {
-    pub(crate) address: Address,
-    pub(crate) port: u16,
-}
 
 /// The board that is served.
 #[derive(Clone, Copy)]
@@ -58,7 +53,20 @@ pub fn listen<R: Net<Listener = TcpListener, Stream = TcpStream>>(
     rt: &R,
     port: u16,
 ) -> Result<TcpListener, Cause> {
-    match TcpListener::bind(rt, address(port)) {
+    match TcpListener::bind(rt, loopback(port)) {
+        Ok(listener) => Ok(listener),
+        Err(error) => Err(cause_of(error.kind())),
+    }
+}
+
+/// Listens for browsers at a port of an address of this machine, or of a name for one; at any free one for 0; or why that
+/// cannot be had.
+pub fn listen_web<R: Net<Listener = TcpListener, Stream = TcpStream>>(
+    rt: &R,
+    address: &str,
+    port: u16,
+) -> Result<TcpListener, Cause> {
+    match TcpListener::bind(rt, (address, port)) {
         Ok(listener) => Ok(listener),
         Err(error) => Err(cause_of(error.kind())),
     }
@@ -67,13 +75,17 @@ pub fn listen<R: Net<Listener = TcpListener, Stream = TcpStream>>(
 /// Serves a board to the first connections, as many as it has seats, each on a thread of its own: seat 1 to
 /// the first that is accepted, and so on. Whoever comes after the last one is answered that there is no seat,
 /// as long as a session lasts. The line `listening PORT` is pushed once there is a board and a thread for each
-/// seat; once all sessions have ended, a line for each, `session I edits K`, with the number of its fault behind it
-/// where it ended by one, and the line `closed L`, L being the length of the published list.
+/// seat, in one push with `open URL/#TOKEN` before it where browsers come; once all sessions have ended, a line for each,
+/// `session I edits K`, with the number of its fault behind it where it ended by one, and the line `closed L`, L being
+/// the length of the published list.
 ///
-/// Where it is asked to end, nobody more is seated, and each session ends behind what it is being answered.
+/// Where browsers come, a page's socket is a session as a connection is, and seats come back as those of a kept board do.
 ///
-/// `Read` where a connection was not accepted or a thread was not started; `StoreFull` or `Memory` where
-/// 1,000 turns of the relay in a row failed so; both once the sessions that had begun have ended. What
+/// Where it is asked to end, or nobody has sat at a seat for as long as the address says, nobody more is seated, and each
+/// session ends behind what it is being answered.
+///
+/// `Read` where nobody can come in, a connection was not accepted or a thread was not started; `StoreFull` or `Memory`
+/// where 1,000 turns of the relay in a row failed so; both once the sessions that had begun have ended. What
 /// `start` and `finish` refuse is told as they do.
 pub fn serve_on<
     R: Net<Listener = TcpListener, Stream = TcpStream>
@@ -89,10 +101,11 @@ pub fn serve_on<
 >(rt: R, alloc: Global, address: Address, board: ServedBoard, sink: &mut K) -> Result<(), RunFault>
     requires sessions { (1 ≤ board.sessions) × (board.sessions ≤ 64) }
     requires first { (1 ≤ board.first) × (board.first ≤ 65472) }
-    ensures { Serves board.rule board.first board.sessions (K.known sink.old) (K.known sink.new) result }
+    ensures { Serves board.rule board.first board.sessions address (K.known sink.old) (K.known sink.new) result }
 {
-    let Ok(local) = address.listener.local_addr() else {
-        return Err(RunFault::Read);
+    let bound = match Bound::of(alloc, address) {
+        Ok(bound) => bound,
+        Err(fault) => return Err(fault),
     };
     let size = BoardSize {
         sessions: board.sessions,
@@ -102,13 +115,7 @@ pub fn serve_on<
         limits: Limits::of_key(board.key),
     };
     match start_within(rt, alloc, board.rule, size) {
-        Ok(opened) => {
-            let bound = Bound {
-                address,
-                port: local.port(),
-            };
-            serve::<Brand, R, K>(rt, alloc, opened, bound, sink)
-        }
+        Ok(opened) => serve::<Brand, R, K>(rt, alloc, opened, bound, sink),
         Err(fault) => Err(start_fault(fault)),
     }
 }
@@ -131,19 +138,19 @@ fn serve<
     requires inbox { (arc_value opened.drain.queue).table.shared.table_id ≡ J.inbox }
     requires room { ruled_capacity (arc_value opened.drain.queue) ≡ 64 }
     requires squares { opened.tried.store.room ≡ usual_room }
-    ensures { ServesAt opened.rule opened.first opened.count bound.port (K.known sink.old) (K.known sink.new) result }
+    ensures { ServesAt opened.rule opened.first opened.count bound.told.items (K.known sink.old) (K.known sink.new) result }
 {
     let first = opened.first;
     let (relay, seats) = match opened.named::<J>() {
         Ok(named) => named,
         Err(fault) => return Err(start_fault(fault)),
     };
-    let Bound { address, port } = bound;
+    let Bound { address, told } = bound;
     let (attendance, doorway) = match begun(rt, alloc, &relay, seats, address) {
         Ok(seated) => seated,
         Err(fault) => return Err(server_fault(fault)),
     };
-    match told(alloc, port, sink) {
+    match tell(told, sink) {
         Ok(()) => {}
         Err(fault) => {
             attendance.dismiss(&rt, &doorway.rousing(&rt));
@@ -182,25 +189,24 @@ fn begun<
     ensures fault { IfErr result IsAttendFault }
 {
     let bell = relay.bell()?;
+    let comes_back = address.web.is_some();
     let reception = Reception {
         address,
-        comes_back: false,
+        comes_back,
     };
     seated(rt, alloc, bell, seats, reception)
 }
 
-/// Tells the port at which the server listens.
-fn told<K: Sink>(alloc: Global, port: u16, sink: &mut K) -> Result<(), RunFault>
-    ensures told { IfOk result (λ _. Listens port (K.known sink.old) (K.known sink.new)) }
-    ensures untold { IfErr result (λ fault. ((fault ≡ RunFault.Memory) × (K.known sink.new ≡ K.known sink.old)) ⊎ ((fault ≡ RunFault.Write) × Fails (K.known sink.old) (K.known sink.new))) }
+/// Tells where the server listens.
+fn tell<K: Sink>(lines: Vec<u8>, sink: &mut K) -> Result<(), RunFault>
+    ensures told { IfOk result (λ _. Pushes (K.known sink.old) (K.known sink.new) lines.items) }
+    ensures untold { IfErr result (λ fault. (fault ≡ RunFault.Write) × Fails (K.known sink.old) (K.known sink.new)) }
 {
-    let line = listening(alloc, port)?;
-    push_output(sink, &line)
+    push_output(sink, &lines)
 }
 
-/// Serves the seats of a relay to the connections of a listener, and turns away whoever comes after the last;
-/// at the end how the sessions ended, and the account. `Read` also where the thread at the door could not be
-/// started.
+/// Serves the seats of a relay to those who come, and turns away whoever finds none; at the end how the sessions ended,
+/// and the account. `Read` also where the thread at a door could not be started.
 fn seats_served<
     J: Naming + Send + 'static,
     R: Net<Listener = TcpListener, Stream = TcpStream>
@@ -226,15 +232,17 @@ fn seats_served<
     ensures goes_on { IfOk result (λ f. GoesOnFrom 1000 relay (list_of f.account.front)) }
     ensures reason { IfErr result (IsReason 1000 relay attendance) }
 {
+    let mut doorway = doorway;
+    let opened = doorway.open(rt, alloc);
     let rousing = doorway.rousing(&rt);
-    let keeper = match doorway.open(rt, alloc) {
-        Ok(keeper) => keeper,
+    let doors = match opened {
+        Ok(doors) => doors,
         Err(fault) => {
             attendance.dismiss(&rt, &rousing);
             return Err(fault);
         }
     };
     let finished = serve_seats(&rt, alloc, relay, attendance, &rousing);
-    doorway.close(&rt, keeper);
+    doorway.close(&rt, doors);
     finished
 }

@@ -19,7 +19,8 @@ use Rattle.clap.specs.declared.builder.value_parser.Reading.{Reading}
 use Rattle.clap.specs.declared.builder.value_parser.Reading.TheVariants as reading
 use Rattle.clap.specs.declared.builder.value_parser.ValueParser.TheVariants as vp
 use Rattle.genedit_words.specs.Given.{Has, HasClient, HasConversion, HasDiff, HasDraw, HasExport, HasFeed, HasFlag, HasFollow, HasLog, HasMerge, HasNew, HasNumber, HasNumbering, HasRule, HasServer, HasText, HasTexts, HasView, IsNamed, MayHaveNumber}
-use Rattle.genedit_words.specs.Words.{board_rule, check_shape, convert_shape, diff_shape, draw_shape, edits_option, every_option, export_shape, feed_shape, file_argument, first_option, flag, follow_shape, from_option, gen_option, generation_place, genedit_app, join_shape, log_shape, merge_shape, new_document_shape, number_shape, optional, others_argument, place_argument, port_option, renumber_option, replica_option, rle_shape, rule_option, run_shape, serve_shape, sessions_option, view_shape}
+use Rattle.genedit_words.specs.Needs.{no_needs}
+use Rattle.genedit_words.specs.Words.{board_port, board_rule, board_web, check_shape, convert_shape, diff_shape, draw_shape, edits_option, every_option, export_shape, feed_shape, file_argument, first_option, flag, follow_shape, from_option, gen_option, generation_place, genedit_app, idle_option, join_shape, log_shape, merge_shape, new_document_shape, number_shape, optional, others_argument, place_argument, port_option, renumber_option, replica_option, rle_shape, rule_option, run_shape, serve_shape, sessions_option, view_shape}
 use Rattle.genedit_words.proofs.Stops.{both_pass, stops_at_help, walk_passes}
 use Rattle.genedit_words.proofs.RowFacts.{IsWellUsed, all_ok, both_true, rows_well}
 use Rattle.genedit_words.proofs.RuleFacts.{AreOrderly, HasValue, IsOrderly, append_orderly, defaults_orderly, drops_minus, first_passes, fits, flag_orderly, found_value, given_value, is_flag_text, keeps_all, no_default, ok, option_orderly, uses_found}
@@ -69,6 +70,18 @@ own_rule_orderly place = option_orderly (given place (optional (codes "rule"))) 
 
 board_rule_orderly : (place : ℕ) → IsOrderly (given place (board_rule false))
 board_rule_orderly place = option_orderly (given place (board_rule false)) refl refl (λ rows h. cc) (λ v vs passes. refl)
+
+board_port_orderly : (place : ℕ) → IsOrderly (given place (board_port false))
+board_port_orderly place = option_orderly (given place (board_port false)) refl refl (λ rows h. cc) (λ v vs passes. first_passes false (vp.Signed (pos 0) (pos 65535)) v vs passes)
+
+board_web_orderly : (place : ℕ) → IsOrderly (given place (board_web false))
+board_web_orderly place = option_orderly (given place (board_web false)) refl refl (λ rows h. cc) (λ v vs passes. refl)
+
+url_orderly : (place : ℕ) → IsOrderly (given place (optional (codes "url")))
+url_orderly place = option_orderly (given place (optional (codes "url"))) refl refl (λ rows h. cc) (λ v vs passes. refl)
+
+idle_orderly : (place : ℕ) → IsOrderly (given place idle_option)
+idle_orderly place = option_orderly (given place idle_option) refl refl (λ rows h. cc) (λ v vs passes. first_passes false (vp.Signed (pos 1) (pos 1440)) v vs passes)
 
 at_orderly : (place : ℕ) → IsOrderly (given place (optional (codes "at")))
 at_orderly place = option_orderly (given place (optional (codes "at"))) refl refl (λ rows h. cc) (λ v vs passes. refl)
@@ -154,8 +167,8 @@ view_rules = (file_orderly 1, (own_rule_orderly 2, (at_orderly 2, (size_orderly 
 convert_rules : AreOrderly (leaf convert_shape).rules
 convert_rules = (in_orderly 1, (out_orderly 2, (own_rule_orderly 3, (gen_orderly 3, (replace_orderly 3, (help_orderly, tt))))))
 
-serve_rules : AreOrderly (leaf (serve_shape false)).rules
-serve_rules = (board_rule_orderly 1, (port_orderly 1, (sessions_orderly 1, (first_orderly 1, (keep_orderly 1, (until_close_orderly 1, (help_orderly, tt)))))))
+serve_rules : AreOrderly (leaf (serve_shape no_needs)).rules
+serve_rules = (board_rule_orderly 1, (board_port_orderly 1, (board_web_orderly 1, (url_orderly 1, (sessions_orderly 1, (first_orderly 1, (keep_orderly 1, (until_close_orderly 1, (idle_orderly 1, (help_orderly, tt))))))))))
 
 join_rules : AreOrderly (leaf join_shape).rules
 join_rules = (port_orderly 1, (every_orderly 1, (follow_orderly 1, (changes_orderly 1, (quiet_orderly 1, (no_rescue_orderly 1, (help_orderly, tt)))))))
@@ -378,15 +391,16 @@ convert_has words passes =
       replace = has_flag (codes "replace") rows read.fine (λ how v fit. fit);
     }
 
-serve_has : (words : List Text) → level_fault (leaf (serve_shape false)) [] nothing_held words false [] ≡ [] → HasServer (rows_after (leaf (serve_shape false)).rules [] words)
+serve_has : (words : List Text) → level_fault (leaf (serve_shape no_needs)) [] nothing_held words false [] ≡ [] → HasServer (rows_after (leaf (serve_shape no_needs)).rules [] words)
 serve_has words passes =
-    let rows = rows_after (leaf (serve_shape false)).rules [] words in
-    let read = leaf_fine (leaf (serve_shape false)) words serve_rules refl passes in
+    let rows = rows_after (leaf (serve_shape no_needs)).rules [] words in
+    let read = leaf_fine (leaf (serve_shape no_needs)) words serve_rules refl passes in
     record {
-      port = number_at 0 65535 (codes "port") rows read.fine (given_by (codes "port") (leaf (serve_shape false)).rules rows read.given refl) (λ how v fit. fit);
-      sessions = number_at 1 64 (codes "sessions") rows read.fine (given_by (codes "sessions") (leaf (serve_shape false)).rules rows read.given refl) (λ how v fit. fit);
+      port = may_have_number 0 65535 (codes "port") rows read.fine (λ how v fit. fit);
+      sessions = number_at 1 64 (codes "sessions") rows read.fine (given_by (codes "sessions") (leaf (serve_shape no_needs)).rules rows read.given refl) (λ how v fit. fit);
       first = may_have_number 1 65472 (codes "first") rows read.fine (λ how v fit. fit);
       until_close = has_flag (codes "until-close") rows read.fine (λ how v fit. fit);
+      until_idle = may_have_number 1 1440 (codes "until-idle") rows read.fine (λ how v fit. fit);
     }
 
 join_has : (words : List Text) → level_fault (leaf join_shape) [] nothing_held words false [] ≡ [] → HasClient (rows_after (leaf join_shape).rules [] words)

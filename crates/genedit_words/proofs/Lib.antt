@@ -6,3 +6,4 @@ mod CommandLaws
 mod ParseLaws
 mod NumberLaws
 mod TextLaws
+mod WebLaws

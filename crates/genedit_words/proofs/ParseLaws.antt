@@ -1,6 +1,6 @@
 -- What a parse of the words gives, and what the words ask for by it.
-use Rattle.std.proofs.Common.{◌≡◌, ◌∙◌, ◌&&◌, ◌⊎◌, Bool, not, codes, true, false, refl, sym, ap, subst, List, [], Option, Some, None}
-use Rattle.std.specs.Prelude.{IsSomeAnd, option_and_then, option_map, Result, Box}
+use Rattle.std.proofs.Common.{◌≡◌, ◌∙◌, ◌⊎◌, Bool, codes, true, false, refl, sym, ap, subst, List, [], Option, Some, None}
+use Rattle.std.specs.Prelude.{IsSomeAnd, if◌then◌else◌, option_and_then, option_map, Result, Ok, Err, Box}
 use Rattle.std.specs.Box.{box_value}
 use Rattle.std.specs.Str.{bytes_eq}
 use Rattle.std.proofs.lemmas.Slice.Eq.{bytes_eq-Decides}
@@ -18,8 +18,13 @@ use Rattle.clap.specs.declared.parser.matches.ArgMatches.TheViews.{out-ArgMatche
 use Rattle.clap.specs.declared.parser.matches.SubCommand.{SubCommand}
 use Rattle.genedit_words.specs.Given.{Has, HasFor, IsNamed}
 use Rattle.genedit_words.specs.declared.ending.Ending.TheVariants as ending
+use Rattle.genedit_words.specs.declared.needs.Needs.{Needs}
 use Rattle.genedit_words.specs.Misspelt.{Misspelt}
-use Rattle.genedit_words.specs.Words.{Asks, EndsWords, LacksRule, asked_by, genedit_app, has_board, lacks_rule, task_of}
+use Rattle.genedit_words.specs.Needs.{needs_some, no_needs}
+use Rattle.genedit_words.specs.Words.{Asks, EndsWords, IsAsked, Lacks, asked_by, genedit_app, needs_of, server_needs, task_of, tells}
+use Rattle.genedit_words.specs.declared.task.Task.{Task}
+use Rattle.genedit_words.specs.declared.words.NoTask.{NoTask}
+use Rattle.genedit_words.specs.declared.words.NoTask.TheVariants as no_task
 use Rattle.genedit_words.specs.Subcommands.{subcommand_named}
 use Rattle.genedit_words.specs.declared.subcommand.Subcommand.{Subcommand}
 use Rattle.genedit_words.specs.Told.{Told}
@@ -52,8 +57,8 @@ is_named words m parse = subst IsNamed (sym parse.entered) (words_named words pa
 pub asks : (words : List Text) (m : ArgMatches) (task : Result Told Misspelt) → IsParse words m → option_and_then task_of (subcommand_rows_of m) ≡ Some task → Asks words task
 asks words m task parse asked = (parse.passes, ap (option_and_then task_of) (sym parse.entered) ∙ asked)
 
-pub lacks : (words : List Text) (m : ArgMatches) → IsParse words m → option_map lacks_rule (subcommand_rows_of m) ≡ Some true → LacksRule words
-lacks words m parse holds = (parse.passes, ap (option_map lacks_rule) (sym parse.entered) ∙ holds)
+pub lacks : (words : List Text) (m : ArgMatches) (needs : Needs) → IsParse words m → option_map needs_of (subcommand_rows_of m) ≡ Some needs → needs_some needs ≡ true → Lacks words needs
+lacks words m needs parse holds some = (parse.passes, ap (option_map needs_of) (sym parse.entered) ∙ holds, some)
 
 -- words that are a fault end with an error of its kind, or another of the same
 pub ends_words : (app : App) (words : List Text) (error told : Error) → app ≡ genedit_app
@@ -96,24 +101,33 @@ asked_for entered name rows s met is = ap (option_and_then task_of) met ∙ ap (
 pub none_entered : (m : ArgMatches) → IsNamed (subcommand_rows_of m) → subcommand_name_of m ≡ None → ⊥
 none_entered m named none = let both : Some named.name ≡ None = sym (entered_name m ∙ ap (option_map (λ (p : Text × List Row). p.0)) named.met) ∙ none in absurd (cc)
 
--- ---- whether a server has a rule or a file
+-- what is told by a task is asked for
+pub is_asked : (asked : Option (Result Told Misspelt)) (r : Result Task NoTask) → asked ≡ tells r → IsAsked asked r
+is_asked asked (Ok task) h = h
+is_asked asked (Err (no_task.Rule rule)) h = h
+is_asked asked (Err (no_task.Web web)) h = h
+is_asked asked (Err no_task.Memory) h = tt
+
+-- ---- what a server lacks
 
 -- it is told where a server is entered
-pub lacks_by : (entered : Option (Text × List Row)) (rows : List Row) → entered ≡ Some (codes "serve", rows) → option_map lacks_rule entered ≡ Some (not (has_board rows))
-lacks_by entered rows met = ap (option_map lacks_rule) met
+pub needs_by : (entered : Option (Text × List Row)) (rows : List Row) → entered ≡ Some (codes "serve", rows) → option_map needs_of entered ≡ Some (server_needs rows)
+needs_by entered rows met = ap (option_map needs_of) met
 
-pub has_board_by : (entered : Option (Text × List Row)) (rows : List Row) → entered ≡ Some (codes "serve", rows) → option_map lacks_rule entered ≡ Some false → has_board rows ≡ true
-has_board_by entered rows met holds = go (has_board rows) (sym (lacks_by entered rows met) ∙ holds)
-  where
-    go : (b : Bool) → Some (not b) ≡ Some false → b ≡ true
-    go true h = refl
-    go false h = cc
+-- nothing, where that is told
+pub lacks_nothing : (entered : Option (Text × List Row)) (needs : Needs) → option_map needs_of entered ≡ Some needs → needs_some needs ≡ false → option_map (λ e. needs_some (needs_of e)) entered ≡ Some false
+lacks_nothing None needs told none = cc
+lacks_nothing (Some e) needs told none = let same : needs_of e ≡ needs = cc in ap (λ (n : Needs). Some (needs_some n)) same ∙ ap (λ (b : Bool). Some b) none
 
--- where no server was entered, none lacks a rule
-pub none_lacks : (m : ArgMatches) → IsNamed (subcommand_rows_of m) → (subcommand_name_of m ≡ Some (codes "serve") → ⊥) → option_map lacks_rule (subcommand_rows_of m) ≡ Some false
-none_lacks m named not_serve = ap (option_map lacks_rule) named.met ∙ go (bytes_eq named.name (codes "serve")) refl
+pub server_lacks_nothing : (entered : Option (Text × List Row)) (rows : List Row) → entered ≡ Some (codes "serve", rows) → option_map (λ e. needs_some (needs_of e)) entered ≡ Some false → needs_some (server_needs rows) ≡ false
+server_lacks_nothing entered rows met holds =
+    let both : Some (needs_some (server_needs rows)) ≡ Some false = sym (ap (option_map (λ (e : Text × List Row). needs_some (needs_of e))) met) ∙ holds in cc
+
+-- where no server was entered, nothing is lacking
+pub none_lacks : (m : ArgMatches) → IsNamed (subcommand_rows_of m) → (subcommand_name_of m ≡ Some (codes "serve") → ⊥) → option_map needs_of (subcommand_rows_of m) ≡ Some no_needs
+none_lacks m named not_serve = ap (option_map needs_of) named.met ∙ go (bytes_eq named.name (codes "serve")) refl
   where
-    go : (b : Bool) → bytes_eq named.name (codes "serve") ≡ b → Some (b && not (has_board named.rows)) ≡ Some false
+    go : (b : Bool) → bytes_eq named.name (codes "serve") ≡ b → Some (if b then server_needs named.rows else no_needs) ≡ Some no_needs
     go false same = refl
     go true same =
         let is : named.name ≡ codes "serve" = (bytes_eq-Decides named.name (codes "serve")).0 same in

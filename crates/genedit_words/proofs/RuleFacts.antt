@@ -52,6 +52,7 @@ fits id how v = if bytes_eq id (codes "port") then drops_minus how && accepts fa
     else if bytes_eq id (codes "quiet") then keeps_all how && is_flag_text v
     else if bytes_eq id (codes "no-rescue") then keeps_all how && is_flag_text v
     else if bytes_eq id (codes "until-close") then keeps_all how && is_flag_text v
+    else if bytes_eq id (codes "until-idle") then drops_minus how && accepts false (vp.Signed (pos 1) (pos 1440)) v
     else if bytes_eq id (codes "replace") then keeps_all how && is_flag_text v
     else if bytes_eq id (codes "edits") then drops_minus how && accepts false (vp.Signed (pos 0) (pos 4294967295)) v
     else if bytes_eq id (codes "from") then drops_minus how && accepts false (vp.Signed (pos 0) (pos 4294967295)) v

@@ -21,5 +21,6 @@ abbrev pub IsStatusOf : Ending → ℕ → Type 0
 IsStatusOf (ending.Words error) status = IsWordsStatus (kind_of error) status
 IsStatusOf ending.NoText status = status ≡ 2
 IsStatusOf (ending.Rule rule) status = status ≡ 2
-IsStatusOf ending.NoRule status = status ≡ 2
+IsStatusOf (ending.Web web) status = status ≡ 2
+IsStatusOf (ending.Lacking needs) status = status ≡ 2
 IsStatusOf (ending.Run fault) status = status ≡ exit_status fault

@@ -33,12 +33,13 @@ MayHaveNumber low high id rows = (one_of id rows ≡ None) ⊎ HasNumber low hig
 abbrev pub HasFlag : Text → List Row → Type 0
 HasFlag id rows = (one_of id rows ≡ Some (codes "true")) ⊎ ((one_of id rows ≡ Some (codes "false")) ⊎ (one_of id rows ≡ None))
 
--- what a server needs, beside a rule or a file, and may be asked with
+-- what a server needs, beside a rule or a file and a port or a web port, and may be asked with
 pub record HasServer (rows : List Row) : Type 0 where
-  pub port : HasNumber 0 65535 (codes "port") rows
+  pub port : MayHaveNumber 0 65535 (codes "port") rows
   pub sessions : HasNumber 1 64 (codes "sessions") rows
   pub first : MayHaveNumber 1 65472 (codes "first") rows
   pub until_close : HasFlag (codes "until-close") rows
+  pub until_idle : MayHaveNumber 1 1440 (codes "until-idle") rows
 
 -- what a picture may be asked with
 pub record HasView (rows : List Row) : Type 0 where
@@ -135,9 +136,11 @@ pub record IsNamed (entered : Option (Text × List Row)) : Type 0 where
   pub met : entered ≡ Some (name, rows)
   pub has : Has name rows
 
--- a server that no file is named for has a rule, and any has 1 to 64 sessions, the first of a number from 1 on, the last of one of 16 bits
+-- a server that no file is named for has a rule, and any has 1 to 64 sessions, the first of a number from 1 on, the last of one of 16 bits;
+-- one without a port has a web port, and one that ends by itself waits 1 to 1440 minutes for somebody
 abbrev pub IsServable : ServeTask → Type 0
 IsServable server = (server.keep ≡ None → IsSome server.rule) × (1 ≤ server.sessions) × (server.sessions ≤ 64) × (1 ≤ server.first) × (server.first ≤ 65472)
+    × (server.port ≡ None → IsSome server.web) × IfSome server.until_idle (λ minutes. (1 ≤ minutes) × (minutes ≤ 1440))
 
 -- a server can be served; a client lets 1 to 60,000 milliseconds pass between two polls; whoever draws in a
 -- document has a number that is no seat's, and so has whoever gets edits that clash

@@ -1,5 +1,7 @@
 pub mod Subcommands
 pub mod RuleWords
+pub mod WebWords
+pub mod Needs
 pub mod Misspelt
 pub mod Bound
 pub mod Ending

@@ -12,9 +12,11 @@ use Rattle.header_rules.specs.declared.spelling.Misspelling.TheVariants.{Fault, 
 use Rattle.header_rules.specs.Families.{other_names, table_ends, table_fronts}
 use Rattle.header_rules.specs.Names.{rule_names}
 use Rattle.genedit_words.specs.Bound.{bound_words}
-use Rattle.genedit_words.specs.Misspelt.{Misspelt, misspelt_text}
+use Rattle.genedit_words.specs.Misspelt.{Misspelt, NoRule, NoWeb, misspelt_text, no_web_text}
+use Rattle.genedit_words.specs.Needs.{needs_text}
 use Rattle.genedit_words.specs.Told.{Check, Diff, Draw, Export, Feed, Follow, Join, Log, Merge, Number, Run, Serve, Served, Told, View}
-use Rattle.genedit_words.specs.Words.{Asks, LacksRule, genedit_app, new_task, rle_task, rule_asked, rule_if_given}
+use Rattle.genedit_words.specs.WebWords.{web_spelled}
+use Rattle.genedit_words.specs.Words.{Asks, Lacks, genedit_app, new_task, rle_task, rule_asked}
 
 abbrev genedit : List Text → List Text
 genedit words = codes "genedit" ∷ words
@@ -34,7 +36,7 @@ pub star_wars : rule_asked (codes "Star Wars") ≡ Ok (rule_of_text (codes "345/
 unfolding rule_names
 star_wars = refl
 
-pub no_slashes : rule_asked (codes "life?") ≡ Err (record { text = codes "life?"; why = Fault Slashes })
+pub no_slashes : rule_asked (codes "life?") ≡ Err (NoRule (codes "life?") (Fault Slashes))
 unfolding rule_names other_names table_fronts table_ends
 no_slashes = refl
 
@@ -43,7 +45,7 @@ pub no_slashes_told : misspelt_text (codes "life?") (Fault Slashes)
 unfolding digits
 no_slashes_told = refl
 
-pub no_digit : rule_asked (codes "23/x3/2") ≡ Err (record { text = codes "23/x3/2"; why = Fault (Digit 3) })
+pub no_digit : rule_asked (codes "23/x3/2") ≡ Err (NoRule (codes "23/x3/2") (Fault (Digit 3)))
 unfolding rule_names other_names table_fronts table_ends
 no_digit = refl
 
@@ -52,7 +54,7 @@ pub no_digit_told : misspelt_text (codes "23/x3/2") (Fault (Digit 3))
 unfolding digits
 no_digit_told = refl
 
-pub too_many_states : rule_asked (codes "23/3/257") ≡ Err (record { text = codes "23/3/257"; why = Fault States })
+pub too_many_states : rule_asked (codes "23/3/257") ≡ Err (NoRule (codes "23/3/257") (Fault States))
 unfolding rule_names other_names table_fronts table_ends
 too_many_states = refl
 
@@ -61,7 +63,7 @@ pub too_many_states_told : misspelt_text (codes "23/3/257") (Fault States)
 unfolding digits
 too_many_states_told = refl
 
-pub letters : rule_asked (codes "B2e3/S23") ≡ Err (record { text = codes "B2e3/S23"; why = Other NonTotalistic })
+pub letters : rule_asked (codes "B2e3/S23") ≡ Err (NoRule (codes "B2e3/S23") (Other NonTotalistic))
 unfolding rule_names
 letters = refl
 
@@ -69,13 +71,59 @@ pub letters_told : misspelt_text (codes "B2e3/S23") (Other NonTotalistic)
     ≡ codes "the rule B2e3/S23 is of another family (letters behind counts): this program has Golly's Generations without letters alone"
 letters_told = refl
 
-pub bounds : rule_asked (codes "B3/S23:T100") ≡ Err (record { text = codes "B3/S23:T100"; why = Other Bounded })
+pub bounds : rule_asked (codes "B3/S23:T100") ≡ Err (NoRule (codes "B3/S23:T100") (Other Bounded))
 unfolding rule_names
 bounds = refl
 
 pub bounds_told : misspelt_text (codes "B3/S23:T100") (Other Bounded)
     ≡ codes "the rule B3/S23:T100 is of another family (a bounded grid): this program has Golly's Generations on a plane without bounds alone"
 bounds_told = refl
+
+-- ---- web ports
+
+pub web_port : web_spelled (codes "7080") ≡ Some (record { address = None; port = 7080 })
+web_port = refl
+
+pub any_web_port : web_spelled (codes "0") ≡ Some (record { address = None; port = 0 })
+any_web_port = refl
+
+pub web_port_of_an_address : web_spelled (codes "192.168.1.7:7080") ≡ Some (record { address = Some (codes "192.168.1.7"); port = 7080 })
+web_port_of_an_address = refl
+
+-- the last colon counts, and zeros in front of the port do not
+pub web_port_behind_colons : web_spelled (codes "::1:007080") ≡ Some (record { address = Some (codes "::1"); port = 7080 })
+web_port_behind_colons = refl
+
+pub last_web_port : web_spelled (codes "a:65535") ≡ Some (record { address = Some (codes "a"); port = 65535 })
+last_web_port = refl
+
+pub web_port_too_great : web_spelled (codes "a:65536") ≡ None
+web_port_too_great = refl
+
+pub no_web_address : web_spelled (codes ":7080") ≡ None
+no_web_address = refl
+
+pub no_web_port : web_spelled (codes "localhost:") ≡ None
+no_web_port = refl
+
+pub no_web_text_at_all : web_spelled [] ≡ None
+no_web_text_at_all = refl
+
+pub web_port_with_a_sign : web_spelled (codes "+7080") ≡ None
+web_port_with_a_sign = refl
+
+pub address_alone : web_spelled (codes "localhost") ≡ None
+address_alone = refl
+
+pub no_web_told : no_web_text (codes "x") ≡ codes "invalid value 'x' for '--web <[ADDRESS:]Q>': a port is 0 to 65535, as --web 0 or --web 192.168.1.7:7080"
+no_web_told = refl
+
+pub needs_told : needs_text (record { rule = true; port = false; web = false }) ≡ codes "the following required arguments were not provided: --rule <TEXT>; as --rule 23/3/2"
+needs_told = refl
+
+pub all_needs_told : needs_text (record { rule = true; port = true; web = true })
+    ≡ codes "the following required arguments were not provided: --rule <TEXT> --port <P> --web <[ADDRESS:]Q>; as --rule 23/3/2 --port 7020 --web 7080"
+all_needs_told = refl
 
 -- ---- numbers below 0 behind their options
 
@@ -137,23 +185,58 @@ served_by (Ok rule) server = Ok (Serve (server rule))
 served_by (Err fault) server = Err fault
 
 server : Asks (serve (codes "--rule" ∷ codes "23/3/2" ∷ codes "--port=7020" ∷ codes "--sessions" ∷ codes "64" ∷ []))
-    (served_by (rule_asked (codes "23/3/2")) (λ rule. record { rule = Some rule; port = 7020; sessions = 64; first = 1; keep = None; until_close = false }))
+    (served_by (rule_asked (codes "23/3/2")) (λ rule. record { rule = Some rule; port = Some 7020; sessions = 64; first = 1; keep = None; until_close = false; web = None; until_idle = None }))
 unfolding clap_on_literals
 server = (refl, refl)
 
 server_of_a_file : Asks (serve (codes "--keep" ∷ codes "my.board" ∷ codes "--port=0" ∷ codes "--sessions=2" ∷ []))
-    (Ok (Serve (record { rule = None; port = 0; sessions = 2; first = 1; keep = Some (codes "my.board"); until_close = false })))
+    (Ok (Serve (record { rule = None; port = Some 0; sessions = 2; first = 1; keep = Some (codes "my.board"); until_close = false; web = None; until_idle = None })))
 unfolding clap_on_literals
 server_of_a_file = (refl, refl)
 
 server_of_both : Asks (serve (codes "--rule=/2/3" ∷ codes "--until-close" ∷ codes "--port=0" ∷ codes "--sessions=2" ∷ codes "--first=65472" ∷ codes "--keep=" ∷ []))
-    (served_by (rule_asked (codes "/2/3")) (λ rule. record { rule = Some rule; port = 0; sessions = 2; first = 65472; keep = Some []; until_close = true }))
+    (served_by (rule_asked (codes "/2/3")) (λ rule. record { rule = Some rule; port = Some 0; sessions = 2; first = 65472; keep = Some []; until_close = true; web = None; until_idle = None }))
 unfolding clap_on_literals
 server_of_both = (refl, refl)
 
-server_of_neither : LacksRule (serve (codes "--port=0" ∷ codes "--sessions=2" ∷ []))
+server_of_neither : Lacks (serve (codes "--port=0" ∷ codes "--sessions=2" ∷ [])) (record { rule = true; port = false; web = false })
 unfolding clap_on_literals
-server_of_neither = (refl, refl)
+server_of_neither = (refl, refl, refl)
+
+server_of_nothing : Lacks (serve (codes "--sessions=2" ∷ [])) (record { rule = true; port = true; web = false })
+unfolding clap_on_literals
+server_of_nothing = (refl, refl, refl)
+
+links_to_no_web_port : Lacks (serve (codes "--keep=my.board" ∷ codes "--port=0" ∷ codes "--sessions=2" ∷ codes "--url=https://draw.example.org" ∷ [])) (record { rule = false; port = false; web = true })
+unfolding clap_on_literals
+links_to_no_web_port = (refl, refl, refl)
+
+class : Asks (serve (codes "--rule" ∷ codes "23/3/2" ∷ codes "--sessions" ∷ codes "30" ∷ codes "--web" ∷ codes "7080" ∷ []))
+    (served_by (rule_asked (codes "23/3/2")) (λ rule. record { rule = Some rule; port = None; sessions = 30; first = 1; keep = None; until_close = false; web = Some (record { address = None; port = 7080; url = None }); until_idle = None }))
+unfolding clap_on_literals
+class = (refl, refl)
+
+class_behind_a_proxy : Asks (serve (codes "--keep=my.board" ∷ codes "--port=0" ∷ codes "--web=[::1]:0" ∷ codes "--url" ∷ codes "https://draw.example.org" ∷ codes "--until-idle=1440" ∷ codes "--sessions=2" ∷ []))
+    (Ok (Serve (record { rule = None; port = Some 0; sessions = 2; first = 1; keep = Some (codes "my.board"); until_close = false; web = Some (record { address = Some (codes "[::1]"); port = 0; url = Some (codes "https://draw.example.org") }); until_idle = Some 1440 })))
+unfolding clap_on_literals
+class_behind_a_proxy = (refl, refl)
+
+web_port_of_17_bits : Asks (serve (codes "--keep=my.board" ∷ codes "--web=65536" ∷ codes "--sessions=2" ∷ [])) (Err (NoWeb (codes "65536")))
+unfolding clap_on_literals
+web_port_of_17_bits = (refl, refl)
+
+-- the rule is looked at first
+two_misspelt : Asks (serve (codes "--rule=life?" ∷ codes "--web=:1" ∷ codes "--sessions=2" ∷ [])) (Err (NoRule (codes "life?") (Fault Slashes)))
+unfolding clap_on_literals rule_names other_names table_fronts table_ends
+two_misspelt = (refl, refl)
+
+idle_at_once : fault_of genedit_app (serve (codes "--rule=/2/3" ∷ codes "--port=0" ∷ codes "--sessions=1" ∷ codes "--until-idle=0" ∷ [])) ≡ kind.ValueValidation ∷ []
+unfolding clap_on_literals
+idle_at_once = refl
+
+idle_for_more_than_a_day : fault_of genedit_app (serve (codes "--rule=/2/3" ∷ codes "--port=0" ∷ codes "--sessions=1" ∷ codes "--until-idle=1441" ∷ [])) ≡ kind.ValueValidation ∷ []
+unfolding clap_on_literals
+idle_for_more_than_a_day = refl
 
 mistakes : Asks (genedit (codes "check" ∷ [])) (Ok (Check None))
 unfolding clap_on_literals
@@ -249,9 +332,9 @@ no_first : fault_of genedit_app (serve (codes "--rule=/2/3" ∷ codes "--port=0"
 unfolding clap_on_literals
 no_first = refl
 
-no_port : fault_of genedit_app (serve (codes "--rule=/2/3" ∷ codes "--sessions=1" ∷ [])) ≡ kind.MissingRequiredArgument ∷ []
+no_port : Lacks (serve (codes "--rule=/2/3" ∷ codes "--sessions=1" ∷ [])) (record { rule = false; port = true; web = false })
 unfolding clap_on_literals
-no_port = refl
+no_port = (refl, refl, refl)
 
 new_document : Asks (genedit (codes "new" ∷ codes "a.glwl" ∷ codes "--rule=/2/3" ∷ [])) (new_task (codes "a.glwl") (rule_asked (codes "/2/3")))
 unfolding clap_on_literals
@@ -343,12 +426,12 @@ numbering_of_nobody : fault_of genedit_app (genedit (codes "number" ∷ codes "n
 unfolding clap_on_literals
 numbering_of_nobody = refl
 
-refused_rule : Asks (rle (codes "--rule" ∷ codes "life?" ∷ [])) (Err (record { text = codes "life?"; why = Fault Slashes }))
+refused_rule : Asks (rle (codes "--rule" ∷ codes "life?" ∷ [])) (Err (NoRule (codes "life?") (Fault Slashes)))
 unfolding clap_on_literals rule_names other_names table_fronts table_ends
 refused_rule = (refl, refl)
 
 refused_rule_beside_a_file : Asks (serve (codes "--rule=life?" ∷ codes "--port=0" ∷ codes "--sessions=1" ∷ codes "--keep=my.board" ∷ []))
-    (Err (record { text = codes "life?"; why = Fault Slashes }))
+    (Err (NoRule (codes "life?") (Fault Slashes)))
 unfolding clap_on_literals rule_names other_names table_fronts table_ends
 refused_rule_beside_a_file = (refl, refl)
 

@@ -1,10 +1,12 @@
 -- What words can ask for, as plain data.
 use Rattle.std.specs.Prelude.{ℕ, Bool, List, map, Option, option_map, Result, Ok, Err}
 use Rattle.generations_rule.specs.Rule.{GenerationsRule}
-use Rattle.genedit_words.specs.Misspelt.{Misspelt}
+use Rattle.genedit_words.specs.Misspelt.{Misspelt, NoRule, NoWeb}
 use Rattle.genedit_words.specs.declared.misspelt.MisspeltRule.{MisspeltRule}
+use Rattle.genedit_words.specs.declared.misspelt.MisspeltWeb.{MisspeltWeb}
 use Rattle.genedit_words.specs.declared.task.JoinTask.{JoinTask}
 use Rattle.genedit_words.specs.declared.task.Task.{Task}
+use Rattle.genedit_words.specs.declared.task.WebTask.{WebTask}
 use Rattle.genedit_words.specs.declared.task.Task.TheVariants as task
 
 -- what is asked of a picture
@@ -26,14 +28,22 @@ pub record Conversion : Type 0 where
   pub generation : Option ℕ
   pub replaces : Bool
 
+-- what is asked of a web port
+pub record WebServed : Type 0 where
+  pub address : Option (List ℕ)
+  pub port : ℕ
+  pub url : Option (List ℕ)
+
 -- what is asked of a server
 pub record Served : Type 0 where
   pub rule : Option GenerationsRule
-  pub port : ℕ
+  pub port : Option ℕ
   pub sessions : ℕ
   pub first : ℕ
   pub keep : Option (List ℕ)
   pub until_close : Bool
+  pub web : Option WebServed
+  pub until_idle : Option ℕ
 
 pub data Told : Type 0 where
   Run : (file : Option (List ℕ)) → Told
@@ -53,6 +63,14 @@ pub data Told : Type 0 where
   Feed : (file : List ℕ) → Told
   Number : (file : List ℕ) → (name : List ℕ) → Told
 
+-- what a web port is, by its texts
+abbrev pub web_told : WebTask → WebServed
+web_told web = record {
+  address = option_map (λ s. s.now) web.address;
+  port = web.port;
+  url = option_map (λ s. s.now) web.url;
+}
+
 -- what a task is, by its texts
 abbrev pub told_of : Task → Told
 told_of (task.Run file) = Run (option_map (λ s. s.now) file)
@@ -64,6 +82,8 @@ told_of (task.Serve server) = Serve (record {
   first = server.first;
   keep = option_map (λ s. s.now) server.keep;
   until_close = server.until_close;
+  web = option_map web_told server.web;
+  until_idle = server.until_idle;
 })
 told_of (task.Join client) = Join client
 told_of (task.Check file) = Check (option_map (λ s. s.now) file)
@@ -97,9 +117,14 @@ told_of (task.Number numbering) = Number numbering.file.now numbering.name.now
 -- what was looked for, or the word that spells no rule
 abbrev pub or_misspelt : {T : Type 0} → Result T MisspeltRule → Result T Misspelt
 or_misspelt (Ok x) = Ok x
-or_misspelt (Err wrong) = Err (record { text = wrong.text.now; why = wrong.why })
+or_misspelt (Err wrong) = Err (NoRule wrong.text.now wrong.why)
+
+-- the web port that was looked for, or the word that spells none
+abbrev pub or_no_web : Result (Option WebTask) MisspeltWeb → Result (Option WebServed) Misspelt
+or_no_web (Ok web) = Ok (option_map web_told web)
+or_no_web (Err wrong) = Err (NoWeb wrong.text.now)
 
 -- a task, or why there is none
 abbrev pub told : Result Task MisspeltRule → Result Told Misspelt
 told (Ok task) = Ok (told_of task)
-told (Err wrong) = Err (record { text = wrong.text.now; why = wrong.why })
+told (Err wrong) = Err (NoRule wrong.text.now wrong.why)

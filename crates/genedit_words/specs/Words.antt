@@ -17,19 +17,22 @@ use Rattle.genedit_io.specs.declared.fault.RunFault.TheVariants.{Memory}
 use Rattle.genedit_words.specs.declared.ending.Ending.{Ending}
 use Rattle.genedit_words.specs.declared.ending.Ending.TheVariants as ending
 use Rattle.genedit_words.specs.declared.task.JoinTask.{JoinTask}
-use Rattle.genedit_words.specs.Misspelt.{Misspelt}
+use Rattle.genedit_words.specs.declared.needs.Needs.{Needs}
+use Rattle.genedit_words.specs.Misspelt.{Misspelt, NoRule, NoWeb}
+use Rattle.genedit_words.specs.Needs.{needs_some, no_needs}
 use Rattle.genedit_words.specs.declared.subcommand.Subcommand.{Subcommand}
 use Rattle.genedit_words.specs.declared.subcommand.Subcommand.TheVariants as subcommand
 use Rattle.genedit_words.specs.declared.task.Task.{Task}
 use Rattle.genedit_words.specs.declared.words.NoTask.{NoTask}
 use Rattle.genedit_words.specs.declared.words.NoTask.TheVariants as no_task
 use Rattle.genedit_words.specs.Subcommands.{subcommand_named}
-use Rattle.genedit_words.specs.Told.{Told, Conversion, Served, Viewed, Check, Convert, Diff, Draw, Export, Feed, Follow, Join, Log, Merge, New, Number, Rle, Run, Serve, View, told_of}
+use Rattle.genedit_words.specs.WebWords.{WebPlace, web_spelled}
+use Rattle.genedit_words.specs.Told.{Told, Conversion, Served, Viewed, WebServed, Check, Convert, Diff, Draw, Export, Feed, Follow, Join, Log, Merge, New, Number, Rle, Run, Serve, View, told_of}
 
 -- the rule, or the word that spells none
 abbrev pub rule_or_misspelt : Text → Result GenerationsRule Misspelling → Result GenerationsRule Misspelt
 rule_or_misspelt text (Ok rule) = Ok rule
-rule_or_misspelt text (Err why) = Err (record { text = text; why = why })
+rule_or_misspelt text (Err why) = Err (NoRule text why)
 
 -- the rule that a word spells
 abbrev pub rule_asked : Text → Result GenerationsRule Misspelt
@@ -67,6 +70,18 @@ rule_option = option (codes "rule")
 abbrev pub port_option : Rule
 port_option = record (option (codes "port")) { parser = Some (vp.Signed (pos 0) (pos 65535)) }
 
+-- the port of a server, which has to be given, or may be
+abbrev pub board_port : Bool → Rule
+board_port is_needed = record (optional (codes "port")) { required = is_needed; parser = Some (vp.Signed (pos 0) (pos 65535)) }
+
+-- its web port, which has to be given, or may be
+abbrev pub board_web : Bool → Rule
+board_web is_needed = record (optional (codes "web")) { required = is_needed }
+
+-- after how many minutes without anybody a server ends by itself: 1 to 1440
+abbrev pub idle_option : Rule
+idle_option = record (optional (codes "until-idle")) { parser = Some (vp.Signed (pos 1) (pos 1440)) }
+
 -- a number of sessions: 1 to 64
 abbrev pub sessions_option : Rule
 sessions_option = record (option (codes "sessions")) { parser = Some (vp.Signed (pos 1) (pos 64)) }
@@ -93,8 +108,11 @@ rle_shape = record (new_shape (codes "rle")) { rules = file_argument ∷ rule_op
 abbrev pub board_rule : Bool → Rule
 board_rule is_needed = record (optional (codes "rule")) { required = is_needed }
 
-abbrev pub serve_shape : Bool → Shape
-serve_shape needs_rule = record (new_shape (codes "serve")) { rules = board_rule needs_rule ∷ port_option ∷ sessions_option ∷ first_option ∷ optional (codes "keep") ∷ flag (codes "until-close") ∷ [] }
+-- a server, of which the options that it needs have to be given
+abbrev pub serve_shape : Needs → Shape
+serve_shape needs = record (new_shape (codes "serve")) {
+  rules = board_rule needs.rule ∷ board_port needs.port ∷ board_web needs.web ∷ optional (codes "url") ∷ sessions_option ∷ first_option ∷ optional (codes "keep") ∷ flag (codes "until-close") ∷ idle_option ∷ [];
+}
 
 abbrev pub check_shape : Shape
 check_shape = record (new_shape (codes "check")) { rules = file_argument ∷ [] }
@@ -189,19 +207,19 @@ app_with subs = record {
 abbrev pub text_app : App
 text_app = app_with (run_shape ∷ check_shape ∷ rle_shape ∷ view_shape ∷ convert_shape ∷ [])
 
--- and those for boards that are served; for a server the rule has to be given, or may be
-abbrev pub board_app : Bool → App
-board_app needs_rule = app_with (run_shape ∷ check_shape ∷ rle_shape ∷ view_shape ∷ convert_shape ∷ serve_shape needs_rule ∷ join_shape ∷ [])
+-- and those for boards that are served; for a server the options that it needs have to be given
+abbrev pub board_app : Needs → App
+board_app needs = app_with (run_shape ∷ check_shape ∷ rle_shape ∷ view_shape ∷ convert_shape ∷ serve_shape needs ∷ join_shape ∷ [])
 
 -- `genedit` has a version and no arguments, and one of its subcommands has to be given; for a server the
--- rule has to be given, or may be
-abbrev pub app_by : Bool → App
-app_by needs_rule = app_with (run_shape ∷ check_shape ∷ rle_shape ∷ view_shape ∷ convert_shape ∷ serve_shape needs_rule ∷ join_shape
+-- options that it needs have to be given
+abbrev pub app_by : Needs → App
+app_by needs = app_with (run_shape ∷ check_shape ∷ rle_shape ∷ view_shape ∷ convert_shape ∷ serve_shape needs ∷ join_shape
     ∷ new_document_shape ∷ draw_shape ∷ merge_shape ∷ diff_shape ∷ log_shape ∷ export_shape ∷ follow_shape ∷ feed_shape ∷ number_shape ∷ [])
 
--- the words of `genedit` are read so: a server may lack the option, since its file may name the rule
+-- the words of `genedit` are read so: a server may lack each of these options, since another may stand for it
 abbrev pub genedit_app : App
-genedit_app = app_by false
+genedit_app = app_by no_needs
 
 -- ---- what words ask for
 
@@ -259,44 +277,69 @@ abbrev pub rule_if_given : Option Text → Result (Option GenerationsRule) Missp
 rule_if_given None = Ok None
 rule_if_given (Some text) = some_rule (rule_asked text)
 
--- the words for a server tell a rule, or the file in which its board is kept
-abbrev pub has_board : List Row → Bool
-has_board rows = is_some (first_of (codes "rule") rows) || is_some (first_of (codes "keep") rows)
+-- an option is given
+abbrev pub is_told : Text → List Row → Bool
+is_told id rows = is_some (first_of id rows)
 
--- a server with neither is asked for
-abbrev pub lacks_rule : Text × List Row → Bool
-lacks_rule subcommand = bytes_eq subcommand.0 (codes "serve") && not (has_board subcommand.1)
+-- what the words for a server lack: a rule where they tell neither that nor the file in which its board is kept, a port where they
+-- tell neither that nor a web port, and a web port where they tell how links to it begin and not the port
+abbrev pub server_needs : List Row → Needs
+server_needs rows = record {
+  rule = not (is_told (codes "rule") rows || is_told (codes "keep") rows);
+  port = not (is_told (codes "port") rows || is_told (codes "web") rows);
+  web = is_told (codes "url") rows && not (is_told (codes "web") rows);
+}
+
+-- what the words for a subcommand lack: those for a server alone may lack something
+abbrev pub needs_of : Text × List Row → Needs
+needs_of subcommand = if bytes_eq subcommand.0 (codes "serve") then server_needs subcommand.1 else no_needs
 
 -- the number of a server's first seat: 1 where none is given
 abbrev pub first_asked : List Row → ℕ
 first_asked rows = unwrap_or (number_of (codes "first") rows) 1
 
--- a server at a port, of so many sessions, under a rule if there is one, and what else the words tell of it
-abbrev pub served : List Row → ℕ → ℕ → Option GenerationsRule → Served
-served rows port sessions rule = record {
+-- the web port that a text spells, and how links to it begin, if that is told; or the text that spells none
+abbrev pub web_or_misspelt : Option Text → Text → Option WebPlace → Result (Option WebServed) Misspelt
+web_or_misspelt url text (Some place) = Ok (Some (record { address = place.address; port = place.port; url = url }))
+web_or_misspelt url text None = Err (NoWeb text)
+
+-- the web port that an option spells, if it is given
+abbrev pub web_if_given : Option Text → Option Text → Result (Option WebServed) Misspelt
+web_if_given url None = Ok None
+web_if_given url (Some text) = web_or_misspelt url text (web_spelled text)
+
+-- the same of the words for a server
+abbrev pub web_asked : List Row → Result (Option WebServed) Misspelt
+web_asked rows = web_if_given (first_of (codes "url") rows) (first_of (codes "web") rows)
+
+-- a server of so many sessions, under a rule and with a web port if there are such, and what else the words tell of it
+abbrev pub served : List Row → ℕ → Option GenerationsRule → Option WebServed → Served
+served rows sessions rule web = record {
   rule = rule;
-  port = port;
+  port = number_of (codes "port") rows;
   sessions = sessions;
   first = first_asked rows;
   keep = first_of (codes "keep") rows;
   until_close = is_set (codes "until-close") rows;
+  web = web;
+  until_idle = number_of (codes "until-idle") rows;
 }
 
-abbrev pub serve_task : List Row → Result (Option GenerationsRule) Misspelt → ℕ → ℕ → Result Told Misspelt
-serve_task rows (Ok rule) port sessions = Ok (Serve (served rows port sessions rule))
-serve_task rows (Err fault) port sessions = Err fault
+-- the rule is looked at first
+abbrev pub serve_task : List Row → Result (Option GenerationsRule) Misspelt → Result (Option WebServed) Misspelt → ℕ → Result Told Misspelt
+serve_task rows (Ok rule) (Ok web) sessions = Ok (Serve (served rows sessions rule web))
+serve_task rows (Ok rule) (Err wrong) sessions = Err wrong
+serve_task rows (Err wrong) web sessions = Err wrong
 
--- a server under the rule that the option spells if it is given, at the port and of as many sessions as the
--- options spell, its seats numbered from the first on, of a board that is kept in the file that is named, if one is, which a
--- line may end where that is asked for
+-- a server under the rule, at the port and at the web port that the options spell, each if it is given, of as many sessions
+-- as the option spells, its seats numbered from the first on, of a board that is kept in the file that is named, if one is,
+-- which a line may end where that is asked for, and so many minutes without anybody if they are told
 abbrev pub server_asked : List Row → Option (Result Told Misspelt)
-server_asked rows = option_and_then (λ port.
-    option_map (λ sessions. serve_task rows (rule_if_given (first_of (codes "rule") rows)) port sessions)
-    (number_of (codes "sessions") rows)) (number_of (codes "port") rows)
+server_asked rows = option_map (serve_task rows (rule_if_given (first_of (codes "rule") rows)) (web_asked rows)) (number_of (codes "sessions") rows)
 
--- such a server, of words that tell a rule or a file
+-- such a server, of words that lack nothing
 abbrev pub serve_asked : List Row → Option (Result Told Misspelt)
-serve_asked rows = if has_board rows then server_asked rows else None
+serve_asked rows = if needs_some (server_needs rows) then None else server_asked rows
 
 abbrev pub view_task : List Row → Result (Option GenerationsRule) Misspelt → Result Told Misspelt
 view_task rows (Ok rule) = Ok (View (viewing rows rule))
@@ -414,17 +457,26 @@ Asks words task = (fault_of genedit_app words ≡ []) × (task_asked words ≡ S
 -- what is asked for is this, or memory is refused
 abbrev pub IsAsked : Option (Result Told Misspelt) → Result Task NoTask → Type 0
 IsAsked asked (Ok task) = asked ≡ Some (Ok (told_of task))
-IsAsked asked (Err (no_task.Rule rule)) = asked ≡ Some (Err (record { text = rule.text.now; why = rule.why }))
+IsAsked asked (Err (no_task.Rule rule)) = asked ≡ Some (Err (NoRule rule.text.now rule.why))
+IsAsked asked (Err (no_task.Web web)) = asked ≡ Some (Err (NoWeb web.text.now))
 IsAsked asked (Err no_task.Memory) = ⊤
 
--- the words are a command line of `genedit`, and ask for a server with neither a rule nor a file
-abbrev pub LacksRule : List Text → Type 0
-LacksRule words = (fault_of genedit_app words ≡ []) × (option_map lacks_rule (subcommand_of genedit_app words) ≡ Some true)
+-- what is told by a task, or by why there is none; nothing where memory is refused
+abbrev pub tells : Result Task NoTask → Option (Result Told Misspelt)
+tells (Ok task) = Some (Ok (told_of task))
+tells (Err (no_task.Rule rule)) = Some (Err (NoRule rule.text.now rule.why))
+tells (Err (no_task.Web web)) = Some (Err (NoWeb web.text.now))
+tells (Err no_task.Memory) = None
 
--- why no task comes of words: they are no command line, they spell no rule or lack one, or memory is refused
+-- the words are a command line of `genedit`, and lack something of the server for which they ask
+abbrev pub Lacks : List Text → Needs → Type 0
+Lacks words needs = (fault_of genedit_app words ≡ []) × (option_map needs_of (subcommand_of genedit_app words) ≡ Some needs) × (needs_some needs ≡ true)
+
+-- why no task comes of words: they are no command line, they do not spell what they have to or lack something, or memory is refused
 abbrev pub EndsWords : List Text → Ending → Type 0
 EndsWords words (ending.Words error) = HasKind (fault_of genedit_app words) error
 EndsWords words ending.NoText = ⊥
-EndsWords words (ending.Rule rule) = Asks words (Err (record { text = rule.text.now; why = rule.why }))
-EndsWords words ending.NoRule = LacksRule words
+EndsWords words (ending.Rule rule) = Asks words (Err (NoRule rule.text.now rule.why))
+EndsWords words (ending.Web web) = Asks words (Err (NoWeb web.text.now))
+EndsWords words (ending.Lacking needs) = Lacks words needs
 EndsWords words (ending.Run fault) = fault ≡ Memory

@@ -5,12 +5,15 @@ use clap::error::ErrorKind;
 use std::alloc::{AllocError, Global};
 
 /// The options with a value, and what has to stand at a place, as `clap` names them, and an example of each.
-const EXAMPLES: [(&str, &str); 23] = [
+const EXAMPLES: [(&str, &str); 26] = [
     ("--rule <", " --rule 23/3/2"),
     ("--port <", " --port 7020"),
+    ("--web <", " --web 7080"),
+    ("--url <", " --url https://draw.example.org"),
     ("--sessions <", " --sessions 64"),
     ("--first <", " --first 101"),
     ("--keep <", " --keep my.board"),
+    ("--until-idle <", " --until-idle 60"),
     ("--every <", " --every 50"),
     ("--at <", " --at -3,4"),
     ("--size <", " --size 40x20"),

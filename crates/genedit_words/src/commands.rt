@@ -4,12 +4,13 @@ ghost use Rattle.std.specs.Prelude.{◌≡◌, IfOk, false, codes};
 ghost use Rattle.clap.specs.Simple.{new_app};
 ghost use Rattle.clap.specs.Words.{app_of, rule_of, shape_of};
 ghost use Rattle.clap.specs.declared.builder.command.Command.TheViews.{out-Command as fields_of};
-ghost use Rattle.genedit_words.specs.Words.{app_by, board_app, board_rule, check_shape, convert_shape, every_option, file_argument, first_option, flag, gen_option, join_shape, option, optional, place_argument, port_option, rle_shape, run_shape, serve_shape, sessions_option, text_app, top_app, view_shape};
+ghost use Rattle.genedit_words.specs.Words.{app_by, board_app, board_port, board_rule, board_web, check_shape, convert_shape, every_option, file_argument, first_option, flag, gen_option, idle_option, join_shape, option, optional, place_argument, port_option, rle_shape, run_shape, serve_shape, sessions_option, text_app, top_app, view_shape};
 
 use crate::document_commands::{
     diff_command, draw_command, edits_argument, export_command, feed_command, follow_command,
     log_command, merge_command, new_command, number_command,
 };
+use crate::needs::Needs;
 use clap::{Arg, ArgAction, Command, value_parser};
 use std::alloc::{AllocError, Global};
 
@@ -112,15 +113,24 @@ Examples:
 const SERVE_HELP: &str = "\
 Serves one board to programs on this machine, each of which speaks the protocol of docs/FORMATS.md over
 a connection to 127.0.0.1. Every user of this machine may connect. The first connection that comes is seat
-1, and so on; whoever finds each seat taken is answered that all are. Without --keep a seat is one
+1, and so on; whoever finds each seat taken is answered that all are. Without --keep and --web a seat is one
 connection, also one that was lost: so begin with more sessions than people, for a class with --sessions
 64. The rule is survival/birth/states, or as Golly spells it, as B3/S23 or Star Wars.
 
+With --web Q a class draws in its browsers, too: the line `open http://127.0.0.1:Q/#TOKEN` is printed before
+`listening PORT`, and whoever opens that link in a browser draws on the board with mouse, finger or keys.
+--port may be left out then: only browsers come. Seats come back as with --keep. Who has the link has a seat,
+so it is a secret of the class. --web ADDRESS:Q listens at another address of this machine, and --url URL is
+what the link begins with where a proxy or a network names the server otherwise; through a URL that is neither
+https nor this machine the token travels in the clear. With --keep FILE the token is kept in FILE.token, so
+that links go on.
+
 It prints `listening PORT`. At its end it prints a line for each seat, `session SEAT edits EDITS ..`, and
-`closed EDITS`. Without --keep it ends once each seat was used and all have left. With --until-close a line
-`close` on standard input ends it: each client is answered what it asked, and nobody more is seated. Ctrl-C,
-SIGTERM, a logout and a terminal that is closed end it at once: without these lines, and with its board
-where no file keeps it, so let somebody save it first.
+`closed EDITS`. Without --keep and --web it ends once each seat was used and all have left. With
+--until-close a line `close` on standard input ends it: each client is answered what it asked, and nobody
+more is seated. Ctrl-C, SIGTERM, a logout and a terminal that is closed end it at once: without these lines,
+and with its board where no file keeps it, so let somebody save it first. With --until-idle MINUTES it ends
+by itself when nobody has sat at any seat for so long.
 
 With --keep FILE the board is kept in FILE, made where there is none: what was answered to a client is on
 the disk. A server that is started again on FILE goes on with its board; --rule may be left out where FILE
@@ -135,13 +145,16 @@ Examples:
   genedit serve --rule B3/S23 --port 7020 --sessions 64      a class draws Life
   genedit serve --keep my.board --port 7020 --sessions 64    the board that my.board keeps goes on
   genedit serve --rule /2/3 --port 0 --sessions 2            two programs; the port that is free is printed
+  genedit serve --rule 23/3/2 --sessions 30 --web 7080       a class draws in its browsers
 
 From another machine: ssh -L 7020:127.0.0.1:7020 HOST, and connect to port 7020 there.";
 
-/// How `serve` is used: with a rule, or with a file that names one.
+/// How `serve` is used: with a rule, or with a file that names one; with a port, or with a web port.
 const SERVE_USAGE: &str = "\
-genedit serve --rule <TEXT> --port <P> --sessions <N> [--first <R>] [--keep <FILE>] [--until-close]
-       genedit serve --keep <FILE> --port <P> --sessions <N> [--first <R>] [--until-close]";
+genedit serve --rule <TEXT> --port <P> --sessions <N> [OPTIONS]
+       genedit serve --rule <TEXT> --web <[ADDRESS:]Q> --sessions <N> [OPTIONS]
+       genedit serve --keep <FILE> --port <P> --sessions <N> [OPTIONS]
+       genedit serve --keep <FILE> --web <[ADDRESS:]Q> --sessions <N> [OPTIONS]";
 
 /// What `genedit join --help` tells of clients: a line for each of their keywords, and what it does.
 pub const JOIN_HELP: &str = "\
@@ -201,12 +214,12 @@ Examples:
   echo 'cells 1 0 1 2 1 1 0 2 1 1 2 1 2 2 1' | genedit join --quiet --port 7020      draws a glider
   genedit join --port 7020 --follow                                        type commands, and see the others";
 
-/// The command line: a version, and the subcommands, one of which has to be given. `needs_rule` says whether
-/// the option `--rule` of a server has to be given.
-pub fn command<'a>(alloc: Global, needs_rule: bool) -> Result<Command<'a>, AllocError>
-    ensures { IfOk result (λ command. app_of command ≡ app_by needs_rule) }
+/// The command line: a version, and the subcommands, one of which has to be given. What a server needs has to
+/// be given.
+pub fn command<'a>(alloc: Global, needs: Needs) -> Result<Command<'a>, AllocError>
+    ensures { IfOk result (λ command. app_of command ≡ app_by needs) }
 {
-    let command = board_commands(alloc, needs_rule)?
+    let command = board_commands(alloc, needs)?
         .subcommand(new_command(alloc)?)?
         .subcommand(draw_command(alloc)?)?
         .subcommand(merge_command(alloc)?)?
@@ -220,11 +233,11 @@ pub fn command<'a>(alloc: Global, needs_rule: bool) -> Result<Command<'a>, Alloc
 }
 
 /// The command line with the subcommands for scripts, texts and boards that are served.
-fn board_commands<'a>(alloc: Global, needs_rule: bool) -> Result<Command<'a>, AllocError>
-    ensures { IfOk result (λ command. (app_of command ≡ board_app needs_rule) × ((fields_of command).has_globals ≡ false)) }
+fn board_commands<'a>(alloc: Global, needs: Needs) -> Result<Command<'a>, AllocError>
+    ensures { IfOk result (λ command. (app_of command ≡ board_app needs) × ((fields_of command).has_globals ≡ false)) }
 {
     let command = text_commands(alloc)?
-        .subcommand(serve_command(alloc, needs_rule)?)?
+        .subcommand(serve_command(alloc, needs)?)?
         .subcommand(join_command(alloc)?)?;
     Ok(command)
 }
@@ -426,13 +439,20 @@ fn titled_serve<'a>(alloc: Global) -> Command<'a>
     .override_usage(SERVE_USAGE)
 }
 
-fn serve_command<'a>(alloc: Global, needs_rule: bool) -> Result<Command<'a>, AllocError>
-    ensures shape { IfOk result (λ command. shape_of command ≡ serve_shape needs_rule) }
+fn serve_command<'a>(alloc: Global, needs: Needs) -> Result<Command<'a>, AllocError>
+    ensures shape { IfOk result (λ command. shape_of command ≡ serve_shape needs) }
     ensures local { IfOk result (λ command. (fields_of command).has_globals ≡ false) }
 {
     let command = titled_serve(alloc)
-        .arg(board_rule(alloc, needs_rule))?
-        .arg(port_argument(alloc, "The port to listen at, 0 for any that is free"))?
+        .arg(board_rule(alloc, needs.rule))?
+        .arg(board_port(alloc, needs.port))?
+        .arg(board_web(alloc, needs.web))?
+        .arg(optional(
+            alloc,
+            "url",
+            "URL",
+            "How links to the board begin, as https://draw.example.org; with --web",
+        ))?
         .arg(sessions_argument(alloc))?
         .arg(first_argument(alloc))?
         .arg(optional(
@@ -445,7 +465,8 @@ fn serve_command<'a>(alloc: Global, needs_rule: bool) -> Result<Command<'a>, All
             alloc,
             "until-close",
             "Ends at a line `close` on standard input",
-        ))?;
+        ))?
+        .arg(idle_argument(alloc))?;
     Ok(command)
 }
 
@@ -460,6 +481,45 @@ fn board_rule<'a>(alloc: Global, is_needed: bool) -> Arg<'a>
         "The rule of the board, as /2/3 or B3/S23; else the one that the file of --keep names",
     );
     rule.required(is_needed)
+}
+
+fn board_port<'a>(alloc: Global, is_needed: bool) -> Arg<'a>
+    ensures rule { rule_of result ≡ board_port is_needed }
+    ensures local { result.global ≡ false }
+{
+    let port = optional(
+        alloc,
+        "port",
+        "P",
+        "The port to listen at, 0 for any that is free; with --web it may be left out",
+    );
+    port.value_parser(value_parser!(u16)).required(is_needed)
+}
+
+fn board_web<'a>(alloc: Global, is_needed: bool) -> Arg<'a>
+    ensures rule { rule_of result ≡ board_web is_needed }
+    ensures local { result.global ≡ false }
+{
+    let web = optional(
+        alloc,
+        "web",
+        "[ADDRESS:]Q",
+        "The port where browsers draw, 0 for any that is free; at 127.0.0.1 or ADDRESS",
+    );
+    web.required(is_needed)
+}
+
+fn idle_argument<'a>(alloc: Global) -> Arg<'a>
+    ensures rule { rule_of result ≡ idle_option }
+    ensures local { result.global ≡ false }
+{
+    let idle = optional(
+        alloc,
+        "until-idle",
+        "MINUTES",
+        "Ends when nobody has sat at any seat for so long, 1 to 1440",
+    );
+    idle.value_parser(value_parser!(u16).range(1..=1_440))
 }
 
 /// `join` with its line, its help and how it is used.

@@ -6,7 +6,8 @@ ghost use Rattle.genedit_words.specs.Ending.{IsStatusOf, IsWordsStatus};
 ghost use Rattle.genedit_io.specs.RunFault.{exit_status};
 
 use crate::advice::line_of;
-use crate::misspelt::MisspeltRule;
+use crate::misspelt::{MisspeltRule, MisspeltWeb};
+use crate::needs::Needs;
 use clap::Error;
 use clap::error::ErrorKind;
 use genedit_io::RunFault;
@@ -14,10 +15,6 @@ use std::alloc::{AllocError, AllocGlobal};
 
 /// The status of a fault of the words.
 const WORDS_STATUS: u8 = 2;
-
-/// What is said where a server has no rule, as `clap` says it of an option that has to be given.
-const NO_RULE: &str =
-    "genedit: the following required arguments were not provided: --rule <TEXT>; as --rule 23/3/2";
 
 /// Why the program ends before its work is done.
 #[derive(Drop)]
@@ -28,8 +25,10 @@ pub enum Ending<'a> {
     NoText,
     /// A word spells no rule.
     Rule(MisspeltRule<'a>),
-    /// A server is asked for without a rule, and without a file that names one.
-    NoRule,
+    /// A word spells no web port.
+    Web(MisspeltWeb<'a>),
+    /// A server is asked for without what it needs.
+    Lacking(Needs),
     /// The work was left.
     Run(RunFault),
 }
@@ -49,8 +48,12 @@ impl Ending<'_> {
                 let _ = eprintln!(rt; "genedit: {rule}");
                 WORDS_STATUS
             }
-            Ending::NoRule => {
-                let _ = rt.eprintln(NO_RULE);
+            Ending::Web(web) => {
+                let _ = eprintln!(rt; "genedit: {web}");
+                WORDS_STATUS
+            }
+            Ending::Lacking(needs) => {
+                let _ = eprintln!(rt; "genedit: {needs}");
                 WORDS_STATUS
             }
             Ending::Run(fault) => tell_fault(rt, fault),

@@ -1,4 +1,4 @@
-//! A word that spells no rule.
+//! Words that do not spell what they have to.
 
 use crate::rule_words::rule_cure;
 use genedit_io::RunFault;
@@ -32,5 +32,27 @@ impl fmt::Display for MisspeltRule<'_> {
                 write!(f, "{refusal}: {cure}")
             }
         }
+    }
+}
+
+/// A word that spells no web port.
+#[derive(Clone, Copy, Drop)]
+pub struct MisspeltWeb<'a> {
+    pub text: &'a str,
+}
+
+/// What the program says of it, as `clap` says it of a value.
+impl fmt::Display for MisspeltWeb<'_> {
+    ghost use Rattle.std.specs.Prelude.{Some};
+    ghost use Rattle.genedit_words.specs.Misspelt.{no_web_text};
+
+    ghost output = { λ web. Some (no_web_text web.text.now) };
+
+    fn fmt<W: fmt::Write>(&self, f: &mut fmt::Formatter<W>) -> fmt::Result {
+        let text = self.text;
+        write!(
+            f,
+            "invalid value '{text}' for '--web <[ADDRESS:]Q>': a port is 0 to 65535, as --web 0 or --web 192.168.1.7:7080"
+        )
     }
 }

@@ -15,8 +15,8 @@ pub struct RleTask<'a> {
 pub struct ServeTask<'a> {
     /// The rule of the board; there wherever `keep` is none, since only a file can name it instead.
     pub rule: Option<Rule>,
-    /// 0 for any that is free.
-    pub port: u16,
+    /// 0 for any that is free; none only where there is `web`, and then only browsers come.
+    pub port: Option<u16>,
     /// 1 to 64.
     pub sessions: u16,
     /// The number of its first seat, 1 to 65,472, so that the last of 64 has one of 16 bits.
@@ -25,6 +25,21 @@ pub struct ServeTask<'a> {
     pub keep: Option<&'a str>,
     /// Whether a line `close` on standard input ends it.
     pub until_close: bool,
+    /// Where browsers draw on the board, if they do.
+    pub web: Option<WebTask<'a>>,
+    /// After how many minutes in which nobody sits at any seat it ends by itself, 1 to 1,440, if it does.
+    pub until_idle: Option<u16>,
+}
+
+/// A web port, where browsers draw on a board.
+#[derive(Clone, Copy)]
+pub struct WebTask<'a> {
+    /// The address of this machine at which it listens, not looked at yet; 127.0.0.1 if none is named.
+    pub address: Option<&'a str>,
+    /// 0 for any that is free.
+    pub port: u16,
+    /// How links to the board begin, not looked at yet; by the address and the port if none is given.
+    pub url: Option<&'a str>,
 }
 
 /// A client of a board that is served.

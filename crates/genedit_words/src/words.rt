@@ -1,23 +1,26 @@
 //! What the words ask for.
 
-ghost use Rattle.std.specs.Prelude.{◌≡◌, ◌≤◌, ◌<◌, ◌^◌, ℕ, List, IfErr, IfOk, IfSome, Ok, Some, Option, Result, codes, false, map, option_and_then, option_map, string_bytes, true};
+ghost use Rattle.std.specs.Prelude.{◌≡◌, ◌≤◌, ◌<◌, ◌^◌, ◌||◌, not, ℕ, List, IfErr, IfOk, IfSome, Ok, Some, Option, Result, codes, false, map, option_and_then, option_map, string_bytes, true};
 ghost use Rattle.clap.specs.Words.{first_of, found_of, rows_of, subcommand_rows_of};
 ghost use Rattle.clap.specs.Walk.{all_of};
 ghost use Rattle.genedit_words.specs.Misspelt.{Misspelt};
+ghost use Rattle.genedit_words.specs.Needs.{needs_some};
 ghost use Rattle.genedit_words.specs.Given.{HasClient, HasConversion, HasDiff, HasDraw, HasExport, HasFeed, HasFlag, HasFollow, HasFor, HasLog, HasMerge, HasNew, HasNumber, HasNumbering, HasRule, HasServer, HasText, HasTexts, HasView, IsInRange, IsNamed, MayHaveNumber};
-ghost use Rattle.genedit_words.specs.Told.{Told, or_misspelt, told, told_of};
-ghost use Rattle.genedit_words.specs.Words.{Asks, EndsWords, IsAsked, asked_by, check_asked, convert_asked, diff_asked, draw_asked, export_asked, feed_asked, file_asked, first_asked, follow_asked, has_board, interval_asked, is_set, join_asked, lacks_rule, log_asked, merge_asked, named_file, new_asked, number_asked, number_of, rle_asked, rule_asked, rule_if_given, run_asked, serve_asked, task_of, view_asked};
+ghost use Rattle.genedit_words.specs.Told.{Told, or_misspelt, or_no_web, told, told_of};
+ghost use Rattle.genedit_words.specs.Words.{Asks, EndsWords, IsAsked, asked_by, check_asked, convert_asked, diff_asked, draw_asked, export_asked, feed_asked, file_asked, first_asked, follow_asked, interval_asked, is_set, is_told, join_asked, log_asked, merge_asked, named_file, needs_of, new_asked, number_asked, number_of, rle_asked, rule_asked, rule_if_given, run_asked, serve_asked, server_needs, task_of, tells, view_asked, web_asked};
 
 use crate::commands::command;
 use crate::ending::Ending;
-use crate::missing::with_rule;
-use crate::misspelt::MisspeltRule;
+use crate::missing::with_needs;
+use crate::misspelt::{MisspeltRule, MisspeltWeb};
+use crate::needs::Needs;
 use crate::options::bound;
 use crate::subcommand::Subcommand;
 use crate::task::{
     ConvertTask, DiffTask, DrawTask, ExportTask, FeedTask, FollowTask, JoinTask, LogTask,
-    MergeTask, NewTask, NumberTask, RleTask, ServeTask, Task, Viewing,
+    MergeTask, NewTask, NumberTask, RleTask, ServeTask, Task, Viewing, WebTask,
 };
+use crate::web_words::web_place;
 use clap::ArgMatches;
 use genedit_io::RunFault;
 use generations_rule::Rule;
@@ -34,7 +37,29 @@ const INTERVAL: u16 = 50;
 pub(crate) enum NoTask<'a> {
     /// One of them spells no rule.
     Rule(MisspeltRule<'a>),
+    /// One of them spells no web port.
+    Web(MisspeltWeb<'a>),
     Memory,
+}
+
+impl<'a> From<MisspeltRule<'a>> for NoTask<'a> {
+    ghost use Rattle.genedit_words.specs.declared.words.NoTask.TheVariants as no_task;
+
+    ghost from_gives = { λ wrong given. given ≡ no_task.Rule wrong };
+
+    fn from(wrong: MisspeltRule<'a>) -> NoTask<'a> {
+        NoTask::Rule(wrong)
+    }
+}
+
+impl<'a> From<MisspeltWeb<'a>> for NoTask<'a> {
+    ghost use Rattle.genedit_words.specs.declared.words.NoTask.TheVariants as no_task;
+
+    ghost from_gives = { λ wrong given. given ≡ no_task.Web wrong };
+
+    fn from(wrong: MisspeltWeb<'a>) -> NoTask<'a> {
+        NoTask::Web(wrong)
+    }
 }
 
 /// The words with which the program was started, its own name first, as `bound` makes them.
@@ -55,42 +80,62 @@ pub fn asked(alloc: Global, words: &[String]) -> Result<Task<'_>, Ending<'_>>
     ensures range { IfOk result IsInRange }
     ensures ends { IfErr result (EndsWords (map string_bytes words.now)) }
 {
-    let matches = match command(alloc, false)?.try_get_matches_from(words) {
+    let matches = match command(alloc, Needs::none())?.try_get_matches_from(words) {
         Ok(matches) => matches,
-        Err(error) => return Err(Ending::Words(with_rule(alloc, words, error))),
+        Err(error) => return Err(Ending::Words(with_needs(alloc, words, error))),
     };
-    if lacks_rule(&matches) {
-        return Err(Ending::NoRule);
+    let needs = needs_of(&matches);
+    if needs.is_some() {
+        return Err(Ending::Lacking(needs));
     }
     match task(alloc, &matches) {
         Ok(task) => Ok(task),
         Err(NoTask::Rule(rule)) => Err(Ending::Rule(rule)),
+        Err(NoTask::Web(web)) => Err(Ending::Web(web)),
         Err(NoTask::Memory) => Err(Ending::Run(RunFault::Memory)),
     }
 }
 
-/// Whether a server is asked for without a rule, and without a file that names one.
-fn lacks_rule(matches: &ArgMatches<'_>) -> bool
+/// What the words lack: those for a server alone may lack something.
+fn needs_of(matches: &ArgMatches<'_>) -> Needs
     requires { IsNamed (subcommand_rows_of matches.now) }
-    ensures { option_map lacks_rule (subcommand_rows_of matches.now) ≡ Some result }
+    ensures { option_map needs_of (subcommand_rows_of matches.now) ≡ Some result }
 {
     match matches.subcommand_matches("serve") {
-        Some(words) => !has_board(words),
-        None => false,
+        Some(words) => server_needs(words),
+        None => Needs::none(),
     }
 }
 
-/// Whether the words for a server tell a rule, or the file in which its board is kept.
-fn has_board(words: &ArgMatches<'_>) -> bool
-    ensures { result ≡ has_board (rows_of (found_of words.now)) }
+/// What the words for a server lack.
+fn server_needs(words: &ArgMatches<'_>) -> Needs
+    ensures { result ≡ server_needs (rows_of (found_of words.now)) }
 {
-    words.get_str("rule").is_some() || words.get_str("keep").is_some()
+    Needs {
+        rule: lacks_both(words, "rule", "keep"),
+        port: lacks_both(words, "port", "web"),
+        web: is_told(words, "url") && !is_told(words, "web"),
+    }
+}
+
+/// Whether neither of two options is given.
+fn lacks_both(words: &ArgMatches<'_>, one: &str, other: &str) -> bool
+    ensures { result ≡ not (is_told one.now (rows_of (found_of words.now)) || is_told other.now (rows_of (found_of words.now))) }
+{
+    !(is_told(words, one) || is_told(words, other))
+}
+
+/// Whether an option is given.
+fn is_told(words: &ArgMatches<'_>, id: &str) -> bool
+    ensures { result ≡ is_told id.now (rows_of (found_of words.now)) }
+{
+    words.get_str(id).is_some()
 }
 
 /// What the words ask for.
 fn task<'a>(alloc: Global, matches: &ArgMatches<'a>) -> Result<Task<'a>, NoTask<'a>>
     requires named { IsNamed (subcommand_rows_of matches.now) }
-    requires board { option_map lacks_rule (subcommand_rows_of matches.now) ≡ Some false }
+    requires complete { option_map (λ subcommand. needs_some (needs_of subcommand)) (subcommand_rows_of matches.now) ≡ Some false }
     ensures asked { IsAsked (option_and_then task_of (subcommand_rows_of matches.now)) result }
     ensures range { IfOk result IsInRange }
 {
@@ -110,7 +155,7 @@ fn task_by<'a>(
     words: &ArgMatches<'a>,
 ) -> Result<Task<'a>, NoTask<'a>>
     requires has { HasFor subcommand (rows_of (found_of words.now)) }
-    requires board { subcommand ≡ Subcommand.Serve → has_board (rows_of (found_of words.now)) ≡ true }
+    requires complete { subcommand ≡ Subcommand.Serve → needs_some (server_needs (rows_of (found_of words.now))) ≡ false }
     ensures asked { IsAsked (asked_by subcommand (rows_of (found_of words.now))) result }
     ensures range { IfOk result IsInRange }
 {
@@ -120,7 +165,7 @@ fn task_by<'a>(
         Subcommand::Rle => ruled(rle(words)),
         Subcommand::View => ruled(view(words)),
         Subcommand::Convert => ruled(convert(words)),
-        Subcommand::Serve => ruled(serve(words)),
+        Subcommand::Serve => serve(words),
         Subcommand::Join => Ok(join(words)),
         Subcommand::New => ruled(new_document(words)),
         Subcommand::Draw => Ok(draw(words)),
@@ -308,14 +353,15 @@ fn rle<'a>(words: &ArgMatches<'a>) -> Result<Task<'a>, MisspeltRule<'a>>
 }
 
 /// What `serve` asks for.
-fn serve<'a>(words: &ArgMatches<'a>) -> Result<Task<'a>, MisspeltRule<'a>>
+fn serve<'a>(words: &ArgMatches<'a>) -> Result<Task<'a>, NoTask<'a>>
     requires server { HasServer (rows_of (found_of words.now)) }
-    requires board { has_board (rows_of (found_of words.now)) ≡ true }
-    ensures asked { serve_asked (rows_of (found_of words.now)) ≡ Some (told result) }
+    requires complete { needs_some (server_needs (rows_of (found_of words.now))) ≡ false }
+    ensures asked { serve_asked (rows_of (found_of words.now)) ≡ tells result }
     ensures range { IfOk result IsInRange }
 {
     let rule = rule_if_given(words)?;
-    let port = number(words, "port");
+    let web = web_if_given(words)?;
+    let port = number_if_given(words, "port");
     let sessions = number(words, "sessions");
     Ok(Task::Serve(ServeTask {
         rule,
@@ -324,7 +370,26 @@ fn serve<'a>(words: &ArgMatches<'a>) -> Result<Task<'a>, MisspeltRule<'a>>
         first: first_seat(words),
         keep: words.get_str("keep"),
         until_close: is_set(words, "until-close"),
+        web,
+        until_idle: number_if_given(words, "until-idle"),
     }))
+}
+
+/// The web port of the option `--web`, if it is given, and how links to it begin.
+fn web_if_given<'a>(words: &ArgMatches<'a>) -> Result<Option<WebTask<'a>>, MisspeltWeb<'a>>
+    ensures { or_no_web result ≡ web_asked (rows_of (found_of words.now)) }
+{
+    match words.get_str("web") {
+        None => Ok(None),
+        Some(text) => match web_place(text) {
+            Some((address, port)) => Ok(Some(WebTask {
+                address,
+                port,
+                url: words.get_str("url"),
+            })),
+            None => Err(MisspeltWeb { text }),
+        },
+    }
 }
 
 /// The number of a server's first seat: 1 where none is given.
@@ -492,6 +557,15 @@ fn rule_of(text: &str) -> Result<Rule, MisspeltRule<'_>>
         Ok(rule) => Ok(rule),
         Err(why) => Err(MisspeltRule { text, why }),
     }
+}
+
+/// The number of an option that may be given and takes numbers of 16 bits.
+fn number_if_given(words: &ArgMatches<'_>, id: &str) -> Option<u16>
+    requires { (low high : ℕ) × (high ≤ 65535) × MayHaveNumber low high id.now (rows_of (found_of words.now)) }
+    ensures value { number_of id.now (rows_of (found_of words.now)) ≡ result }
+    ensures within { (low high : ℕ) → high ≤ 65535 → MayHaveNumber low high id.now (rows_of (found_of words.now)) → IfSome result (λ n. (low ≤ n) × (n ≤ high)) }
+{
+    words.get_one::<u16>(id)
 }
 
 /// The number of an option that is required and takes numbers of 16 bits.

@@ -1,4 +1,4 @@
-//! Tests of the server: boards that are served to connections over the loopback of this machine.
+//! Tests of the server: boards that are served over the loopback of this machine, to connections and to pages.
 #![tactic(auto)]
 
 #[cfg(test)]
@@ -11,6 +11,10 @@ mod crowd;
 mod cut;
 #[cfg(test)]
 mod lessons;
+#[cfg(test)]
+mod page;
+#[cfg(test)]
+mod pages;
 #[cfg(test)]
 mod refused;
 #[cfg(test)]

@@ -1,8 +1,9 @@
 //! What is refused before anybody is served.
 
+use crate::served::address_of;
 use devices::{Failed, Sink};
 use genedit_io::{Cause, RunFault};
-use genedit_serve::{Address, ServedBoard, listen, serve_on};
+use genedit_serve::{ServedBoard, listen, serve_on};
 use generations_rule::Rule;
 use keyed_hash::HashKey;
 use std::net::TcpStream;
@@ -57,10 +58,7 @@ fn an_output_that_takes_nothing(rt: HostRuntime) -> Result<(), Fail> {
         pushes: 0,
         failures: 0,
     };
-    let address = Address {
-        listener: listen(&rt, 0)?,
-        closing: None,
-    };
+    let address = address_of(Some(listen(&rt, 0)?), None);
     let board = ServedBoard {
         rule,
         sessions: 1,
@@ -72,5 +70,25 @@ fn an_output_that_takes_nothing(rt: HostRuntime) -> Result<(), Fail> {
         Err(RunFault::Write)
     );
     assert_eq!(&rt; full.pushes, 1);
+    Ok(())
+}
+
+#[test]
+fn nowhere_to_come_in(rt: HostRuntime) -> Result<(), Fail> {
+    let board = ServedBoard {
+        rule: Rule::parse(b"/2/3")?,
+        sessions: 1,
+        first: 1,
+        key: HashKey::fixed(),
+    };
+    let mut full = Full {
+        pushes: 0,
+        failures: 0,
+    };
+    assert_eq!(&rt;
+        serve_on(rt, rt.alloc(), address_of(None, None), board, &mut full),
+        Err(RunFault::Read)
+    );
+    assert_eq!(&rt; full.pushes, 0);
     Ok(())
 }

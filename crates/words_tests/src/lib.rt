@@ -1,4 +1,4 @@
-//! Tests of `command_words`, and of the helps of `genedit_words` beside it.
+//! Tests of `command_words`, and of the words and helps of `genedit_words` beside it.
 #![tactic(auto)]
 
 #[cfg(test)]
@@ -7,3 +7,5 @@ mod forms;
 mod helps;
 #[cfg(test)]
 mod lines;
+#[cfg(test)]
+mod servers;

@@ -15,14 +15,14 @@ seats_served-requires-clause-order g c κs within =
 
 pub returns-in-Err-begun : goal.returns-in-Err-begun
 returns-in-Err-begun g c =
-    unattended c.args.opened.rule c.args.opened.first c.args.opened.count c.args.bound.port _ c.in-Err-begun.fault c.server_fault.result c.in-Err-begun.ensures.fault c.server_fault.ensures
+    unattended c.args.opened.rule c.args.opened.first c.args.opened.count c.args.bound.told.items _ c.in-Err-begun.fault c.server_fault.result c.in-Err-begun.ensures.fault c.server_fault.ensures
 
-pub returns-in-Err-told : goal.returns-in-Err-told
-returns-in-Err-told g c = untold c.args.opened.rule c.args.opened.first c.args.opened.count c.args.bound.port _ _ c.in-Err-told.fault c.in-Err-told.ensures.untold
+pub returns-in-Err-tell : goal.returns-in-Err-tell
+returns-in-Err-tell g c = untold c.args.opened.rule c.args.opened.first c.args.opened.count c.args.bound.told.items _ _ c.in-Err-tell.fault c.in-Err-tell.ensures.untold
 
 pub returns-in-Err-seats_served : goal.returns-in-Err-seats_served
 returns-in-Err-seats_served g c =
-    unserved c.args.opened.rule c.args.opened.first c.args.opened.count _ _ c.args.bound.port c.in-Ok-told.ensures.told _ c.in-Ok-begun.seated.0 c.in-Err-seats_served.fault c.server_fault-in-Err-seats_served.result
+    unserved c.args.opened.rule c.args.opened.first c.args.opened.count _ _ c.args.bound.told.items c.in-Ok-tell.ensures.told _ c.in-Ok-begun.seated.0 c.in-Err-seats_served.fault c.server_fault-in-Err-seats_served.result
     (record {
       published = c.in-Ok.ensures.relay.0;
       taken = c.in-Ok.ensures.relay.1;
@@ -36,7 +36,7 @@ returns-in-Err-seats_served g c =
 
 pub returns-in_ok-text-in-Ok-seats_served : goal.returns-in_ok-text-in-Ok-seats_served
 returns-in_ok-text-in-Ok-seats_served g c =
-    ends c.args.opened.rule c.args.opened.first c.args.opened.count _ _ c.args.bound.port c.in-Ok-told.ensures.told
+    ends c.args.opened.rule c.args.opened.first c.args.opened.count _ _ c.args.bound.told.items c.in-Ok-tell.ensures.told
     c.in-Ok.named.0.origin c.in-Ok-begun.seated.0 c.in-Ok-seats_served.finished _
     c.push_output.result c.deref.result.now c.in-Ok.ensures.states
     (subst (λ (ss : List Seating). AreFreshSeats c.args.opened.rule c.args.opened.first c.args.opened.count ss) (sym c.in-Ok-begun.ensures.seats)

@@ -4,7 +4,7 @@ use Rattle.genedit_words.proofs.commands.command.Goals as goal
 
 pub returns : goal.returns
 returns c =
-    let begun : IsShape c.in_ok-board_commands.field-0 (board_app c.args.needs_rule) = record { is = c.in_ok-board_commands.ensures.0; local = c.in_ok-board_commands.ensures.1 } in
+    let begun : IsShape c.in_ok-board_commands.field-0 (board_app c.args.needs) = record { is = c.in_ok-board_commands.ensures.0; local = c.in_ok-board_commands.ensures.1 } in
     let with1 = with_command c.in_ok-board_commands.field-0 c.in_ok-subcommand.field-0 c.in_ok-new_command.field-0 _ new_document_shape begun c.in_ok-new_command.ensures.shape c.in_ok-new_command.ensures.local c.in_ok-subcommand.ensures in
     let with2 = with_command c.in_ok-subcommand.field-0 c.in_ok-subcommand-2.field-0 c.in_ok-draw_command.field-0 _ draw_shape with1 c.in_ok-draw_command.ensures.shape c.in_ok-draw_command.ensures.local c.in_ok-subcommand-2.ensures in
     let with3 = with_command c.in_ok-subcommand-2.field-0 c.in_ok-subcommand-3.field-0 c.in_ok-merge_command.field-0 _ merge_shape with2 c.in_ok-merge_command.ensures.shape c.in_ok-merge_command.ensures.local c.in_ok-subcommand-3.ensures in
