@@ -1,9 +1,10 @@
 // @ts-check
 // A board that a server shares: its map, what was drawn and not confirmed, and the line as a state machine.
 import { missing, stampWord } from "./drawings.js";
-import { AWAY, Fault, MOST_CELLS, awaitNews, cutOf, handsPlane, hello, joined, pieces, poll, push, readDelta, readHello } from "./formats.js";
+import { AWAY, Fault, MOST_CELLS, awaitNews, clipped, cutOf, handsPlane, hello, joined, pieces, poll, push, readDelta, readHello } from "./formats.js";
 import { Line } from "./line.js";
 import { Plane } from "./plane.js";
+import { patternIn, placed } from "./rle.js";
 import { readRule } from "./rules.js";
 import { readState } from "./states.js";
 
@@ -20,7 +21,7 @@ import { readState } from "./states.js";
 /** How long the server awaits news, and how long the page awaits a reply, in milliseconds. */
 const AWAIT = 20000, PATIENCE = 35000;
 /** The kinds of requests that take as long as they take: exports. */
-const SLOW = [5, 7];
+const SLOW = [5, 7, 10];
 /** How long after a refusal, a loss or the last news the page asks again, in milliseconds. */
 const FULL_INBOX = 20, POLLS = 50, LOST = 100, HIDDEN = 1000, NO_MEMORY = 1000, CLOSED = 5000, LONGEST = 5000, NO_SEAT = 10000;
 const LAST_COUNTER = 2 ** 48 - 1;
@@ -44,8 +45,7 @@ export class Board {
     this.tries = 0;
     this.hasRead = false;
     this.hasAwait = true;
-    /** Whether the window that is looked at is asked for first, by a Cut. */
-    this.asksCut = false;
+    this.hasCut = true;
   }
 
   /**
@@ -161,19 +161,22 @@ export class Board {
     });
   }
 
-  /** Reads the whole board, what is looked at first where the server can cut. */
+  /** Reads the whole board. The first time, what is looked at comes before it, where the server can cut. */
   read() {
-    const window = this.asksCut && !this.hasRead ? /** @type {World} */ (this.world).window() : null;
-    if (window) this.line.request(cutOf(window), bodies => this.show(bodies));
+    const window = this.hasCut && !this.hasRead ? /** @type {World} */ (this.world).window() : null;
+    if (window) this.line.request(cutOf(clipped(window), 0), bodies => this.show(bodies));
     this.line.request(poll(), bodies => this.begin(bodies));
   }
 
-  /** Shows a window of the board while the rest is read.
+  /** Shows a window of the board while the rest is read, its cells below every write. One of more cells than a pattern
+   * has is not shown: the rest is on its way.
    * @param {Uint8Array[]} bodies */
   show([first]) {
-    if (first[0]) { this.asksCut = false; return; }
-    const plane = new Plane();
-    plane.load(readState(first.subarray(1), this.rule));
+    if (first[0] === 33) this.hasCut = false;
+    if (first[0]) return;
+    const plane = new Plane(), seen = patternIn(first);
+    if (!seen) return;
+    plane.apply({ c: 0, r: 0, area: null, cells: placed(seen) });
     for (const edit of this.pending) plane.apply(edit);
     this.replace(plane);
   }

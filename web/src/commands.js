@@ -1,10 +1,12 @@
 // @ts-check
 // What each button and key does.
 import { THEMES } from "./colours.js";
-import { save, saveFilm, savePicture, saveSeen, share, showGeneration } from "./files.js";
+import { count, save, saveFilm, savePicture, saveSeen, share, showGeneration } from "./files.js";
+import { nameSeat } from "./names.js";
 import { flipX, flipY, rotate } from "./patterns.js";
 import { field, part, say, showWho } from "./panel.js";
 import { readRule, ruleName } from "./rules.js";
+import { keepNames } from "./start.js";
 import { HELD } from "./words.js";
 
 /** @typedef {import("./page.js").App} App */
@@ -80,6 +82,17 @@ function takeRule(app) {
   say(`The rule is ${ruleName(rule)}.`);
 }
 
+/** Names whoever has a seat, in this page.
+ * @param {App} app */
+function takeName(app) {
+  const seat = Number(field("named").value), name = nameSeat(app.names, seat, field("name").value);
+  if (name === null) return say("A seat is a number from 1 to 65,535.");
+  keepNames(app.token, app.names);
+  app.changed();
+  showWho(app);
+  say(name ? `Seat ${seat} is ${name}, in this page and in the links that it gives.` : `Seat ${seat} has no name.`);
+}
+
 /** @param {App} app @returns {Record<string, () => unknown>} */
 export function commandsOf(app) {
   const { view, player } = app, edited = () => { view.isDirty = true; };
@@ -99,11 +112,12 @@ export function commandsOf(app) {
     step: () => { player.isPlaying = false; player.step(); say(`Generation ${player.gen}, population ${player.shown.population}.`); },
     back: () => say(!player.back() ? "This is the board." : player.look ? `Generation ${player.gen}.` : "The board."),
     edit: () => { view.held = null; view.selection = null; player.edit(); say("The board."); },
-    show: () => showGeneration(app, Number(field("gen").value)),
+    show: () => showGeneration(app), count: () => count(app),
     open: () => field("file").click(), save: () => save(app), png: () => savePicture(app), svg: () => saveSeen(app), film: () => saveFilm(app), share: () => share(app),
     rule: () => takeRule(app),
     fit: () => view.fit(), nearer: () => view.zoomBy(true), further: () => view.zoomBy(false), middle: () => view.centre(0, 0),
     who: () => { view.showsSeats = !view.showsSeats; edited(); app.changed(); showWho(app); },
+    name: () => takeName(app),
     theme: () => app.setTheme(THEMES[(THEMES.indexOf(view.theme) + 1) % THEMES.length]),
     help: () => /** @type {HTMLDialogElement} */ (part("keys")).showModal(),
     shut: () => /** @type {HTMLDialogElement} */ (part("keys")).close(),

@@ -1,6 +1,6 @@
 // @ts-check
 // What is done to a board: strokes, pastes, areas, turns, and taking them back.
-import { HALF, inPlane } from "./formats.js";
+import { HALF, clipped, inPlane } from "./formats.js";
 import { sorted, tidy, triples } from "./patterns.js";
 import { writeRLE } from "./rle.js";
 import { Strokes } from "./undo.js";
@@ -108,9 +108,8 @@ export class Editor {
   /** Clears a box as far as it lies in the plane.
    * @param {Box} box */
   clear(box) {
-    const x = Math.max(box.x, -HALF), y = Math.max(box.y, -HALF);
-    const w = Math.min(box.x + box.w, HALF) - x, h = Math.min(box.y + box.h, HALF) - y;
-    if (w > 0 && h > 0) this.put([], { x, y, w, h });
+    const inside = clipped(box);
+    if (inside.w > 0 && inside.h > 0) this.put([], inside);
   }
 
   /** The cells of a box of the board, and where they stand.
@@ -143,9 +142,9 @@ export class Editor {
   }
 }
 
-/** The text of all cells of a board or a generation.
- * @param {{ cells(): number[] }} from @param {import("./rules.js").Rule} rule @param {number} gen */
-export const textOf = (from, rule, gen) => writeRLE(from.cells(), rule, gen);
+/** The text of the cells of a board or a generation, all or those of a box.
+ * @param {{ cells(box?: Box): number[] }} from @param {import("./rules.js").Rule} rule @param {number} gen @param {Box | null} [box] */
+export const textOf = (from, rule, gen, box) => writeRLE(from.cells(box || undefined), rule, gen);
 
 /** A whole pattern as the cells of its least box.
  * @param {number[]} cells @returns {Held} */

@@ -1,11 +1,12 @@
 // @ts-check
 // What comes in as a file or a link, and what goes out as one.
-import { Fault, exportOf, many } from "./formats.js";
+import { Fault, clipped, cutOf, exportOf, many, textIn } from "./formats.js";
 import { heldOf, textOf } from "./editor.js";
 import { Grid } from "./generations.js";
+import { namesText } from "./names.js";
 import { around, filmOf, svgOf } from "./pictures.js";
 import { field, say } from "./panel.js";
-import { boxOf, forFile, readRLE } from "./rle.js";
+import { boxOf, forFile, placed, readRLE } from "./rle.js";
 import { readRule } from "./rules.js";
 import { readState } from "./states.js";
 import { NOT_PROVED, refusalWords } from "./words.js";
@@ -31,45 +32,59 @@ function give(name, blob) {
   setTimeout(() => URL.revokeObjectURL(url), 10000);
 }
 
-/** The RLE text of a generation: the server's export, or where there is none the page's.
- * @param {App} app @param {number} gen */
-export async function exported(app, gen) {
+/** The RLE text of a generation, of all or of a box: the server's, or where there is none the page's.
+ * @param {App} app @param {number} gen @param {import("./formats.js").Box | null} [box] */
+async function exported(app, gen, box) {
   if (app.board.state === "open") {
-    const [body] = await app.board.ask(exportOf(gen));
-    return new TextDecoder().decode(body.subarray(1));
+    const [body] = await app.board.ask(box ? cutOf(clipped(box), gen) : exportOf(gen));
+    return textIn(body);
   }
   const grid = app.player.look && app.player.gen === gen ? app.player.look.grid : await reached(app, gen);
-  return grid && textOf(grid, app.board.rule, gen);
+  return grid && textOf(grid, app.board.rule, gen, box);
 }
 
 /** A generation by the page's own steps, or null where it was given up.
  * @param {App} app @param {number} gen */
 const reached = (app, gen) => app.player.reach(gen, at => say(`Generation ${at} of ${gen}. Escape gives it up.`));
 
-/** @param {App} app @param {number} gen */
-export async function showGeneration(app, gen) {
+/** Does something with the pattern of the generation that is asked for, of all or of a box.
+ * @param {App} app @param {import("./formats.js").Box | null} box @param {(p: import("./rle.js").Pattern, gen: number) => void} call */
+async function withGeneration(app, box, call) {
+  const gen = Number(field("gen").value);
   if (!Number.isInteger(gen) || gen < 0 || gen > LAST) return say("A generation is a number from 0 to 536,870,912.");
   try {
     app.player.isPlaying = false;
-    const text = await exported(app, gen);
-    if (text === null) return;
-    const p = readRLE(text);
-    app.player.show({ grid: Grid.from(p.cells, p.x, p.y), gen });
-    app.view.fit();
-    say(`Generation ${gen}, population ${p.cells.length / 3}.`);
+    const text = await exported(app, gen, box);
+    if (text !== null) call(readRLE(text), gen);
   } catch (fault) { say(wordsOf(fault)); }
 }
 
-/** Saves the generation that is shown, of the board as it is; a rule of two states is spelled as `genedit convert` does.
+/** Shows the generation that is asked for.
+ * @param {App} app */
+export const showGeneration = app => withGeneration(app, null, (p, gen) => {
+  app.player.show({ grid: Grid.from(p.cells, p.x, p.y), gen });
+  app.view.fit();
+  say(`Generation ${gen}, population ${p.cells.length / 3}.`);
+});
+
+/** Tells how many cells the generation that is asked for has, and their least box, of the selection where there is one.
+ * @param {App} app */
+export const count = app => withGeneration(app, app.view.selection, (p, gen) => {
+  const box = p.cells.length ? `, box ${p.w} x ${p.h} at ${p.x} ${p.y}` : "";
+  say(`Generation ${gen}${app.view.selection ? ", in the selection" : ""}: ${p.cells.length / 3} cells${box}.`);
+});
+
+/** Saves the generation that is shown, of the board as it is, the selection or all; a rule of two states is spelled as
+ * `genedit convert` does.
  * @param {App} app */
 export async function save(app) {
-  const { gen } = app.player, isOwn = app.board.state !== "open";
+  const { gen } = app.player, { selection } = app.view, isOwn = app.board.state !== "open";
   try {
-    const shown = await exported(app, gen);
+    const shown = await exported(app, gen, selection);
     if (shown === null) return;
     const text = forFile(shown, app.board.rule);
     give(`pazgrot-${gen}.rle`, new Blob([text]));
-    say(`Saved generation ${gen}, ${text.length} bytes${isOwn ? ", " + NOT_PROVED : ", written by the server"}.`);
+    say(`Saved ${selection ? "the selection of " : ""}generation ${gen}, ${text.length} bytes${isOwn ? ", " + NOT_PROVED : ", written by the server"}.`);
   } catch (fault) { say(wordsOf(fault)); }
 }
 
@@ -108,8 +123,7 @@ async function looks(app, from, to) {
     const bodies = await app.board.ask(many(Array.from({ length: to - from + 1 }, (_, k) => from + k)));
     for (const body of bodies.slice(1)) {
       if (body[0]) throw new Fault(body[0]);
-      const p = readRLE(new TextDecoder().decode(body.subarray(1)));
-      list.push({ cells: p.cells.map((n, k) => k % 3 === 0 ? n + p.x : k % 3 === 1 ? n + p.y : n) });
+      list.push({ cells: placed(readRLE(textIn(body))) });
     }
     return list;
   }
@@ -139,7 +153,7 @@ export async function saveFilm(app) {
 export async function share(app) {
   const { view, board } = app, { x, y, w, h } = view.window(), at = `at=${x + (w >> 1)},${y + (h >> 1)},${view.zoom}`;
   const base = location.href.split("#")[0];
-  let link = `${base}#${app.token}&${at}`;
+  let link = `${base}#${app.token}&${at}${app.names.size ? "&names=" + encodeURIComponent(namesText(app.names)) : ""}`;
   if (board.state === "alone") {
     link = `${base}#rule=${encodeURIComponent(board.rule.text)}&rle=${encodeURIComponent(textOf(board.plane, board.rule, 0))}&${at}`;
     if (link.length > MOST_LINK) return say("The pattern is too long for a link: save it as RLE.");

@@ -178,6 +178,13 @@ export const within = (box, x, y) => x >= box.x && y >= box.y && x < box.x + box
 /** @param {number} x @param {number} y */
 export const inPlane = (x, y) => x >= -HALF && y >= -HALF && x < HALF && y < HALF;
 
+/** A box as far as it lies in the plane; where it does not, a side is 0.
+ * @param {Box} box @returns {Box} */
+export function clipped(box) {
+  const x = Math.max(box.x, -HALF), y = Math.max(box.y, -HALF);
+  return { x, y, w: Math.max(Math.min(box.x + box.w, HALF) - x, 0), h: Math.max(Math.min(box.y + box.h, HALF) - y, 0) };
+}
+
 // -- requests, by their kinds
 
 const alone = (/** @type {number} */ kind) => Uint8Array.of(kind);
@@ -202,8 +209,8 @@ export function many(generations) {
 }
 /** @param {number} milliseconds */
 export const awaitNews = milliseconds => new Out(5).u8(8).u32(milliseconds).bytes;
-/** @param {Box} window */
-export const cutOf = window => new Out(17).u8(10).u32(window.x + HALF).u32(window.y + HALF).u32(window.w).u32(window.h).bytes;
+/** @param {Box} window in the plane @param {number} generation */
+export const cutOf = ({ x, y, w, h }, generation) => new Out(21).u8(10).u32(x).u32(y).u32(w).u32(h).u32(generation).bytes;
 export const pieces = () => alone(11);
 
 // -- replies
@@ -236,6 +243,10 @@ export function readHello(first) {
 /** Whether the reply to a Poll hands out a plane.
  * @param {Uint8Array} first */
 export const handsPlane = first => new In(first.subarray(1)).u32() === PLANE;
+
+/** The text of a reply, behind its 0.
+ * @param {Uint8Array} body */
+export const textIn = body => new TextDecoder().decode(body.subarray(1));
 
 /** Bodies put together.
  * @param {Uint8Array[]} bodies */

@@ -13,7 +13,7 @@ import { field, fillByRule, fillLists, part, say, showFacts, showSwatches, showT
 import { Player } from "./player.js";
 import { readRLE } from "./rle.js";
 import { readRule, ruleName } from "./rules.js";
-import { keepPending, placeOf, readLink, takeKey, worldOf } from "./start.js";
+import { keepPending, namesOf, placeOf, readLink, takeKey, worldOf } from "./start.js";
 import { Strokes } from "./undo.js";
 import { View } from "./view.js";
 import { ALONE, HELD, KEYS, lineWords, refusalWords } from "./words.js";
@@ -27,6 +27,8 @@ export class App {
   /** @param {import("./start.js").Link} link @param {string} key */
   constructor(link, key) {
     this.token = link.token;
+    this.at = placeOf(link.at);
+    this.names = namesOf(link);
     this.tool = "draw";
     this.state = 1;
     this.copied = "";
@@ -42,7 +44,6 @@ export class App {
     this.board = new Board(world, {
       state: state => this.told(state), map: () => { this.view.isDirty = true; }, refused: n => say(refusalWords(n)), begunAnew: before => this.begunAnew(before),
     }, link.rule ? link.rule.text : "23/3/2");
-    this.board.asksCut = link.asksCut;
     this.player = new Player(this.board, () => this.changed());
     /** @type {View} */
     this.view = new View(/** @type {HTMLCanvasElement} */ (part("c")), this.board, this.player);
@@ -73,11 +74,15 @@ export class App {
     else say("The board is there.");
   }
 
+  /** Looks where the link says; whether it does. */
+  lookAtPlace() {
+    if (this.at) this.view.centre(this.at[0], this.at[1], this.at[2]);
+    return this.at !== null;
+  }
+
   lookAtFirst() {
     this.isFitted = true;
-    const at = placeOf(readLink().at);
-    if (at) this.view.centre(at[0], at[1], at[2]);
-    else this.view.fit();
+    if (!this.lookAtPlace()) this.view.fit();
   }
 
   /** The server began an empty board: what stood before is held, to be put down.
@@ -240,6 +245,7 @@ async function begin() {
   setInterval(() => showWho(app), 500);
   addEventListener("hashchange", () => location.reload());
   addEventListener("pagehide", () => { if (link.token) keepPending(link.token, app.board.pending); });
+  app.lookAtPlace();
   if (link.token) app.board.start(left);
   else beginAlone(app, link);
   requestAnimationFrame(now => app.frame(now));

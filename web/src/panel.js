@@ -2,6 +2,7 @@
 // The parts of the page around the canvas: buttons, swatches, lists, and the foot.
 import { THEMES, hex, seatColour } from "./colours.js";
 import { LIBRARY } from "./library.js";
+import { whoIs } from "./names.js";
 import { NAMED, readRule, ruleName } from "./rules.js";
 import { CELLS } from "./tiles.js";
 import { stateWords } from "./words.js";
@@ -99,7 +100,7 @@ export function showFacts(app) {
   const { box } = app, words = [
     player.look ? `generation ${player.gen}, a look` : "the board", `population ${shown.population}`,
     box ? `box ${box.w} x ${box.h} at ${box.x} ${box.y}` : "empty",
-    `x ${x} y ${y}: state ${shown.state(x, y)}${write.r && !player.look && board.state !== "alone" ? ` by seat ${write.r}` : ""}`,
+    `x ${x} y ${y}: state ${shown.state(x, y)}${write.r && !player.look && board.state !== "alone" ? ` by ${whoIs(app.names, write.r)}` : ""}`,
     `zoom ${view.zoom >= 1 ? view.zoom : "1/" + 1 / view.zoom}`,
   ];
   if (board.pending.length) words.push(`not confirmed ${board.pending.length}`);
@@ -117,7 +118,7 @@ export function showWho(app) {
   for (const [seat, n] of [...counts].sort((a, b) => a[0] - b[0])) {
     const mark = document.createElement("span");
     mark.style.background = hex(seatColour(seat));
-    mark.textContent = `${seat}${seat === app.board.seat ? ", you" : ""}: ${n}`;
+    mark.textContent = `${whoIs(app.names, seat)}${seat === app.board.seat ? ", you" : ""}: ${n}`;
     list.append(mark);
   }
 }

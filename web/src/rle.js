@@ -1,6 +1,6 @@
 // @ts-check
 // Golly's multi-state RLE, read and written as docs/MODEL.md has it.
-import { Fault, MOST_CELLS } from "./formats.js";
+import { Fault, MOST_CELLS, textIn } from "./formats.js";
 import { fileRule } from "./rules.js";
 
 /**
@@ -129,6 +129,21 @@ export function readRLE(text) {
   }
   return { w, h, x: origin.x, y: origin.y, gen: origin.gen, rule: header.rule, cells };
 }
+
+/** The pattern of a reply's text, or null where that has more cells than a pattern.
+ * @param {Uint8Array} body */
+export function patternIn(body) {
+  try {
+    return readRLE(textIn(body));
+  } catch (fault) {
+    if (fault instanceof Fault && fault.number === 8) return null;
+    throw fault;
+  }
+}
+
+/** The cells of a pattern where its text has them.
+ * @param {Pattern} pattern */
+export const placed = ({ x, y, cells }) => cells.map((n, k) => k % 3 === 0 ? n + x : k % 3 === 1 ? n + y : n);
 
 /** The letters of a state under a rule of so many states.
  * @param {number} s @param {number} states */

@@ -1,10 +1,11 @@
 // @ts-check
 // How the page begins: what its link says, the key of its seat, and the sockets and timers of a browser.
+import { namesText, readNames } from "./names.js";
 import { readRule } from "./rules.js";
 
 /** @typedef {import("./board.js").World} World */
 /** @typedef {import("./drawings.js").Drawing} Drawing */
-/** @typedef {{ token: string, rule: import("./rules.js").Rule | null, rle: string, at: string, asksCut: boolean }} Link */
+/** @typedef {{ token: string, rule: import("./rules.js").Rule | null, rle: string, at: string, names: string }} Link */
 
 const TOKEN = /^[0-9a-f]{32}$/i, KEY_BYTES = 16, PROBE = 80;
 
@@ -14,14 +15,14 @@ function decoded(word) {
   try { return decodeURIComponent(word.replace(/\+/g, "%20")); } catch { return ""; }
 }
 
-/** What stands behind the # of the link: a board's token, or a rule and a pattern; where to look; and a switch for Cut.
+/** What stands behind the # of the link: a board's token, or a rule and a pattern; where to look; and names of seats.
  * @returns {Link} */
 export function readLink() {
   const words = location.hash.slice(1).split("&"), isWeb = /^https?:$/.test(location.protocol);
   const said = (/** @type {string} */ name) => decoded((words.find(w => w.startsWith(name + "=")) || "").slice(name.length + 1));
   const token = isWeb ? words.find(w => TOKEN.test(w)) || "" : "", rle = said("rle");
   const hasHeader = /^\s*(#|x\s*=)/.test(rle);
-  return { token, rule: readRule(said("rule")), rle: rle && !hasHeader ? "x = 0, y = 0\n" + rle : rle, at: said("at"), asksCut: words.includes("cut") };
+  return { token, rule: readRule(said("rule")), rle: rle && !hasHeader ? "x = 0, y = 0\n" + rle : rle, at: said("at"), names: said("names") };
 }
 
 /** A place `x,y,zoom` of the link, or null.
@@ -41,6 +42,13 @@ function kept(name) {
 function keep(name, text) {
   try { sessionStorage.setItem(name, text); } catch { /* a page whose storage is off begins anew at a reload */ }
 }
+
+/** @param {string} token @param {import("./names.js").Names} names */
+export const keepNames = (token, names) => keep("names " + token, namesText(names));
+
+/** The names that this tab keeps, and those of its link, which are newer.
+ * @param {Link} link */
+export const namesOf = ({ token, names }) => new Map([...readNames(kept("names " + token) || ""), ...readNames(names)]);
 
 /** Whether another tab has the key, as one that was made as a copy of it.
  * @param {string} key @returns {Promise<boolean>} */

@@ -98,13 +98,20 @@ test("requests and replies have the bytes of docs/FORMATS.md", () => {
   const rows = [
     [formats.hello(), "01"], [formats.push("/2/3", sent), "02474c574401042f322f330000000100000000000100010000000001400000004000000001"], [formats.poll(), "03"],
     [formats.whole(), "04"], [formats.exportOf(2 ** 29), "0520000000"], [formats.bye(), "06"], [formats.many([1, 256]), "0700020000000100000100"],
-    [formats.awaitNews(60000), "080000ea60"], [formats.pieces(), "0b"], [formats.cutOf({ x: -1, y: 0, w: 5, h: 6 }), "0a3fffffff400000000000000500000006"],
+    [formats.awaitNews(60000), "080000ea60"], [formats.pieces(), "0b"], [formats.cutOf({ x: -1, y: 0, w: 5, h: 6 }, 258), "0affffffff00000000000000050000000600000102"],
   ];
   for (const [body, hex] of rows) assert.equal(hexOf(body), hex);
   assert.deepEqual(formats.readHello(bytesOf("00 0001 04 2f322f33")), { seat: 1, rule: "/2/3" });
   const counts = [[3, "00 00000000", 1], [3, "00 00000007", 8], [8, "00 ffffffff", 2], [8, "15", 1], [7, "00 0003", 4], [11, "00 0000000000000005 00000002", 3], [5, "00", 1]];
   for (const [kind, hex, n] of counts) assert.equal(formats.bodiesOf(kind, bytesOf(hex)), n);
   assert.ok(formats.handsPlane(bytesOf("00 ffffffff")) && !formats.handsPlane(bytesOf("00 00000001")));
+});
+
+test("a window is asked for as far as it lies in the plane", () => {
+  const half = 2 ** 30, far = { x: -2 * half, y: half - 3, w: 8 * half, h: 9 };
+  assert.deepEqual(formats.clipped(far), { x: -half, y: half - 3, w: 2 * half, h: 3 });
+  assert.deepEqual(formats.clipped({ x: half, y: 0, w: 4, h: 4 }), { x: half, y: 0, w: 0, h: 4 });
+  assert.deepEqual(formats.clipped({ x: -5, y: -6, w: 7, h: 8 }), { x: -5, y: -6, w: 7, h: 8 });
 });
 
 test("RLE is read and written as the program does", () => {

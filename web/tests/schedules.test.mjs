@@ -27,10 +27,9 @@ class Page {
         return page.line.socket;
       },
       later: (ms, call) => run.clock.later(ms, () => { if (!mine.isGone) call(); }),
-      isHidden: () => page.isHidden, window: () => ({ x: 0, y: 0, w: 4, h: 4 }),
+      isHidden: () => page.isHidden, window: () => run.asksCut ? { x: 0, y: 0, w: 4, h: 4 } : null,
     };
     this.board = new Board(world, told, run.server.rule.text);
-    this.board.asksCut = run.asksCut;
     this.editor = new Editor(this.board);
     this.noteDrawings();
     this.board.start(left);
@@ -91,8 +90,8 @@ function settle({ clock, server }, pages) {
 
 function schedule(seed) {
   const c = chance(seed), clock = new Clock();
-  const how = { kept: c.is(.7), chairs: c.is(.7), most: c.is(.2) ? 1 + c.below(8) : 1024, frame: c.is(.3) ? 700 : 2 ** 24, cuts: c.is(.2), hasAwait: c.is(.85) };
-  const run = { chance: c, clock, refused: [], drawings: [], asksCut: c.is(.3), server: new Server(clock, c, c.is(.5) ? "/2/3" : "23/3/2", how) };
+  const how = { kept: c.is(.7), chairs: c.is(.7), most: c.is(.2) ? 1 + c.below(8) : 1024, frame: c.is(.3) ? 700 : 2 ** 24, cuts: c.is(.5), hasAwait: c.is(.85) };
+  const run = { chance: c, clock, refused: [], drawings: [], asksCut: c.is(.5), server: new Server(clock, c, c.is(.5) ? "/2/3" : "23/3/2", how) };
   const pages = [];
   for (let k = 2 + (c.is(.3) ? 1 : 0); k > 0; k--) pages.push(new Page(run, k));
   let ruin = 0;

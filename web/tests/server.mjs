@@ -1,6 +1,7 @@
 // A server written from docs/FORMATS.md, on a clock of its own: seats, sessions, an inbox, restarts, and lines
 // that are lost. It is what the board module is tried against.
-import { Out, cutOf, readDelta, within } from "../src/formats.js";
+import { Out, readDelta, within } from "../src/formats.js";
+import { writeRLE } from "../src/rle.js";
 import { readRule } from "../src/rules.js";
 import { writeState } from "./states.mjs";
 
@@ -134,7 +135,7 @@ export class Session {
       server.clock.later(mine.until - server.clock.now, () => { if (this.awaiting === mine) this.wake(true); });
       return this.wake(this.queue.length > 0);
     }
-    if (kind === 10 && n === 17 && server.how.cuts) return this.cut(body);
+    if (kind === 10 && n === 21 && server.how.cuts) return this.cut(body);
     if (kind === 11 && n === 1) return this.pieces();
     this.say(33);
   }
@@ -188,12 +189,11 @@ export class Session {
     for (let k = 0; k < n; k++) this.send(state.slice(k * how.frame, (k + 1) * how.frame));
   }
   cut(body) {
-    const view = new DataView(body.buffer), word = k => view.getUint32(1 + 4 * k);
-    const box = { x: word(0) - 2 ** 30, y: word(1) - 2 ** 30, w: word(2), h: word(3) };
-    if (Buffer.compare(cutOf(box), body)) return this.say(33);
-    const state = writeState(this.server.rule.text, mapOf(this.server.list.map(e => e.edit), box)), reply = new Uint8Array(1 + state.length);
-    reply.set(state, 1);
-    this.send(reply);
+    const view = new DataView(body.buffer), box = { x: view.getInt32(1), y: view.getInt32(5), w: view.getUint32(9), h: view.getUint32(13) };
+    const cells = [...mapOf(this.server.list.map(e => e.edit), box)].filter(([, w]) => w.s).map(([key, w]) => [...key.split(",").map(Number), w.s]);
+    cells.sort((a, b) => a[1] - b[1] || a[0] - b[0]);
+    const text = writeRLE(cells.flat(), this.server.rule, 0);
+    this.send(new Out(1 + text.length).u8(0).text(text).bytes);
   }
 }
 

@@ -65,14 +65,31 @@ test("too many cells, and a clock that is full, are told and not drawn", () => {
   assert.equal(board.plane.population, 1);
 });
 
-test("a window that a server cuts out is shown before the rest, and no other is asked for", () => {
-  const { clock, board, server } = boardOver({ cuts: true, frame: 700, most: 2 }, b => { b.asksCut = true; b.world.window = () => ({ x: 0, y: 0, w: 4, h: 4 }); });
+const seen = b => { b.world.window = () => ({ x: 0, y: 0, w: 4, h: 4 }); };
+
+test("a window that a server cuts out is shown before the rest, and what is drawn on it is drawn on the board", () => {
+  const { clock, board, server } = boardOver({ cuts: true, frame: 700, most: 2 }, seen);
   for (const [k, x] of [1, 2, 50, 60].entries()) server.publish(edit(k + 1, 9, [x, 1, 1]), writeDelta("23/3/2", [edit(k + 1, 9, [x, 1, 1])]));
   const shown = [];
-  board.told.map = () => shown.push(board.plane.cells().length / 3);
+  let isDrawn = false;
+  board.told.map = () => {
+    shown.push(board.plane.cells().length / 3);
+    if (shown.length > 1 || isDrawn) return;
+    isDrawn = true;
+    assert.ok(!board.hasRead && board.plane.at(1, 1).c === 0);
+    board.draw([1, 1, 0], null);
+  };
   clock.run(500);
-  assert.deepEqual([...new Set(shown)], [2, 4]);
-  assert.equal(board.asksCut, true);
+  assert.deepEqual([...new Set(shown)], [2, 1, 4, 3]);
+  assert.deepEqual(server.list.slice(4).map(e => [e.edit.c, ...e.edit.cells]), [[5, 1, 1, 0]]);
+});
+
+test("a server that cuts nothing out is read whole, and not asked again", () => {
+  const { clock, board, server } = boardOver({ cuts: false }, seen);
+  for (const s of [clock, board]) assert.ok(s);
+  server.publish(edit(1, 9, [1, 1, 1]), writeDelta("23/3/2", [edit(1, 9, [1, 1, 1])]));
+  clock.run(500);
+  assert.deepEqual([board.plane.cells(), board.hasCut], [[1, 1, 1], false]);
 });
 
 test("a server that begins anew is told, with what stood before", () => {

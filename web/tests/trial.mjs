@@ -1,5 +1,6 @@
 // The page in headless Chromium: on its own from a file, and two pages on a served board, by mouse, keys and touch.
 // GENEDIT=PROGRAM node trial.mjs OUT writes screenshots into the folder OUT. `--speed` measures, `--twenty` opens twenty pages.
+// Where this user may make hosts of their own on this machine, two of them try an address that is no loopback.
 import { spawn, spawnSync } from "node:child_process";
 import { mkdtempSync, readFileSync, rmSync, writeFileSync } from "node:fs";
 import { createServer } from "node:net";
@@ -7,11 +8,13 @@ import { tmpdir } from "node:os";
 import { join } from "node:path";
 import { Chromium, sleep } from "./chromium.mjs";
 import { openLine } from "./line.mjs";
+import { readRLE } from "../src/rle.js";
 
 const [out, ...flags] = process.argv.slice(2), program = process.env.GENEDIT;
 if (!out || !program) throw new Error("GENEDIT=PROGRAM node trial.mjs OUT");
 const file = new URL("../out/pazgrot.html", import.meta.url).pathname, dir = mkdtempSync(join(tmpdir(), "trial-"));
 const GUN = "x = 36, y = 9, rule = B3/S23\n24bo$22bobo$12b2o6b2o12b2o$11bo3bo4b2o12b2o$2o8bo5bo3b2o$2o8bo3bob2o4bobo$10bo5bo7bo$11bo3bo$12b2o!\n";
+const SERVED = "10.77.0.1", SEEN = "10.77.0.2";
 let passed = 0, failed = 0, boards = 0;
 const check = (name, good, more = "") => { good ? passed++ : failed++; console.log(good ? "ok  " : "FAIL", name, more); };
 
@@ -21,8 +24,8 @@ const freePort = () => new Promise(done => {
 });
 
 /**
- * A server of the program, whose pages come by a line that can be cut. Its link and its ports outlive it: at `restart` it is
- * killed, and begins with an empty board.
+ * A server of the program, whose pages come by a line that can be cut. Its link and its ports outlive it: it is killed, and
+ * at `resume` goes on with its file, at `restart` with an empty board.
  */
 async function serve(rule, sessions = 64) {
   const board = join(dir, `board-${boards++}.glwl`), web = await freePort(), line = await openLine(web);
@@ -39,13 +42,13 @@ async function serve(rule, sessions = 64) {
   });
   const killed = async () => { const ended = new Promise(done => server.once("exit", done)); server.kill(); await ended; };
   const { link, port } = await begin(0);
-  const restart = async () => { await killed(); rmSync(board); await begin(port); };
-  return { port, link, line, restart, end: () => { line.close(); server.kill(); } };
+  const resume = () => begin(port), restart = async () => { await killed(); rmSync(board); await begin(port); };
+  return { port, link, line, killed, resume, restart, end: () => { line.close(); server.kill(); } };
 }
 
-/** A file that the product's client writes of a generation. */
-function joined(port, gen) {
-  spawnSync(program, ["join", "--port", String(port), "--quiet"], { input: `export! ${gen} board.rle\n`, cwd: dir, timeout: 60000 });
+/** A file that the product's client writes by words, as of a generation. */
+function joined(port, ...words) {
+  spawnSync(program, ["join", "--port", String(port), "--quiet"], { input: `${words.join(" ")} board.rle\n`, cwd: dir, timeout: 60000 });
   return readFileSync(join(dir, "board.rle"), "utf8");
 }
 /** The text that the program converts a pattern to. */
@@ -55,6 +58,9 @@ function converted(pattern, ...words) {
   return readFileSync(made, "latin1");
 }
 const exported = (page, gen) => page.js(`pazgrot.board.ask((() => { const b = new Uint8Array(5), v = new DataView(b.buffer); b[0] = 5; v.setUint32(1, ${gen}); return b; })()).then(([b]) => new TextDecoder().decode(b.subarray(1)))`);
+/** Has what a page gives as files told as texts, in `given`. */
+const gather = page => page.js("(() => { window.given = []; const make = URL.createObjectURL; URL.createObjectURL = blob => { blob.text().then(t => window.given.push(t)); return make.call(URL, blob); }; })()");
+const fill = (page, field, text) => page.js(`document.getElementById('${field}').value = ${JSON.stringify(String(text))}`);
 const press = (page, name) => page.js(`document.querySelector('[data-do="${name}"]').click()`);
 
 async function alone(chromium) {
@@ -87,7 +93,7 @@ async function alone(chromium) {
   check("what was copied is put down at the cursor by Enter", await page.js("pazgrot.board.plane.population") === 39 && await page.js("pazgrot.view.held === null"), await page.said());
   await page.key("z", 2);
   await page.key("k");
-  await page.js("(() => { const b = document.createElement('a'); window.given = []; const make = URL.createObjectURL; URL.createObjectURL = blob => { blob.text().then(t => window.given.push(t)); return make.call(URL, blob); }; })()");
+  await gather(page);
   await press(page, "save"); await page.until("given.length === 1");
   check("saved RLE is what the program converts to, and told as not proved", await page.js("given[0]") === converted(GUN) && (await page.said()).includes("not proved"), await page.said());
   await press(page, "svg"); await page.until("given.length === 2");
@@ -97,7 +103,7 @@ async function alone(chromium) {
   await press(page, "png"); await page.until("given.length === 4");
   check("what is seen is saved as PNG", (await page.js("given[3]")).startsWith("\ufffdPNG"));
   writeFileSync(join(out, "film.svg"), await page.js("given[2]"));
-  await page.js("document.getElementById('gen').value = '300'"); await press(page, "show"); await page.until("pazgrot.player.gen === 300");
+  await fill(page, "gen", 300); await press(page, "show"); await page.until("pazgrot.player.gen === 300");
   await press(page, "save"); await page.until("given.length === 5");
   check("generation 300 by the page's steps is the program's", await page.js("given[4]") === converted(GUN, "--gen", "300"), await page.said());
   await press(page, "edit");
@@ -185,11 +191,21 @@ async function together(chromium) {
 
   for (const gen of [0, 40]) {
     const mine = await exported(a, gen);
-    check(`generation ${gen} is what \`genedit join\` exports, byte for byte`, joined(port, gen) === mine, `${mine.length} bytes`);
+    check(`generation ${gen} is what \`genedit join\` exports, byte for byte`, joined(port, "export!", gen) === mine, `${mine.length} bytes`);
   }
   await press(b, "step");
   check("a step in the page is the server's generation 1", await b.js("JSON.stringify(pazgrot.player.shown.cells())") === await b.js("(async () => { await pazgrot.commands.edit(); document.getElementById('gen').value = '1'; await pazgrot.commands.show(); return JSON.stringify(pazgrot.player.shown.cells()); })()"));
   await press(b, "edit");
+
+  await gather(a);
+  await a.js("pazgrot.view.selection = { x: -12, y: -3, w: 30, h: 9 }"); await fill(a, "gen", 40); await press(a, "count");
+  await a.until("document.getElementById('say').textContent.startsWith('Generation 40, in the selection')");
+  const told = await a.said();
+  await press(a, "save"); await a.until("given.length === 1");
+  const piece = joined(port, "cut!", -12, -3, 30, 9, 0), later = readRLE(joined(port, "cut!", -12, -3, 30, 9, 40));
+  check("a selection is saved as `genedit join` cuts it", await a.js("given[0]") === piece, await a.said());
+  check("its cells and their box are those of the server's generation 40", told === `Generation 40, in the selection: ${later.cells.length / 3} cells, box ${later.w} x ${later.h} at ${later.x} ${later.y}.`, told);
+  await a.key("k");
 
   const held = await a.cells();
   await a.key("s"); await a.stroke([await a.at(-26, -16), await a.at(-14, -9)]); await a.key("x", 2); await both();
@@ -218,6 +234,13 @@ async function together(chromium) {
   check("a reload in the midst of a stroke loses nothing that was shown", await same() && await b.js("pazgrot.board.plane.state(-24, 14)") === 1);
 
   await a.js("pazgrot.hold('x = 1, y = 1, rule = 23/3/2\\no!')"); await a.key("Escape");
+  await killed();
+  await a.until("pazgrot.board.state === 'away'");
+  await a.stroke([await a.at(-28, 17), await a.at(-20, 17)]);
+  const atSeat = await seatOf(a);
+  await resume();
+  check("a server that is killed and goes on with its file is met again, and what was drawn meanwhile is drawn", await same() && await b.js("pazgrot.board.plane.state(-24, 17)") === 1, `seat ${atSeat}, now ${await seatOf(a)}`);
+  await names(chromium, a, link);
   if (flags.includes("--speed")) await speed(a, b);
   if (flags.includes("--twenty")) await twenty(chromium, link, [a, b]);
   const last = await a.cells();
@@ -230,6 +253,18 @@ async function together(chromium) {
   await a.until("document.getElementById('say').textContent.includes('No connection')", 20000);
   check("a server that is away is told in words", true, await a.said());
   await a.shot(join(out, "away.png"));
+}
+
+/** Seats are named in a page; who opens the link that it gives knows the names. */
+async function names(chromium, a, link) {
+  const seat = await a.js("pazgrot.board.seat");
+  await fill(a, "named", seat); await fill(a, "name", "Ann <b>"); await press(a, "name");
+  await a.js("Object.defineProperty(navigator, 'clipboard', { value: undefined })"); await press(a, "share");
+  const shared = await a.said(), c = await chromium.open(shared);
+  await c.settled();
+  await press(c, "who"); await sleep(700);
+  check("a name is told where the link of its page is opened, as text", shared.startsWith(link) && (await c.js("document.getElementById('who').textContent")).includes(`Ann <b>, seat ${seat}`), shared);
+  await c.shot(join(out, "names.png"));
 }
 
 async function full(chromium) {
@@ -263,6 +298,20 @@ async function speed(a, b) {
   await b.call("Page.reload"); await sleep(500); await b.until("typeof pazgrot !== 'undefined' && pazgrot.board.state === 'open'");
 }
 
+/** How soon a board of 1,024 by 1,024 written cells, half of them live, is seen by its link. */
+async function great(chromium) {
+  const { port, link, end } = await serve("23/3/2"), rows = [];
+  let seed = 5;
+  for (let y = 0; y < 1024; y++) rows.push(Array.from({ length: 1024 }, () => (seed = (seed * 1103515245 + 12345) % 2 ** 31) < 2 ** 30 ? "o" : "b").join(""));
+  writeFileSync(join(dir, "soup.rle"), `#CXRLE Pos=-512,-512\nx = 1024, y = 1024, rule = B3/S23\n${rows.join("$\n")}!\n`);
+  spawnSync(program, ["join", "--port", String(port), "--quiet"], { input: "clear -512 -512 1024 1024\nopen soup.rle\n", cwd: dir, timeout: 60000 });
+  const page = await chromium.open(`${link}&at=0,0,4`);
+  const [seen, whole, n] = await page.js("new Promise(done => { let seen = 0; const look = () => { if (!seen && pazgrot.board.plane.population) seen = performance.now(); if (pazgrot.board.state === 'open') done([seen, performance.now(), pazgrot.board.plane.population]); else setTimeout(look, 1); }; look(); })");
+  console.log(`1,048,576 written cells, ${n} of them live: what is seen first ${seen.toFixed(0)} ms behind the link, all ${whole.toFixed(0)} ms`);
+  await page.shot(join(out, "great.png"));
+  end();
+}
+
 async function twenty(chromium, link, pages) {
   const all = [...pages];
   while (all.length < 20) all.push(await chromium.open(link));
@@ -276,9 +325,51 @@ async function twenty(chromium, link, pages) {
   check("twenty pages that draw at once show the same", texts.size === 1, `${Date.now() - t0} ms`);
 }
 
+/** Two hosts of this machine's own, which reach each other by a cable alone; null where this user may make none. */
+function hosts() {
+  const ip = (...words) => spawnSync("ip", words, { stdio: "ignore" }).status === 0;
+  const [server, browser] = ["served", "seen"].map(name => `pazgrot-${name}-${process.pid}`), end = () => { ip("netns", "delete", server); ip("netns", "delete", browser); };
+  const inside = (host, ...words) => ip("-n", host, ...words);
+  const isMade = ip("netns", "add", server) && ip("netns", "add", browser) && inside(server, "link", "add", "cable", "type", "veth", "peer", "name", "cable", "netns", browser)
+    && [[server, SERVED], [browser, SEEN]].every(([host, address]) => inside(host, "address", "add", address + "/24", "dev", "cable") && inside(host, "link", "set", "cable", "up") && inside(host, "link", "set", "lo", "up"));
+  if (!isMade) { end(); return null; }
+  return { server: ["ip", "netns", "exec", server], browser: ["ip", "netns", "exec", browser], end };
+}
+
+/** A page at another host than its server, by http: the browser trusts such a page less. */
+async function apart() {
+  const network = hosts();
+  if (!network) return console.log("left out: hosts of this machine's own, which want Debian's iproute2 and its rights: a page at an address that is no loopback");
+  const [front, ...words] = [...network.server, program, "serve", "--rule", "23/3/2", "--sessions", "4", "--web", `${SERVED}:0`, "--until-close"];
+  const server = spawn(front, words), far = new Chromium(...network.browser);
+  let warned = "";
+  server.stderr.on("data", piece => { warned += piece; });
+  const link = await new Promise(done => server.stdout.on("data", piece => { const found = /open (\S+)\n/.exec(piece); if (found) done(found[1]); }));
+  const [a, b] = [await far.open(link), await far.open(link)];
+  for (const p of [a, b]) { await p.settled(); await p.look(0, 0, 16); }
+  check("at another host the link is told to travel in the clear", link.startsWith(`http://${SERVED}:`) && warned.includes("in the clear"), warned.trim());
+  check("there the page is not trusted, and has no clipboard", await a.js("!isSecureContext && navigator.clipboard === undefined"));
+  await a.stroke([await a.at(-5, -5), await a.at(5, 5)]);
+  await a.settled(); await sleep(200);
+  check("two pages there draw together", await b.js("pazgrot.board.plane.population") === 11 && await a.cells() === await b.cells());
+  await a.js("pazgrot.view.selection = { x: -5, y: -5, w: 11, h: 11 }"); await press(a, "copy"); await a.key("k"); await press(a, "paste");
+  await a.click(...await a.at(8, -5)); await a.settled(); await sleep(200);
+  check("they copy and paste", await b.js("pazgrot.board.plane.population") === 22 && await a.cells() === await b.cells(), await a.said());
+  await press(a, "share");
+  check("and the link is told to be copied by hand", (await a.said()).startsWith(link), await a.said());
+  await a.shot(join(out, "apart.png"));
+  const errors = far.errors();
+  check("no error in a page there", errors.length === 0, JSON.stringify(errors.slice(0, 2)).slice(0, 500));
+  await far.close();
+  server.stdin.end("close\n");
+  await new Promise(done => server.once("exit", done));
+  network.end();
+}
+
 const chromium = new Chromium();
 try {
-  for (const part of [alone, narrow, together, full]) await part(chromium);
+  const parts = flags.includes("--speed") ? [alone, narrow, together, full, apart, great] : [alone, narrow, together, full, apart];
+  for (const part of parts) await part(chromium);
   const errors = chromium.errors();
   check("no error in any page", errors.length === 0, JSON.stringify(errors.slice(0, 2)).slice(0, 500));
 } catch (fault) { console.log("FAIL", fault.stack.slice(0, 1500)); failed++; }

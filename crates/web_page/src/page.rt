@@ -5,7 +5,7 @@ pub const PAGE: &str = r##"<!doctype html>
 <html lang="en">
 <head>
 <meta charset="utf-8">
-<meta http-equiv="Content-Security-Policy" content="default-src 'none'; script-src 'sha256-JiIts0War+plb3yAeGpdCH/1b/30fjWrKRSrWhcfjtQ='; style-src 'sha256-wnRx1RF86w+xqbB18lUfwHqS73EfANiyJhrk9WbqOB4='; img-src data: blob:; connect-src 'self'; base-uri 'none'; form-action 'none'">
+<meta http-equiv="Content-Security-Policy" content="default-src 'none'; script-src 'sha256-Due0kwEl9DEo5s8DESywLGKDTd+08z3J38eSlI50C8I='; style-src 'sha256-OD7CMqJMWYIEoTBWnFqMeew433N5P6FEkvusmzTZjcE='; img-src data: blob:; connect-src 'self'; base-uri 'none'; form-action 'none'">
 <meta name="viewport" content="width=device-width,initial-scale=1">
 <title>Pazgrot</title>
 <link rel="icon" href="data:,">
@@ -36,6 +36,8 @@ details{position:relative}
 .panel .wide{flex-basis:100%}
 .panel select.wide{width:100%}
 #rulename{width:11em}
+#named{width:5em}
+#name{width:9em}
 #mid{flex:1;position:relative;min-height:0}
 canvas{position:absolute;inset:0;width:100%;height:100%;touch-action:none;cursor:crosshair}
 canvas:focus-visible{outline-offset:-4px}
@@ -65,7 +67,7 @@ dialog pre{white-space:pre-wrap;font:13px/1.5 ui-monospace,monospace}
 <details name="menu"><summary>time</summary><div class="panel">
 <label class="wide">speed <input id="rate" type="range" min="1" max="60" value="30"><output id="ratetold">30 looks a second</output></label>
 <label class="wide">generations a step <select id="stride"></select></label>
-<label>generation <input id="gen" type="number" min="0" max="536870912" value="100"></label><button data-do="show">show</button>
+<label>generation <input id="gen" type="number" min="0" max="536870912" value="100"></label><button data-do="show">show</button><button data-do="count">count</button>
 </div></details>
 <details name="menu"><summary>file</summary><div class="panel">
 <select id="library" class="wide" aria-label="library of patterns"></select>
@@ -77,6 +79,7 @@ dialog pre{white-space:pre-wrap;font:13px/1.5 ui-monospace,monospace}
 <details name="menu"><summary>look</summary><div class="panel">
 <button data-do="fit" title="f">fit</button><button data-do="nearer" title="]" aria-label="zoom in">+</button><button data-do="further" title="[" aria-label="zoom out">-</button><button data-do="middle" title="m">middle</button><button data-do="who" title="w" id="authors" aria-pressed="false">who drew</button>
 <label class="wide">colours <select id="theme"></select></label>
+<label>seat <input id="named" type="number" min="1" max="65535" value="1"></label><input id="name" maxlength="40" spellcheck="false" autocomplete="off" aria-label="the name of whoever has it"><button data-do="name">name</button>
 </div></details>
 <button data-do="help" title="h">keys</button>
 </div>
@@ -197,6 +200,10 @@ return cells;
 }
 const within = (box, x, y) => x >= box.x && y >= box.y && x < box.x + box.w && y < box.y + box.h;
 const inPlane = (x, y) => x >= -HALF && y >= -HALF && x < HALF && y < HALF;
+function clipped(box) {
+const x = Math.max(box.x, -HALF), y = Math.max(box.y, -HALF);
+return { x, y, w: Math.max(Math.min(box.x + box.w, HALF) - x, 0), h: Math.max(Math.min(box.y + box.h, HALF) - y, 0) };
+}
 const alone = (kind) => Uint8Array.of(kind);
 const hello = () => alone(1);
 function push(rule, edit) {
@@ -215,7 +222,7 @@ for (const g of generations) out.u32(g);
 return out.bytes;
 }
 const awaitNews = milliseconds => new Out(5).u8(8).u32(milliseconds).bytes;
-const cutOf = window => new Out(17).u8(10).u32(window.x + HALF).u32(window.y + HALF).u32(window.w).u32(window.h).bytes;
+const cutOf = ({ x, y, w, h }, generation) => new Out(21).u8(10).u32(x).u32(y).u32(w).u32(h).u32(generation).bytes;
 const pieces = () => alone(11);
 const PLANE = 0xffffffff;
 function bodiesOf(kind, first) {
@@ -234,13 +241,14 @@ const from = new In(first.subarray(1)), seat = from.u16();
 return { seat, rule: from.text(from.u8()) };
 }
 const handsPlane = first => new In(first.subarray(1)).u32() === PLANE;
+const textIn = body => new TextDecoder().decode(body.subarray(1));
 function joined(bodies) {
 const all = new Uint8Array(bodies.reduce((n, b) => n + b.length, 0));
 let at = 0;
 for (const b of bodies) { all.set(b, at); at += b.length; }
 return all;
 }
-return { HALF, MOST_CELLS, AWAY, NAMES, Fault, Out, In, counterAt, readHead, writeHead, writeDelta, readDelta, within, inPlane, hello, push, poll, whole, exportOf, bye, many, awaitNews, cutOf, pieces, bodiesOf, readHello, handsPlane, joined };
+return { HALF, MOST_CELLS, AWAY, NAMES, Fault, Out, In, counterAt, readHead, writeHead, writeDelta, readDelta, within, inPlane, clipped, hello, push, poll, whole, exportOf, bye, many, awaitNews, cutOf, pieces, bodiesOf, readHello, handsPlane, textIn, joined };
 })();
 const m_drawings = (() => {
 const { MOST_CELLS } = m_formats;
@@ -480,6 +488,151 @@ return named ? `${named[0]} ${rule.text}` : rule.text;
 }
 return { NAMED, readRule, fileRule, ruleName };
 })();
+const m_rle = (() => {
+const { Fault, MOST_CELLS, textIn } = m_formats;
+const { fileRule } = m_rules;
+const LINE = 70, SIDE = 2 ** 32, POSITION = 2 ** 31;
+const DOLLAR = 36, ZERO = 48, NINE = 57;
+function readOrigin(line) {
+let x = 0, y = 0, gen = 0;
+const met = new Set();
+for (const word of line.slice(6).split(/[ \t]+/).filter(w => w)) {
+const pos = /^Pos=(-?\d+),(-?\d+)$/.exec(word), at = /^Gen=(\d+)$/.exec(word), kind = word.slice(0, 3);
+if (!pos && !at || met.has(kind)) return null;
+met.add(kind);
+if (pos) [x, y] = [Number(pos[1]) + 0, Number(pos[2]) + 0];
+if (at) gen = Number(at[1]);
+}
+if (!/^#CXRLE([ \t]|$)/.test(line) || [x, y].some(n => n < -POSITION || n >= POSITION)) return null;
+return { x, y, gen };
+}
+function readHeader(line) {
+const found = /^[ \t]*x[ \t]*=[ \t]*(\d+)[ \t]*,[ \t]*y[ \t]*=[ \t]*(\d+)[ \t]*(?:,(.*))?$/.exec(line);
+if (!found || Number(found[1]) >= SIDE || Number(found[2]) >= SIDE) throw new Fault(4);
+const rule = /rule[ \t]*=[ \t]*([^,:]*[^,: \t])/.exec(found[3] || "");
+return { w: Number(found[1]), h: Number(found[2]), rule: rule ? rule[1] : null };
+}
+function readLines(text) {
+let header = null, origin = null, end = text.length;
+const body = [];
+for (let at = 0; at < text.length;) {
+let stop = at;
+while (stop < text.length && text[stop] !== "\n" && text[stop] !== "\r") stop++;
+const line = text.slice(at, stop);
+if (line[0] === "#") {
+if (!header && !origin && line.startsWith("#CXRLE")) origin = readOrigin(line);
+} else if (!header) {
+if (/[^ \t]/.test(line)) header = readHeader(line);
+} else {
+const mark = text.indexOf("!", at), last = mark >= 0 && mark < stop ? mark : stop;
+for (let k = at; k < last; k++) if (text[k] !== " " && text[k] !== "\t") body.push(k);
+if (last < stop) { end = last; break; }
+}
+at = stop + 1;
+}
+if (!header) throw new Fault(4);
+return { header, origin: origin || { x: 0, y: 0, gen: 0 }, body, end: Math.min(end, text.length) };
+}
+class Tokens {
+constructor(text, body, end) {
+this.text = text;
+this.body = body;
+this.end = end;
+this.at = 0;
+}
+code(k) { return k < this.body.length ? this.text.charCodeAt(this.body[k]) : -1; }
+place(k) { return k < this.body.length ? this.body[k] : this.end; }
+next() {
+const begin = this.at, isDigit = (c) => c >= ZERO && c <= NINE;
+let count = 1;
+if (isDigit(this.code(this.at))) {
+for (count = 0; isDigit(this.code(this.at)); this.at++) count = Math.min(10 * count + this.code(this.at) - ZERO, 2 ** 40);
+}
+if (this.at >= this.body.length) return null;
+const state = this.state(begin);
+if (count === 0 || count > SIDE) throw new Fault(6, this.place(begin));
+return { begin: this.place(begin), count, state };
+}
+state(begin) {
+const c = this.code(this.at++);
+if (c === DOLLAR) return -1;
+if (c === 98 || c === 46) return 0;
+if (c === 111) return 1;
+if (c >= 65 && c <= 88) return c - 64;
+if (c < 112 || c > 121) throw new Fault(5, this.place(this.at - 1));
+const letter = this.code(this.at++);
+if (letter < 65 || letter > 88) throw new Fault(5, this.at <= this.body.length ? this.place(this.at - 1) : this.end);
+const state = 24 * (c - 111) + letter - 64;
+if (state > 255) throw new Fault(7, this.place(begin));
+return state;
+}
+}
+function readRLE(text) {
+const { header, origin, body, end } = readLines(text), tokens = new Tokens(text, body, end);
+const cells = [];
+let { w, h } = header, x = 0, y = 0;
+for (let token = tokens.next(); token; token = tokens.next()) {
+const { begin, count, state } = token;
+if (state < 0 ? y + count >= SIDE : x + count > SIDE) throw new Fault(6, begin);
+if (state < 0) { y += count; x = 0; continue; }
+if (state > 0) {
+if (cells.length / 3 + count > MOST_CELLS) throw new Fault(8);
+for (let j = 0; j < count; j++) cells.push(x + j, y, state);
+w = Math.max(w, x + count);
+h = Math.max(h, y + 1);
+}
+x += count;
+}
+return { w, h, x: origin.x, y: origin.y, gen: origin.gen, rule: header.rule, cells };
+}
+function patternIn(body) {
+try {
+return readRLE(textIn(body));
+} catch (fault) {
+if (fault instanceof Fault && fault.number === 8) return null;
+throw fault;
+}
+}
+const placed = ({ x, y, cells }) => cells.map((n, k) => k % 3 === 0 ? n + x : k % 3 === 1 ? n + y : n);
+function lettersOf(s, states) {
+if (states === 2) return "bo"[s];
+if (s === 0) return ".";
+const prefix = s > 24 ? String.fromCharCode(111 + Math.floor((s - 1) / 24)) : "";
+return prefix + String.fromCharCode(65 + (s - 1) % 24);
+}
+function boxOf(cells) {
+if (!cells.length) return null;
+let least = Infinity, most = -Infinity;
+for (let k = 0; k < cells.length; k += 3) { least = Math.min(least, cells[k]); most = Math.max(most, cells[k]); }
+const y = cells[1];
+return { x: least, y, w: most - least + 1, h: cells[cells.length - 2] - y + 1 };
+}
+function writeRLE(cells, rule, gen, given) {
+const box = given || boxOf(cells) || { x: 0, y: 0, w: 0, h: 0 };
+const lines = [];
+let line = "";
+const put = (count, letters) => {
+const token = (count > 1 ? count : "") + letters;
+if (line.length + token.length > LINE) { lines.push(line); line = ""; }
+line += token;
+};
+let x = box.x, y = box.y;
+for (let k = 0; k < cells.length;) {
+const cx = cells[k], cy = cells[k + 1], s = cells[k + 2];
+if (cy > y) { put(cy - y, "$"); y = cy; x = box.x; }
+if (cx > x) put(cx - x, lettersOf(0, rule.states));
+let n = 0;
+while (k < cells.length && cells[k] === cx + n && cells[k + 1] === cy && cells[k + 2] === s) { n++; k += 3; }
+put(n, lettersOf(s, rule.states));
+x = cx + n;
+}
+put(1, "!");
+lines.push(line);
+return `#CXRLE Pos=${box.x},${box.y} Gen=${gen}\nx = ${box.w}, y = ${box.h}, rule = ${rule.text}\n${lines.join("\n")}\n`;
+}
+const forFile = (text, rule) => text.replace(`, rule = ${rule.text}\n`, `, rule = ${fileRule(rule)}\n`);
+return { readRLE, patternIn, placed, boxOf, writeRLE, forFile };
+})();
 const m_states = (() => {
 const { Fault, HALF, In, counterAt, readHead } = m_formats;
 const TOP = 31, LEAF_BYTES = 576;
@@ -613,13 +766,14 @@ return { Tree, readState };
 })();
 const m_board = (() => {
 const { missing, stampWord } = m_drawings;
-const { AWAY, Fault, MOST_CELLS, awaitNews, cutOf, handsPlane, hello, joined, pieces, poll, push, readDelta, readHello } = m_formats;
+const { AWAY, Fault, MOST_CELLS, awaitNews, clipped, cutOf, handsPlane, hello, joined, pieces, poll, push, readDelta, readHello } = m_formats;
 const { Line } = m_line;
 const { Plane } = m_plane;
+const { patternIn, placed } = m_rle;
 const { readRule } = m_rules;
 const { readState } = m_states;
 const AWAIT = 20000, PATIENCE = 35000;
-const SLOW = [5, 7];
+const SLOW = [5, 7, 10];
 const FULL_INBOX = 20, POLLS = 50, LOST = 100, HIDDEN = 1000, NO_MEMORY = 1000, CLOSED = 5000, LONGEST = 5000, NO_SEAT = 10000;
 const LAST_COUNTER = 2 ** 48 - 1;
 const NO_EDIT = [8, 9, 10, 11, 14, 15, 16, 17, 18, 19, 20, 33];
@@ -637,7 +791,7 @@ this.published = 0;
 this.tries = 0;
 this.hasRead = false;
 this.hasAwait = true;
-this.asksCut = false;
+this.hasCut = true;
 }
 draw(cells, area, stamps) {
 if (cells.length === 0 && !area) return;
@@ -719,14 +873,16 @@ this.read();
 });
 }
 read() {
-const window = this.asksCut && !this.hasRead ? (this.world).window() : null;
-if (window) this.line.request(cutOf(window), bodies => this.show(bodies));
+const window = this.hasCut && !this.hasRead ? (this.world).window() : null;
+if (window) this.line.request(cutOf(clipped(window), 0), bodies => this.show(bodies));
 this.line.request(poll(), bodies => this.begin(bodies));
 }
 show([first]) {
-if (first[0]) { this.asksCut = false; return; }
-const plane = new Plane();
-plane.load(readState(first.subarray(1), this.rule));
+if (first[0] === 33) this.hasCut = false;
+if (first[0]) return;
+const plane = new Plane(), seen = patternIn(first);
+if (!seen) return;
+plane.apply({ c: 0, r: 0, area: null, cells: placed(seen) });
 for (const edit of this.pending) plane.apply(edit);
 this.replace(plane);
 }
@@ -862,142 +1018,6 @@ const flipX = p => ({ w: p.w, h: p.h, cells: moved(p, (x, y) => [p.w - 1 - x, y]
 const flipY = p => ({ w: p.w, h: p.h, cells: moved(p, (x, y) => [x, p.h - 1 - y]) });
 return { triples, sorted, tidy, rotate, flipX, flipY };
 })();
-const m_rle = (() => {
-const { Fault, MOST_CELLS } = m_formats;
-const { fileRule } = m_rules;
-const LINE = 70, SIDE = 2 ** 32, POSITION = 2 ** 31;
-const DOLLAR = 36, ZERO = 48, NINE = 57;
-function readOrigin(line) {
-let x = 0, y = 0, gen = 0;
-const met = new Set();
-for (const word of line.slice(6).split(/[ \t]+/).filter(w => w)) {
-const pos = /^Pos=(-?\d+),(-?\d+)$/.exec(word), at = /^Gen=(\d+)$/.exec(word), kind = word.slice(0, 3);
-if (!pos && !at || met.has(kind)) return null;
-met.add(kind);
-if (pos) [x, y] = [Number(pos[1]) + 0, Number(pos[2]) + 0];
-if (at) gen = Number(at[1]);
-}
-if (!/^#CXRLE([ \t]|$)/.test(line) || [x, y].some(n => n < -POSITION || n >= POSITION)) return null;
-return { x, y, gen };
-}
-function readHeader(line) {
-const found = /^[ \t]*x[ \t]*=[ \t]*(\d+)[ \t]*,[ \t]*y[ \t]*=[ \t]*(\d+)[ \t]*(?:,(.*))?$/.exec(line);
-if (!found || Number(found[1]) >= SIDE || Number(found[2]) >= SIDE) throw new Fault(4);
-const rule = /rule[ \t]*=[ \t]*([^,:]*[^,: \t])/.exec(found[3] || "");
-return { w: Number(found[1]), h: Number(found[2]), rule: rule ? rule[1] : null };
-}
-function readLines(text) {
-let header = null, origin = null, end = text.length;
-const body = [];
-for (let at = 0; at < text.length;) {
-let stop = at;
-while (stop < text.length && text[stop] !== "\n" && text[stop] !== "\r") stop++;
-const line = text.slice(at, stop);
-if (line[0] === "#") {
-if (!header && !origin && line.startsWith("#CXRLE")) origin = readOrigin(line);
-} else if (!header) {
-if (/[^ \t]/.test(line)) header = readHeader(line);
-} else {
-const mark = text.indexOf("!", at), last = mark >= 0 && mark < stop ? mark : stop;
-for (let k = at; k < last; k++) if (text[k] !== " " && text[k] !== "\t") body.push(k);
-if (last < stop) { end = last; break; }
-}
-at = stop + 1;
-}
-if (!header) throw new Fault(4);
-return { header, origin: origin || { x: 0, y: 0, gen: 0 }, body, end: Math.min(end, text.length) };
-}
-class Tokens {
-constructor(text, body, end) {
-this.text = text;
-this.body = body;
-this.end = end;
-this.at = 0;
-}
-code(k) { return k < this.body.length ? this.text.charCodeAt(this.body[k]) : -1; }
-place(k) { return k < this.body.length ? this.body[k] : this.end; }
-next() {
-const begin = this.at, isDigit = (c) => c >= ZERO && c <= NINE;
-let count = 1;
-if (isDigit(this.code(this.at))) {
-for (count = 0; isDigit(this.code(this.at)); this.at++) count = Math.min(10 * count + this.code(this.at) - ZERO, 2 ** 40);
-}
-if (this.at >= this.body.length) return null;
-const state = this.state(begin);
-if (count === 0 || count > SIDE) throw new Fault(6, this.place(begin));
-return { begin: this.place(begin), count, state };
-}
-state(begin) {
-const c = this.code(this.at++);
-if (c === DOLLAR) return -1;
-if (c === 98 || c === 46) return 0;
-if (c === 111) return 1;
-if (c >= 65 && c <= 88) return c - 64;
-if (c < 112 || c > 121) throw new Fault(5, this.place(this.at - 1));
-const letter = this.code(this.at++);
-if (letter < 65 || letter > 88) throw new Fault(5, this.at <= this.body.length ? this.place(this.at - 1) : this.end);
-const state = 24 * (c - 111) + letter - 64;
-if (state > 255) throw new Fault(7, this.place(begin));
-return state;
-}
-}
-function readRLE(text) {
-const { header, origin, body, end } = readLines(text), tokens = new Tokens(text, body, end);
-const cells = [];
-let { w, h } = header, x = 0, y = 0;
-for (let token = tokens.next(); token; token = tokens.next()) {
-const { begin, count, state } = token;
-if (state < 0 ? y + count >= SIDE : x + count > SIDE) throw new Fault(6, begin);
-if (state < 0) { y += count; x = 0; continue; }
-if (state > 0) {
-if (cells.length / 3 + count > MOST_CELLS) throw new Fault(8);
-for (let j = 0; j < count; j++) cells.push(x + j, y, state);
-w = Math.max(w, x + count);
-h = Math.max(h, y + 1);
-}
-x += count;
-}
-return { w, h, x: origin.x, y: origin.y, gen: origin.gen, rule: header.rule, cells };
-}
-function lettersOf(s, states) {
-if (states === 2) return "bo"[s];
-if (s === 0) return ".";
-const prefix = s > 24 ? String.fromCharCode(111 + Math.floor((s - 1) / 24)) : "";
-return prefix + String.fromCharCode(65 + (s - 1) % 24);
-}
-function boxOf(cells) {
-if (!cells.length) return null;
-let least = Infinity, most = -Infinity;
-for (let k = 0; k < cells.length; k += 3) { least = Math.min(least, cells[k]); most = Math.max(most, cells[k]); }
-const y = cells[1];
-return { x: least, y, w: most - least + 1, h: cells[cells.length - 2] - y + 1 };
-}
-function writeRLE(cells, rule, gen, given) {
-const box = given || boxOf(cells) || { x: 0, y: 0, w: 0, h: 0 };
-const lines = [];
-let line = "";
-const put = (count, letters) => {
-const token = (count > 1 ? count : "") + letters;
-if (line.length + token.length > LINE) { lines.push(line); line = ""; }
-line += token;
-};
-let x = box.x, y = box.y;
-for (let k = 0; k < cells.length;) {
-const cx = cells[k], cy = cells[k + 1], s = cells[k + 2];
-if (cy > y) { put(cy - y, "$"); y = cy; x = box.x; }
-if (cx > x) put(cx - x, lettersOf(0, rule.states));
-let n = 0;
-while (k < cells.length && cells[k] === cx + n && cells[k + 1] === cy && cells[k + 2] === s) { n++; k += 3; }
-put(n, lettersOf(s, rule.states));
-x = cx + n;
-}
-put(1, "!");
-lines.push(line);
-return `#CXRLE Pos=${box.x},${box.y} Gen=${gen}\nx = ${box.w}, y = ${box.h}, rule = ${rule.text}\n${lines.join("\n")}\n`;
-}
-const forFile = (text, rule) => text.replace(`, rule = ${rule.text}\n`, `, rule = ${fileRule(rule)}\n`);
-return { readRLE, boxOf, writeRLE, forFile };
-})();
 const m_undo = (() => {
 const { stampWord } = m_drawings;
 const { tidy } = m_patterns;
@@ -1039,7 +1059,7 @@ return { cells: tidy(list), stroke: again };
 return { Strokes };
 })();
 const m_editor = (() => {
-const { HALF, inPlane } = m_formats;
+const { HALF, clipped, inPlane } = m_formats;
 const { sorted, tidy, triples } = m_patterns;
 const { writeRLE } = m_rle;
 const { Strokes } = m_undo;
@@ -1104,9 +1124,8 @@ return null;
 }
 isInside(box) { return inPlane(box.x, box.y) && box.x + box.w <= HALF && box.y + box.h <= HALF; }
 clear(box) {
-const x = Math.max(box.x, -HALF), y = Math.max(box.y, -HALF);
-const w = Math.min(box.x + box.w, HALF) - x, h = Math.min(box.y + box.h, HALF) - y;
-if (w > 0 && h > 0) this.put([], { x, y, w, h });
+const inside = clipped(box);
+if (inside.w > 0 && inside.h > 0) this.put([], inside);
 }
 taken(box, from) {
 const cells = from.cells(box);
@@ -1129,7 +1148,7 @@ this.board.draw(taken.cells, null, taken.stroke.stamps);
 return taken.cells.length / 3;
 }
 }
-const textOf = (from, rule, gen) => writeRLE(from.cells(), rule, gen);
+const textOf = (from, rule, gen, box) => writeRLE(from.cells(box || undefined), rule, gen);
 function heldOf(cells) {
 const list = triples(cells);
 const x = list.reduce((n, c) => Math.min(n, c[0]), Infinity), y = list.reduce((n, c) => Math.min(n, c[1]), Infinity);
@@ -1234,6 +1253,28 @@ for (let s = 2; s < states; s++) table[10 * s + n] = (s + 1) % states;
 return table;
 }
 return { Grid };
+})();
+const m_names = (() => {
+const LAST_SEAT = 65535, LONGEST = 40;
+const cleaned = text => text.replace(/[\u0000-\u001f\u007f-\u009f,:]+/g, " ").trim().slice(0, LONGEST);
+function nameSeat(names, seat, text) {
+if (!Number.isInteger(seat) || seat < 1 || seat > LAST_SEAT) return null;
+const name = cleaned(text);
+if (name) names.set(seat, name);
+else names.delete(seat);
+return name;
+}
+function readNames(text) {
+const names = new Map();
+for (const [, seat, name] of text.matchAll(/(?:^|,)(\d{1,5}):([^,]*)/g)) nameSeat(names, Number(seat), name);
+return names;
+}
+const namesText = names => [...names].map(([seat, name]) => `${seat}:${name}`).join();
+function whoIs(names, seat) {
+const name = names.get(seat);
+return name ? `${name}, seat ${seat}` : `seat ${seat}`;
+}
+return { nameSeat, readNames, namesText, whoIs };
 })();
 const m_pictures = (() => {
 const { golly, hex } = m_colours;
@@ -1396,6 +1437,7 @@ return { refusalWords, stateWords, lineWords, ALONE, NOT_PROVED, HELD, KEYS };
 const m_panel = (() => {
 const { THEMES, hex, seatColour } = m_colours;
 const { LIBRARY } = m_library;
+const { whoIs } = m_names;
 const { NAMED, readRule, ruleName } = m_rules;
 const { CELLS } = m_tiles;
 const { stateWords } = m_words;
@@ -1466,7 +1508,7 @@ app.box = shown.box();
 const { box } = app, words = [
 player.look ? `generation ${player.gen}, a look` : "the board", `population ${shown.population}`,
 box ? `box ${box.w} x ${box.h} at ${box.x} ${box.y}` : "empty",
-`x ${x} y ${y}: state ${shown.state(x, y)}${write.r && !player.look && board.state !== "alone" ? ` by seat ${write.r}` : ""}`,
+`x ${x} y ${y}: state ${shown.state(x, y)}${write.r && !player.look && board.state !== "alone" ? ` by ${whoIs(app.names, write.r)}` : ""}`,
 `zoom ${view.zoom >= 1 ? view.zoom : "1/" + 1 / view.zoom}`,
 ];
 if (board.pending.length) words.push(`not confirmed ${board.pending.length}`);
@@ -1481,19 +1523,20 @@ for (const t of app.board.plane.tiles.values()) if (t.n) for (let i = 0; i < CEL
 for (const [seat, n] of [...counts].sort((a, b) => a[0] - b[0])) {
 const mark = document.createElement("span");
 mark.style.background = hex(seatColour(seat));
-mark.textContent = `${seat}${seat === app.board.seat ? ", you" : ""}: ${n}`;
+mark.textContent = `${whoIs(app.names, seat)}${seat === app.board.seat ? ", you" : ""}: ${n}`;
 list.append(mark);
 }
 }
 return { part, field, say, fillLists, fillByRule, showSwatches, showTools, showFacts, showWho };
 })();
 const m_files = (() => {
-const { Fault, exportOf, many } = m_formats;
+const { Fault, clipped, cutOf, exportOf, many, textIn } = m_formats;
 const { heldOf, textOf } = m_editor;
 const { Grid } = m_generations;
+const { namesText } = m_names;
 const { around, filmOf, svgOf } = m_pictures;
 const { field, say } = m_panel;
-const { boxOf, forFile, readRLE } = m_rle;
+const { boxOf, forFile, placed, readRLE } = m_rle;
 const { readRule } = m_rules;
 const { readState } = m_states;
 const { NOT_PROVED, refusalWords } = m_words;
@@ -1509,35 +1552,41 @@ link.download = name;
 link.click();
 setTimeout(() => URL.revokeObjectURL(url), 10000);
 }
-async function exported(app, gen) {
+async function exported(app, gen, box) {
 if (app.board.state === "open") {
-const [body] = await app.board.ask(exportOf(gen));
-return new TextDecoder().decode(body.subarray(1));
+const [body] = await app.board.ask(box ? cutOf(clipped(box), gen) : exportOf(gen));
+return textIn(body);
 }
 const grid = app.player.look && app.player.gen === gen ? app.player.look.grid : await reached(app, gen);
-return grid && textOf(grid, app.board.rule, gen);
+return grid && textOf(grid, app.board.rule, gen, box);
 }
 const reached = (app, gen) => app.player.reach(gen, at => say(`Generation ${at} of ${gen}. Escape gives it up.`));
-async function showGeneration(app, gen) {
+async function withGeneration(app, box, call) {
+const gen = Number(field("gen").value);
 if (!Number.isInteger(gen) || gen < 0 || gen > LAST) return say("A generation is a number from 0 to 536,870,912.");
 try {
 app.player.isPlaying = false;
-const text = await exported(app, gen);
-if (text === null) return;
-const p = readRLE(text);
+const text = await exported(app, gen, box);
+if (text !== null) call(readRLE(text), gen);
+} catch (fault) { say(wordsOf(fault)); }
+}
+const showGeneration = app => withGeneration(app, null, (p, gen) => {
 app.player.show({ grid: Grid.from(p.cells, p.x, p.y), gen });
 app.view.fit();
 say(`Generation ${gen}, population ${p.cells.length / 3}.`);
-} catch (fault) { say(wordsOf(fault)); }
-}
+});
+const count = app => withGeneration(app, app.view.selection, (p, gen) => {
+const box = p.cells.length ? `, box ${p.w} x ${p.h} at ${p.x} ${p.y}` : "";
+say(`Generation ${gen}${app.view.selection ? ", in the selection" : ""}: ${p.cells.length / 3} cells${box}.`);
+});
 async function save(app) {
-const { gen } = app.player, isOwn = app.board.state !== "open";
+const { gen } = app.player, { selection } = app.view, isOwn = app.board.state !== "open";
 try {
-const shown = await exported(app, gen);
+const shown = await exported(app, gen, selection);
 if (shown === null) return;
 const text = forFile(shown, app.board.rule);
 give(`pazgrot-${gen}.rle`, new Blob([text]));
-say(`Saved generation ${gen}, ${text.length} bytes${isOwn ? ", " + NOT_PROVED : ", written by the server"}.`);
+say(`Saved ${selection ? "the selection of " : ""}generation ${gen}, ${text.length} bytes${isOwn ? ", " + NOT_PROVED : ", written by the server"}.`);
 } catch (fault) { say(wordsOf(fault)); }
 }
 function seen(app) {
@@ -1564,8 +1613,7 @@ if (app.board.state === "open") {
 const bodies = await app.board.ask(many(Array.from({ length: to - from + 1 }, (_, k) => from + k)));
 for (const body of bodies.slice(1)) {
 if (body[0]) throw new Fault(body[0]);
-const p = readRLE(new TextDecoder().decode(body.subarray(1)));
-list.push({ cells: p.cells.map((n, k) => k % 3 === 0 ? n + p.x : k % 3 === 1 ? n + p.y : n) });
+list.push({ cells: placed(readRLE(textIn(body))) });
 }
 return list;
 }
@@ -1589,7 +1637,7 @@ say(`Saved a film of ${list.length} generations.`);
 async function share(app) {
 const { view, board } = app, { x, y, w, h } = view.window(), at = `at=${x + (w >> 1)},${y + (h >> 1)},${view.zoom}`;
 const base = location.href.split("#")[0];
-let link = `${base}#${app.token}&${at}`;
+let link = `${base}#${app.token}&${at}${app.names.size ? "&names=" + encodeURIComponent(namesText(app.names)) : ""}`;
 if (board.state === "alone") {
 link = `${base}#rule=${encodeURIComponent(board.rule.text)}&rle=${encodeURIComponent(textOf(board.plane, board.rule, 0))}&${at}`;
 if (link.length > MOST_LINK) return say("The pattern is too long for a link: save it as RLE.");
@@ -1609,14 +1657,90 @@ say(`${file.name}: ${wordsOf(fault)}`);
 return false;
 }
 }
-return { exported, showGeneration, save, saveSeen, savePicture, saveFilm, share, openFile };
+return { showGeneration, count, save, saveSeen, savePicture, saveFilm, share, openFile };
+})();
+const m_start = (() => {
+const { namesText, readNames } = m_names;
+const { readRule } = m_rules;
+const TOKEN = /^[0-9a-f]{32}$/i, KEY_BYTES = 16, PROBE = 80;
+function decoded(word) {
+try { return decodeURIComponent(word.replace(/\+/g, "%20")); } catch { return ""; }
+}
+function readLink() {
+const words = location.hash.slice(1).split("&"), isWeb = /^https?:$/.test(location.protocol);
+const said = (name) => decoded((words.find(w => w.startsWith(name + "=")) || "").slice(name.length + 1));
+const token = isWeb ? words.find(w => TOKEN.test(w)) || "" : "", rle = said("rle");
+const hasHeader = /^\s*(#|x\s*=)/.test(rle);
+return { token, rule: readRule(said("rule")), rle: rle && !hasHeader ? "x = 0, y = 0\n" + rle : rle, at: said("at"), names: said("names") };
+}
+function placeOf(text) {
+const numbers = text.split(",").map(Number);
+return text && numbers.length === 3 && numbers.every(Number.isFinite) && numbers[2] > 0 ? numbers : null;
+}
+function kept(name) {
+try { return sessionStorage.getItem(name); } catch { return null; }
+}
+function keep(name, text) {
+try { sessionStorage.setItem(name, text); } catch { /* a page whose storage is off begins anew at a reload */ }
+}
+const keepNames = (token, names) => keep("names " + token, namesText(names));
+const namesOf = ({ token, names }) => new Map([...readNames(kept("names " + token) || ""), ...readNames(names)]);
+function isTaken(key) {
+if (!key || typeof BroadcastChannel === "undefined") return Promise.resolve(false);
+const channel = new BroadcastChannel("pazgrot");
+return new Promise(done => {
+channel.onmessage = ({ data }) => { if (data === "taken " + key) done(true); };
+channel.postMessage("whose " + key);
+setTimeout(() => { channel.close(); done(false); }, PROBE);
+});
+}
+function hold(key) {
+if (typeof BroadcastChannel === "undefined") return;
+const channel = new BroadcastChannel("pazgrot");
+channel.onmessage = ({ data }) => { if (data === "whose " + key) channel.postMessage("taken " + key); };
+}
+function drawingsOf(text) {
+try { return JSON.parse(text); } catch { return []; }
+}
+async function takeKey(token) {
+const old = token ? kept("key " + token) || "" : "", isMine = old !== "" && !await isTaken(old);
+const left = isMine ? drawingsOf(kept("left " + token) || "[]") : [];
+const key = isMine ? old : [...crypto.getRandomValues(new Uint8Array(KEY_BYTES))].map(b => b.toString(16).padStart(2, "0")).join("");
+if (token) {
+keep("key " + token, key);
+hold(key);
+}
+return { key, left };
+}
+function keepPending(token, pending) {
+keep("left " + token, JSON.stringify(pending.map(({ c, r, area, cells, isBlind }) => ({ c, r, area, cells, isBlind }))));
+}
+function worldOf(token, key, window) {
+const url = `${location.protocol === "https:" ? "wss" : "ws"}://${location.host}/board?${token}.${key}`;
+return {
+connect(ear) {
+const socket = new WebSocket(url);
+socket.binaryType = "arraybuffer";
+socket.onopen = () => ear.opened();
+socket.onmessage = ({ data }) => { if (typeof data !== "string") ear.came(new Uint8Array(data)); };
+socket.onclose = () => ear.closed();
+return { send: body => { if (socket.readyState === WebSocket.OPEN) socket.send(body); }, close: () => socket.close() };
+},
+later: (ms, call) => { setTimeout(call, ms); },
+isHidden: () => document.hidden,
+window,
+};
+}
+return { readLink, placeOf, keepNames, namesOf, takeKey, keepPending, worldOf };
 })();
 const m_commands = (() => {
 const { THEMES } = m_colours;
-const { save, saveFilm, savePicture, saveSeen, share, showGeneration } = m_files;
+const { count, save, saveFilm, savePicture, saveSeen, share, showGeneration } = m_files;
+const { nameSeat } = m_names;
 const { flipX, flipY, rotate } = m_patterns;
 const { field, part, say, showWho } = m_panel;
 const { readRule, ruleName } = m_rules;
+const { keepNames } = m_start;
 const { HELD } = m_words;
 function chosen(app) {
 const box = app.view.selection || app.player.shown.box();
@@ -1670,6 +1794,14 @@ if (cells.some((s, k) => k % 3 === 2 && s >= rule.states)) return say("The board
 app.setRule(rule);
 say(`The rule is ${ruleName(rule)}.`);
 }
+function takeName(app) {
+const seat = Number(field("named").value), name = nameSeat(app.names, seat, field("name").value);
+if (name === null) return say("A seat is a number from 1 to 65,535.");
+keepNames(app.token, app.names);
+app.changed();
+showWho(app);
+say(name ? `Seat ${seat} is ${name}, in this page and in the links that it gives.` : `Seat ${seat} has no name.`);
+}
 function commandsOf(app) {
 const { view, player } = app, edited = () => { view.isDirty = true; };
 return {
@@ -1688,11 +1820,12 @@ play: () => { player.toggle(); say(player.isPlaying ? "Playing." : `Stopped at g
 step: () => { player.isPlaying = false; player.step(); say(`Generation ${player.gen}, population ${player.shown.population}.`); },
 back: () => say(!player.back() ? "This is the board." : player.look ? `Generation ${player.gen}.` : "The board."),
 edit: () => { view.held = null; view.selection = null; player.edit(); say("The board."); },
-show: () => showGeneration(app, Number(field("gen").value)),
+show: () => showGeneration(app), count: () => count(app),
 open: () => field("file").click(), save: () => save(app), png: () => savePicture(app), svg: () => saveSeen(app), film: () => saveFilm(app), share: () => share(app),
 rule: () => takeRule(app),
 fit: () => view.fit(), nearer: () => view.zoomBy(true), further: () => view.zoomBy(false), middle: () => view.centre(0, 0),
 who: () => { view.showsSeats = !view.showsSeats; edited(); app.changed(); showWho(app); },
+name: () => takeName(app),
 theme: () => app.setTheme(THEMES[(THEMES.indexOf(view.theme) + 1) % THEMES.length]),
 help: () => (part("keys")).showModal(),
 shut: () => (part("keys")).close(),
@@ -1992,77 +2125,6 @@ return grid;
 }
 return { Player };
 })();
-const m_start = (() => {
-const { readRule } = m_rules;
-const TOKEN = /^[0-9a-f]{32}$/i, KEY_BYTES = 16, PROBE = 80;
-function decoded(word) {
-try { return decodeURIComponent(word.replace(/\+/g, "%20")); } catch { return ""; }
-}
-function readLink() {
-const words = location.hash.slice(1).split("&"), isWeb = /^https?:$/.test(location.protocol);
-const said = (name) => decoded((words.find(w => w.startsWith(name + "=")) || "").slice(name.length + 1));
-const token = isWeb ? words.find(w => TOKEN.test(w)) || "" : "", rle = said("rle");
-const hasHeader = /^\s*(#|x\s*=)/.test(rle);
-return { token, rule: readRule(said("rule")), rle: rle && !hasHeader ? "x = 0, y = 0\n" + rle : rle, at: said("at"), asksCut: words.includes("cut") };
-}
-function placeOf(text) {
-const numbers = text.split(",").map(Number);
-return text && numbers.length === 3 && numbers.every(Number.isFinite) && numbers[2] > 0 ? numbers : null;
-}
-function kept(name) {
-try { return sessionStorage.getItem(name); } catch { return null; }
-}
-function keep(name, text) {
-try { sessionStorage.setItem(name, text); } catch { /* a page whose storage is off begins anew at a reload */ }
-}
-function isTaken(key) {
-if (!key || typeof BroadcastChannel === "undefined") return Promise.resolve(false);
-const channel = new BroadcastChannel("pazgrot");
-return new Promise(done => {
-channel.onmessage = ({ data }) => { if (data === "taken " + key) done(true); };
-channel.postMessage("whose " + key);
-setTimeout(() => { channel.close(); done(false); }, PROBE);
-});
-}
-function hold(key) {
-if (typeof BroadcastChannel === "undefined") return;
-const channel = new BroadcastChannel("pazgrot");
-channel.onmessage = ({ data }) => { if (data === "whose " + key) channel.postMessage("taken " + key); };
-}
-function drawingsOf(text) {
-try { return JSON.parse(text); } catch { return []; }
-}
-async function takeKey(token) {
-const old = token ? kept("key " + token) || "" : "", isMine = old !== "" && !await isTaken(old);
-const left = isMine ? drawingsOf(kept("left " + token) || "[]") : [];
-const key = isMine ? old : [...crypto.getRandomValues(new Uint8Array(KEY_BYTES))].map(b => b.toString(16).padStart(2, "0")).join("");
-if (token) {
-keep("key " + token, key);
-hold(key);
-}
-return { key, left };
-}
-function keepPending(token, pending) {
-keep("left " + token, JSON.stringify(pending.map(({ c, r, area, cells, isBlind }) => ({ c, r, area, cells, isBlind }))));
-}
-function worldOf(token, key, window) {
-const url = `${location.protocol === "https:" ? "wss" : "ws"}://${location.host}/board?${token}.${key}`;
-return {
-connect(ear) {
-const socket = new WebSocket(url);
-socket.binaryType = "arraybuffer";
-socket.onopen = () => ear.opened();
-socket.onmessage = ({ data }) => { if (typeof data !== "string") ear.came(new Uint8Array(data)); };
-socket.onclose = () => ear.closed();
-return { send: body => { if (socket.readyState === WebSocket.OPEN) socket.send(body); }, close: () => socket.close() };
-},
-later: (ms, call) => { setTimeout(call, ms); },
-isHidden: () => document.hidden,
-window,
-};
-}
-return { readLink, placeOf, takeKey, keepPending, worldOf };
-})();
 const m_view = (() => {
 const { THEMES, hex, pixel, seatColour } = m_colours;
 const { CELLS, SIDE } = m_tiles;
@@ -2239,7 +2301,7 @@ const { field, fillByRule, fillLists, part, say, showFacts, showSwatches, showTo
 const { Player } = m_player;
 const { readRLE } = m_rle;
 const { readRule, ruleName } = m_rules;
-const { keepPending, placeOf, readLink, takeKey, worldOf } = m_start;
+const { keepPending, namesOf, placeOf, readLink, takeKey, worldOf } = m_start;
 const { Strokes } = m_undo;
 const { View } = m_view;
 const { ALONE, HELD, KEYS, lineWords, refusalWords } = m_words;
@@ -2247,6 +2309,8 @@ const CALM = 3;
 class App {
 constructor(link, key) {
 this.token = link.token;
+this.at = placeOf(link.at);
+this.names = namesOf(link);
 this.tool = "draw";
 this.state = 1;
 this.copied = "";
@@ -2259,7 +2323,6 @@ const world = link.token ? worldOf(link.token, key, () => this.view.window()) : 
 this.board = new Board(world, {
 state: state => this.told(state), map: () => { this.view.isDirty = true; }, refused: n => say(refusalWords(n)), begunAnew: before => this.begunAnew(before),
 }, link.rule ? link.rule.text : "23/3/2");
-this.board.asksCut = link.asksCut;
 this.player = new Player(this.board, () => this.changed());
 this.view = new View((part("c")), this.board, this.player);
 this.editor = new Editor(this.board);
@@ -2280,11 +2343,13 @@ this.takeRule();
 if (!this.isFitted) this.lookAtFirst();
 else say("The board is there.");
 }
+lookAtPlace() {
+if (this.at) this.view.centre(this.at[0], this.at[1], this.at[2]);
+return this.at !== null;
+}
 lookAtFirst() {
 this.isFitted = true;
-const at = placeOf(readLink().at);
-if (at) this.view.centre(at[0], at[1], at[2]);
-else this.view.fit();
+if (!this.lookAtPlace()) this.view.fit();
 }
 begunAnew(before) {
 this.editor.strokes = new Strokes();
@@ -2411,6 +2476,7 @@ app.view.size();
 setInterval(() => showWho(app), 500);
 addEventListener("hashchange", () => location.reload());
 addEventListener("pagehide", () => { if (link.token) keepPending(link.token, app.board.pending); });
+app.lookAtPlace();
 if (link.token) app.board.start(left);
 else beginAlone(app, link);
 requestAnimationFrame(now => app.frame(now));
@@ -2427,4 +2493,4 @@ return { App };
 /// What the page may do, as the value of `Content-Security-Policy`, one line: to run the one script and the one style
 /// whose SHA-256 hashes it names, and to speak to where the page came from. No other page may show it in a frame.
 pub const POLICY: &str =
-    "default-src 'none'; script-src 'sha256-JiIts0War+plb3yAeGpdCH/1b/30fjWrKRSrWhcfjtQ='; style-src 'sha256-wnRx1RF86w+xqbB18lUfwHqS73EfANiyJhrk9WbqOB4='; img-src data: blob:; connect-src 'self'; base-uri 'none'; form-action 'none'; frame-ancestors 'none'";
+    "default-src 'none'; script-src 'sha256-Due0kwEl9DEo5s8DESywLGKDTd+08z3J38eSlI50C8I='; style-src 'sha256-OD7CMqJMWYIEoTBWnFqMeew433N5P6FEkvusmzTZjcE='; img-src data: blob:; connect-src 'self'; base-uri 'none'; form-action 'none'; frame-ancestors 'none'";
