@@ -152,7 +152,7 @@ async function narrow(chromium) {
 }
 
 async function together(chromium) {
-  const { port, link, line, restart, end } = await serve("23/3/2"), a = await chromium.open(link), b = await chromium.open(link);
+  const { port, link, line, killed, resume, restart, end } = await serve("23/3/2"), a = await chromium.open(link), b = await chromium.open(link);
   const both = async () => { for (const p of [a, b, a, b]) await p.settled(); await sleep(120); };
   const same = async () => (await both(), await a.cells() === await b.cells());
   await both();
@@ -203,7 +203,7 @@ async function together(chromium) {
   const told = await a.said();
   await press(a, "save"); await a.until("given.length === 1");
   const piece = joined(port, "cut!", -12, -3, 30, 9, 0), later = readRLE(joined(port, "cut!", -12, -3, 30, 9, 40));
-  check("a selection is saved as `genedit join` cuts it", await a.js("given[0]") === piece, await a.said());
+  check("a selection is saved as `genedit join` cuts it", await a.js("given[0]") === piece.replace("rule = 23/3/2", "rule = B3/S23"), await a.said());
   check("its cells and their box are those of the server's generation 40", told === `Generation 40, in the selection: ${later.cells.length / 3} cells, box ${later.w} x ${later.h} at ${later.x} ${later.y}.`, told);
   await a.key("k");
 
@@ -236,10 +236,10 @@ async function together(chromium) {
   await a.js("pazgrot.hold('x = 1, y = 1, rule = 23/3/2\\no!')"); await a.key("Escape");
   await killed();
   await a.until("pazgrot.board.state === 'away'");
-  await a.stroke([await a.at(-28, 17), await a.at(-20, 17)]);
+  await a.stroke([await a.at(-28, 10), await a.at(-20, 10)]);
   const atSeat = await seatOf(a);
   await resume();
-  check("a server that is killed and goes on with its file is met again, and what was drawn meanwhile is drawn", await same() && await b.js("pazgrot.board.plane.state(-24, 17)") === 1, `seat ${atSeat}, now ${await seatOf(a)}`);
+  check("a server that is killed and goes on with its file is met again, and what was drawn meanwhile is drawn", await same() && await b.js("pazgrot.board.plane.state(-24, 10)") === 1, `seat ${atSeat}, now ${await seatOf(a)}`);
   await names(chromium, a, link);
   if (flags.includes("--speed")) await speed(a, b);
   if (flags.includes("--twenty")) await twenty(chromium, link, [a, b]);

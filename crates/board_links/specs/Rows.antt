@@ -38,6 +38,9 @@ with_query = refl
 with_user : is_board_url (record example { username = codes "ann" }) ≡ false
 with_user = refl
 
+without_host : is_board_url (record example { host = None }) ≡ false
+without_host = refl
+
 no_web : is_web_scheme (codes "ftp") ≡ false
 no_web = refl
 

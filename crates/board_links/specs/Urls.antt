@@ -5,7 +5,7 @@ use Rattle.std.specs.Str.{bytes_eq}
 use Rattle.url.specs.Host.{host_text}
 use Rattle.url.specs.Input.{is_empty}
 use Rattle.url.specs.Parser.{Parsed, parse_url}
-use Rattle.url.specs.Parts.{Parts, nonempty_host}
+use Rattle.url.specs.Parts.{Parts, has_host, nonempty_host}
 use Rattle.url.specs.declared.host.Host.{Host}
 use Rattle.url.specs.declared.host.Host.TheVariants.{Domain, Ipv4, Ipv6}
 use Rattle.board_links.specs.declared.board_url.BoardUrl.{BoardUrl}
@@ -18,7 +18,7 @@ is_web_scheme scheme = bytes_eq scheme (codes "http") || bytes_eq scheme (codes 
 
 -- a scheme of the web, a host, perhaps a port, and nothing else
 abbrev pub is_board_url : Parts → Bool
-is_board_url url = is_web_scheme url.scheme && is_empty url.username && is_empty url.password
+is_board_url url = is_web_scheme url.scheme && has_host url && is_empty url.username && is_empty url.password
     && bytes_eq url.path (codes "/") && not (is_some url.query) && not (is_some url.fragment)
 
 -- a port behind a colon

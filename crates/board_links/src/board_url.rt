@@ -69,6 +69,7 @@ fn is_board_url(url: &Url) -> bool
     ensures { result ≡ is_board_url url.now }
 {
     is_web_scheme(url.scheme())
+        && url.has_host()
         && url.username().is_empty()
         && url.password().is_none()
         && url.path() == "/"

@@ -53,18 +53,6 @@ Sits chairs at page = slice_get chairs at ≡ Some (Taken page)
 abbrev pub IsFreeAt : List Chair → ℕ → Type 0
 IsFreeAt chairs at = (page : Option (List ℕ)) → Sits chairs at page → ⊥
 
--- the chair is one at which somebody sits
-abbrev pub IsTaken : Chair → Type 0
-IsTaken chair = (page : Option (List ℕ)) × (chair ≡ Taken page)
-
--- somebody sits at one of them
-abbrev pub SomebodySits : List Chair → Type 0
-SomebodySits chairs = (at : ℕ) × ((page : Option (List ℕ)) × Sits chairs at page)
-
--- nobody sits at any of them
-abbrev pub IsVacant : List Chair → Type 0
-IsVacant chairs = SomebodySits chairs → ⊥
-
 -- the number of the next leaving; 2^64 - 1 stays
 abbrev pub leave_number : ℕ → ℕ
 leave_number leavings = min (leavings + 1) (2 ^ 64 - 1)

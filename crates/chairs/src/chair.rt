@@ -1,7 +1,7 @@
 //! A chair.
 
 ghost use Rattle.std.specs.Prelude.{◌≡◌, ◌↔◌, IsTrue, Some};
-ghost use Rattle.chairs.specs.Turns.{IsTaken, turn_of};
+ghost use Rattle.chairs.specs.Turns.{turn_of};
 ghost use Rattle.chairs.specs.Pages.{key_of};
 
 use crate::leaving::Leaving;
@@ -30,13 +30,6 @@ impl Chair {
             Chair::Left(leaving) if leaving.is_kept(now) => None,
             Chair::Left(leaving) => Some(leaving.number),
         }
-    }
-
-    /// Whether somebody sits there.
-    pub(crate) fn is_taken(&self) -> bool
-        ensures { IsTrue result ↔ IsTaken self.now }
-    {
-        matches!(self, Chair::Taken(_))
     }
 
     /// Whether a page's key is at it: the page sits there, or was the last to leave it.

@@ -1,7 +1,7 @@
 //! All chairs.
 
 ghost use Rattle.std.specs.Prelude.{◌≡◌, ◌<◌, ◌↔◌, IfNone, IfOk, IfSome, IsTrue, List, MatchOption, None, Option, Some, length, replicate, slice_set, ℕ};
-ghost use Rattle.chairs.specs.Turns.{HasFresh, IsFreeAt, IsNext, IsVacant, NoTurnComes, Sits, SomebodySits, earlier_of, once_left};
+ghost use Rattle.chairs.specs.Turns.{HasFresh, IsFreeAt, IsNext, NoTurnComes, Sits, earlier_of, once_left};
 ghost use Rattle.chairs.specs.Pages.{HasKey, IsFor, IsNowhere, IsOnlyAt, chair_of};
 ghost use Rattle.chairs.specs.declared.chair.Chair.TheVariants.{Fresh, Taken};
 
@@ -79,13 +79,6 @@ fn place_for(chairs: &[Chair], key: &PageKey, now: u64) -> Option<PagePlace>
     }
 }
 
-/// Whether somebody sits at one of the chairs.
-fn somebody_sits(chairs: &[Chair]) -> bool
-    ensures { IsTrue result ↔ SomebodySits chairs.now }
-{
-    chairs.iter().any(|chair| chair.is_taken())
-}
-
 impl Plan {
     /// So many chairs at which nobody has sat.
     pub fn new(alloc: Global, count: usize) -> Result<Plan, AllocError>
@@ -155,13 +148,6 @@ impl Plan {
         self.chairs
             .iter()
             .any(|chair| matches!(chair, Chair::Fresh))
-    }
-
-    /// Whether nobody sits at any chair.
-    pub fn is_vacant(&self) -> bool
-        ensures { IsTrue result ↔ IsVacant self.now.chairs }
-    {
-        !somebody_sits(&self.chairs)
     }
 
     /// How many there are.

@@ -1,7 +1,9 @@
 //! Tests of `generation_engine` (universes filled from planes beside the planes' own walks, universes
-//! run beside boards of cells, and room), of `tile_cells` (soups beside boards of cells) and of `export`.
+//! run beside boards of cells, and room), of `tile_cells` (soups beside boards of cells) and of `export`, by tiles and by universes.
 #![tactic(auto)]
 
+#[cfg(test)]
+mod by_tiles;
 #[cfg(test)]
 mod calls;
 #[cfg(test)]

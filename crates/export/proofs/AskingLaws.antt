@@ -1,6 +1,6 @@
 -- A map has one count.
-use Rattle.std.proofs.Common.{◌≡◌, ◌≢◌, ℕ, ◌+◌, ◌<◌, ◌≤◌, int_le, int_lt, true, refl, sym, ◌∙◌, ap, subst, arith}
-use Rattle.std.specs.Prelude.{Option, Some, None, Result, Ok, Err, ◌&&◌, ℤ, pos, ◌+ℤ◌}
+use Rattle.std.proofs.Common.{◌≡◌, ◌≢◌, ℕ, int_le, int_lt, true, refl, sym, ◌∙◌, ap, subst, arith}
+use Rattle.std.specs.Prelude.{Option, Some, None, Result, Ok, Err, ℤ, pos, ◌+ℤ◌}
 use Rattle.std.proofs.lemmas.Bool.{and_parts}
 use Rattle.std.proofs.lemmas.Int.{ints}
 use Rattle.generations_rule.specs.Place.{Place}
@@ -8,12 +8,12 @@ use Rattle.generations_rule.specs.Rule.{GenerationsRule}
 use Rattle.generations_rule.specs.Evolution.{at}
 use Rattle.pattern_cells.specs.declared.window.Window.{Window}
 use Rattle.pattern_cells.specs.Window.{is_in_span, is_in_window, seen_where}
-use Rattle.generation_engine.specs.Universe.{AreSameStates, EngineValue, states_of}
+use Rattle.generation_engine.specs.Universe.{EngineValue, states_of}
 use Rattle.generation_engine.specs.Window.{IsExtent, IsLeastWindow}
 use Rattle.export.specs.declared.asking.Count.{Count}
 use Rattle.export.specs.declared.fault.ExportFault.{ExportFault}
 use Rattle.export.specs.declared.fault.ExportFault.TheVariants.{GenRange, TooManyCells, StoreFull, Memory}
-use Rattle.export.specs.Asking.{CountsAt, IsCount, seen_at}
+use Rattle.export.specs.Asking.{IsCount, seen_at}
 use Rattle.export.specs.Kept.{IsRunOf}
 use Rattle.export.specs.Laws.{HasOneCount}
 use Rattle.export.proofs.ExportLaws.{one_map}

@@ -17,7 +17,6 @@ use Rattle.generation_engine.specs.Universe.{AreSameStates}
 use Rattle.generation_engine.specs.Walk.{AreCellsOf}
 use Rattle.export.specs.declared.fault.ExportFault.{ExportFault}
 use Rattle.export.specs.declared.fault.ExportFault.TheVariants.{GenRange, TooManyCells, StoreFull, Memory}
-use Rattle.pattern_cells.specs.declared.window.Window.{Window}
 use Rattle.pattern_cells.specs.Window.{is_in_window, seen_where}
 use Rattle.export.specs.Asking.{IsCut, seen_at}
 use Rattle.export.specs.Export.{IsExport, IsTold}

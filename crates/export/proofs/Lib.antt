@@ -1,3 +1,4 @@
 pub mod ExportLaws
+pub mod TileLaws
 pub mod AskingLaws
 pub mod CountLaws

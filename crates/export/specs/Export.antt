@@ -1,5 +1,5 @@
 -- The text of a plane's cells some generations on.
-use Rattle.std.specs.Prelude.{◌≡◌, true, ◌⊎◌, ⊤, ℕ, ◌^◌, ◌<◌, ◌≤◌, pos, List, Result, Ok, Err}
+use Rattle.std.specs.Prelude.{◌≡◌, true, ◌⊎◌, ⊤, ℕ, ◌^◌, ◌<◌, ◌≤◌, pos, List, length, Result, Ok, Err}
 use Rattle.generations_rule.specs.Place.{Place, moved}
 use Rattle.generations_rule.specs.Rule.{GenerationsRule}
 use Rattle.generations_rule.specs.Evolution.{at}
@@ -48,6 +48,11 @@ pub record AreListed (r : GenerationsRule) (h : Place → ℕ) (limit : ℕ) (ce
 -- those that are not dead g generations later, the rule being applied cell by cell
 abbrev pub AreExported : GenerationsRule → (Place → ℕ) → ℕ → ℕ → List Cell → Type 0
 AreExported r f g limit cells = AreListed r (at r f g) limit cells
+
+-- the sorted list of the cells that are not dead g generations later, which are as many as there are
+pub record AreCounted (r : GenerationsRule) (f : Place → ℕ) (g : ℕ) (cells : List Cell) : Type 0 where
+  pub are_cells : AreCellsOf (at r f g) cells
+  pub count : length cells ≡ population_at r f g
 
 -- The answer of what tells a map of states as it stands at generation g, of at most so many cells: first whether the generation is
 -- one, then whether the cells are too many, then the text.

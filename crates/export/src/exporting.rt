@@ -1,14 +1,15 @@
 //! Exports.
 
-ghost use Rattle.std.specs.Prelude.{◌≡◌, ◌^◌, ◌<◌, ◌≤◌, ◌⊎◌, ◌↔◌, IfErr, IfOk, Ok, Err};
+ghost use Rattle.std.specs.Prelude.{◌≡◌, ◌^◌, ◌<◌, ◌≤◌, ◌⊎◌, ◌↔◌, IfErr, IfOk, IfSome, Ok, Err};
 ghost use Rattle.edit_stamps.specs.PlaneMap.{HasStatesBelow};
 ghost use Rattle.square_store.specs.Limits.{usual_room};
 ghost use Rattle.stamped_tree.specs.Plane.{map_of};
 ghost use Rattle.generation_engine.specs.Universe.{population_of, states_in_writes, states_of};
 ghost use Rattle.generation_engine.specs.Walk.{AreCellsOf};
-ghost use Rattle.export.specs.Export.{AreExported, IsExport, IsExportRefused, IsRoomWanted, IsWant, most_cells};
+ghost use Rattle.export.specs.Export.{AreCounted, AreExported, IsExport, IsExportRefused, IsRoomWanted, IsWant, most_cells};
 ghost use Rattle.export.specs.Kept.{IsRunOf};
 
+use crate::by_tiles::cells_by_tiles;
 use crate::fault::ExportFault;
 use generation_engine::{Engine, EngineFault};
 use generations_rule::Rule;
@@ -55,10 +56,51 @@ pub fn export_within(
     ensures err { IfErr result (IsExportRefused rule.now (states_in_writes (map_of plane.now)) generation limit) }
     ensures full { result ≡ Err ExportFault.StoreFull → IsRoomWanted rule.now plane.now generation usual_room }
 {
-    export_in_room(alloc, rule, plane, generation, limit, ROOM)
+    match text_by_tiles(alloc, rule, plane, generation, limit) {
+        Some(answer) => answer,
+        None => export_in_room(alloc, rule, plane, generation, limit, ROOM),
+    }
 }
 
-/// `export` of at most so many cells, with room for so many squares.
+/// `export`, where tiles tell it; none where a universe is to be run.
+pub fn export_by_tiles(
+    alloc: Global,
+    rule: &Rule,
+    plane: &Plane,
+    generation: u32,
+) -> Option<Result<Vec<u8>, ExportFault>>
+    requires { HasStatesBelow rule.now.states (map_of plane.now) }
+    ensures text { IfSome result (λ answer. IfOk answer (λ text. IsExport rule.now (states_in_writes (map_of plane.now)) generation most_cells (Ok text.items))) }
+    ensures err { IfSome result (λ answer. IfErr answer (IsExportRefused rule.now (states_in_writes (map_of plane.now)) generation most_cells)) }
+    ensures not_full { IfSome result (λ answer. IfErr answer (λ fault. (fault ≡ ExportFault.TooManyCells) ⊎ (fault ≡ ExportFault.Memory))) }
+{
+    text_by_tiles(alloc, rule, plane, generation, MOST_CELLS)
+}
+
+/// The same of at most so many cells.
+fn text_by_tiles(
+    alloc: Global,
+    rule: &Rule,
+    plane: &Plane,
+    generation: u32,
+    limit: u64,
+) -> Option<Result<Vec<u8>, ExportFault>>
+    requires { HasStatesBelow rule.now.states (map_of plane.now) }
+    ensures text { IfSome result (λ answer. IfOk answer (λ text. IsExport rule.now (states_in_writes (map_of plane.now)) generation limit (Ok text.items))) }
+    ensures err { IfSome result (λ answer. IfErr answer (IsExportRefused rule.now (states_in_writes (map_of plane.now)) generation limit)) }
+    ensures not_full { IfSome result (λ answer. IfErr answer (λ fault. (fault ≡ ExportFault.TooManyCells) ⊎ (fault ≡ ExportFault.Memory))) }
+{
+    let cells = cells_by_tiles(alloc, rule, plane, generation)?;
+    match limited(rule, plane, generation, cells, limit) {
+        Ok(cells) => match write(alloc, rule, generation.into(), &cells) {
+            Ok(text) => Some(Ok(text)),
+            Err(_) => Some(Err(ExportFault::Memory)),
+        },
+        Err(fault) => Some(Err(fault)),
+    }
+}
+
+/// `export` of at most so many cells, by a universe with room for so many squares.
 pub fn export_in_room(
     alloc: Global,
     rule: &Rule,
@@ -76,14 +118,59 @@ pub fn export_in_room(
     if generation > LAST_GENERATION {
         return Err(ExportFault::GenRange);
     }
-    let cells = cells_at(alloc, rule, plane, generation, limit, nodes)?;
+    let cells = cells_in_room(alloc, rule, plane, generation, limit, nodes)?;
     let text = write(alloc, rule, u64::from(generation), &cells)?;
     Ok(text)
 }
 
-/// The cells that are not dead some generations later. They are counted before they are listed, and the
-/// universe is given back before they are written.
-fn cells_at(
+/// The cells of a plane that are not dead some generations later, by `y`, then `x`; `TooManyCells` exactly where they are
+/// more than the limit. They are told by tiles, or where these do not tell them by a universe with room for 2^26 squares.
+pub fn cells_at(
+    alloc: Global,
+    rule: &Rule,
+    plane: &Plane,
+    generation: u32,
+    limit: u64,
+) -> Result<Vec<Cell>, ExportFault>
+    requires states { HasStatesBelow rule.now.states (map_of plane.now) }
+    requires generation { generation ≤ 2 ^ 29 }
+    ensures cells { IfOk result (λ cells. AreExported rule.now (states_in_writes (map_of plane.now)) generation limit cells.items) }
+    ensures err { IfErr result (IsExportRefused rule.now (states_in_writes (map_of plane.now)) generation limit) }
+    ensures full { result ≡ Err ExportFault.StoreFull → IsRoomWanted rule.now plane.now generation usual_room }
+{
+    match cells_by_tiles(alloc, rule, plane, generation) {
+        Some(cells) => limited(rule, plane, generation, cells, limit),
+        None => cells_in_room(alloc, rule, plane, generation, limit, ROOM),
+    }
+}
+
+/// Cells that were counted, if they are at most so many.
+fn limited(
+    rule: &Rule,
+    plane: &Plane,
+    generation: u32,
+    cells: Vec<Cell>,
+    limit: u64,
+) -> Result<Vec<Cell>, ExportFault>
+    requires states { HasStatesBelow rule.now.states (map_of plane.now) }
+    requires generation { generation ≤ 2 ^ 29 }
+    requires counted { AreCounted rule.now (states_in_writes (map_of plane.now)) generation cells.items }
+    ensures cells { IfOk result (λ cells. AreExported rule.now (states_in_writes (map_of plane.now)) generation limit cells.items) }
+    ensures err { IfErr result (IsExportRefused rule.now (states_in_writes (map_of plane.now)) generation limit) }
+    ensures many { IfErr result (λ fault. fault ≡ ExportFault.TooManyCells) }
+{
+    // For the proof alone: the call tells that what is held is a rule.
+    let _states = rule.states();
+    if cells.len() as u64 <= limit {
+        Ok(cells)
+    } else {
+        Err(ExportFault::TooManyCells)
+    }
+}
+
+/// The cells that are not dead some generations later, by a universe with room for so many squares. They are counted
+/// before they are listed, and the universe is given back before they are written.
+fn cells_in_room(
     alloc: Global,
     rule: &Rule,
     plane: &Plane,

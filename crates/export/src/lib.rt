@@ -5,13 +5,16 @@
 #![tactic(auto)]
 
 mod asking;
+mod by_tiles;
 mod exporting;
 mod fault;
 mod kept;
 mod laws;
 
 pub use asking::{Count, Cut, count_on, cut_on, cut_out};
-pub use exporting::{LAST_GENERATION, cells_within, export, export_in_room, export_within};
+pub use exporting::{
+    LAST_GENERATION, cells_at, cells_within, export, export_by_tiles, export_in_room, export_within,
+};
 pub use fault::ExportFault;
 pub use kept::export_on;
 pub use laws::export_laws;

@@ -51,22 +51,16 @@ pub(crate) fn web_address<
     if url.is_in_clear {
         tell_in_clear(rt, alloc, &url)?;
     }
-    Ok(Some(address_by(alloc, listener, url, token)?))
+    Ok(Some(address_by(listener, url, token)))
 }
 
 /// What browsers find behind a listener.
-fn address_by(
-    alloc: Global,
-    listener: TcpListener,
-    url: BoardUrl,
-    token: Token,
-) -> Result<WebAddress, AllocError> {
+fn address_by(listener: TcpListener, url: BoardUrl, token: Token) -> WebAddress {
     let BoardUrl {
         origin,
         host,
         is_in_clear: _,
     } = url;
-    let url = Vec::from_slice(alloc, &origin)?;
     let house = House {
         host,
         origin,
@@ -77,11 +71,7 @@ fn address_by(
         page: html(),
         policy: policy(),
     };
-    Ok(WebAddress {
-        listener,
-        front,
-        url,
-    })
+    WebAddress { listener, front }
 }
 
 /// How links begin where the words say so.

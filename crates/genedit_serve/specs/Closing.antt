@@ -13,12 +13,12 @@ listening_line port = codes "listening " ++ (decimal port ++ codes "\n")
 
 -- the link by which a browser opens the board: behind # the token, which a browser sends to no server
 abbrev pub link_line : List ℕ → List ℕ → List ℕ
-link_line url token = codes "open " ++ (url ++ (codes "/#" ++ (token ++ codes "\n")))
+link_line origin token = codes "open " ++ (origin ++ (codes "/#" ++ (token ++ codes "\n")))
 
 -- where browsers come, if they do
 abbrev pub web_text : Option WebAddress → List ℕ
 web_text None = []
-web_text (Some web) = link_line web.url.items web.front.house.token
+web_text (Some web) = link_line web.front.house.origin.items web.front.house.token
 
 -- where connections of frames come, if they do
 abbrev pub port_text : Option TcpListener → ℕ → List ℕ

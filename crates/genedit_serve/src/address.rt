@@ -25,9 +25,8 @@ pub struct Address {
 #[derive(Drop)]
 pub struct WebAddress {
     pub listener: TcpListener,
+    /// Links begin with its house's origin.
     pub front: Front,
-    /// How links begin, as `http://127.0.0.1:7080`.
-    pub url: Vec<u8>,
 }
 
 /// A port of this machine's loopback, which nobody reaches from outside: the server listens there, and nowhere

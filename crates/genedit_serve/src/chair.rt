@@ -34,11 +34,7 @@ pub struct Chair<R> {
 }
 
 /// What a session over a guest reads from, writes to and waits by.
-struct Place<R> {
-    incoming: Incoming,
-    outgoing: Outgoing,
-    ears: Ears<R>,
-}
+type GuestEnds<R> = Ends<ReadSource<Incoming>, WriteSink<Outgoing>, Ears<R>>;
 
 impl<R: Clock + Wait + Copy> Chair<R> {
     /// The next guest; none where nobody more is seated here.
@@ -58,20 +54,20 @@ impl<R: Clock + Wait + Copy> Chair<R> {
     }
 
     /// What the session over a guest is served over; none where their connection, the system or memory fails.
-    fn place_of(&self, guest: Guest) -> Option<Place<R>> {
+    fn ends_of(&self, guest: Guest) -> Option<GuestEnds<R>> {
         match guest {
-            Guest::Frames(connection) => self.place_of_frames(connection),
+            Guest::Frames(connection) => self.ends_of_frames(connection),
             Guest::Page(visitor) => {
-                let place = self.place_of_page(visitor);
-                if place.is_none() {
+                let ends = self.ends_of_page(visitor);
+                if ends.is_none() {
                     self.alarm.let_go();
                 }
-                place
+                ends
             }
         }
     }
 
-    fn place_of_frames(&self, connection: Connection) -> Option<Place<R>> {
+    fn ends_of_frames(&self, connection: Connection) -> Option<GuestEnds<R>> {
         let Connection {
             read,
             write,
@@ -82,15 +78,15 @@ impl<R: Clock + Wait + Copy> Chair<R> {
         if let Some(held) = held {
             self.hold(held);
         }
-        Some(Place {
-            incoming: Incoming::Frames(read),
-            outgoing: Outgoing::Frames(write),
+        Some(Ends {
+            source: ReadSource::new(Incoming::Frames(read)),
+            sink: WriteSink::new(Outgoing::Frames(write)),
             ears: Ears::of(self.rt, wait, alarm, None),
         })
     }
 
     /// The handshake is answered here.
-    fn place_of_page(&self, visitor: SeatVisitor) -> Option<Place<R>> {
+    fn ends_of_page(&self, visitor: SeatVisitor) -> Option<GuestEnds<R>> {
         let SeatVisitor {
             stream,
             request,
@@ -103,9 +99,9 @@ impl<R: Clock + Wait + Copy> Chair<R> {
         let (reader, writer) = open_socket(self.alloc, TcpHalf::of(stream), &request, behind).ok()?;
         let reader = PageReader::new(self.alloc, reader).ok()?;
         let theirs = reader.shared().ok()?;
-        Some(Place {
-            incoming: Incoming::Page(reader),
-            outgoing: Outgoing::Page(writer),
+        Some(Ends {
+            source: ReadSource::new(Incoming::Page(reader)),
+            sink: WriteSink::new(Outgoing::Page(writer)),
             ears: Ears::of(self.rt, wait, alarm, Some(theirs)),
         })
     }
@@ -126,23 +122,13 @@ impl<R: Clock + Wait + Copy> Chair<R> {
 
 impl<R: Clock + Wait + Copy> Accept<ReadSource<Incoming>, WriteSink<Outgoing>, Ears<R>>
     for Chair<R> {
-    fn accept(&mut self) -> Option<Ends<ReadSource<Incoming>, WriteSink<Outgoing>, Ears<R>>> {
+    fn accept(&mut self) -> Option<GuestEnds<R>> {
         let rt = self.rt;
         for _ in rt.forever() {
             let guest = self.next_guest()?;
-            if let Some(
-                Place {
-                    incoming,
-                    outgoing,
-                    ears,
-                },
-            ) = self.place_of(guest)
-            {
-                return Some(Ends {
-                    source: ReadSource::new(incoming),
-                    sink: WriteSink::new(outgoing),
-                    ears,
-                });
+            let ends = self.ends_of(guest);
+            if ends.is_some() {
+                return ends;
             }
         }
         unreachable!()

@@ -8,7 +8,7 @@ use itoa::Buffer;
 use seat_server::{Finished, SessionEnd};
 use std::alloc::{AllocError, Global};
 use std::net::TcpListener;
-use web_requests::Token;
+use web_requests::House;
 
 /// Where browsers and connections come: the link, and the port at which the listener is.
 pub fn address_text(alloc: Global, address: &Address, port: u16) -> Result<Vec<u8>, AllocError>
@@ -62,18 +62,18 @@ fn push_web(out: &mut Vec<u8>, web: &Option<WebAddress>) -> Result<(), AllocErro
 {
     match web {
         None => Ok(()),
-        Some(web) => push_link(out, &web.url, &web.front.house.token),
+        Some(web) => push_link(out, &web.front.house),
     }
 }
 
 /// The link by which a browser opens the board.
-fn push_link(out: &mut Vec<u8>, url: &[u8], token: &Token) -> Result<(), AllocError>
-    ensures { OnOk result (out.new.items ≡ out.old.items ++ link_line url.now token.now) }
+fn push_link(out: &mut Vec<u8>, house: &House) -> Result<(), AllocError>
+    ensures { OnOk result (out.new.items ≡ out.old.items ++ link_line house.now.origin.items house.now.token) }
 {
     out.extend_from_slice(b"open ")?;
-    out.extend_from_slice(url)?;
+    out.extend_from_slice(&house.origin)?;
     out.extend_from_slice(b"/#")?;
-    out.extend_from_slice(token)?;
+    out.extend_from_slice(&house.token)?;
     out.push(b'\n')?;
     Ok(())
 }

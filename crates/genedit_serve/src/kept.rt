@@ -8,7 +8,6 @@ ghost use Rattle.generations_rule.specs.Rule.{IsRule};
 ghost use Rattle.kept_log.specs.Found.{IsReadTo, listed};
 ghost use Rattle.kept_log.specs.declared.log.LogState.TheVariants as log_state;
 ghost use Rattle.kept_server.specs.Serving.{IsServedBeside};
-ghost use Rattle.seat_server.specs.Faults.{IsAttendFault};
 ghost use Rattle.genedit_serve.specs.Closing.{closing_text};
 ghost use Rattle.genedit_serve.specs.Faults.{run_fault_of_kept};
 ghost use Rattle.genedit_serve.specs.Keeping.{AreInOrder, AreKeptSeats, IsKeptFile, IsUnopened, IsUntold, ServesKept, ServesKeptAt, TellsKept};
@@ -21,7 +20,7 @@ use crate::document::KeptFile;
 use crate::doorway::Doorway;
 use crate::fault::{kept_fault, server_fault, start_fault};
 use crate::refusal::load_refusal;
-use crate::seated::{Reception, Seated, seated};
+use crate::seated::{Reception, seated};
 use crate::server::INBOX;
 use board_keeper::{
     KeepFault, Keeper, KeptBodies, KeptSeats, LoadedBoard, OpenFault, OpenLog, load_board, opened,
@@ -34,8 +33,8 @@ use kept_file::FileKeep;
 use kept_log::{Found, Log};
 use kept_server::{KeptAttendance, KeptFault, serve_kept};
 use keyed_hash::HashKey;
-use relay_board::{BoardSize, Naming, Opened, Relay, Seat, start_within};
-use seat_server::{Finished, ServerFault};
+use relay_board::{BoardSize, Naming, Opened, start_within};
+use seat_server::Finished;
 use square_store::Limits;
 use std::alloc::Global;
 use std::fs::File;
@@ -172,7 +171,11 @@ fn serve<
     } = prepared;
     let Bound { address, told } = bound;
     let KeptSeats { seats, file } = seats;
-    let (attendance, doorway) = match begun(*rt, alloc, keeper.relay(), seats, address) {
+    let reception = Reception {
+        address,
+        comes_back: true,
+    };
+    let (attendance, doorway) = match seated(*rt, alloc, keeper.relay(), seats, reception) {
         Ok(seated) => seated,
         Err(fault) => return Err(FileRefusal::from(server_fault(fault))),
     };
@@ -191,36 +194,6 @@ fn serve<
             Err(fault) => Err(FileRefusal::from(fault)),
         },
     }
-}
-
-/// Has the seats of a relay wait at their chairs, to which whoever comes again comes back.
-fn begun<
-    J: Naming + Send + 'static,
-    R: Net<Listener = TcpListener, Stream = TcpStream>
-        + Clock
-        + Threads
-        + Wait
-        + Copy
-        + Drop
-        + Send
-        + Sync
-        + 'static,
->(
-    rt: R,
-    alloc: Global,
-    relay: &Relay<J, R>,
-    seats: Vec<Seat<J>>,
-    address: Address,
-) -> Result<Seated<J>, ServerFault>
-    ensures seats { IfOk result (λ s. s.0 ≡ seats.items) }
-    ensures fault { IfErr result IsAttendFault }
-{
-    let bell = relay.bell()?;
-    let reception = Reception {
-        address,
-        comes_back: true,
-    };
-    seated(rt, alloc, bell, seats, reception)
 }
 
 /// What is served: a keeper whose board has what its file had, the seats, how many edits the file had, and how

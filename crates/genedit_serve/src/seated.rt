@@ -6,7 +6,7 @@ ghost use Rattle.seat_server.specs.Faults.{IsAttendFault};
 use crate::address::Address;
 use crate::doorway::Doorway;
 use crate::house::{House, Manners, Rousing};
-use relay_board::{Bell, Naming, Seat};
+use relay_board::{Naming, Relay, Seat};
 use seat_server::{Attendance, Progress, ServerFault, Streams, attending};
 use std::alloc::Global;
 use std::net::{Net, TcpListener, TcpStream};
@@ -24,8 +24,8 @@ pub(crate) struct Reception {
 /// Seats each on a thread of its own, at a chair, and the doorway to these.
 pub(crate) type Seated<J> = (Attendance<J>, Doorway);
 
-/// Starts a thread for each seat, which waits at its chair. Where seats come back, a chair gives one connection after
-/// another, else just one.
+/// Starts a thread for each seat of a relay, which waits at its chair. Where seats come back, a chair gives one guest
+/// after another, else just one.
 pub(crate) fn seated<
     J: Naming + Send + 'static,
     R: Net<Listener = TcpListener, Stream = TcpStream>
@@ -40,13 +40,14 @@ pub(crate) fn seated<
 >(
     rt: R,
     alloc: Global,
-    bell: Bell,
+    relay: &Relay<J, R>,
     seats: Vec<Seat<J>>,
     reception: Reception,
 ) -> Result<Seated<J>, ServerFault>
     ensures seats { IfOk result (λ s. s.0 ≡ seats.items) }
     ensures fault { IfErr result IsAttendFault }
 {
+    let bell = relay.bell()?;
     let Reception {
         address,
         comes_back,

@@ -6,7 +6,7 @@ ghost use Rattle.std.specs.Arc.{arc_value};
 ghost use Rattle.crossbeam_queue.specs.Passes.{ruled_capacity};
 ghost use Rattle.board.specs.Origins.{list_of};
 ghost use Rattle.relay_board.specs.Seating.{Numbered};
-ghost use Rattle.seat_server.specs.Faults.{IsAttendFault, IsReason};
+ghost use Rattle.seat_server.specs.Faults.{IsReason};
 ghost use Rattle.seat_server.specs.Serving.{GoesOnFrom, IsServed};
 ghost use Rattle.square_store.specs.Limits.{usual_room};
 ghost use Rattle.genedit_serve.specs.Serving.{Fails, Pushes, Serves, ServesAt};
@@ -16,12 +16,12 @@ use crate::bound::Bound;
 use crate::closing::closing;
 use crate::doorway::Doorway;
 use crate::fault::{server_fault, start_fault};
-use crate::seated::{Reception, Seated, seated};
+use crate::seated::{Reception, seated};
 use devices::Sink;
 use genedit_io::{Cause, RunFault, cause_of, push_output};
 use generations_rule::Rule;
 use keyed_hash::HashKey;
-use relay_board::{BoardSize, Naming, Opened, Relay, Seat, start_within};
+use relay_board::{BoardSize, Naming, Opened, Relay, start_within};
 use seat_server::{Attendance, Finished, ServerFault, serve_seats};
 use square_store::Limits;
 use std::alloc::Global;
@@ -146,7 +146,9 @@ fn serve<
         Err(fault) => return Err(start_fault(fault)),
     };
     let Bound { address, told } = bound;
-    let (attendance, doorway) = match begun(rt, alloc, &relay, seats, address) {
+    let comes_back = address.web.is_some();
+    let reception = Reception { address, comes_back };
+    let (attendance, doorway) = match seated(rt, alloc, &relay, seats, reception) {
         Ok(seated) => seated,
         Err(fault) => return Err(server_fault(fault)),
     };
@@ -164,37 +166,6 @@ fn serve<
             push_output(sink, &text)
         }
     }
-}
-
-/// Has the seats of a relay wait at their chairs.
-fn begun<
-    J: Naming + Send + 'static,
-    R: Net<Listener = TcpListener, Stream = TcpStream>
-        + Clock
-        + Threads
-        + Wait
-        + Copy
-        + Drop
-        + Send
-        + Sync
-        + 'static,
->(
-    rt: R,
-    alloc: Global,
-    relay: &Relay<J, R>,
-    seats: Vec<Seat<J>>,
-    address: Address,
-) -> Result<Seated<J>, ServerFault>
-    ensures seats { IfOk result (λ s. s.0 ≡ seats.items) }
-    ensures fault { IfErr result IsAttendFault }
-{
-    let bell = relay.bell()?;
-    let comes_back = address.web.is_some();
-    let reception = Reception {
-        address,
-        comes_back,
-    };
-    seated(rt, alloc, bell, seats, reception)
 }
 
 /// Tells where the server listens.

@@ -36,11 +36,7 @@ impl WebDoor {
     ) -> Result<WebDoor, ServerFault>
         ensures { IfErr result IsAttendFault }
     {
-        let WebAddress {
-            listener,
-            front,
-            url: _,
-        } = web;
+        let WebAddress { listener, front } = web;
         let Ok(local) = listener.local_addr() else {
             return Err(ServerFault::Read);
         };

@@ -7,8 +7,7 @@ ghost use Rattle.generation_engine.specs.Universe.{states_in_writes};
 ghost use Rattle.square_store.specs.Limits.{usual_room};
 ghost use Rattle.export.specs.Export.{AreExported, IsExportRefused, IsRoomWanted, most_cells};
 
-use export::{ExportFault, cells_within};
-use generation_engine::Engine;
+use export::ExportFault;
 use generations_rule::Rule;
 use pattern_cells::Cell;
 use stamped_tree::Plane;
@@ -32,7 +31,7 @@ pub fn in_range(generation: u32) -> Result<(), ExportFault>
 }
 
 /// The cells of a plane that are not dead some generations later, by `y`, then `x`; `TooManyCells`, exactly
-/// where they are more than 2^24. They are counted before they are listed.
+/// where they are more than 2^24.
 pub fn cells_at(
     alloc: Global,
     rule: &Rule,
@@ -45,13 +44,5 @@ pub fn cells_at(
     ensures err { IfErr result (IsExportRefused rule.now (states_in_writes (map_of plane.now)) generation most_cells) }
     ensures full { result ≡ Err ExportFault.StoreFull → IsRoomWanted rule.now plane.now generation usual_room }
 {
-    // For the proof alone: the call tells that what is held is a rule.
-    let _states = rule.states();
-    let mut engine = Engine::new(alloc, *rule)?;
-    engine.load(plane)?;
-    let run = engine.run(generation);
-    // The same, of the engine, which is what it was where it became full.
-    engine.universe_laws();
-    run?;
-    cells_within(&engine, MOST_CELLS)
+    export::cells_at(alloc, rule, plane, generation, MOST_CELLS)
 }

@@ -1,6 +1,6 @@
 -- An edit that stands in the journal is taken once more, and nothing changes.
 use Rattle.std.proofs.Common.{◌≡◌, ℕ, zero, suc, ◌<◌, ◌≤◌, List, [], ◌∷◌, length, Some, refl, sym, subst, ◌∙◌, ap, arith}
-use Rattle.std.specs.Prelude.{◌↔◌, Bool, Option, IsTrue, None, false, get_or, slice_get}
+use Rattle.std.specs.Prelude.{◌↔◌, Bool, IsTrue, None, false, get_or, slice_get}
 use Rattle.std.specs.List.{AllByRecursion, Contains}
 use Rattle.std.proofs.lemmas.Option.{get_or_from_slice_get, slice_get_past, slice_get_read, slice_get_within}
 use Rattle.edit_stamps.specs.Edit.{PlaneEdit, greatest, has_states_below, is_edit, writes_of}

@@ -28,7 +28,7 @@ use crate::fault::Fault;
 use delta_exchange::{Content, Message, read_within, write_delta, write_state};
 use edit_journal::Journal;
 use edit_stamps::{Edit, Stamp, Write, counter_of};
-use export::{Count, ExportFault, count_on, cut_on, export, export_on};
+use export::{Count, ExportFault, count_on, cut_on, export, export_by_tiles, export_on};
 use generation_engine::Engine;
 use generations_rule::Rule;
 use held_plane::{Added, HeldPlane};
@@ -350,11 +350,36 @@ impl Replica {
         ensures full { result ≡ Err Stop.StoreFull → IsRoomWanted self.now.rule self.now.plane (generation_of question) usual_room }
     {
         let mut none = None;
-        self.tell_on(question, &mut none)
+        self.tell_next(question, true, &mut none)
+    }
+
+    /// `tell`, of the first question about a map by tiles where these can, else by the universe that an earlier one left, if
+    /// there is one.
+    pub(crate) fn tell_next(
+        &self,
+        question: Question,
+        is_first: bool,
+        kept: &mut Option<Engine>,
+    ) -> Result<Reply, Stop>
+        requires { IfSome kept.old (IsRunOf self.now.rule (states_in_writes (map_of self.now.plane))) }
+        ensures told { IfOk result (Tells self.now.rule (states_in_writes (map_of self.now.plane)) question) }
+        ensures err { IfErr result (λ _. generation_of question ≤ last_generation) }
+        ensures full { result ≡ Err Stop.StoreFull → IsRoomWanted self.now.rule self.now.plane (generation_of question) usual_room }
+        ensures kept { IfSome kept.new (IsRunOf self.now.rule (states_in_writes (map_of self.now.plane))) }
+    {
+        let by_tiles = if is_first {
+            told_by_tiles(self.alloc, &self.rule, self.plane.plane(), question)
+        } else {
+            None
+        };
+        match by_tiles {
+            Some(answer) => answer,
+            None => self.tell_on(question, kept),
+        }
     }
 
     /// `tell`, by the universe that an earlier question about the same map left, if there is one.
-    pub(crate) fn tell_on(
+    fn tell_on(
         &self,
         question: Question,
         kept: &mut Option<Engine>,
@@ -366,6 +391,26 @@ impl Replica {
         ensures kept { IfSome kept.new (IsRunOf self.now.rule (states_in_writes (map_of self.now.plane))) }
     {
         tell_of(self.alloc, &self.rule, self.plane.plane(), question, kept)
+    }
+}
+
+/// What is told of a question about a plane under a rule, where that is an export and tiles tell it.
+fn told_by_tiles(
+    alloc: Global,
+    rule: &Rule,
+    plane: &Plane,
+    question: Question,
+) -> Option<Result<Reply, Stop>>
+    requires { HasStatesBelow rule.now.states (map_of plane.now) }
+    ensures told { IfSome result (λ answer. IfOk answer (Tells rule.now (states_in_writes (map_of plane.now)) question)) }
+    ensures err { IfSome result (λ answer. IfErr answer (λ stop. (stop ≡ Stop.Memory) × (generation_of question ≤ last_generation))) }
+{
+    match question {
+        Question::Export(generation) => {
+            let answer = export_by_tiles(alloc, rule, plane, generation)?;
+            Some(text_reply(answer))
+        }
+        Question::Cut(_) | Question::Count(_) => None,
     }
 }
 

@@ -45,6 +45,8 @@ struct Remembered {
     current: Vec<Option<usize>>,
     /// The universe of the last question, for the next one about the same map.
     universe: Option<KeptUniverse>,
+    /// The place of the replica that was asked last, if no map became another one since.
+    asked: Option<usize>,
 }
 
 /// A universe that was run for a question, and the place of the replica whose map it runs.
@@ -107,6 +109,7 @@ impl World {
             remembered: Remembered {
                 current,
                 universe: None,
+                asked: None,
             },
         })
     }
@@ -247,12 +250,14 @@ fn happen(world: &mut World, event: &Event) -> Result<Reply, Stop>
         Event::Export(number, generation) => ask(
             &world.replicas,
             &mut world.remembered.universe,
+            &mut world.remembered.asked,
             *number,
             Question::Export(*generation),
         ),
         Event::Cut(number, window, generation) => ask(
             &world.replicas,
             &mut world.remembered.universe,
+            &mut world.remembered.asked,
             *number,
             Question::Cut(Cut {
                 window: *window,
@@ -262,6 +267,7 @@ fn happen(world: &mut World, event: &Event) -> Result<Reply, Stop>
         Event::Count(number, generation) => ask(
             &world.replicas,
             &mut world.remembered.universe,
+            &mut world.remembered.asked,
             *number,
             Question::Count(*generation),
         ),
@@ -292,6 +298,7 @@ fn draw(
         None => Ok(Reply::Refused(Fault::NoReplica)),
         Some(index) => {
             forget(&mut remembered.universe, index);
+            remembered.asked = None;
             draw_at(&mut replicas[index], &mut remembered.current[index], spec)
         }
     }
@@ -466,6 +473,7 @@ fn deliver(
     };
     let text = messages[from].as_slice();
     forget(&mut remembered.universe, to);
+    remembered.asked = None;
     take_at(&mut replicas[to], &mut remembered.current[to], text)
 }
 
@@ -518,6 +526,7 @@ fn same(replicas: &[Replica], a: u32, b: u32) -> Result<Reply, Stop>
 fn ask(
     replicas: &[Replica],
     universe: &mut Option<KeptUniverse>,
+    asked: &mut Option<usize>,
     number: u32,
     question: Question,
 ) -> Result<Reply, Stop>
@@ -530,13 +539,15 @@ fn ask(
     let Some(index) = index_of(u64::from(number), replicas.len()) else {
         return Ok(Reply::Refused(Fault::NoReplica));
     };
-    tell_at(&replicas[index], universe, index, question)
+    tell_at(&replicas[index], universe, asked, index, question)
 }
 
-/// What the replica at a place tells. Its universe is kept then, and that of another is dropped.
+/// What the replica at a place tells: where it was not asked before, by tiles if these can. A universe that was run is
+/// kept then, and that of another is dropped.
 fn tell_at(
     replica: &Replica,
     universe: &mut Option<KeptUniverse>,
+    asked: &mut Option<usize>,
     place: usize,
     question: Question,
 ) -> Result<Reply, Stop>
@@ -550,7 +561,9 @@ fn tell_at(
         Some(kept) if kept.place == place => Some(kept.engine),
         _ => None,
     };
-    let answer = replica.tell_on(question, &mut engine);
+    let is_first = *asked != Some(place) && engine.is_none();
+    *asked = Some(place);
+    let answer = replica.tell_next(question, is_first, &mut engine);
     if let Some(engine) = engine {
         *universe = Some(KeptUniverse { place, engine });
     }

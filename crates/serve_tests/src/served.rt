@@ -68,7 +68,6 @@ pub fn web_address<R: Net<Listener = TcpListener, Stream = TcpStream>>(
             page: "<p>the page</p>",
             policy: "default-src 'none'",
         },
-        url: Vec::from_slice(alloc, url.as_bytes())?,
     })
 }
 

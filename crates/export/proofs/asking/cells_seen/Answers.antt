@@ -1,4 +1,4 @@
-use Rattle.std.proofs.Common.{◌≡◌, ℕ, ◌<◌, ◌≤◌, ap, subst, arith, inr}
+use Rattle.std.proofs.Common.{ℕ, ap, subst, arith, inr}
 use Rattle.generations_rule.specs.Place.{Place}
 use Rattle.generations_rule.specs.Evolution.{at}
 use Rattle.generations_rule.proofs.EvolutionLaws.{stays_in_range}

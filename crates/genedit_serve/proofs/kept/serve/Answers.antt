@@ -8,11 +8,11 @@ use Rattle.genedit_serve.proofs.kept.serve.Goals as goal
 
 pub seats_served-requires-clause-order : goal.seats_served-requires-clause-order
 seats_served-requires-clause-order g c κs within =
-    attended_order c.in-Ok.prepared.keeper.relay.made c.in-Ok.prepared.seats.seats.items c.in-Ok-begun.seated.0 c.in-Ok.prepared.seats.file c.in-Ok-begun.ensures.seats c.in-Ok.ensures.order
+    attended_order c.in-Ok.prepared.keeper.relay.made c.in-Ok.prepared.seats.seats.items c.in-Ok-seated.seated.0 c.in-Ok.prepared.seats.file c.in-Ok-seated.ensures.seats c.in-Ok.ensures.order
 
-pub returns-in-Err-begun : goal.returns-in-Err-begun
-returns-in-Err-begun g c =
-    unattended_yet c.args.place.bound.told.items (g.K.Sink.known c.args.sink.now) c.in-Err-begun.fault c.server_fault.result c.from.result.fault c.from.ensures c.server_fault.ensures c.in-Err-begun.ensures.fault
+pub returns-in-Err-seated : goal.returns-in-Err-seated
+returns-in-Err-seated g c =
+    unattended_yet c.args.place.bound.told.items (g.K.Sink.known c.args.sink.now) c.in-Err-seated.fault c.server_fault.result c.from.result.fault c.from.ensures c.server_fault.ensures c.in-Err-seated.ensures.fault
 
 pub returns-in-Err-tell : goal.returns-in-Err-tell
 returns-in-Err-tell g c =
@@ -35,7 +35,7 @@ returns-in-Ok-closed g c =
       file = c.in-Ok.prepared.seats.file;
       are = c.in-Ok.ensures.seats;
       finished = c.in-Ok-seats_served.finished;
-      served = subst (λ (ss : List Seating). IsServedBeside c.in-Ok.prepared.keeper.relay.origin ss c.in-Ok.prepared.seats.file c.in-Ok-seats_served.finished) c.in-Ok-begun.ensures.seats c.in-Ok-seats_served.ensures.served;
+      served = subst (λ (ss : List Seating). IsServedBeside c.in-Ok.prepared.keeper.relay.origin ss c.in-Ok.prepared.seats.file c.in-Ok-seats_served.finished) c.in-Ok-seated.ensures.seats c.in-Ok-seats_served.ensures.served;
       lost = c.in-Ok.prepared.lost;
       between = between;
       tells = subst (λ (n : ℕ). TellsKept n c.in-Ok.prepared.lost c.args.place.bound.told.items from between) c.in-Ok.ensures.edits c.in-Ok-tell.ensures.told;

@@ -1,4 +1,4 @@
-use Rattle.std.proofs.Common.{◌≡◌, ◌∙◌, ap, arith, subst}
+use Rattle.std.proofs.Common.{◌∙◌, ap, arith, subst}
 use Rattle.replica_core.specs.Replica.{IsReplica, ReplicaState}
 use Rattle.replica_core.proofs.AgainLaws.{none_at, taken_again, tellable_at, told_at}
 use Rattle.replica_core.proofs.replica.Replica.has_at.Goals as goal
