@@ -47,7 +47,7 @@ pub(crate) fn cells_by_tiles(
 fn latest_tried(rule: &Rule) -> u32
     ensures { result ≤ 2 ^ 29 }
 {
-    if rule.states() <= 3 { 1_024 } else { 512 }
+    if rule.states() == 2 { 1_024 } else { 512 }
 }
 
 /// How many windows may be made for so many cells. Those of a soup, which fill their tiles, get there with so many; a pattern that
