@@ -57,7 +57,8 @@ export class Chromium {
     await copy.until("typeof pazgrot !== 'undefined'");
     return copy;
   }
-  errors() { return this.events.filter(e => e.method === "Runtime.exceptionThrown" || e.method === "Log.entryAdded" && e.params.entry.level === "error" && !/ERR_CONNECTION_REFUSED|WebSocket connection/.test(e.params.entry.text)); }
+  /** Errors in pages, but that a server is away, and that a header is for trusted pages alone. */
+  errors() { return this.events.filter(e => e.method === "Runtime.exceptionThrown" || e.method === "Log.entryAdded" && e.params.entry.level === "error" && !/ERR_CONNECTION_REFUSED|WebSocket connection|Opener-Policy header has been ignored/.test(e.params.entry.text)); }
   async close() {
     const ended = new Promise(done => this.process.once("exit", done));
     await this.call("Browser.close");

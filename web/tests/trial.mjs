@@ -61,6 +61,8 @@ const exported = (page, gen) => page.js(`pazgrot.board.ask((() => { const b = ne
 /** Has what a page gives as files told as texts, in `given`. */
 const gather = page => page.js("(() => { window.given = []; const make = URL.createObjectURL; URL.createObjectURL = blob => { blob.text().then(t => window.given.push(t)); return make.call(URL, blob); }; })()");
 const fill = (page, field, text) => page.js(`document.getElementById('${field}').value = ${JSON.stringify(String(text))}`);
+/** Holds what was copied: the browser may take a while to tell what it has itself. */
+const paste = async page => { await press(page, "paste"); await page.until("pazgrot.view.held !== null"); };
 const press = (page, name) => page.js(`document.querySelector('[data-do="${name}"]').click()`);
 
 async function alone(chromium) {
@@ -87,7 +89,7 @@ async function alone(chromium) {
   await page.key("ArrowRight", 8); await page.key("ArrowDown", 8);
   check("Shift with arrows selects", await page.js("pazgrot.view.selection.w * pazgrot.view.selection.h") === 4, await page.said());
   await page.js("pazgrot.view.cursor = [24, 0]"); await page.key("ArrowRight"); await page.key("ArrowLeft"); await page.key("ArrowDown", 8); await page.key("ArrowLeft", 8); await page.key("ArrowLeft", 8);
-  await page.key("c", 2); await page.key("k"); await press(page, "paste"); await page.js("document.getElementById('c').focus()");
+  await page.key("c", 2); await page.key("k"); await paste(page); await page.js("document.getElementById('c').focus()");
   for (let k = 0; k < 12; k++) await page.key("ArrowDown");
   await page.key("Enter");
   check("what was copied is put down at the cursor by Enter", await page.js("pazgrot.board.plane.population") === 39 && await page.js("pazgrot.view.held === null"), await page.said());
@@ -247,7 +249,7 @@ async function together(chromium) {
   await restart();
   await a.until("document.getElementById('say').textContent.includes('began anew')", 20000);
   check("a server that comes back at its port is met again; what stood before is held", await a.cells() === "[]", await a.said());
-  await press(a, "paste"); await a.click(...await a.at(-20, -10));
+  await paste(a); await a.click(...await a.at(-20, -10));
   check("and is put down again, in both", await same() && JSON.parse(await b.cells()).length === JSON.parse(last).length);
   end();
   await a.until("document.getElementById('say').textContent.includes('No connection')", 20000);
@@ -352,7 +354,7 @@ async function apart() {
   await a.stroke([await a.at(-5, -5), await a.at(5, 5)]);
   await a.settled(); await sleep(200);
   check("two pages there draw together", await b.js("pazgrot.board.plane.population") === 11 && await a.cells() === await b.cells());
-  await a.js("pazgrot.view.selection = { x: -5, y: -5, w: 11, h: 11 }"); await press(a, "copy"); await a.key("k"); await press(a, "paste");
+  await a.js("pazgrot.view.selection = { x: -5, y: -5, w: 11, h: 11 }"); await press(a, "copy"); await a.key("k"); await paste(a);
   await a.click(...await a.at(8, -5)); await a.settled(); await sleep(200);
   check("they copy and paste", await b.js("pazgrot.board.plane.population") === 22 && await a.cells() === await b.cells(), await a.said());
   await press(a, "share");

@@ -1,5 +1,7 @@
 //! Chairs: where the sessions of a seat get their guests.
 
+ghost use Rattle.std.specs.Prelude.{◌≡◌, IfSome};
+
 use crate::alarm::Alarm;
 use crate::connections::Connection;
 use crate::desk::Desk;
@@ -54,7 +56,10 @@ impl<R: Clock + Wait + Copy> Chair<R> {
     }
 
     /// What the session over a guest is served over; none where their connection, the system or memory fails.
-    fn ends_of(&self, guest: Guest) -> Option<GuestEnds<R>> {
+    fn ends_of(&self, guest: Guest) -> Option<GuestEnds<R>>
+        ensures unread { IfSome result (λ ends. ends.source ≡ record { reader = ends.source.reader; pulls = 0; ends_met = 0; failures = 0 }) }
+        ensures unwritten { IfSome result (λ ends. ends.sink ≡ record { writer = ends.sink.writer; pushes = 0; failures = 0 }) }
+    {
         match guest {
             Guest::Frames(connection) => self.ends_of_frames(connection),
             Guest::Page(visitor) => {
@@ -67,7 +72,10 @@ impl<R: Clock + Wait + Copy> Chair<R> {
         }
     }
 
-    fn ends_of_frames(&self, connection: Connection) -> Option<GuestEnds<R>> {
+    fn ends_of_frames(&self, connection: Connection) -> Option<GuestEnds<R>>
+        ensures unread { IfSome result (λ ends. ends.source ≡ record { reader = ends.source.reader; pulls = 0; ends_met = 0; failures = 0 }) }
+        ensures unwritten { IfSome result (λ ends. ends.sink ≡ record { writer = ends.sink.writer; pushes = 0; failures = 0 }) }
+    {
         let Connection {
             read,
             write,
@@ -86,7 +94,10 @@ impl<R: Clock + Wait + Copy> Chair<R> {
     }
 
     /// The handshake is answered here.
-    fn ends_of_page(&self, visitor: SeatVisitor) -> Option<GuestEnds<R>> {
+    fn ends_of_page(&self, visitor: SeatVisitor) -> Option<GuestEnds<R>>
+        ensures unread { IfSome result (λ ends. ends.source ≡ record { reader = ends.source.reader; pulls = 0; ends_met = 0; failures = 0 }) }
+        ensures unwritten { IfSome result (λ ends. ends.sink ≡ record { writer = ends.sink.writer; pushes = 0; failures = 0 }) }
+    {
         let SeatVisitor {
             stream,
             request,
