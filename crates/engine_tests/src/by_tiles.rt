@@ -21,12 +21,7 @@ static RULES: [&[u8]; 5] = [
 ];
 
 /// Whether tiles tell a generation by the same bytes as a universe.
-fn is_one_text(
-    alloc: Global,
-    rule: &Rule,
-    plane: &Plane,
-    generation: u32,
-) -> Result<bool, Fail>
+fn is_one_text(alloc: Global, rule: &Rule, plane: &Plane, generation: u32) -> Result<bool, Fail>
     requires { HasStatesBelow rule.now.states (map_of plane.now) }
 {
     let text = export_in_room(alloc, rule, plane, generation, 0x100_0000, 0x400_0000)?;

@@ -58,12 +58,7 @@ fn windows_for(cells: usize, generation: u32) -> u64 {
 }
 
 /// Some generations later, whichever. The plane itself tells generation 0.
-fn listed_later(
-    alloc: Global,
-    rule: &Rule,
-    plane: &Plane,
-    generation: u32,
-) -> Option<Vec<Cell>>
+fn listed_later(alloc: Global, rule: &Rule, plane: &Plane, generation: u32) -> Option<Vec<Cell>>
     requires { HasStatesBelow rule.now.states (map_of plane.now) }
     ensures { IfSome result (λ cells. AreCellsOf (at rule.now (states_in_writes (map_of plane.now)) generation) cells.items) }
 {

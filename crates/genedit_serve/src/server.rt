@@ -147,7 +147,10 @@ fn serve<
     };
     let Bound { address, told } = bound;
     let comes_back = address.web.is_some();
-    let reception = Reception { address, comes_back };
+    let reception = Reception {
+        address,
+        comes_back,
+    };
     let (attendance, doorway) = match seated(rt, alloc, &relay, seats, reception) {
         Ok(seated) => seated,
         Err(fault) => return Err(server_fault(fault)),

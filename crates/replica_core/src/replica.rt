@@ -379,11 +379,7 @@ impl Replica {
     }
 
     /// `tell`, by the universe that an earlier question about the same map left, if there is one.
-    fn tell_on(
-        &self,
-        question: Question,
-        kept: &mut Option<Engine>,
-    ) -> Result<Reply, Stop>
+    fn tell_on(&self, question: Question, kept: &mut Option<Engine>) -> Result<Reply, Stop>
         requires { IfSome kept.old (IsRunOf self.now.rule (states_in_writes (map_of self.now.plane))) }
         ensures told { IfOk result (Tells self.now.rule (states_in_writes (map_of self.now.plane)) question) }
         ensures err { IfErr result (λ _. generation_of question ≤ last_generation) }
