@@ -334,8 +334,9 @@ function hosts() {
   const inside = (host, ...words) => ip("-n", host, ...words);
   const isMade = ip("netns", "add", server) && ip("netns", "add", browser) && inside(server, "link", "add", "cable", "type", "veth", "peer", "name", "cable", "netns", browser)
     && [[server, SERVED], [browser, SEEN]].every(([host, address]) => inside(host, "address", "add", address + "/24", "dev", "cable") && inside(host, "link", "set", "cable", "up") && inside(host, "link", "set", "lo", "up"));
-  if (!isMade) { end(); return null; }
-  return { server: ["ip", "netns", "exec", server], browser: ["ip", "netns", "exec", browser], end };
+  process.once("exit", end);
+  if (!isMade) return null;
+  return { server: ["ip", "netns", "exec", server], browser: ["ip", "netns", "exec", browser] };
 }
 
 /** A page at another host than its server, by http: the browser trusts such a page less. */
@@ -365,7 +366,6 @@ async function apart() {
   await far.close();
   server.stdin.end("close\n");
   await new Promise(done => server.once("exit", done));
-  network.end();
 }
 
 const chromium = new Chromium();
