@@ -6,7 +6,6 @@ use Rattle.std.proofs.lemmas.Bool.{and_parts, cases_Bool}
 use Rattle.std.proofs.lemmas.Bool.Decides.{nat_tests}
 use Rattle.std.proofs.lemmas.Int.{ints}
 use Rattle.generations_rule.specs.Place.{Place, is_place, moved}
-use Rattle.generations_rule.specs.Rule.{GenerationsRule}
 use Rattle.generations_rule.specs.Evolution.{at}
 use Rattle.pattern_cells.specs.declared.cell.Cell.{Cell}
 use Rattle.pattern_cells.specs.Cells.{place_of, are_nonzero, is_sorted}
@@ -16,7 +15,7 @@ use Rattle.bitplane_kernel.specs.Population.{one_unless_dead, population, sum_fr
 use Rattle.generation_engine.specs.Universe.{universe_corner}
 use Rattle.generation_engine.specs.Walk.{AreCellsOf, is_coordinate_in_middle, is_in_middle}
 use Rattle.generation_engine.proofs.Counting.{population_none, population_same, sum_added, sum_same}
-use Rattle.export.specs.Export.{population_at}
+use Rattle.export.specs.Export.{population_at, population_in_universe}
 use Rattle.export.specs.Laws.{CountsCells}
 
 -- ---- one of many
@@ -130,15 +129,16 @@ counted (a ∷ cells) n wide sorted alive inside =
     let own = one_spot a n wide within.0 in
     rows ∙ both ∙ omega (arith, own, rest)
 
-population_is : (r : GenerationsRule) (f : Place → ℕ) (g : ℕ) (cells : List Cell) → AreCellsOf (at r f g) cells → list_all (λ cell. is_in_middle (place_of cell)) cells ≡ true → length cells ≡ population_at r f g
-population_is r f g cells are inside =
+-- the sorted list of a map's cells is as long as they are many
+pub population_is : (h : Place → ℕ) (cells : List Cell) → AreCellsOf h cells → list_all (λ cell. is_in_middle (place_of cell)) cells ≡ true → length cells ≡ population_in_universe h
+population_is h cells are inside =
     sym (counted cells (2 ^ 33) (omega arith) are.sorted are.nonzero inside)
-    ∙ population_same (2 ^ 33) (λ u v. state_in cells (at_cell u v)) (λ u v. at r f g (at_cell u v)) (λ u v left right. are.states (at_cell u v))
+    ∙ population_same (2 ^ 33) (λ u v. state_in cells (at_cell u v)) (λ u v. h (at_cell u v)) (λ u v left right. are.states (at_cell u v))
 
 pub counts_cells : CountsCells
 counts_cells = record {
-  population = population_is;
+  population = λ r f g. population_is (at r f g);
   too_many = λ r f g limit cells some are inside.
-      let same : length cells ≡ population_at r f g = population_is r f g cells are inside in
+      let same : length cells ≡ population_at r f g = population_is (at r f g) cells are inside in
       (λ refused. omega (arith, same, refused.1), λ more. (some, omega (arith, same, more)));
 }

@@ -1,14 +1,19 @@
 //! Windows of later generations, and how many cells there are then.
 
-ghost use Rattle.std.specs.Prelude.{◌≡◌, ◌^◌, ◌≤◌, ◌⊎◌, IfErr, IfOk, IfSome, Ok, Err};
+ghost use Rattle.std.specs.Prelude.{◌≡◌, ◌^◌, ◌≤◌, ◌⊎◌, true, filter, IfErr, IfOk, IfSome, Ok, Err};
+ghost use Rattle.std.specs.List.{list_all};
 ghost use Rattle.edit_stamps.specs.PlaneMap.{HasStatesBelow};
+ghost use Rattle.pattern_cells.specs.Cells.{place_of};
+ghost use Rattle.pattern_cells.specs.Window.{is_in_span, is_in_window};
 ghost use Rattle.square_store.specs.Limits.{usual_room};
 ghost use Rattle.stamped_tree.specs.Plane.{map_of};
 ghost use Rattle.generation_engine.specs.Universe.{states_in_writes};
+ghost use Rattle.generation_engine.specs.Walk.{is_in_middle};
 ghost use Rattle.export.specs.Asking.{CountsAt, IsCount, IsCountRefused, IsCut, IsCutRefused, seen_at};
 ghost use Rattle.export.specs.Export.{AreListed, IsRoomWanted, IsWant, most_cells};
-ghost use Rattle.export.specs.Kept.{IsRunOf};
+ghost use Rattle.export.specs.Kept.{IsListedOf, IsRunOf};
 
+use crate::by_tiles::{Listed, listed_at};
 use crate::exporting::{LAST_GENERATION, MOST_CELLS, engine_at};
 use crate::fault::ExportFault;
 use crate::kept::universe_at;
@@ -18,7 +23,7 @@ use multistate_rle::write;
 use pattern_cells::{Cell, Window};
 use square_store::ROOM;
 use stamped_tree::Plane;
-use std::alloc::Global;
+use std::alloc::{AllocError, Global};
 
 /// What is cut out: the cells in a window, so many generations later.
 #[derive(Clone, Copy, Debug, PartialEq, Eq)]
@@ -88,15 +93,102 @@ pub fn count_on(
     Ok(count)
 }
 
-/// `cut_on` without a universe that was left.
+/// `cut_on` without a universe that was left: by tiles, and where these do not tell it by a new universe.
 pub fn cut_out(alloc: Global, rule: &Rule, plane: &Plane, cut: Cut) -> Result<Vec<u8>, ExportFault>
     requires { HasStatesBelow rule.now.states (map_of plane.now) }
     ensures text { IfOk result (λ text. IsCut rule.now (states_in_writes (map_of plane.now)) cut.window cut.generation most_cells (Ok text.items)) }
     ensures err { IfErr result (IsCutRefused rule.now (states_in_writes (map_of plane.now)) cut.window cut.generation most_cells) }
     ensures full { result ≡ Err ExportFault.StoreFull → IsRoomWanted rule.now plane.now cut.generation usual_room }
 {
-    let mut none = None;
-    cut_on(alloc, rule, plane, cut, &mut none)
+    match cut_by_tiles(alloc, rule, plane, cut) {
+        Some(answer) => answer,
+        None => {
+            let mut none = None;
+            cut_on(alloc, rule, plane, cut, &mut none)
+        }
+    }
+}
+
+/// `cut_on`, where tiles tell it; none where a universe is to be run.
+pub fn cut_by_tiles(
+    alloc: Global,
+    rule: &Rule,
+    plane: &Plane,
+    cut: Cut,
+) -> Option<Result<Vec<u8>, ExportFault>>
+    requires { HasStatesBelow rule.now.states (map_of plane.now) }
+    ensures text { IfSome result (λ answer. IfOk answer (λ text. IsCut rule.now (states_in_writes (map_of plane.now)) cut.window cut.generation most_cells (Ok text.items))) }
+    ensures err { IfSome result (λ answer. IfErr answer (IsCutRefused rule.now (states_in_writes (map_of plane.now)) cut.window cut.generation most_cells)) }
+    ensures not_full { IfSome result (λ answer. IfErr answer (λ fault. (fault ≡ ExportFault.TooManyCells) ⊎ (fault ≡ ExportFault.Memory))) }
+{
+    let listed = listed_at(alloc, rule, plane, cut.generation, None)?;
+    Some(text_seen(alloc, rule, plane, cut.window, &listed))
+}
+
+/// The text of what a window shows of cells that are listed.
+fn text_seen(
+    alloc: Global,
+    rule: &Rule,
+    plane: &Plane,
+    window: Window,
+    listed: &Listed,
+) -> Result<Vec<u8>, ExportFault>
+    requires states { HasStatesBelow rule.now.states (map_of plane.now) }
+    requires listed { IsListedOf rule.now (states_in_writes (map_of plane.now)) listed.now }
+    requires inside { list_all (λ cell. is_in_middle (place_of cell)) listed.now.cells.items ≡ true }
+    requires generation { listed.now.generation ≤ 2 ^ 29 }
+    ensures text { IfOk result (λ text. IsCut rule.now (states_in_writes (map_of plane.now)) window listed.now.generation most_cells (Ok text.items)) }
+    ensures err { IfErr result (IsCutRefused rule.now (states_in_writes (map_of plane.now)) window listed.now.generation most_cells) }
+    ensures not_full { IfErr result (λ fault. (fault ≡ ExportFault.TooManyCells) ⊎ (fault ≡ ExportFault.Memory)) }
+{
+    let cells = listed_seen(alloc, rule, plane, window, listed)?;
+    let text = write(alloc, rule, u64::from(listed.generation), &cells)?;
+    Ok(text)
+}
+
+/// What a window shows of cells that are listed, if they are at most 2^24.
+fn listed_seen(
+    alloc: Global,
+    rule: &Rule,
+    plane: &Plane,
+    window: Window,
+    listed: &Listed,
+) -> Result<Vec<Cell>, ExportFault>
+    requires states { HasStatesBelow rule.now.states (map_of plane.now) }
+    requires listed { IsListedOf rule.now (states_in_writes (map_of plane.now)) listed.now }
+    requires inside { list_all (λ cell. is_in_middle (place_of cell)) listed.now.cells.items ≡ true }
+    requires generation { listed.now.generation ≤ 2 ^ 29 }
+    ensures cells { IfOk result (λ cells. AreListed rule.now (seen_at rule.now (states_in_writes (map_of plane.now)) window listed.now.generation) most_cells cells.items) }
+    ensures err { IfErr result (IsCutRefused rule.now (states_in_writes (map_of plane.now)) window listed.now.generation most_cells) }
+    ensures not_full { IfErr result (λ fault. (fault ≡ ExportFault.TooManyCells) ⊎ (fault ≡ ExportFault.Memory)) }
+{
+    // For the proof alone: the call tells that what is held is a rule.
+    let _states = rule.states();
+    let seen = cells_in_window(alloc, &listed.cells, window)?;
+    if seen.len() as u64 > MOST_CELLS {
+        return Err(ExportFault::TooManyCells);
+    }
+    Ok(seen)
+}
+
+/// The cells that lie in a window, in their order.
+fn cells_in_window(alloc: Global, cells: &[Cell], window: Window) -> Result<Vec<Cell>, AllocError>
+    ensures { IfOk result (λ seen. seen.items ≡ filter (λ cell. is_in_window window (place_of cell)) cells.now) }
+{
+    let seen = cells
+        .iter()
+        .filter(|cell| is_in_span(window.x, window.width, cell.x)
+            && is_in_span(window.y, window.height, cell.y))
+        .copied()
+        .collect(alloc)?;
+    Ok(seen)
+}
+
+/// Whether a coordinate is one of so many, from a first one on.
+fn is_in_span(first: i32, count: u32, coordinate: i32) -> bool
+    ensures { result ≡ is_in_span first count coordinate }
+{
+    first <= coordinate && i64::from(coordinate) < i64::from(first) + i64::from(count)
 }
 
 /// A universe of a plane at a generation: the one that is given, where it is not past it, run on. Where that finds

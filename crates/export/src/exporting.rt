@@ -1,6 +1,6 @@
 //! Exports.
 
-ghost use Rattle.std.specs.Prelude.{◌≡◌, ◌^◌, ◌<◌, ◌≤◌, ◌⊎◌, ◌↔◌, IfErr, IfOk, IfSome, Ok, Err};
+ghost use Rattle.std.specs.Prelude.{◌≡◌, ◌^◌, ◌<◌, ◌≤◌, ◌⊎◌, ◌↔◌, IfErr, IfOk, IfSome, OnOk, Ok, Err};
 ghost use Rattle.edit_stamps.specs.PlaneMap.{HasStatesBelow};
 ghost use Rattle.square_store.specs.Limits.{usual_room};
 ghost use Rattle.stamped_tree.specs.Plane.{map_of};
@@ -9,7 +9,7 @@ ghost use Rattle.generation_engine.specs.Walk.{AreCellsOf};
 ghost use Rattle.export.specs.Export.{AreCounted, AreExported, IsExport, IsExportRefused, IsRoomWanted, IsWant, most_cells};
 ghost use Rattle.export.specs.Kept.{IsRunOf};
 
-use crate::by_tiles::cells_by_tiles;
+use crate::by_tiles::{Listed, listed_at};
 use crate::fault::ExportFault;
 use generation_engine::{Engine, EngineFault};
 use generations_rule::Rule;
@@ -90,14 +90,28 @@ fn text_by_tiles(
     ensures err { IfSome result (λ answer. IfErr answer (IsExportRefused rule.now (states_in_writes (map_of plane.now)) generation limit)) }
     ensures not_full { IfSome result (λ answer. IfErr answer (λ fault. (fault ≡ ExportFault.TooManyCells) ⊎ (fault ≡ ExportFault.Memory))) }
 {
-    let cells = cells_by_tiles(alloc, rule, plane, generation)?;
-    match limited(rule, plane, generation, cells, limit) {
-        Ok(cells) => match write(alloc, rule, generation.into(), &cells) {
-            Ok(text) => Some(Ok(text)),
-            Err(_) => Some(Err(ExportFault::Memory)),
-        },
-        Err(fault) => Some(Err(fault)),
-    }
+    let listed = listed_at(alloc, rule, plane, generation, None)?;
+    Some(text_of(alloc, rule, plane, &listed, limit))
+}
+
+/// The text of cells that were counted, if they are at most so many.
+pub(crate) fn text_of(
+    alloc: Global,
+    rule: &Rule,
+    plane: &Plane,
+    listed: &Listed,
+    limit: u64,
+) -> Result<Vec<u8>, ExportFault>
+    requires states { HasStatesBelow rule.now.states (map_of plane.now) }
+    requires counted { AreCounted rule.now (states_in_writes (map_of plane.now)) listed.now.generation listed.now.cells.items }
+    requires generation { listed.now.generation ≤ 2 ^ 29 }
+    ensures text { IfOk result (λ text. IsExport rule.now (states_in_writes (map_of plane.now)) listed.now.generation limit (Ok text.items)) }
+    ensures err { IfErr result (IsExportRefused rule.now (states_in_writes (map_of plane.now)) listed.now.generation limit) }
+    ensures not_full { IfErr result (λ fault. (fault ≡ ExportFault.TooManyCells) ⊎ (fault ≡ ExportFault.Memory)) }
+{
+    limit_cells(rule, plane, listed, limit)?;
+    let text = write(alloc, rule, u64::from(listed.generation), &listed.cells)?;
+    Ok(text)
 }
 
 /// `export` of at most so many cells, by a universe with room for so many squares.
@@ -138,31 +152,28 @@ pub fn cells_at(
     ensures err { IfErr result (IsExportRefused rule.now (states_in_writes (map_of plane.now)) generation limit) }
     ensures full { result ≡ Err ExportFault.StoreFull → IsRoomWanted rule.now plane.now generation usual_room }
 {
-    match cells_by_tiles(alloc, rule, plane, generation) {
-        Some(cells) => limited(rule, plane, generation, cells, limit),
+    match listed_at(alloc, rule, plane, generation, None) {
+        Some(listed) => {
+            limit_cells(rule, plane, &listed, limit)?;
+            Ok(listed.cells)
+        }
         None => cells_in_room(alloc, rule, plane, generation, limit, ROOM),
     }
 }
 
-/// Cells that were counted, if they are at most so many.
-fn limited(
-    rule: &Rule,
-    plane: &Plane,
-    generation: u32,
-    cells: Vec<Cell>,
-    limit: u64,
-) -> Result<Vec<Cell>, ExportFault>
+/// Refuses cells that were counted where they are more than so many.
+fn limit_cells(rule: &Rule, plane: &Plane, listed: &Listed, limit: u64) -> Result<(), ExportFault>
     requires states { HasStatesBelow rule.now.states (map_of plane.now) }
-    requires generation { generation ≤ 2 ^ 29 }
-    requires counted { AreCounted rule.now (states_in_writes (map_of plane.now)) generation cells.items }
-    ensures cells { IfOk result (λ cells. AreExported rule.now (states_in_writes (map_of plane.now)) generation limit cells.items) }
-    ensures err { IfErr result (IsExportRefused rule.now (states_in_writes (map_of plane.now)) generation limit) }
+    requires counted { AreCounted rule.now (states_in_writes (map_of plane.now)) listed.now.generation listed.now.cells.items }
+    requires generation { listed.now.generation ≤ 2 ^ 29 }
+    ensures cells { OnOk result (AreExported rule.now (states_in_writes (map_of plane.now)) listed.now.generation limit listed.now.cells.items) }
+    ensures err { IfErr result (IsExportRefused rule.now (states_in_writes (map_of plane.now)) listed.now.generation limit) }
     ensures many { IfErr result (λ fault. fault ≡ ExportFault.TooManyCells) }
 {
     // For the proof alone: the call tells that what is held is a rule.
     let _states = rule.states();
-    if cells.len() as u64 <= limit {
-        Ok(cells)
+    if listed.cells.len() as u64 <= limit {
+        Ok(())
     } else {
         Err(ExportFault::TooManyCells)
     }

@@ -1,14 +1,15 @@
 //! Exports of one plane by a universe that is kept between them.
 
-ghost use Rattle.std.specs.Prelude.{◌≡◌, ◌^◌, ◌≤◌, IfErr, IfOk, IfSome, Ok, Err};
+ghost use Rattle.std.specs.Prelude.{◌≡◌, ◌^◌, ◌≤◌, ◌⊎◌, IfErr, IfOk, IfSome, None, Ok, Err};
 ghost use Rattle.edit_stamps.specs.PlaneMap.{HasStatesBelow};
 ghost use Rattle.square_store.specs.Limits.{usual_room};
 ghost use Rattle.stamped_tree.specs.Plane.{map_of};
 ghost use Rattle.generation_engine.specs.Universe.{states_in_writes};
 ghost use Rattle.export.specs.Export.{IsExport, IsExportRefused, IsRoomWanted, IsWant, most_cells};
-ghost use Rattle.export.specs.Kept.{IsRunOf};
+ghost use Rattle.export.specs.Kept.{IsListedOf, IsRunOf};
 
-use crate::exporting::{LAST_GENERATION, MOST_CELLS, cells_of, export};
+use crate::by_tiles::{Listed, listed_at};
+use crate::exporting::{LAST_GENERATION, MOST_CELLS, cells_of, export, text_of};
 use crate::fault::ExportFault;
 use generation_engine::{Engine, EngineFault};
 use generations_rule::Rule;
@@ -44,6 +45,29 @@ pub fn export_on(
         }
         answer => answer,
     }
+}
+
+/// `export`, where tiles tell it: from the cells on that an earlier one left for the plane, unless the generation is earlier,
+/// so that generations one after another cost a step each. None, and nothing is left, where a universe is to be run.
+pub fn export_next(
+    alloc: Global,
+    rule: &Rule,
+    plane: &Plane,
+    generation: u32,
+    kept: &mut Option<Listed>,
+) -> Option<Result<Vec<u8>, ExportFault>>
+    requires states { HasStatesBelow rule.now.states (map_of plane.now) }
+    requires kept { IfSome kept.old (IsListedOf rule.now (states_in_writes (map_of plane.now))) }
+    ensures text { IfSome result (λ answer. IfOk answer (λ text. IsExport rule.now (states_in_writes (map_of plane.now)) generation most_cells (Ok text.items))) }
+    ensures err { IfSome result (λ answer. IfErr answer (IsExportRefused rule.now (states_in_writes (map_of plane.now)) generation most_cells)) }
+    ensures not_full { IfSome result (λ answer. IfErr answer (λ fault. (fault ≡ ExportFault.TooManyCells) ⊎ (fault ≡ ExportFault.Memory))) }
+    ensures kept { IfSome kept.new (IsListedOf rule.now (states_in_writes (map_of plane.now))) }
+    ensures none { result ≡ None → kept.new ≡ None }
+{
+    let listed = listed_at(alloc, rule, plane, generation, kept.take())?;
+    let answer = text_of(alloc, rule, plane, &listed, MOST_CELLS);
+    *kept = Some(listed);
+    Some(answer)
 }
 
 /// The same without a second try. The universe is kept, unless it finds no room or no memory.

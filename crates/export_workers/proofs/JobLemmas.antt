@@ -1,10 +1,10 @@
 -- Jobs that workers share, answered one by one and put in order.
-use Rattle.std.proofs.Common.{◌≡◌, ℕ, suc, ◌+◌, ◌<◌, ◌≤◌, List, [], ◌∷◌, ◌++◌, length, drop, map, Result, Ok, Err, IfOk, refl, sym, ap, ◌∙◌, subst, arith, get_or, drop-cons, length-append}
+use Rattle.std.proofs.Common.{◌≡◌, ℕ, suc, ◌+◌, ◌<◌, ◌≤◌, List, [], ◌∷◌, ◌++◌, length, drop, Result, Ok, IfOk, refl, sym, ap, ◌∙◌, subst, arith, get_or, drop-cons, length-append}
 use Rattle.std.proofs.lemmas.List.{drop_all}
 use Rattle.generations_rule.specs.Rule.{GenerationsRule}
 use Rattle.stamped_tree.specs.Plane.{StampedPlane}
 use Rattle.export.specs.declared.fault.ExportFault.{ExportFault}
-use Rattle.export_workers.specs.Exports.{AreAnswered, AreExportAnswers, AreOfWorker, AreQueued, AreQueuedOks, IsExportAnswer, IsJobAnswer}
+use Rattle.export_workers.specs.Exports.{AreAnswered, AreExportAnswers, AreOfWorker, AreQueued, AreQueuedOks, IsJobAnswer}
 
 -- one more job is answered
 pub one_more : {A : Type 0} (P : ℕ → A → Type 0) (n w next first : ℕ) (answers : List A) (answer : A)

@@ -214,6 +214,9 @@ Examples:
   echo 'cells 1 0 1 2 1 1 0 2 1 1 2 1 2 2 1' | genedit join --quiet --port 7020      draws a glider
   genedit join --port 7020 --follow                                        type commands, and see the others";
 
+/// The program's version, and the sum of the logic that it is proved in, which `make test` compares with the kit's.
+const VERSION: &str = "1.0.0, logic dac8208d650f15bf";
+
 /// The command line: a version, and the subcommands, one of which has to be given. What a server needs has to
 /// be given.
 pub fn command<'a>(alloc: Global, needs: Needs) -> Result<Command<'a>, AllocError>
@@ -261,7 +264,7 @@ fn top_command<'a>(alloc: Global) -> Command<'a>
     ensures local { (fields_of result).has_globals ≡ false }
 {
     Command::new(alloc, "genedit")
-        .version("0.1.0")
+        .version(VERSION)
         .about("Edits patterns of Generations automata on replicas that agree")
         .subcommand_required(true)
 }

@@ -28,7 +28,9 @@ use crate::fault::Fault;
 use delta_exchange::{Content, Message, read_within, write_delta, write_state};
 use edit_journal::Journal;
 use edit_stamps::{Edit, Stamp, Write, counter_of};
-use export::{Count, ExportFault, count_on, cut_on, export, export_by_tiles, export_on};
+use export::{
+    Count, ExportFault, count_on, cut_by_tiles, cut_on, export, export_by_tiles, export_on,
+};
 use generation_engine::Engine;
 use generations_rule::Rule;
 use held_plane::{Added, HeldPlane};
@@ -390,7 +392,7 @@ impl Replica {
     }
 }
 
-/// What is told of a question about a plane under a rule, where that is an export and tiles tell it.
+/// What is told of a question about a plane under a rule, where tiles tell it. They do not tell a count.
 fn told_by_tiles(
     alloc: Global,
     rule: &Rule,
@@ -406,7 +408,11 @@ fn told_by_tiles(
             let answer = export_by_tiles(alloc, rule, plane, generation)?;
             Some(text_reply(answer))
         }
-        Question::Cut(_) | Question::Count(_) => None,
+        Question::Cut(cut) => {
+            let answer = cut_by_tiles(alloc, rule, plane, cut)?;
+            Some(text_reply(answer))
+        }
+        Question::Count(_) => None,
     }
 }
 

@@ -60,6 +60,7 @@ pub fn tell_all<R: Threads + Sync + Print + Drop + Copy>(rt: R, alloc: Global) -
         ),
         ("export_many by one worker", exports::exports(&rt, alloc, 1)),
         ("export_many by two", exports::exports(&rt, alloc, 2)),
+        ("export and cut by tiles", exports::by_tiles(alloc)),
     ];
     for (call, is_meant) in answers {
         tell(&rt, "sessions", call, is_meant)?;

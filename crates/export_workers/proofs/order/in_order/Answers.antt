@@ -1,8 +1,5 @@
-use Rattle.std.proofs.Common.{◌≡◌, ℕ, length, List, Result, arith, subst, sym}
-use Rattle.export.specs.declared.fault.ExportFault.{ExportFault}
-use Rattle.generation_engine.specs.Universe.{states_in_writes}
-use Rattle.stamped_tree.specs.Plane.{map_of}
-use Rattle.export_workers.specs.Exports.{AreAnswered, AreExportAnswers, IsJobAnswer}
+use Rattle.std.proofs.Common.{◌≡◌, ℕ, length, arith, subst}
+use Rattle.export_workers.specs.Exports.{AreAnswered, IsJobAnswer}
 use Rattle.export_workers.proofs.JobLemmas.{turn, in_order, has_answer}
 use Rattle.export_workers.proofs.order.in_order.Goals as goal
 

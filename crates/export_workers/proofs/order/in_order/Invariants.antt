@@ -1,6 +1,4 @@
-use Rattle.std.proofs.Common.{◌≡◌, ◌+◌, length, vec_len}
-use Rattle.generation_engine.specs.Universe.{states_in_writes}
-use Rattle.stamped_tree.specs.Plane.{map_of}
+use Rattle.std.proofs.Common.{◌≡◌, length, vec_len}
 use Rattle.export_workers.specs.Exports.{AreAnswered, AreQueued, IsJobAnswer}
 use Rattle.export_workers.proofs.order.in_order.Given as goal
 

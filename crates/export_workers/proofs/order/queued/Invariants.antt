@@ -1,7 +1,5 @@
 use Rattle.std.proofs.Common.{◌≡◌, ◌+◌, length, vec_len}
 use Rattle.std.specs.Vec.Iter.{into_iter_items}
-use Rattle.generation_engine.specs.Universe.{states_in_writes}
-use Rattle.stamped_tree.specs.Plane.{map_of}
 use Rattle.export_workers.specs.Exports.{AreQueued, AreQueuedOks, IsJobAnswer}
 use Rattle.export_workers.proofs.order.queued.Given as goal
 
