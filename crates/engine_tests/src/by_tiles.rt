@@ -91,6 +91,26 @@ fn goes_on(
 /// Generations one after another, the same again, farther apart, and back.
 static FILM: [u32; 9] = [0, 1, 2, 2, 3, 20, 36, 5, 6];
 
+/// At how many of these generations what is listed goes on so, and whether nothing is left of it past the last one.
+fn going_on(
+    alloc: Global,
+    rule: &Rule,
+    plane: &Plane,
+    generations: &[u32],
+) -> Result<(usize, bool), Fail>
+    requires { HasStatesBelow rule.now.states (map_of plane.now) }
+{
+    let mut kept = None;
+    let mut alike = 0_usize;
+    for generation in generations {
+        if goes_on(alloc, rule, plane, *generation, &mut kept)? {
+            alike = alike.saturating_add(1);
+        }
+    }
+    let past = export_next(alloc, rule, plane, 0x2000_0001, &mut kept);
+    Ok((alike, past.is_none() && kept.is_none()))
+}
+
 #[test]
 fn tiles_go_on_from_what_they_listed(rt: HostRuntime) -> Result<(), Fail> {
     let alloc = rt.alloc();
@@ -98,24 +118,43 @@ fn tiles_go_on_from_what_they_listed(rt: HostRuntime) -> Result<(), Fail> {
         let soup = in_the_middle(text, 0xf11_8)?;
         let cells = run(alloc, soup, 0)?;
         let plane = plane_of(alloc, &soup.rule, &cells)?;
-        let mut kept = None;
-        for generation in FILM {
-            assert!(rt; goes_on(alloc, &soup.rule, &plane, generation, &mut kept)?);
-        }
-        // Past the last generation there is none, and nothing is left.
-        assert!(rt; export_next(alloc, &soup.rule, &plane, 0x2000_0001, &mut kept).is_none());
-        assert!(rt; kept.is_none());
+        assert_eq!(rt; going_on(alloc, &soup.rule, &plane, &FILM)?, (9, true));
     }
     Ok(())
 }
 
 /// Windows that have all of a soup, a part, a corner, nothing, and no sides.
 static WINDOWS: [Window; 5] = [
-    Window { x: -200, y: -200, width: 400, height: 400 },
-    Window { x: -7, y: 3, width: 9, height: 11 },
-    Window { x: 0, y: 0, width: 0xffff_ffff, height: 0xffff_ffff },
-    Window { x: -0x8000_0000, y: 5, width: 20, height: 20 },
-    Window { x: 0, y: 0, width: 0, height: 5 },
+    Window {
+        x: -200,
+        y: -200,
+        width: 400,
+        height: 400,
+    },
+    Window {
+        x: -7,
+        y: 3,
+        width: 9,
+        height: 11,
+    },
+    Window {
+        x: 0,
+        y: 0,
+        width: 0xffff_ffff,
+        height: 0xffff_ffff,
+    },
+    Window {
+        x: -0x8000_0000,
+        y: 5,
+        width: 20,
+        height: 20,
+    },
+    Window {
+        x: 0,
+        y: 0,
+        width: 0,
+        height: 5,
+    },
 ];
 
 /// Whether tiles cut by the same bytes as a universe.
