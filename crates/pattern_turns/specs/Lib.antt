@@ -1,0 +1,4 @@
+pub mod Turning
+pub mod Way
+pub mod Laws
+pub mod Rows
