@@ -1,0 +1,4 @@
+pub mod Moves
+pub mod Periods
+pub mod Laws
+pub mod Rows
