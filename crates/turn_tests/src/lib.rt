@@ -1,0 +1,9 @@
+//! Tests of `pattern_turns` and `map_periods`.
+#![tactic(auto)]
+
+#[cfg(test)]
+mod later;
+#[cfg(test)]
+mod periods;
+#[cfg(test)]
+mod turns;
