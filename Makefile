@@ -1,4 +1,4 @@
-.PHONY: test run look build bench memory fuzz browser streams trial
+.PHONY: test run look build bench memory fuzz browser streams trial install uninstall deb try-deb release page
 
 # How many checks of the gate run at a time: one a processor, or fewer, so that each can have 4 GB. Most take
 # less than that; `trial_calls` takes 6.
@@ -7,6 +7,9 @@ JOBS := $(shell awk -v most="$$(nproc)" '/^MemAvailable/ { n = int($$2 / 4000000
 
 # The proved program.
 PROGRAM := crates/genedit/out/genedit
+
+# Where `make install` puts it, as it is named there; DESTDIR, if given, stands in front.
+PREFIX := /usr/local
 
 # Everything that must pass: each crate's proofs and tests from nothing, the edits that the prover
 # must refuse, each program's stored run, and then the example scripts through the built program.
@@ -70,3 +73,34 @@ streams: $(PROGRAM)
 # CRATES="a b"` tries those of these crates alone.
 trial:
 	@examples/trial $(CRATES)
+
+# Installs what `make build` proved, with pages for `man`, completions, Golly's scripts and examples. It proves
+# nothing itself, since it may run as root.
+install:
+	@$(MAKE) -s -q $(PROGRAM) || { echo "make install: the program is not built, or older than its sources: make build" >&2; exit 1; }
+	@examples/package/install $(PROGRAM) "$(PREFIX)" "$(DESTDIR)"
+
+# Takes away what is listed as installed.
+uninstall:
+	@examples/package/install --away "$(PREFIX)" "$(DESTDIR)"
+
+# Makes the Debian package in out/, and prints its path. Needs Debian's `dpkg-deb`.
+deb: $(PROGRAM)
+	@mkdir -p out
+	@examples/package/deb $(PROGRAM) out
+
+# Installs the package into a folder, runs README's first script by it, and removes it; `make try-deb DEBIAN=bookworm`
+# does so in a new Debian, as root, by `debootstrap`.
+try-deb: $(PROGRAM)
+	@mkdir -p out
+	@examples/package/try "$$(examples/package/deb $(PROGRAM) out)" $(if $(DEBIAN),--debian $(DEBIAN))
+
+# Makes a release of the last commit in out/release, or in FOLDER: from a clean clone it builds, runs the gate, `memory`
+# and `fuzz`, makes the package, and writes what was proved.
+release:
+	@examples/package/release $(FOLDER)
+
+# Writes the page alone into share/, from web/.
+page:
+	@web/bundle
+	@cp web/out/pazgrot.html share/pazgrot.html
