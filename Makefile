@@ -89,11 +89,12 @@ deb: $(PROGRAM)
 	@mkdir -p out
 	@examples/package/deb $(PROGRAM) out
 
-# Installs the package into a folder, runs README's first script by it, and removes it; `make try-deb DEBIAN=bookworm`
-# does so in a new Debian, as root, by `debootstrap`.
+# Installs the package into a folder, runs README's first script by it, and removes it; as root `make try-deb
+# HOW="--debian bookworm"` does so in a new Debian, by `debootstrap`, and `HOW=--keepers` boots one, in which systemd and
+# cron keep a board.
 try-deb: $(PROGRAM)
 	@mkdir -p out
-	@examples/package/try "$$(examples/package/deb $(PROGRAM) out)" $(if $(DEBIAN),--debian $(DEBIAN))
+	@examples/package/try "$$(examples/package/deb $(PROGRAM) out)" $(HOW)
 
 # Makes a release of the last commit in out/release, or in FOLDER: from a clean clone it builds, runs the gate, `memory`
 # and `fuzz`, makes the package, and writes what was proved.
