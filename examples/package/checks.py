@@ -17,6 +17,9 @@ SPELLINGS = {r"\(ga": "`", r"\(aq": "'", r"\(ha": "^", r"\(ti": "~", r"\(dq": '"
 SPELLING = re.compile("|".join(map(re.escape, SPELLINGS)))
 WIDE = {"MANWIDTH": "1000", "MANROFFOPT": "", "LC_ALL": "C.UTF-8"}
 
+# the programs that read pages
+READERS = ("groff", "mandoc", "man")
+
 left_out = set()
 
 
