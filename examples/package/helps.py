@@ -93,7 +93,7 @@ def printed(program, *words):
 
 
 def version(program):
-    """The numbers of the version that the program tells, as `0.1.0`."""
+    """The numbers of the version that the program tells, as `1.0.0`."""
     found = re.search(r"\d+(\.\d+)+", printed(program, "--version"))
     if not found:
         raise NotUnderstood("--version")
