@@ -7,7 +7,7 @@ pub mod Shown
 pub mod Copying
 pub mod Cutting
 pub mod Kept
-pub mod Listing
+pub mod Morton
 pub mod Drawing
 pub mod OnPlaneLaws
 pub mod Overwriting

@@ -1,7 +1,9 @@
 -- An edit, by the columns and rows of the plane.
-use Rattle.std.proofs.Common.{◌≡◌, ℕ, ◌+◌, ◌<◌, ◌==◌, Bool, true, false, List, [], ◌∷◌, map, inl, inr, refl, ap, ◌∙◌, ◌<◌, arith, ℤ, pos, ◌+ℤ◌}
+use Rattle.std.proofs.Common.{◌≡◌, ℕ, ◌+◌, ◌%◌, ◌<◌, ◌==◌, Bool, true, false, List, [], ◌∷◌, map, inl, inr, refl, ap, ◌∙◌, ◌<◌, arith, ℤ, pos, ◌+ℤ◌}
 use Rattle.std.specs.Prelude.{◌&&◌, IsTrue, IfSome, Option, None, Some, int_le, int_lt, nat_le, nat_lt}
 use Rattle.std.specs.List.{list_all}
+use Rattle.std.specs.List.Sorted.{IsStableByKey}
+use Rattle.std.specs.Ordering.{nat_cmp}
 use Rattle.std.proofs.lemmas.Bool.{cases_Bool, and_parts}
 use Rattle.std.proofs.lemmas.Int.{ints}
 use Rattle.std.proofs.lemmas.Bool.Decides.{nat_tests}
@@ -17,9 +19,11 @@ use Rattle.stamped_tree.specs.declared.area.Area.{Area}
 use Rattle.stamped_tree.specs.declared.cells.ListedCell.{ListedCell}
 use Rattle.stamped_tree.specs.Area.{is_in_area}
 use Rattle.stamped_tree.specs.Drawing.{state_listed, edit_grid}
+use Rattle.stamped_tree.specs.Morton.{code_of, listed_in}
 use Rattle.stamped_tree.specs.OnPlane.{cell_on_plane, plane_writes}
 use Rattle.stamped_tree.specs.Plane.{from_edge}
 use Rattle.stamped_tree.specs.Tree.{plane_corner}
+use Rattle.stamped_tree.proofs.Morton.{states_stay}
 
 -- ---- areas
 
@@ -65,13 +69,31 @@ cells_listed (c ∷ cells) u v h =
       | inr f ↦ rw (same, f) below
     ]
 
+coordinate_is : (n : ℤ) → is_coordinate_in_plane n ≡ true → (least +ℤ pos (from_edge n) ≡ n) × (from_edge n < 2147483648)
+coordinate_is n h =
+    let parts : (int_le least n ≡ true) × (int_lt n past ≡ true) = and_parts _ _ h in
+    (omega (arith, ints, parts.0), omega (arith, ints, parts.0, parts.1))
+
+-- cells of the plane are in its square
+in_plane_listed : (cells : List Cell) → list_all (λ cell. is_in_plane (place_of cell)) cells ≡ true → listed_in 2147483648 (map cell_on_plane cells) ≡ map cell_on_plane cells
+in_plane_listed [] h = refl
+in_plane_listed (c ∷ cells) h =
+    let first : is_in_plane (place_of c) ≡ true = grind (arith, h) in
+    let others : list_all (λ cell. is_in_plane (place_of cell)) cells ≡ true = grind (arith, h) in
+    let parts : (is_coordinate_in_plane c.x ≡ true) × (is_coordinate_in_plane c.y ≡ true) = and_parts _ _ first in
+    let x = (coordinate_is c.x parts.0).1 in
+    let y = (coordinate_is c.y parts.1).1 in
+    let u : from_edge c.x % 2147483648 ≡ from_edge c.x = omega (arith, x) in
+    let v : from_edge c.y % 2147483648 ≡ from_edge c.y = omega (arith, y) in
+    rw (u, v) (ap (λ l. cell_on_plane c ∷ l) (in_plane_listed cells others))
+
 -- ---- the edit
 
-pub edit_on_plane : (e : PlaneEdit) (stamp : ℕ) (area : Option Rect) (a : Area) (cells : List Cell) (listed : List ListedCell) → IsEdit e → stamp ≡ e.stamp → area ≡ e.area → cells ≡ e.cells → listed ≡ map cell_on_plane cells
+pub edit_on_plane : (e : PlaneEdit) (stamp : ℕ) (area : Option Rect) (a : Area) (cells : List Cell) (listed sorted : List ListedCell) → IsEdit e → stamp ≡ e.stamp → area ≡ e.area → cells ≡ e.cells → listed ≡ map cell_on_plane cells → IsStableByKey code_of nat_cmp listed sorted
     → ((u v : ℕ) → u < 2147483648 → v < 2147483648 → is_in_area a u v ≡ is_covered area (moved plane_corner (pos u) (pos v)))
-    → AreSameWithin 2147483648 (edit_grid stamp a listed) (plane_writes e)
-edit_on_plane e stamp area a cells listed is same_stamp same_area same_cells same_listed covered u v hu hv =
-    rw (same_listed, same_cells, cells_listed e.cells u v is.in_plane, covered u v hu hv, same_area, same_stamp) refl
+    → AreSameWithin 2147483648 (edit_grid stamp a (listed_in 2147483648 sorted)) (plane_writes e)
+edit_on_plane e stamp area a cells listed sorted is same_stamp same_area same_cells same_listed stable covered u v hu hv =
+    rw (states_stay listed sorted u v hu hv stable, same_listed, same_cells, in_plane_listed e.cells is.in_plane, cells_listed e.cells u v is.in_plane, covered u v hu hv, same_area, same_stamp) refl
 
 -- ---- outside the plane
 
@@ -99,11 +121,6 @@ pub edit_inside : (e : PlaneEdit) → IsEdit e → LiesInPlane (writes_of e)
 edit_inside e is at out = rw (not_listed e.cells at is.in_plane out, not_covered e at is out) refl
 
 -- ---- places by their columns and rows
-
-coordinate_is : (n : ℤ) → is_coordinate_in_plane n ≡ true → (least +ℤ pos (from_edge n) ≡ n) × (from_edge n < 2147483648)
-coordinate_is n h =
-    let parts : (int_le least n ≡ true) × (int_lt n past ≡ true) = and_parts _ _ h in
-    (omega (arith, ints, parts.0), omega (arith, ints, parts.0, parts.1))
 
 -- a place of the plane, by its column and row
 pub placed : (at : Place) → is_in_plane at ≡ true → (moved plane_corner (pos (from_edge at.x)) (pos (from_edge at.y)) ≡ at) × (from_edge at.x < 2147483648) × (from_edge at.y < 2147483648)

@@ -6,6 +6,7 @@ pub mod Tree
 pub mod View
 pub mod Area
 pub mod Drawing
+pub mod Morton
 pub mod Filled
 pub mod Full
 pub mod MapPieces

@@ -1,10 +1,12 @@
-//! Cells that are listed on a square.
+//! Cells that are listed on a plane. In the order of their Morton codes those of each square stand
+//! together, quarter after quarter, so a quarter's cells are a slice of the square's.
 
-ghost use Rattle.std.specs.Prelude.{◌≡◌, ◌<◌, ◌≤◌, ◌&&◌, ◌-◌, [], nat_le, nat_lt, map, filter, IfOk, if◌then◌else◌};
-ghost use Rattle.std.specs.List.{list_all};
-ghost use Rattle.stamped_tree.specs.Drawing.{is_on_side, is_cell_in, moved_cell, cells_in};
+ghost use Rattle.std.specs.Prelude.{◌≡◌, ◌<◌, ◌≤◌, ◌+◌, ◌==◌, filter, nat_le, nat_lt, IfOk};
+ghost use Rattle.std.specs.List.Sorted.{IsNonDecreasingBy, IsStableByKey};
+ghost use Rattle.std.specs.Ordering.{nat_cmp};
+ghost use Rattle.stamped_tree.specs.Morton.{IsMortonRun, code_of, digit_at, interleaved};
 
-use std::alloc::{AllocError, Global};
+use std::alloc::AllocError;
 
 /// A listed state, and its column and row from the corner of a square.
 #[derive(Clone, Copy)]
@@ -14,136 +16,84 @@ pub struct ListedCell {
     pub state: u8,
 }
 
-/// The cells of a square with so many columns and rows, whose corner is at a column and a row.
-pub fn cells_of_part(
-    alloc: Global,
-    cells: &[ListedCell],
-    left: u32,
-    top: u32,
-    side: u32,
-) -> Result<Vec<ListedCell>, AllocError>
-    ensures { IfOk result (λ part. part.items ≡ cells_in cells.now left top side) }
-{
-    let inner = cells
-        .iter()
-        .filter(|cell| has_coordinate(left, side, cell.column)
-            && has_coordinate(top, side, cell.row))
-        .map(|cell| ListedCell {
-            column: cell.column - left,
-            row: cell.row - top,
-            state: cell.state,
-        })
-        .collect(alloc)?;
-    Ok(inner)
-}
-
 /// The cells of the quarters of a square.
-#[derive(Drop)]
-pub struct CellQuarters {
-    pub nw: Vec<ListedCell>,
-    pub ne: Vec<ListedCell>,
-    pub sw: Vec<ListedCell>,
-    pub se: Vec<ListedCell>,
+#[derive(Clone, Copy)]
+pub struct QuarterCells<'a> {
+    pub nw: &'a [ListedCell],
+    pub ne: &'a [ListedCell],
+    pub sw: &'a [ListedCell],
+    pub se: &'a [ListedCell],
 }
 
-/// The cells of each quarter, for quarters with so many columns and rows. The list is taken, so that
-/// on the way down no cell is held twice; where all cells lie in one quarter, it becomes that one's.
-pub fn quartered_cells(cells: Vec<ListedCell>, half: u32) -> Result<CellQuarters, AllocError>
-    ensures nw { IfOk result (λ quarters. quarters.nw.items ≡ cells_in cells.items 0 0 half) }
-    ensures ne { IfOk result (λ quarters. quarters.ne.items ≡ cells_in cells.items half 0 half) }
-    ensures sw { IfOk result (λ quarters. quarters.sw.items ≡ cells_in cells.items 0 half half) }
-    ensures se { IfOk result (λ quarters. quarters.se.items ≡ cells_in cells.items half half half) }
+/// The cells in the order of their Morton codes. Cells of one place stay in their order.
+pub fn in_morton_order(mut cells: Vec<ListedCell>) -> Result<Vec<ListedCell>, AllocError>
+    ensures order { IfOk result (λ sorted. IsNonDecreasingBy code_of sorted.items) }
+    ensures stable { IfOk result (λ sorted. IsStableByKey code_of nat_cmp cells.items sorted.items) }
 {
-    let (south, east) = quarter_of_first(&cells, half);
-    let left = start_of(east, half);
-    let top = start_of(south, half);
-    if are_in(&cells, left, top, half) {
-        return Ok(one_quarter(moved_cells(cells, left, top), south, east));
-    }
-    let quarters = parted_cells(&cells, half)?;
-    Ok(quarters)
+    cells.sort_by_cached_key(|cell| morton_code(cell.column, cell.row))?;
+    Ok(cells)
 }
 
-/// Whether the first cell lies in a southern quarter, and whether in an eastern one.
-fn quarter_of_first(cells: &[ListedCell], half: u32) -> (bool, bool) {
-    match cells.first() {
-        Some(cell) => (half <= cell.row, half <= cell.column),
-        None => (false, false),
-    }
-}
-
-/// The first column or row of the quarters of a half.
-fn start_of(is_second: bool, half: u32) -> u32
-    ensures { result ≡ (if is_second then half else 0) }
+/// The cells of each quarter of the square that they are of, where a quarter has 2^bit columns and rows.
+pub fn quartered(cells: &[ListedCell], bit: u32) -> QuarterCells<'_>
+    requires bit { bit < 31 }
+    requires cells { IsMortonRun (bit + 1) cells.now }
+    ensures nw { result.nw.now ≡ filter (λ c. digit_at bit c == 0) cells.now }
+    ensures ne { result.ne.now ≡ filter (λ c. digit_at bit c == 1) cells.now }
+    ensures sw { result.sw.now ≡ filter (λ c. digit_at bit c == 2) cells.now }
+    ensures se { result.se.now ≡ filter (λ c. digit_at bit c == 3) cells.now }
 {
-    if is_second { half } else { 0 }
+    let (north, south) = cut(cells, bit, 2);
+    let (nw, ne) = cut(north, bit, 1);
+    let (sw, se) = cut(south, bit, 3);
+    QuarterCells { nw, ne, sw, se }
 }
 
-fn are_in(cells: &[ListedCell], left: u32, top: u32, side: u32) -> bool
-    ensures { result ≡ list_all (is_cell_in left top side) cells.now }
+/// The cells whose digit is below a number, and the others, of cells in the order of their digits.
+fn cut(cells: &[ListedCell], bit: u32, least: u32) -> (&[ListedCell], &[ListedCell])
+    requires bit { bit < 31 }
+    requires order { IsNonDecreasingBy (digit_at bit) cells.now }
+    ensures below { result.0.now ≡ filter (λ c. nat_lt (digit_at bit c) least) cells.now }
+    ensures from { result.1.now ≡ filter (λ c. nat_le least (digit_at bit c)) cells.now }
 {
-    cells.iter().all(|cell| has_coordinate(left, side, cell.column)
-        && has_coordinate(top, side, cell.row))
+    let place = cells.partition_point(|cell| digit(cell, bit) < least);
+    cells.split_at(place)
 }
 
-/// The cells from a column and a row on, which count from there afterwards.
-fn moved_cells(cells: Vec<ListedCell>, left: u32, top: u32) -> Vec<ListedCell>
-    ensures { result.items ≡ map (moved_cell left top) cells.items }
+/// A digit in base 4 of a cell's Morton code.
+fn digit(cell: &ListedCell, bit: u32) -> u32
+    requires { bit < 31 }
+    ensures { result ≡ digit_at bit cell.now }
 {
-    let mut cells = cells;
-    move_cells(&mut cells, left, top);
-    cells
+    2 * ((cell.row >> bit) % 2) + (cell.column >> bit) % 2
 }
 
-fn move_cells(cells: &mut [ListedCell], left: u32, top: u32)
-    ensures { cells.new ≡ map (moved_cell left top) cells.old }
+/// The Morton code of a place (G. M. Morton, 1966): the bits of the column and of the row by turns, from
+/// the column's lowest. Of each the low 31 bits count, which are all that a plane has.
+fn morton_code(column: u32, row: u32) -> u64
+    ensures { result ≡ interleaved 31 column row }
 {
-    for cell in cells.iter_mut() {
-        cell.column = cell.column.saturating_sub(left);
-        cell.row = cell.row.saturating_sub(top);
-    }
+    spread(column) + 2 * spread(row)
 }
 
-/// Cells of one quarter, and none of the others.
-fn one_quarter(cells: Vec<ListedCell>, south: bool, east: bool) -> CellQuarters
-    ensures nw { result.nw.items ≡ (if south then [] else if east then [] else cells.items) }
-    ensures ne { result.ne.items ≡ (if south then [] else if east then cells.items else []) }
-    ensures sw { result.sw.items ≡ (if south then (if east then [] else cells.items) else []) }
-    ensures se { result.se.items ≡ (if south then (if east then cells.items else []) else []) }
+/// The low 31 bits of a coordinate, each at twice its place.
+fn spread(coordinate: u32) -> u64
+    ensures value { result ≡ interleaved 31 coordinate 0 }
+    ensures most { result ≤ 0x5555555555555555 }
 {
-    let alloc = *cells.allocator();
-    let mut quarters = CellQuarters {
-        nw: Vec::new(alloc),
-        ne: Vec::new(alloc),
-        sw: Vec::new(alloc),
-        se: Vec::new(alloc),
-    };
-    match (south, east) {
-        (false, false) => quarters.nw = cells,
-        (false, true) => quarters.ne = cells,
-        (true, false) => quarters.sw = cells,
-        (true, true) => quarters.se = cells,
-    }
-    quarters
+    let low = spread_byte(coordinate % 0x100) + 0x1_0000 * spread_byte(coordinate / 0x100 % 0x100);
+    let high = spread_byte(coordinate / 0x1_0000 % 0x100)
+        + 0x1_0000 * spread_byte(coordinate / 0x100_0000 % 0x80);
+    low + 0x1_0000_0000 * high
 }
 
-fn parted_cells(cells: &Vec<ListedCell>, half: u32) -> Result<CellQuarters, AllocError>
-    ensures nw { IfOk result (λ quarters. quarters.nw.items ≡ cells_in cells.now.items 0 0 half) }
-    ensures ne { IfOk result (λ quarters. quarters.ne.items ≡ cells_in cells.now.items half 0 half) }
-    ensures sw { IfOk result (λ quarters. quarters.sw.items ≡ cells_in cells.now.items 0 half half) }
-    ensures se { IfOk result (λ quarters. quarters.se.items ≡ cells_in cells.now.items half half half) }
+/// The bits of a byte, each at twice its place: by masks, as in Anderson's *Bit Twiddling Hacks*.
+fn spread_byte(byte: u32) -> u64
+    requires { byte < 256 }
+    ensures value { result ≡ interleaved 8 byte 0 }
+    ensures most { result ≤ 0x5555 }
 {
-    let alloc = *cells.allocator();
-    let nw = cells_of_part(alloc, cells, 0, 0, half)?;
-    let ne = cells_of_part(alloc, cells, half, 0, half)?;
-    let sw = cells_of_part(alloc, cells, 0, half, half)?;
-    let se = cells_of_part(alloc, cells, half, half, half)?;
-    Ok(CellQuarters { nw, ne, sw, se })
-}
-
-/// Whether a coordinate lies on a side that begins there and is so long.
-fn has_coordinate(start: u32, side: u32, coordinate: u32) -> bool
-    ensures { result ≡ is_on_side start side coordinate }
-{
-    start <= coordinate && coordinate - start < side
+    let nibbles = (byte | byte << 4) & 0x0f0f;
+    let pairs = (nibbles | nibbles << 2) & 0x3333;
+    u64::from((pairs | pairs << 1) & 0x5555)
 }

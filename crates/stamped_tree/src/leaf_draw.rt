@@ -8,6 +8,7 @@ ghost use Rattle.edit_stamps.specs.Stamp.{is_stamp};
 ghost use Rattle.stamped_tree.specs.Area.{is_in_area};
 ghost use Rattle.stamped_tree.specs.Drawing.{edit_grid, state_listed};
 ghost use Rattle.stamped_tree.specs.LeafKind.{plane_grid};
+ghost use Rattle.stamped_tree.specs.Morton.{in_square, listed_in};
 ghost use Rattle.stamped_tree.specs.Overwriting.{listed_over, overwritten_grid};
 ghost use Rattle.stamped_tree.specs.Plane.{grid_of_leaf};
 
@@ -35,11 +36,11 @@ pub fn leaf_at(store: &Store<PlaneLeaf>, part: Part) -> Leaf
 }
 
 /// A leaf with the listed states at the listed cells and state 0 elsewhere in the area, both written
-/// with a stamp. What is listed beside the leaf is passed over.
+/// with a stamp.
 pub fn overwritten_leaf(leaf: Leaf, stamp: u64, area: Area, cells: &[ListedCell]) -> PlaneLeaf
     requires leaf { IsLeaf leaf }
     requires stamp { IsTrue (is_stamp stamp) }
-    ensures { AreSameWithin 8 (plane_grid result) (overwritten_grid (grid_of_leaf leaf) (edit_grid stamp area cells.now)) }
+    ensures { AreSameWithin 8 (plane_grid result) (overwritten_grid (grid_of_leaf leaf) (edit_grid stamp area (listed_in 8 cells.now))) }
 {
     let mut leaf = leaf;
     if !area.is_empty() {
@@ -66,7 +67,7 @@ fn clear(leaf: &mut Leaf, stamp: u64, area: Area)
 fn put_cells(leaf: &mut Leaf, stamp: u64, cells: &[ListedCell])
     requires { IsLeaf leaf.old }
     ensures leaf { IsLeaf leaf.new }
-    ensures writes { (i : ℕ) → i < 64 → write_on_leaf leaf.new i ≡ listed_over (write_on_leaf leaf.old i) stamp (state_listed cells.now (i % 8) (i / 8)) }
+    ensures writes { (i : ℕ) → i < 64 → write_on_leaf leaf.new i ≡ listed_over (write_on_leaf leaf.old i) stamp (state_listed (listed_in 8 cells.now) (i % 8) (i / 8)) }
 {
     for index in (0..cells.len()).rev() {
         put_cell(leaf, stamp, cells[index]);
@@ -76,15 +77,13 @@ fn put_cells(leaf: &mut Leaf, stamp: u64, cells: &[ListedCell])
 fn put_cell(leaf: &mut Leaf, stamp: u64, cell: ListedCell)
     requires { IsLeaf leaf.old }
     ensures leaf { IsLeaf leaf.new }
-    ensures writes { (i : ℕ) → i < 64 → write_on_leaf leaf.new i ≡ listed_over (write_on_leaf leaf.old i) stamp (state_listed (cell ∷ []) (i % 8) (i / 8)) }
+    ensures writes { (i : ℕ) → i < 64 → write_on_leaf leaf.new i ≡ listed_over (write_on_leaf leaf.old i) stamp (state_listed (in_square 8 cell ∷ []) (i % 8) (i / 8)) }
 {
-    if cell.column < 8 && cell.row < 8 {
-        leaf.put(
-            (8 * cell.row + cell.column) as usize,
-            Write {
-                stamp,
-                state: cell.state,
-            },
-        );
-    }
+    leaf.put(
+        (8 * (cell.row % 8) + cell.column % 8) as usize,
+        Write {
+            stamp,
+            state: cell.state,
+        },
+    );
 }
