@@ -9,6 +9,7 @@ pub mod Drawing
 pub mod Morton
 pub mod Filled
 pub mod Full
+pub mod Drawn
 pub mod MapPieces
 pub mod Overwriting
 pub mod OnPlane

@@ -9,8 +9,8 @@ ghost use Rattle.edit_stamps.specs.Stamp.{is_stamp};
 ghost use Rattle.stamped_tree.specs.OnPlane.{plane_writes};
 ghost use Rattle.stamped_tree.specs.Plane.{HoldPlaneWrites};
 ghost use Rattle.stamped_tree.specs.Drawing.{drawn_grid};
+ghost use Rattle.stamped_tree.specs.Drawn.{IsDrawn};
 ghost use Rattle.stamped_tree.specs.Filled.{AreFilled};
-ghost use Rattle.stamped_tree.specs.Full.{IsFullStoreFor};
 ghost use Rattle.stamped_tree.specs.LeafKind.{plane_grid};
 ghost use Rattle.stamped_tree.specs.Morton.{IsMortonRun, listed_in};
 ghost use Rattle.stamped_tree.specs.Overwriting.{overwritten_grid};
@@ -84,12 +84,8 @@ pub(crate) fn draw(
     requires stamp { IsTrue (is_stamp edit.stamp) }
     requires cells { IsMortonRun (level + 3) edit.cells.now }
     requires kept { AreFilled store.old edit.stamp kept.old }
-    ensures draws { IfOk result (Draws plane_grid 8 store.new level (drawn_grid store.old level part edit.entry.stamp edit.entry.area (listed_in (side_at 8 level) edit.entry.cells.now))) }
-    ensures grows { IsGrown plane_grid 8 store.old store.new }
-    ensures writes { HoldPlaneWrites store.old → HoldPlaneWrites store.new }
+    ensures drawn { IsDrawn store.old store.new level (drawn_grid store.old level part edit.entry.stamp edit.entry.area (listed_in (side_at 8 level) edit.entry.cells.now)) result }
     ensures kept { AreFilled store.new edit.entry.stamp kept.new }
-    ensures pieces { AddsPiecesOfGrid plane_grid 8 store.old store.new level (drawn_grid store.old level part edit.entry.stamp edit.entry.area (listed_in (side_at 8 level) edit.entry.cells.now)) }
-    ensures full { result ≡ Err StoreFault.StoreFull → IsFullStoreFor store.new level (drawn_grid store.old level part edit.entry.stamp edit.entry.area (listed_in (side_at 8 level) edit.entry.cells.now)) }
 {
     if !edit.cells.is_empty() {
         let drawn = draw_anew(store, kept, level, part, edit)?;
@@ -129,12 +125,8 @@ fn draw_anew(
     requires stamp { IsTrue (is_stamp edit.stamp) }
     requires cells { IsMortonRun (level + 3) edit.cells.now }
     requires kept { AreFilled store.old edit.stamp kept.old }
-    ensures draws { IfOk result (Draws plane_grid 8 store.new level (drawn_grid store.old level part edit.entry.stamp edit.entry.area (listed_in (side_at 8 level) edit.entry.cells.now))) }
-    ensures grows { IsGrown plane_grid 8 store.old store.new }
-    ensures writes { HoldPlaneWrites store.old → HoldPlaneWrites store.new }
+    ensures drawn { IsDrawn store.old store.new level (drawn_grid store.old level part edit.entry.stamp edit.entry.area (listed_in (side_at 8 level) edit.entry.cells.now)) result }
     ensures kept { AreFilled store.new edit.entry.stamp kept.new }
-    ensures pieces { AddsPiecesOfGrid plane_grid 8 store.old store.new level (drawn_grid store.old level part edit.entry.stamp edit.entry.area (listed_in (side_at 8 level) edit.entry.cells.now)) }
-    ensures full { result ≡ Err StoreFault.StoreFull → IsFullStoreFor store.new level (drawn_grid store.old level part edit.entry.stamp edit.entry.area (listed_in (side_at 8 level) edit.entry.cells.now)) }
 {
     let SquareEdit { stamp, area, cells } = edit;
     if level == 0 {
@@ -183,11 +175,7 @@ fn draw_leaf(
 ) -> Result<Part, StoreFault>
     requires part { IsAt store.old 0 part }
     requires stamp { IsTrue (is_stamp stamp) }
-    ensures draws { IfOk result (Draws plane_grid 8 store.new 0 (drawn_grid store.old 0 part stamp area (listed_in 8 cells.now))) }
-    ensures grows { IsGrown plane_grid 8 store.old store.new }
-    ensures writes { HoldPlaneWrites store.old → HoldPlaneWrites store.new }
-    ensures pieces { AddsPiecesOfGrid plane_grid 8 store.old store.new 0 (drawn_grid store.old 0 part stamp area (listed_in 8 cells.now)) }
-    ensures full { result ≡ Err StoreFault.StoreFull → IsFullStoreFor store.new 0 (drawn_grid store.old 0 part stamp area (listed_in 8 cells.now)) }
+    ensures { IsDrawn store.old store.new 0 (drawn_grid store.old 0 part stamp area (listed_in 8 cells.now)) result }
 {
     let leaf = overwritten_leaf(leaf_at(store, part), stamp, area, cells);
     // For the proof alone, as above.
