@@ -7,6 +7,7 @@ use Rattle.stamped_tree.specs.declared.area.Area.{Area}
 use Rattle.stamped_tree.specs.declared.cells.ListedCell.{ListedCell}
 use Rattle.stamped_tree.specs.Area.{area_grid}
 use Rattle.stamped_tree.specs.Drawing.{edit_grid, cells_in}
+use Rattle.stamped_tree.specs.Morton.{interleaved, digit_at, listed_in}
 use Rattle.stamped_tree.specs.OnPlane.{cell_on_plane, plane_writes}
 use Rattle.stamped_tree.specs.Walk.{AreNonzeroCells, cell_of_plane, row_order}
 
@@ -45,6 +46,24 @@ moved_to_the_quarter = refl
 
 pub not_in_the_quarter : cells_in (listed_cell ∷ []) 0 0 8 ≡ []
 not_in_the_quarter = refl
+
+-- ---- Morton codes
+
+-- column 101 and row 011 in binary: 011011
+pub a_code : interleaved 31 5 3 ≡ 27
+unfolding interleaved
+a_code = refl
+
+pub last_place : interleaved 31 (2 ^ 31 - 1) (2 ^ 31 - 1) ≡ 2 ^ 62 - 1
+unfolding interleaved
+last_place = refl
+
+-- of a square of 4 columns the quarter SW
+pub south_west : digit_at 1 (record { column = 5; row = 3; state = 1 }) ≡ 2
+south_west = refl
+
+pub from_the_corner_of_its_leaf : listed_in 8 (listed_cell ∷ []) ≡ record { column = 1; row = 2; state = 0 } ∷ []
+from_the_corner_of_its_leaf = refl
 
 -- ---- the plane
 
