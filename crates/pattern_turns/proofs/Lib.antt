@@ -1,3 +1,4 @@
 pub mod WayLaws
 pub mod PlaneLaws
 pub mod TurningLaws
+pub mod PatternLaws

@@ -31,7 +31,7 @@ is_alive cell = not (cell.state == 0)
 abbrev is_one_spot : PatternCell → PatternCell → Bool
 is_one_spot a b = a.column == b.column && a.row == b.row
 
-turned_state : (turn : Turn) (width height : ℕ) (cell : PatternCell) → (turned_cell turn width height cell).state ≡ cell.state
+pub turned_state : (turn : Turn) (width height : ℕ) (cell : PatternCell) → (turned_cell turn width height cell).state ≡ cell.state
 turned_state Left width height cell = refl
 turned_state Right width height cell = refl
 turned_state Half width height cell = refl
@@ -56,9 +56,9 @@ and-comm true false = refl
 and-comm false true = refl
 and-comm false false = refl
 
-record IsIn (width height : ℕ) (cell : PatternCell) : Type 0 where
-  column : cell.column < width
-  row : cell.row < height
+pub record IsIn (width height : ℕ) (cell : PatternCell) : Type 0 where
+  pub column : cell.column < width
+  pub row : cell.row < height
 
 is_in : (width height : ℕ) (cell : PatternCell) → is_within width height cell ≡ true → IsIn width height cell
 is_in width height cell h = record { column = grind arith; row = grind arith }
@@ -248,6 +248,16 @@ is_turned turn old new are =
       goes = λ c h. Contains-permutation (map put old.cells) new.cells (put c) are.moved (contains-map put old.cells c h);
       comes = λ c h. contained_from_map put old.cells c (Contains-permutation new.cells (map put old.cells) c (IsPermutation-sym (map put old.cells) new.cells are.moved) h);
     }
+
+-- each cell of a pattern lies in its box
+pub cell_is_in : (p : RlePattern) (cell : PatternCell) → IsPattern p → Contains p.cells cell → IsIn p.width p.height cell
+cell_is_in p cell is h = is_in p.width p.height cell (All-contains (λ c. is_within p.width p.height c ≡ true) p.cells cell (AllPass-from_list_all (is_within p.width p.height) p.cells is.within) h)
+
+-- and is not dead
+pub cell_is_alive : (p : RlePattern) (cell : PatternCell) → IsPattern p → Contains p.cells cell → cell.state ≡ 0 → ⊥
+cell_is_alive p cell is h dead =
+    let alive : is_alive cell ≡ true = All-contains (λ c. is_alive c ≡ true) p.cells cell (AllPass-from_list_all is_alive p.cells is.alive) h in
+    grind (arith, alive, dead)
 
 -- ---- a sorted list is told by what is in it
 

@@ -15,7 +15,7 @@ neg-neg (negsuc n) = refl
 pub both : {a b x y : ℤ} → a ≡ b → x ≡ y → at_place a x ≡ at_place b y
 both e f = λ i. at_place (e i) (f i)
 
-composes : (v w : Way) (c : Place) → put (after v w) c ≡ put v (put w c)
+pub composes : (v w : Way) (c : Place) → put (after v w) c ≡ put v (put w c)
 composes TurnedLeft TurnedRight c = both refl (sym (neg-neg c.y))
 composes TurnedLeft TurnedHalf c = both refl (sym (neg-neg c.x))
 composes TurnedLeft Mirrored c = both refl (sym (neg-neg c.x))
@@ -110,7 +110,7 @@ unit_left Antitransposed = refl
 unit_right : (w : Way) → after w Unturned ≡ w
 unit_right w = distinct (after w Unturned) w (composes w Unturned)
 
-inverse_left : (w : Way) → after (inverse w) w ≡ Unturned
+pub inverse_left : (w : Way) → after (inverse w) w ≡ Unturned
 inverse_left Unturned = refl
 inverse_left TurnedLeft = refl
 inverse_left TurnedRight = refl

@@ -1,5 +1,5 @@
 -- What turns obey.
-use Rattle.std.specs.Prelude.{◌≡◌, ℕ, ◌<◌, ℤ, pos}
+use Rattle.std.specs.Prelude.{◌≡◌, ◌≢◌, ℕ, ◌<◌, ℤ, pos, Contains}
 use Rattle.generations_rule.specs.Place.{Place, at_place, moved}
 use Rattle.generations_rule.specs.Rule.{GenerationsRule}
 use Rattle.generations_rule.specs.Evolution.{at}
@@ -28,6 +28,16 @@ place_in_box cell = at_place (pos cell.column) (pos cell.row)
 abbrev pub AreTurnsOfThePlane : Type 0
 AreTurnsOfThePlane = (turn : Turn) (width height : ℕ) → (right down : ℤ) × ((cell : PatternCell) → cell.column < width → cell.row < height
     → place_in_box (turned_cell turn width height cell) ≡ moved (put (way_of turn) (place_in_box cell)) right down)
+
+-- the map of a pattern, the corner of its box being put at the origin: its cells stand there, and all else is dead
+pub record IsMapOf (p : RlePattern) (f : Place → ℕ) : Type 0 where
+  pub alive : (cell : PatternCell) → Contains p.cells cell → f (place_in_box cell) ≡ cell.state
+  pub only : (c : Place) → f c ≢ 0 → (cell : PatternCell) × Contains p.cells cell × (c ≡ place_in_box cell)
+
+-- what becomes of a turned pattern is what becomes of the pattern, put where the turn's way puts it, and then moved
+abbrev pub PatternsTurn : Type 0
+PatternsTurn = (turn : Turn) (old new : RlePattern) → IsPattern old → IsTurned turn old new → (right down : ℤ) × ((f h : Place → ℕ) → IsMapOf old f → IsMapOf new h
+    → (r : GenerationsRule) (g : ℕ) (c : Place) → at r h g (moved (put (way_of turn) c) right down) ≡ at r f g c)
 
 -- a pattern has one turned pattern
 abbrev pub HasOneTurn : Type 0

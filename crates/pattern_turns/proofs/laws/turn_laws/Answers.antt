@@ -1,3 +1,4 @@
+use Rattle.pattern_turns.proofs.PatternLaws.{patterns_turn}
 use Rattle.pattern_turns.proofs.PlaneLaws.{are_turns_of_the_plane, moves_commute, turns_commute}
 use Rattle.pattern_turns.proofs.TurningLaws.{has_one_turn}
 use Rattle.pattern_turns.proofs.WayLaws.{are_a_group}
@@ -17,3 +18,6 @@ returns-clause-evolution c = turns_commute
 
 pub returns-clause-moves : goal.returns-clause-moves
 returns-clause-moves c = moves_commute
+
+pub returns-clause-patterns : goal.returns-clause-patterns
+returns-clause-patterns c = patterns_turn
