@@ -93,7 +93,12 @@ fn cut(alloc: Global, rule: &Rule, plane: &Plane) -> Verdict
     requires { HasStatesBelow rule.now.states (map_of plane.now) }
 {
     let cut = Cut {
-        window: Window { x: -1, y: -3, width: 2, height: 3 },
+        window: Window {
+            x: -1,
+            y: -3,
+            width: 2,
+            height: 3,
+        },
         generation: 3,
     };
     told_by_tiles(cut_by_tiles(alloc, rule, plane, cut), CORNER)
