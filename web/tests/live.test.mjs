@@ -27,8 +27,8 @@ async function serve(rule, sessions) {
   return { port, end: () => server.kill() };
 }
 
-/** A board over TCP: a body goes out in its frame, and frames come in as bodies. */
-function boardAt(port, asksCut = false) {
+/** A board over TCP: a body goes out in its frame, and frames come in as bodies. It may be looked at, so that a Cut is asked first. */
+function boardAt(port, isSeen = false) {
   const sockets = [], refused = [];
   const world = {
     connect(ear) {
@@ -39,10 +39,9 @@ function boardAt(port, asksCut = false) {
       sockets.push(socket);
       return { send: body => socket.write(framed(body)), close: () => socket.destroy() };
     },
-    later: (ms, call) => { setTimeout(call, ms).unref(); }, isHidden: () => false, window: () => ({ x: -8, y: -8, w: 16, h: 16 }),
+    later: (ms, call) => { setTimeout(call, ms).unref(); }, isHidden: () => false, window: () => isSeen ? { x: -8, y: -8, w: 16, h: 16 } : null,
   };
   const board = new Board(world, { state() {}, map() {}, refused: n => refused.push(n), begunAnew() {} }, "23/3/2");
-  board.asksCut = asksCut;
   board.start();
   return { board, editor: new Editor(board), refused, lose: () => sockets[sockets.length - 1].destroy(), end: () => { board.open = () => {}; board.later = () => {}; for (const s of sockets) s.destroy(); } };
 }
@@ -110,7 +109,7 @@ test("two boards of the page beside a client of the product: one map in the end"
   let said = "";
   client.stdout.on("data", d => { said += d; });
   await until(() => a.board.state === "open" && b.board.state === "open", "both are open");
-  assert.equal(a.board.asksCut, false, "a server that refuses a Cut by 33 is not asked again");
+  assert.equal(a.board.hasCut, true, "the server knows a Cut");
   for (let k = 0; k < 250; k++) {
     const { editor } = c.is(.5) ? a : b, at = () => c.below(24) - 12, turn = c.next();
     if (turn < .7) editor.put(Array.from({ length: 1 + c.below(5) }, () => [at(), at(), c.below(4)]));
