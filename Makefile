@@ -5,8 +5,12 @@
 JOBS := $(shell awk -v most="$$(nproc)" '/^MemAvailable/ { n = int($$2 / 4000000); \
 	print n < 1 ? 1 : n < most ? n : most }' /proc/meminfo)
 
+# For which processor `make build` makes the program: none named is x86-64-v2, which the gate proves and tests;
+# x86-64-v3 is one of 2013 and later. Such a program has a name of its own, and each word below takes it by CPU= too.
+CPU :=
+
 # The proved program.
-PROGRAM := crates/genedit/out/genedit
+PROGRAM := crates/genedit/out/genedit$(if $(CPU),-$(CPU))
 
 # Where `make install` puts it, as it is named there; DESTDIR, if given, stands in front.
 PREFIX := /usr/local
@@ -39,7 +43,7 @@ SOURCES := $(shell find crates -name out -prune -o -name trials -prune -o -name 
 	-o \( -name '*.rt' -o -name '*.antt' -o -name src -o -name specs -o -name proofs \) -print)
 
 $(PROGRAM): $(SOURCES) crates.txt HANDLES
-	@examples/build
+	@examples/build $(CPU)
 
 # Measures; asserts nothing: scripts through the program, how costs grow, and what no script reaches.
 bench:
