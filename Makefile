@@ -6,11 +6,11 @@ JOBS := $(shell awk -v most="$$(nproc)" '/^MemAvailable/ { n = int($$2 / 4000000
 	print n < 1 ? 1 : n < most ? n : most }' /proc/meminfo)
 
 # For which processor `make build` makes the program: none named is x86-64-v2, which the gate proves and tests;
-# x86-64-v3 is one of 2013 and later. Such a program has a name of its own, and each word below takes it by CPU= too.
+# x86-64-v3 is one of 2013 and later. Such a program stands in a folder of its own, and each word below takes it by CPU= too.
 CPU :=
 
 # The proved program.
-PROGRAM := crates/genedit/out/genedit$(if $(CPU),-$(CPU))
+PROGRAM := crates/genedit/out/$(if $(CPU),$(CPU)/)genedit
 
 # Where `make install` puts it, as it is named there; DESTDIR, if given, stands in front.
 PREFIX := /usr/local
