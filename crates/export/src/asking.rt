@@ -1,6 +1,6 @@
 //! Windows of later generations, and how many cells there are then.
 
-ghost use Rattle.std.specs.Prelude.{◌≡◌, ◌^◌, ◌≤◌, ◌⊎◌, true, filter, IfErr, IfOk, IfSome, Ok, Err};
+ghost use Rattle.std.specs.Prelude.{◌≡◌, ◌^◌, ◌≤◌, ◌⊎◌, true, filter, length, IfErr, IfOk, IfSome, Ok, Err};
 ghost use Rattle.std.specs.List.{list_all};
 ghost use Rattle.edit_stamps.specs.PlaneMap.{HasStatesBelow};
 ghost use Rattle.pattern_cells.specs.Cells.{place_of};
@@ -146,7 +146,7 @@ fn text_seen(
     Ok(text)
 }
 
-/// What a window shows of cells that are listed, if they are at most 2^24.
+/// What a window shows of cells that are listed, if they are at most 2^24. They are counted before memory is taken.
 fn listed_seen(
     alloc: Global,
     rule: &Rule,
@@ -164,24 +164,47 @@ fn listed_seen(
 {
     // For the proof alone: the call tells that what is held is a rule.
     let _states = rule.states();
-    let seen = cells_in_window(alloc, &listed.cells, window)?;
-    if seen.len() as u64 > MOST_CELLS {
+    let count = count_in_window(&listed.cells, window);
+    if count as u64 > MOST_CELLS {
         return Err(ExportFault::TooManyCells);
+    }
+    let seen = cells_in_window(alloc, &listed.cells, window, count)?;
+    Ok(seen)
+}
+
+/// How many cells lie in a window.
+fn count_in_window(cells: &[Cell], window: Window) -> usize
+    ensures { result ≡ length (filter (λ cell. is_in_window window (place_of cell)) cells.now) }
+{
+    cells
+        .iter()
+        .filter(|cell| is_in_window(window, cell))
+        .count()
+}
+
+/// The cells that lie in a window, in their order. Memory is taken once, for so many.
+fn cells_in_window(
+    alloc: Global,
+    cells: &[Cell],
+    window: Window,
+    count: usize,
+) -> Result<Vec<Cell>, AllocError>
+    ensures { IfOk result (λ seen. seen.items ≡ filter (λ cell. is_in_window window (place_of cell)) cells.now) }
+{
+    let mut seen = Vec::with_capacity(alloc, count)?;
+    for cell in cells {
+        if is_in_window(window, cell) {
+            seen.push(*cell)?;
+        }
     }
     Ok(seen)
 }
 
-/// The cells that lie in a window, in their order.
-fn cells_in_window(alloc: Global, cells: &[Cell], window: Window) -> Result<Vec<Cell>, AllocError>
-    ensures { IfOk result (λ seen. seen.items ≡ filter (λ cell. is_in_window window (place_of cell)) cells.now) }
+/// Whether a cell lies in a window.
+fn is_in_window(window: Window, cell: &Cell) -> bool
+    ensures { result ≡ is_in_window window (place_of cell.now) }
 {
-    let seen = cells
-        .iter()
-        .filter(|cell| is_in_span(window.x, window.width, cell.x)
-            && is_in_span(window.y, window.height, cell.y))
-        .copied()
-        .collect(alloc)?;
-    Ok(seen)
+    is_in_span(window.x, window.width, cell.x) && is_in_span(window.y, window.height, cell.y)
 }
 
 /// Whether a coordinate is one of so many, from a first one on.
