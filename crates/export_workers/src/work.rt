@@ -10,7 +10,7 @@ ghost use Rattle.export_workers.specs.Exports.{AreOfWorker, IsExportAnswer, IsJo
 
 use crate::gate::Gate;
 use crate::share::Share;
-use export::{ExportFault, Listed, export_next, export_on};
+use export::{ExportFault, Listed, export, export_next, export_on};
 use generation_engine::Engine;
 use generations_rule::Rule;
 use lists::ListOf;
@@ -77,7 +77,8 @@ pub fn work<G: Gate>(
     Ok(answers)
 }
 
-/// An export by tiles, or else by the universe that is kept, if there is one.
+/// An export by tiles, or else by the universe that is kept, if there is one. Where tiles tell it and its text finds no
+/// memory, what is kept is given back, and what is answered is what `export` answers.
 fn answer(alloc: Global, rule: &Rule, plane: &Plane, generation: u32, kept: &mut Kept) -> Export
     requires states { HasStatesBelow rule.now.states (map_of plane.now) }
     requires listed { IfSome kept.old.listed (IsListedOf rule.now (states_in_writes (map_of plane.now))) }
@@ -87,6 +88,10 @@ fn answer(alloc: Global, rule: &Rule, plane: &Plane, generation: u32, kept: &mut
     ensures universe { IfSome kept.new.universe (IsRunOf rule.now (states_in_writes (map_of plane.now))) }
 {
     let answer = match answer_by_tiles(alloc, rule, plane, generation, kept) {
+        Some(Err(ExportFault::Memory)) => {
+            *kept = Kept::new();
+            export(alloc, rule, plane, generation)
+        }
         Some(answer) => answer,
         None => export_on(alloc, rule, plane, generation, &mut kept.universe),
     };
