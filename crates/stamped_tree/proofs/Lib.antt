@@ -14,4 +14,6 @@ pub mod Overwriting
 pub mod DrawnPieces
 pub mod Gathering
 pub mod Placing
+pub mod RowLaws
+pub mod BandLaws
 pub mod WalkLaws

@@ -14,5 +14,6 @@ pub mod MapPieces
 pub mod Overwriting
 pub mod OnPlane
 pub mod Walk
+pub mod RowOrder
 pub mod Rows
 pub mod DrawnRows

@@ -1,16 +1,14 @@
-//! The cells of a square whose state is not 0.
+//! The cells of a square whose state is not 0, row by row.
 
-ghost use Rattle.std.specs.Prelude.{◌≡◌, ◌≢◌, ◌<◌, ◌≤◌, ◌+◌, ◌*◌, ℕ, map, IfOk, IsTrue, OnOk};
-ghost use Rattle.std.specs.List.{list_all};
-ghost use Rattle.std.specs.List.Sorted.{IsNonDecreasingBy, IsPermutation};
-ghost use Rattle.square_store.specs.Squares.{IsAt, grid_at, side_at};
+ghost use Rattle.std.specs.Prelude.{◌≡◌, ◌<◌, ◌≤◌, ◌+◌, ◌++◌, ◌∷◌, [], map, length, drop, IfOk, OnOk, IsTrue, if◌then◌else◌, vec_len};
+ghost use Rattle.square_store.specs.Squares.{IsAt, side_at};
 ghost use Rattle.stamped_tree.specs.LeafKind.{plane_grid};
 ghost use Rattle.stamped_tree.specs.Plane.{map_of};
-ghost use Rattle.stamped_tree.specs.Walk.{AreNonzeroCells, IsNonzeroCell, Gathers, cell_of_plane, is_on_plane, row_order};
+ghost use Rattle.stamped_tree.specs.RowOrder.{AreInBand, IsHalved, IsInBand, band_cells, band_row, live_cell, row_cells, square_row};
+ghost use Rattle.stamped_tree.specs.Walk.{AreNonzeroCells, cell_of_plane, is_on_plane};
 
 use crate::area::side_of;
 use crate::cells::ListedCell;
-use crate::corner::Corner;
 use crate::leaf_kind::PlaneLeaf;
 use pattern_cells::Cell;
 use square_store::{Part, Square, Store};
@@ -19,8 +17,17 @@ use std::alloc::{AllocError, Global};
 /// The least coordinate of the plane.
 const LEAST: i64 = -0x4000_0000;
 
-/// The cells of the plane whose root is at a part, sorted by `y`, then `x`. A blank is passed over,
-/// whatever its side; a square that stands in many places is gone through in each.
+/// A square in a band: squares of one level that lie side by side in the same rows, by their columns.
+#[derive(Clone, Copy)]
+pub(crate) struct BandSquare {
+    pub part: Part,
+    pub left: u32,
+}
+
+/// The cells of the plane whose root is at a part, sorted by `y`, then `x`. A band is halved into the northern
+/// halves of its squares and the southern ones until its squares are leaves, whose rows are then listed one by one: so
+/// the cells come in order. A blank is passed over, whatever its side; a square that stands in many places is gone through
+/// in each.
 pub(crate) fn nonzero_cells(
     alloc: Global,
     store: &Store<PlaneLeaf>,
@@ -29,99 +36,213 @@ pub(crate) fn nonzero_cells(
     requires { IsAt store.now 28 root }
     ensures { IfOk result (λ cells. AreNonzeroCells (map_of (record { store = store.now; root = root })) cells.items) }
 {
+    let mut band = Vec::new(alloc);
+    band.push(BandSquare {
+        part: root,
+        left: 0,
+    })?;
     let mut found = Vec::new(alloc);
-    gather(store, 28, root, Corner { left: 0, top: 0 }, &mut found)?;
-    let sorted = sorted_by_rows(found)?;
-    let cells = plane_cells(alloc, &sorted)?;
-    Ok(cells)
+    list_band(store, 28, 0, &mut band, 0, &mut found)?;
+    Ok(found)
 }
 
-/// Puts the cells of a square last.
-fn gather(
+/// Puts the cells of a band last. Its squares are those from `first` on; behind them its halves are put and taken away.
+fn list_band(
     store: &Store<PlaneLeaf>,
     level: u32,
-    part: Part,
-    corner: Corner,
-    found: &mut Vec<ListedCell>,
+    top: u32,
+    band: &mut Vec<BandSquare>,
+    first: usize,
+    found: &mut Vec<Cell>,
 ) -> Result<(), AllocError>
     requires level { level ≤ 28 }
-    requires stands { IsAt store.now level part }
-    requires left { corner.left + side_at 8 level ≤ 2147483648 }
-    requires top { corner.top + side_at 8 level ≤ 2147483648 }
-    ensures { OnOk result (Gathers (IsNonzeroCell (side_at 8 level) (grid_at plane_grid 8 store.now level part) corner.left corner.top) found.old.items found.new.items) }
+    requires top { top + side_at 8 level ≤ 2147483648 }
+    requires first { first ≤ vec_len band.old }
+    requires squares { AreInBand store.now level (drop first band.old.items) }
+    ensures cells { OnOk result (found.new.items ≡ found.old.items ++ map cell_of_plane (band_cells store.now level top (drop first band.old.items))) }
+    ensures band { OnOk result (band.new.items ≡ band.old.items) }
 {
-    match store.square(part) {
+    let past = band.len();
+    if first == past {
+        return Ok(());
+    }
+    if level == 0 {
+        list_leaves(store, top, &band[first..past], found)?;
+        return Ok(());
+    }
+    push_halves(store, level, false, band, first)?;
+    list_band(store, level - 1, top, band, past, found)?;
+    band.truncate(past);
+    push_halves(store, level, true, band, first)?;
+    list_band(
+        store,
+        level - 1,
+        top + side_of(level - 1),
+        band,
+        past,
+        found,
+    )?;
+    band.truncate(past);
+    Ok(())
+}
+
+/// Puts the halves of the squares of a band last, the southern ones or the northern ones. Blanks have none.
+fn push_halves(
+    store: &Store<PlaneLeaf>,
+    level: u32,
+    is_south: bool,
+    band: &mut Vec<BandSquare>,
+    first: usize,
+) -> Result<(), AllocError>
+    requires some { 0 < level }
+    requires level { level ≤ 28 }
+    requires first { first ≤ vec_len band.old }
+    requires squares { AreInBand store.now level (drop first band.old.items) }
+    ensures { OnOk result (IsHalved store.now level is_south (drop first band.old.items) band.old.items band.new.items) }
+{
+    for index in first..band.len() {
+        let square = band[index];
+        push_half(store, level, is_south, square, band)?;
+    }
+    Ok(())
+}
+
+/// Puts the half of a square last.
+fn push_half(
+    store: &Store<PlaneLeaf>,
+    level: u32,
+    is_south: bool,
+    square: BandSquare,
+    band: &mut Vec<BandSquare>,
+) -> Result<(), AllocError>
+    requires some { 0 < level }
+    requires level { level ≤ 28 }
+    requires square { IsInBand store.now level square }
+    ensures { OnOk result (IsHalved store.now level is_south (square ∷ []) band.old.items band.new.items) }
+{
+    match store.square(square.part) {
         Square::Blank(_) => Ok(()),
-        Square::Leaf(leaf) => {
-            gather_leaf(leaf, corner, found)?;
-            Ok(())
-        }
+        Square::Leaf(_) => unreachable!(),
         Square::Four { parts, .. } => {
-            let half = side_of(level - 1);
-            let Corner { left, top } = corner;
-            let east = left + half;
-            let south = top + half;
-            let ne = Corner { left: east, top };
-            let sw = Corner { left, top: south };
-            let se = Corner {
-                left: east,
-                top: south,
-            };
-            gather(store, level - 1, parts[0], corner, found)?;
-            gather(store, level - 1, parts[1], ne, found)?;
-            gather(store, level - 1, parts[2], sw, found)?;
-            gather(store, level - 1, parts[3], se, found)?;
+            let left = square.left;
+            let middle = left + side_of(level - 1);
+            if is_south {
+                push_two(parts[2], left, parts[3], middle, band)?;
+                return Ok(());
+            }
+            push_two(parts[0], left, parts[1], middle, band)?;
             Ok(())
         }
     }
 }
 
-fn gather_leaf(
-    leaf: &PlaneLeaf,
-    corner: Corner,
-    found: &mut Vec<ListedCell>,
+/// Puts two squares last.
+fn push_two(
+    west: Part,
+    left: u32,
+    east: Part,
+    middle: u32,
+    band: &mut Vec<BandSquare>,
 ) -> Result<(), AllocError>
-    requires left { corner.left + 8 ≤ 2147483648 }
-    requires top { corner.top + 8 ≤ 2147483648 }
-    ensures { OnOk result (Gathers (IsNonzeroCell 8 (plane_grid leaf.now) corner.left corner.top) found.old.items found.new.items) }
+    ensures { OnOk result (band.new.items ≡ band.old.items ++ record { part = west; left = left } ∷ record { part = east; left = middle } ∷ []) }
 {
-    for place in 0..64u32 {
+    band.push(BandSquare { part: west, left })?;
+    band.push(BandSquare {
+        part: east,
+        left: middle,
+    })?;
+    Ok(())
+}
+
+/// Puts the cells of a band of leaves last.
+fn list_leaves(
+    store: &Store<PlaneLeaf>,
+    top: u32,
+    band: &[BandSquare],
+    found: &mut Vec<Cell>,
+) -> Result<(), AllocError>
+    requires top { top + 8 ≤ 2147483648 }
+    requires squares { AreInBand store.now 0 band.now }
+    ensures { OnOk result (found.new.items ≡ found.old.items ++ map cell_of_plane (band_cells store.now 0 top band.now)) }
+{
+    for row in 0..8u32 {
+        list_band_row(store, row, top + row, band, found)?;
+    }
+    Ok(())
+}
+
+/// Puts those in a row of the leaves last, which is a row of the plane.
+fn list_band_row(
+    store: &Store<PlaneLeaf>,
+    row: u32,
+    plane_row: u32,
+    band: &[BandSquare],
+    found: &mut Vec<Cell>,
+) -> Result<(), AllocError>
+    requires row { row < 8 }
+    requires plane_row { plane_row < 2147483648 }
+    requires squares { AreInBand store.now 0 band.now }
+    ensures { OnOk result (found.new.items ≡ found.old.items ++ map cell_of_plane (band_row store.now 0 band.now row plane_row)) }
+{
+    for square in band {
+        list_square_row(store, row, plane_row, *square, found)?;
+    }
+    Ok(())
+}
+
+fn list_square_row(
+    store: &Store<PlaneLeaf>,
+    row: u32,
+    plane_row: u32,
+    square: BandSquare,
+    found: &mut Vec<Cell>,
+) -> Result<(), AllocError>
+    requires row { row < 8 }
+    requires plane_row { plane_row < 2147483648 }
+    requires square { IsInBand store.now 0 square }
+    ensures { OnOk result (found.new.items ≡ found.old.items ++ map cell_of_plane (square_row store.now 0 square row plane_row)) }
+{
+    match store.square(square.part) {
+        Square::Blank(_) => Ok(()),
+        Square::Leaf(leaf) => {
+            list_leaf_row(leaf, row, plane_row, square.left, found)?;
+            Ok(())
+        }
+        Square::Four { .. } => unreachable!(),
+    }
+}
+
+fn list_leaf_row(
+    leaf: &PlaneLeaf,
+    row: u32,
+    plane_row: u32,
+    left: u32,
+    found: &mut Vec<Cell>,
+) -> Result<(), AllocError>
+    requires row { row < 8 }
+    requires plane_row { plane_row < 2147483648 }
+    requires left { left + 8 ≤ 2147483648 }
+    ensures { OnOk result (found.new.items ≡ found.old.items ++ map cell_of_plane (row_cells (λ u. (plane_grid leaf.now u row).state) left plane_row 8)) }
+{
+    for column in 0..8u32 {
         let cell = ListedCell {
-            column: corner.left + place % 8,
-            row: corner.top + place / 8,
-            state: leaf.leaf.get(place as usize).state,
+            column: left + column,
+            row: plane_row,
+            state: leaf.leaf.get((8 * row + column) as usize).state,
         };
         push_nonzero(cell, found)?;
     }
     Ok(())
 }
 
-fn push_nonzero(cell: ListedCell, found: &mut Vec<ListedCell>) -> Result<(), AllocError>
-    ensures { OnOk result (Gathers (λ c. (c ≡ cell) × (c.state ≢ 0)) found.old.items found.new.items) }
+fn push_nonzero(cell: ListedCell, found: &mut Vec<Cell>) -> Result<(), AllocError>
+    requires { IsTrue (is_on_plane cell) }
+    ensures { OnOk result (found.new.items ≡ found.old.items ++ map cell_of_plane (live_cell cell)) }
 {
     if cell.state != 0 {
-        found.push(cell)?;
+        found.push(plane_cell(&cell))?;
     }
     Ok(())
-}
-
-fn sorted_by_rows(mut cells: Vec<ListedCell>) -> Result<Vec<ListedCell>, AllocError>
-    ensures sorted { IfOk result (λ sorted. IsNonDecreasingBy row_order sorted.items) }
-    ensures cells { IfOk result (λ sorted. IsPermutation cells.items sorted.items) }
-{
-    cells.sort_by_key(|cell| u64::from(cell.row) * 0x8000_0000 + u64::from(cell.column))?;
-    Ok(cells)
-}
-
-fn plane_cells(alloc: Global, cells: &[ListedCell]) -> Result<Vec<Cell>, AllocError>
-    requires { IsTrue (list_all is_on_plane cells.now) }
-    ensures { IfOk result (λ placed. placed.items ≡ map cell_of_plane cells.now) }
-{
-    let mut placed = Vec::with_capacity(alloc, cells.len())?;
-    for cell in cells {
-        placed.push(plane_cell(cell))?;
-    }
-    Ok(placed)
 }
 
 fn plane_cell(cell: &ListedCell) -> Cell

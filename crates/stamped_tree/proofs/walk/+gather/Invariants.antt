@@ -1,4 +1,0 @@
-use Rattle.stamped_tree.proofs.walk.+gather.Given as goal
-
-abbrev pub decreases-gather : goal.decreases-gather
-decreases-gather l = l.level
