@@ -10,6 +10,7 @@ ghost use Rattle.generation_engine.specs.Walk.{is_in_middle};
 ghost use Rattle.export.specs.Export.{AreCounted};
 ghost use Rattle.export.specs.Kept.{IsListedOf};
 
+use crate::counting::has_few_cells;
 use crate::exporting::LAST_GENERATION;
 use generations_rule::Rule;
 use pattern_cells::Cell;
@@ -84,11 +85,15 @@ fn farthest_tried(rule: &Rule) -> u32 {
     if rule.states() == 2 { 1_024 } else { 512 }
 }
 
-/// The cells of the plane itself. None where the system refuses memory.
+/// The cells of the plane itself. None where they are many, so that they are counted by a universe and not listed, or
+/// where the system refuses memory.
 fn listed_first(rule: &Rule, plane: &Plane) -> Option<Listed>
     ensures listed { IfSome result (IsListedOf rule.now (states_in_writes (map_of plane.now))) }
     ensures at { IfSome result (λ listed. listed.generation ≡ 0) }
 {
+    if !has_few_cells(plane) {
+        return None;
+    }
     match plane.walk() {
         Ok(cells) => Some(Listed {
             generation: 0,

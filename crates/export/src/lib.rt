@@ -6,6 +6,7 @@
 
 mod asking;
 mod by_tiles;
+mod counting;
 mod exporting;
 mod fault;
 mod kept;
