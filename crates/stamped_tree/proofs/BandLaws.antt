@@ -16,7 +16,7 @@ use Rattle.stamped_tree.specs.declared.cells.ListedCell.{ListedCell}
 use Rattle.stamped_tree.specs.declared.leaf_kind.PlaneLeaf.{PlaneLeaf}
 use Rattle.stamped_tree.specs.declared.walk.BandSquare.{BandSquare}
 use Rattle.stamped_tree.specs.LeafKind.{plane_grid}
-use Rattle.stamped_tree.specs.RowOrder.{strung, live_cell, row_cells, IsInBand, AreInBand, square_row, band_row, band_cells, half_top, IsHalved}
+use Rattle.stamped_tree.specs.RowOrder.{strung, live_cell, row_cells, IsInBand, AreInBand, square_row, band_row, band_cells, half_top, IsHalved, IsPut}
 use Rattle.stamped_tree.specs.Walk.{cell_of_plane}
 use Rattle.stamped_tree.proofs.Parts.{same_default}
 use Rattle.stamped_tree.proofs.RowLaws.{listed_more, strung_same, strung_split}
@@ -58,6 +58,12 @@ module _ (s : Held PlaneLeaf) (k : ℕ) where
   blank_row q t v row blank hv =
       row_same (λ u. (grid_at plane_grid 8 s k q.part u v).state) (λ _. 0) q.left row (side_at 8 k) (λ u hu. ap (λ (w : Write). w.state) ((blank k).same u v hu hv))
       ∙ row_dead q.left row (side_at 8 k)
+
+  pub put_none : (q : BandSquare) (t : ℕ) (old : List BandSquare) → IsBlankAt plane_grid 8 s t q.part → IsPut s k q old old
+  put_none q t old blank = record { squares = []; pushed = sym (append_none old); stand = All-nil (IsInBand s k); same = λ v row h. sym (blank_row q t v row blank h) }
+
+  pub put_one : (q : BandSquare) (old new : List BandSquare) → IsInBand s k q → new ≡ old ++ q ∷ [] → IsPut s k q old new
+  put_one q old new here pushed = record { squares = q ∷ []; pushed = pushed; stand = All-cons (IsInBand s k) q [] here (All-nil (IsInBand s k)); same = λ v row h. append_none (square_row s k q v row) }
 
   pub halved_none : (is_south : Bool) (old : List BandSquare) → IsHalved s k is_south [] old old
   halved_none is_south old = record { halves = []; pushed = sym (append_none old); stand = All-nil (IsInBand s (k - 1)); same = λ v row h. refl }
@@ -107,35 +113,42 @@ module _ (s : Held PlaneLeaf) (k : ℕ) where
         ∙ sym (row_split g q.left row m m)
         ∙ ap (λ z. row_cells g q.left row z) (sym (twice_below 8 k four.positive))
 
+    at_part : (i d : ℕ) → i < 4 → slice_index_or parts i d ≡ slice_index_or parts i 0
+    at_part i d h = same_default parts i d 0 (let l = four.four in omega (arith, h, l))
+
+    -- the quarters are squares of a band
     module _ (within : q.left + side_at 8 k ≤ 2147483648) where
-      halved_two : (is_south : Bool) (a b i j : ℕ) (old : List BandSquare) → i < 4 → j < 4 → a ≡ slice_index_or parts i 0 → b ≡ slice_index_or parts j 0
-          → ((v row : ℕ) → v < side_at 8 (k - 1) → square_row s (k - 1) (record { part = a; left = q.left }) v row ++ square_row s (k - 1) (record { part = b; left = q.left + n }) v row ≡ square_row s k q (half_top k is_south + v) row)
-          → IsHalved s k is_south (q ∷ []) old (old ++ record { part = a; left = q.left } ∷ record { part = b; left = q.left + n } ∷ [])
-      halved_two is_south a b i j old hi hj ea eb rows = record {
-        halves = record { part = a; left = q.left } ∷ record { part = b; left = q.left + n } ∷ [];
-        pushed = refl;
-        stand = (let e = twice_below 8 k four.positive in
-            All-cons (IsInBand s (k - 1)) (record { part = a; left = q.left }) (record { part = b; left = q.left + n } ∷ []) (record { stands = subst (λ p. IsAt s (k - 1) p) (sym ea) (four.parts_stand i hi); within = omega (arith, within, e) })
-            (All-cons (IsInBand s (k - 1)) (record { part = b; left = q.left + n }) [] (record { stands = subst (λ p. IsAt s (k - 1) p) (sym eb) (four.parts_stand j hj); within = omega (arith, within, e, is) }) (All-nil (IsInBand s (k - 1)))));
-        same = λ v row h.
-            ap (λ zs. square_row s (k - 1) (record { part = a; left = q.left }) v row ++ zs) (append_none (square_row s (k - 1) (record { part = b; left = q.left + n }) v row))
-            ∙ rows v row h ∙ sym (append_none (square_row s k q (half_top k is_south + v) row));
-      }
+      pub west_in_band : (i d : ℕ) → i < 4 → IsInBand s (k - 1) (record { part = slice_index_or parts i d; left = q.left })
+      west_in_band i d h = record { stands = subst (λ p. IsAt s (k - 1) p) (sym (at_part i d h)) (four.parts_stand i h); within = (let e = twice_below 8 k four.positive in omega (arith, within, e)) }
 
-      at_part : (i d : ℕ) → i < 4 → slice_index_or parts i d ≡ slice_index_or parts i 0
-      at_part i d h = same_default parts i d 0 (let l = four.four in omega (arith, h, l))
+      pub east_in_band : (i d : ℕ) → i < 4 → IsInBand s (k - 1) (record { part = slice_index_or parts i d; left = q.left + n })
+      east_in_band i d h = record { stands = subst (λ p. IsAt s (k - 1) p) (sym (at_part i d h)) (four.parts_stand i h); within = (let e = twice_below 8 k four.positive in omega (arith, within, e, is)) }
 
-      pub halved_north : (r t : ℕ) (old : List BandSquare)
-          → IsHalved s k false (q ∷ []) old (old ++ record { part = slice_index_or parts 0 r; left = q.left } ∷ record { part = slice_index_or parts 1 t; left = q.left + n } ∷ [])
-      halved_north r t old = halved_two false (slice_index_or parts 0 r) (slice_index_or parts 1 t) 0 1 old (omega arith) (omega arith) (at_part 0 r (omega arith)) (at_part 1 t (omega arith))
-          (λ v row h. row_of_two (slice_index_or parts 0 r) (slice_index_or parts 1 t) 0 v row h
-          (λ x y hx hy. (let e : 0 + y ≡ y = omega arith in rw (at_part 0 r (omega arith), e) (quarters.nw x y hx hy))) (λ x y hx hy. (let e : 0 + y ≡ y = omega arith in rw (at_part 1 t (omega arith), e) (quarters.ne x y hx hy))))
+    halved_two : (is_south : Bool) (west east : BandSquare) (old mid new : List BandSquare) → IsPut s (k - 1) west old mid → IsPut s (k - 1) east mid new
+        → ((v row : ℕ) → v < side_at 8 (k - 1) → square_row s (k - 1) west v row ++ square_row s (k - 1) east v row ≡ square_row s k q (half_top k is_south + v) row)
+        → IsHalved s k is_south (q ∷ []) old new
+    halved_two is_south west east old mid new first second rows = record {
+      halves = first.squares ++ second.squares;
+      pushed = second.pushed ∙ ap (λ zs. zs ++ second.squares) first.pushed ∙ append_assoc old first.squares second.squares;
+      stand = All-append (IsInBand s (k - 1)) first.squares second.squares first.stand second.stand;
+      same = λ v row h.
+          flat_map-append (λ p. square_row s (k - 1) p v row) first.squares second.squares
+          ∙ ap (λ zs. zs ++ band_row s (k - 1) second.squares v row) (first.same v row h)
+          ∙ ap (λ zs. square_row s (k - 1) west v row ++ zs) (second.same v row h)
+          ∙ rows v row h ∙ sym (append_none (square_row s k q (half_top k is_south + v) row));
+    }
 
-      pub halved_south : (r t : ℕ) (old : List BandSquare)
-          → IsHalved s k true (q ∷ []) old (old ++ record { part = slice_index_or parts 2 r; left = q.left } ∷ record { part = slice_index_or parts 3 t; left = q.left + n } ∷ [])
-      halved_south r t old = halved_two true (slice_index_or parts 2 r) (slice_index_or parts 3 t) 2 3 old (omega arith) (omega arith) (at_part 2 r (omega arith)) (at_part 3 t (omega arith))
-          (λ v row h. row_of_two (slice_index_or parts 2 r) (slice_index_or parts 3 t) (side_at 8 (k - 1)) v row h
-          (λ x y hx hy. rw (at_part 2 r (omega arith)) (quarters.sw x y hx hy)) (λ x y hx hy. rw (at_part 3 t (omega arith)) (quarters.se x y hx hy)))
+    pub halved_north : (r t : ℕ) (old mid new : List BandSquare) → IsPut s (k - 1) (record { part = slice_index_or parts 0 r; left = q.left }) old mid → IsPut s (k - 1) (record { part = slice_index_or parts 1 t; left = q.left + n }) mid new
+        → IsHalved s k false (q ∷ []) old new
+    halved_north r t old mid new first second = halved_two false (record { part = slice_index_or parts 0 r; left = q.left }) (record { part = slice_index_or parts 1 t; left = q.left + n }) old mid new first second
+        (λ v row h. row_of_two (slice_index_or parts 0 r) (slice_index_or parts 1 t) 0 v row h
+        (λ x y hx hy. (let e : 0 + y ≡ y = omega arith in rw (at_part 0 r (omega arith), e) (quarters.nw x y hx hy))) (λ x y hx hy. (let e : 0 + y ≡ y = omega arith in rw (at_part 1 t (omega arith), e) (quarters.ne x y hx hy))))
+
+    pub halved_south : (r t : ℕ) (old mid new : List BandSquare) → IsPut s (k - 1) (record { part = slice_index_or parts 2 r; left = q.left }) old mid → IsPut s (k - 1) (record { part = slice_index_or parts 3 t; left = q.left + n }) mid new
+        → IsHalved s k true (q ∷ []) old new
+    halved_south r t old mid new first second = halved_two true (record { part = slice_index_or parts 2 r; left = q.left }) (record { part = slice_index_or parts 3 t; left = q.left + n }) old mid new first second
+        (λ v row h. row_of_two (slice_index_or parts 2 r) (slice_index_or parts 3 t) (side_at 8 (k - 1)) v row h
+        (λ x y hx hy. rw (at_part 2 r (omega arith)) (quarters.sw x y hx hy)) (λ x y hx hy. rw (at_part 3 t (omega arith)) (quarters.se x y hx hy)))
 
   -- ---- a band
 

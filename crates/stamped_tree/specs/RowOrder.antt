@@ -40,6 +40,13 @@ band_row s k squares v row = flat_map (λ q. square_row s k q v row) squares
 abbrev pub band_cells : Held PlaneLeaf → ℕ → ℕ → List BandSquare → List ListedCell
 band_cells s k top squares = strung (λ v. band_row s k squares v (top + v)) (side_at 8 k)
 
+-- the list gained the square, or nothing where that has no cells
+pub record IsPut (s : Held PlaneLeaf) (k : ℕ) (q : BandSquare) (old new : List BandSquare) : Type 0 where
+  pub squares : List BandSquare
+  pub pushed : new ≡ old ++ squares
+  pub stand : AreInBand s k squares
+  pub same : (v row : ℕ) → v < side_at 8 k → band_row s k squares v row ≡ square_row s k q v row
+
 -- the row of a square of level k in which its southern half begins, or its northern one
 abbrev pub half_top : ℕ → Bool → ℕ
 half_top k is_south = if is_south then side_at 8 (k - 1) else 0

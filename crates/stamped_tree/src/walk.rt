@@ -4,7 +4,7 @@ ghost use Rattle.std.specs.Prelude.{◌≡◌, ◌<◌, ◌≤◌, ◌+◌, ◌+
 ghost use Rattle.square_store.specs.Squares.{IsAt, side_at};
 ghost use Rattle.stamped_tree.specs.LeafKind.{plane_grid};
 ghost use Rattle.stamped_tree.specs.Plane.{map_of};
-ghost use Rattle.stamped_tree.specs.RowOrder.{AreInBand, IsHalved, IsInBand, band_cells, band_row, live_cell, row_cells, square_row};
+ghost use Rattle.stamped_tree.specs.RowOrder.{AreInBand, IsHalved, IsInBand, IsPut, band_cells, band_row, live_cell, row_cells, square_row};
 ghost use Rattle.stamped_tree.specs.Walk.{AreNonzeroCells, cell_of_plane, is_on_plane};
 
 use crate::area::side_of;
@@ -86,7 +86,7 @@ fn list_band(
     Ok(())
 }
 
-/// Puts the halves of the squares of a band last, the southern ones or the northern ones. Blanks have none.
+/// Puts the halves of the squares of a band last, the southern ones or the northern ones, without their blanks.
 fn push_halves(
     store: &Store<PlaneLeaf>,
     level: u32,
@@ -127,31 +127,35 @@ fn push_half(
             let left = square.left;
             let middle = left + side_of(level - 1);
             if is_south {
-                push_two(parts[2], left, parts[3], middle, band)?;
+                push_written(store, level - 1, parts[2], left, band)?;
+                push_written(store, level - 1, parts[3], middle, band)?;
                 return Ok(());
             }
-            push_two(parts[0], left, parts[1], middle, band)?;
+            push_written(store, level - 1, parts[0], left, band)?;
+            push_written(store, level - 1, parts[1], middle, band)?;
             Ok(())
         }
     }
 }
 
-/// Puts two squares last.
-fn push_two(
-    west: Part,
+/// Puts a square last, unless it is a blank.
+fn push_written(
+    store: &Store<PlaneLeaf>,
+    level: u32,
+    part: Part,
     left: u32,
-    east: Part,
-    middle: u32,
     band: &mut Vec<BandSquare>,
 ) -> Result<(), AllocError>
-    ensures { OnOk result (band.new.items ≡ band.old.items ++ record { part = west; left = left } ∷ record { part = east; left = middle } ∷ []) }
+    requires { IsInBand store.now level (record { part = part; left = left }) }
+    ensures { OnOk result (IsPut store.now level (record { part = part; left = left }) band.old.items band.new.items) }
 {
-    band.push(BandSquare { part: west, left })?;
-    band.push(BandSquare {
-        part: east,
-        left: middle,
-    })?;
-    Ok(())
+    match store.square(part) {
+        Square::Blank(_) => Ok(()),
+        _written => {
+            band.push(BandSquare { part, left })?;
+            Ok(())
+        }
+    }
 }
 
 /// Puts the cells of a band of leaves last.

@@ -12,11 +12,11 @@ returns-in-Blank c = halved_blank c.args.store.now c.args.level c.args.is_south 
 pub returns-then-is_south : goal.returns-then-is_south
 returns-then-is_south c =
     let a = c.args in
-    rw (c.if-is_south.true, c.in_ok-push_two-in-Four.ensures) (halved_south a.store.now a.level a.square c.in-Four.parts (of_level a.store.now a.level c.in-Four.level a.square.part c.in-Four.parts c.in-Four.ensures c.requires.square.stands)
-    c.side_of.result c.side_of.ensures c.requires.square.within c.index-parts-2.result c.index-parts-3.result a.band.now.items)
+    rw c.if-is_south.true (halved_south a.store.now a.level a.square c.in-Four.parts (of_level a.store.now a.level c.in-Four.level a.square.part c.in-Four.parts c.in-Four.ensures c.requires.square.stands)
+    c.side_of.result c.side_of.ensures c.index-parts-2.result c.index-parts-3.result a.band.now.items c.push_written.new.band.items c.push_written-then-is_south.new.band.items c.in_ok-push_written-in-Four.ensures c.in_ok-push_written-in-Four-2.ensures)
 
-pub returns-in_ok-push_two-in-Four-2 : goal.returns-in_ok-push_two-in-Four-2
-returns-in_ok-push_two-in-Four-2 c =
+pub returns-in_ok-push_written-in-Four-4 : goal.returns-in_ok-push_written-in-Four-4
+returns-in_ok-push_written-in-Four-4 c =
     let a = c.args in
-    rw (c.if-is_south.false, c.in_ok-push_two-in-Four-2.ensures) (halved_north a.store.now a.level a.square c.in-Four.parts (of_level a.store.now a.level c.in-Four.level a.square.part c.in-Four.parts c.in-Four.ensures c.requires.square.stands)
-    c.side_of.result c.side_of.ensures c.requires.square.within c.index-parts-0.result c.index-parts-1.result a.band.now.items)
+    rw c.if-is_south.false (halved_north a.store.now a.level a.square c.in-Four.parts (of_level a.store.now a.level c.in-Four.level a.square.part c.in-Four.parts c.in-Four.ensures c.requires.square.stands)
+    c.side_of.result c.side_of.ensures c.index-parts-0.result c.index-parts-1.result a.band.now.items c.push_written-in-Four.new.band.items c.push_written-in-Four-2.new.band.items c.in_ok-push_written-in-Four-3.ensures c.in_ok-push_written-in-Four-4.ensures)
