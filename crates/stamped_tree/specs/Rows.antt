@@ -1,5 +1,5 @@
 -- Worked values of the definitions.
-use Rattle.std.specs.Prelude.{◌≡◌, ℕ, zero, suc, ◌^◌, ◌-◌, List, [], ◌∷◌, ◌++◌, pos, negsuc, refl, replicate, slice_set}
+use Rattle.std.specs.Prelude.{◌≡◌, ℕ, zero, suc, ◌^◌, ◌-◌, List, [], ◌∷◌, ◌++◌, pos, negsuc, refl, replicate, slice_index, slice_set, true}
 use Rattle.stamped_writes.specs.declared.write.Write.{Write}
 use Rattle.generations_rule.specs.Place.{at_place}
 use Rattle.stamped_writes.specs.Write.{unwritten}
@@ -8,6 +8,7 @@ use Rattle.square_store.specs.declared.node.Node.{Node}
 use Rattle.square_store.specs.declared.node.Node.TheVariants as node
 use Rattle.square_store.specs.Squares.{grid_at}
 use Rattle.stamped_tree.specs.Plane.{StampedPlane, above_leaf, from_edge, map_of}
+use Rattle.stamped_tree.specs.RowOrder.{half_top, row_cells}
 use Rattle.stamped_tree.specs.Tree.{Tree, Blank, Four, IsTreeOf, IsPlaneTree, plane_corner}
 
 -- levels count from single cells, and from leaves in the store
@@ -76,3 +77,13 @@ dead_tree c h = refl
 -- a square of level 3 is never of four
 pub no_four : (nw ne sw se : Tree) → IsTreeOf (λ _. live) 0 plane_corner (Four nw ne sw se) → ⊥
 no_four nw ne sw se h = h
+
+-- ---- cells row by row
+
+-- the cells of a row, without one whose state is 0
+three_columns : row_cells (λ u. slice_index (1 ∷ 0 ∷ 2 ∷ []) u) 5 7 3 ≡ record { column = 5; row = 7; state = 1 } ∷ record { column = 7; row = 7; state = 2 } ∷ []
+three_columns = refl
+
+-- the southern half of a square of 32 columns begins in its 16th row
+southern_half : half_top 2 true ≡ 16
+southern_half = refl
