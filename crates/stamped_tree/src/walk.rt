@@ -24,6 +24,13 @@ pub(crate) struct BandSquare {
     pub left: u32,
 }
 
+/// Rows of the plane, as many as a square of a level has, from one on.
+#[derive(Clone, Copy)]
+struct Rows {
+    level: u32,
+    top: u32,
+}
+
 /// The cells of the plane whose root is at a part, sorted by `y`, then `x`. A band is halved into the northern
 /// halves of its squares and the southern ones until its squares are leaves, whose rows are then listed one by one: so
 /// the cells come in order. A blank is passed over, whatever its side; a square that stands in many places is gone through
@@ -42,26 +49,28 @@ pub(crate) fn nonzero_cells(
         left: 0,
     })?;
     let mut found = Vec::new(alloc);
-    list_band(store, 28, 0, &mut band, 0, &mut found)?;
+    let rows = Rows { level: 28, top: 0 };
+    list_band(store, rows, &mut band, 0, &mut found)?;
     Ok(found)
 }
 
-/// Puts the cells of a band last. Its squares are those from `first` on; behind them its halves are put and taken away.
+/// Puts the cells of a band last, whose squares have these rows. They are those from `first` on; behind them their halves
+/// are put, and taken away.
 fn list_band(
     store: &Store<PlaneLeaf>,
-    level: u32,
-    top: u32,
+    rows: Rows,
     band: &mut Vec<BandSquare>,
     first: usize,
     found: &mut Vec<Cell>,
 ) -> Result<(), AllocError>
-    requires level { level ≤ 28 }
-    requires top { top + side_at 8 level ≤ 2147483648 }
+    requires level { rows.level ≤ 28 }
+    requires top { rows.top + side_at 8 rows.level ≤ 2147483648 }
     requires first { first ≤ vec_len band.old }
-    requires squares { AreInBand store.now level (drop first band.old.items) }
-    ensures cells { OnOk result (found.new.items ≡ found.old.items ++ map cell_of_plane (band_cells store.now level top (drop first band.old.items))) }
+    requires squares { AreInBand store.now rows.level (drop first band.old.items) }
+    ensures cells { OnOk result (found.new.items ≡ found.old.items ++ map cell_of_plane (band_cells store.now rows.level rows.top (drop first band.old.items))) }
     ensures band { OnOk result (band.new.items ≡ band.old.items) }
 {
+    let Rows { level, top } = rows;
     let past = band.len();
     if first == past {
         return Ok(());
@@ -70,18 +79,19 @@ fn list_band(
         list_leaves(store, top, &band[first..past], found)?;
         return Ok(());
     }
+    let north = Rows {
+        level: level - 1,
+        top,
+    };
     push_halves(store, level, false, band, first)?;
-    list_band(store, level - 1, top, band, past, found)?;
+    list_band(store, north, band, past, found)?;
     band.truncate(past);
+    let south = Rows {
+        level: level - 1,
+        top: top + side_of(level - 1),
+    };
     push_halves(store, level, true, band, first)?;
-    list_band(
-        store,
-        level - 1,
-        top + side_of(level - 1),
-        band,
-        past,
-        found,
-    )?;
+    list_band(store, south, band, past, found)?;
     band.truncate(past);
     Ok(())
 }

@@ -7,45 +7,45 @@ use Rattle.stamped_tree.proofs.walk.+list_band.Goals as goal
 pub returns-then-first-past-clause-cells : goal.returns-then-first-past-clause-cells
 returns-then-first-past-clause-cells t c =
     let a = c.args in
-    none_listed a.store.now a.level a.top (drop a.first a.band.now.items) a.found.now.items (drop_all a.first a.band.now.items (omega (arith, c.if-first-past.true, c.len-past.ensures)))
+    none_listed a.store.now a.rows.level a.rows.top (drop a.first a.band.now.items) a.found.now.items (drop_all a.first a.band.now.items (omega (arith, c.if-first-past.true, c.len-past.ensures)))
 
 pub list_band-requires : goal.list_band-requires
 list_band-requires t c =
     let a = c.args in let old = a.band.now.items in let s = a.store.now in
-    let some = some_level a.level c.if-level-eq0.false in
+    let some = some_level a.rows.level c.if-level-eq0.false in
     let end : c.len-past.result ≡ length old = omega (arith, c.len-past.ensures) in (
-      part_falls a.level t some c.decreases,
+      part_falls a.rows.level t some c.decreases,
       (
-        level_below a.level c.requires.level,
+        level_below a.rows.level c.requires.level,
         (
-          near_half a.level a.top some c.requires.top,
+          near_half a.rows.level a.rows.top some c.requires.top,
           (
-            (let within = halves_within s a.level false (drop a.first old) old c.push_halves.new.band.items c.len-past.result c.in_ok-push_halves.ensures end in omega (arith, within)),
-            halves_stand s a.level false (drop a.first old) old c.push_halves.new.band.items c.len-past.result c.in_ok-push_halves.ensures end,
+            (let within = halves_within s a.rows.level false (drop a.first old) old c.push_halves.new.band.items c.len-past.result c.in_ok-push_halves.ensures end in omega (arith, within)),
+            halves_stand s a.rows.level false (drop a.first old) old c.push_halves.new.band.items c.len-past.result c.in_ok-push_halves.ensures end,
           ),
         ),
       ),
     )
 
-pub overflow_add-top : goal.overflow_add-top
-overflow_add-top t c = far_start c.args.level c.args.top c.side_of.result (some_level c.args.level c.if-level-eq0.false) c.side_of.ensures c.requires.top
+pub overflow_add-south : goal.overflow_add-south
+overflow_add-south t c = far_start c.args.rows.level c.args.rows.top c.side_of.result (some_level c.args.rows.level c.if-level-eq0.false) c.side_of.ensures c.requires.top
 
 pub list_band-requires-2 : goal.list_band-requires-2
 list_band-requires-2 t c =
     let a = c.args in let old = a.band.now.items in let s = a.store.now in let past = c.len-past.result in
-    let some = some_level a.level c.if-level-eq0.false in
+    let some = some_level a.rows.level c.if-level-eq0.false in
     let end : past ≡ length old = omega (arith, c.len-past.ensures) in
     let back = c.truncate.new.self.items in
-    let kept : back ≡ old = c.truncate.ensures.items ∙ ap (take past) c.in_ok-list_band.ensures.band ∙ halves_taken s a.level false (drop a.first old) old c.push_halves.new.band.items past c.in_ok-push_halves.ensures end in
+    let kept : back ≡ old = c.truncate.ensures.items ∙ ap (take past) c.in_ok-list_band.ensures.band ∙ halves_taken s a.rows.level false (drop a.first old) old c.push_halves.new.band.items past c.in_ok-push_halves.ensures end in
     let here : past ≡ length back = end ∙ sym (ap length kept) in (
-      part_falls a.level t some c.decreases,
+      part_falls a.rows.level t some c.decreases,
       (
-        level_below a.level c.requires.level,
+        level_below a.rows.level c.requires.level,
         (
-          far_half a.level a.top c.side_of.result some c.side_of.ensures c.requires.top,
+          far_half a.rows.level a.rows.top c.side_of.result some c.side_of.ensures c.requires.top,
           (
-            (let within = halves_within s a.level true (drop a.first back) back c.push_halves-2.new.band.items past c.in_ok-push_halves-2.ensures here in omega (arith, within)),
-            halves_stand s a.level true (drop a.first back) back c.push_halves-2.new.band.items past c.in_ok-push_halves-2.ensures here,
+            (let within = halves_within s a.rows.level true (drop a.first back) back c.push_halves-2.new.band.items past c.in_ok-push_halves-2.ensures here in omega (arith, within)),
+            halves_stand s a.rows.level true (drop a.first back) back c.push_halves-2.new.band.items past c.in_ok-push_halves-2.ensures here,
           ),
         ),
       ),
@@ -56,7 +56,7 @@ returns-clause-cells t c =
     let a = c.args in let old = a.band.now.items in let s = a.store.now in let past = c.len-past.result in
     let end : past ≡ length old = omega (arith, c.len-past.ensures) in
     let back = c.truncate.new.self.items in
-    let kept : back ≡ old = c.truncate.ensures.items ∙ ap (take past) c.in_ok-list_band.ensures.band ∙ halves_taken s a.level false (drop a.first old) old c.push_halves.new.band.items past c.in_ok-push_halves.ensures end in
-    band_listed s a.level a.top c.side_of.result past (drop a.first old) (drop a.first back) old c.push_halves.new.band.items back c.push_halves-2.new.band.items a.found.now.items c.list_band.new.found.items c.list_band-2.new.found.items
-    (some_level a.level c.if-level-eq0.false) c.side_of.ensures end (end ∙ sym (ap length kept)) (ap (drop a.first) kept)
+    let kept : back ≡ old = c.truncate.ensures.items ∙ ap (take past) c.in_ok-list_band.ensures.band ∙ halves_taken s a.rows.level false (drop a.first old) old c.push_halves.new.band.items past c.in_ok-push_halves.ensures end in
+    band_listed s a.rows.level a.rows.top c.side_of.result past (drop a.first old) (drop a.first back) old c.push_halves.new.band.items back c.push_halves-2.new.band.items a.found.now.items c.list_band.new.found.items c.list_band-2.new.found.items
+    (some_level a.rows.level c.if-level-eq0.false) c.side_of.ensures end (end ∙ sym (ap length kept)) (ap (drop a.first) kept)
     c.in_ok-push_halves.ensures c.in_ok-push_halves-2.ensures c.in_ok-list_band.ensures.cells c.in_ok-list_band-2.ensures.cells
