@@ -1,5 +1,7 @@
 //! The engine.
 
+mod shown;
+
 ghost use Rattle.std.specs.Prelude.{◌≡◌, ◌+◌, ◌^◌, ◌<◌, ◌≤◌, ◌↔◌, ℕ, length, IfOk, OnOk, OnErr, Err};
 ghost use Rattle.generations_rule.specs.Place.{Place};
 ghost use Rattle.generations_rule.specs.Evolution.{at};

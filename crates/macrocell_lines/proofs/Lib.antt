@@ -1,0 +1,12 @@
+pub mod Same
+pub mod Standing
+pub mod States
+pub mod Steps
+pub mod Walked
+pub mod Blocks
+pub mod Rows
+pub mod PairSquares
+pub mod Middles
+pub mod Levels
+pub mod Texts
+pub mod Listed
