@@ -1,2 +1,3 @@
 pub mod MoveLaws
 pub mod PeriodLaws
+pub mod ExtentLaws

@@ -4,8 +4,9 @@ ghost use Rattle.std.specs.Prelude.{◌≡◌, ◌↔◌, ◌-ℤ◌, ◌&&◌, 
 ghost use Rattle.std.specs.Ordering.{int_eq};
 ghost use Rattle.generations_rule.specs.Place.{Place};
 ghost use Rattle.generation_engine.specs.Walk.{AreCellsOf};
-ghost use Rattle.map_periods.specs.Moves.{IsMoveOf, moved_cell};
+ghost use Rattle.map_periods.specs.Moves.{IsMoveOf, are_as_large, extent_of, moved_cell};
 
+use crate::extent::Extent;
 use pattern_cells::Cell;
 
 /// How far cells are moved: to the right and down, by less than 2^32 either way.
@@ -46,7 +47,8 @@ impl Move {
 }
 
 /// The one move by which the cells of a first list become those of a second one, if there is one; no cells are moved by
-/// 0 0. Each list is sorted by `y`, then `x`, and has no dead cell, as exports list cells.
+/// 0 0. Each list is sorted by `y`, then `x`, and has no dead cell, as exports list cells. How many they are is compared
+/// first, then the size of their box, and then cell by cell.
 pub fn moved_by(before: &[Cell], after: &[Cell]) -> Option<Move>
     ensures { (f h : Place → ℕ) → AreCellsOf f before.now → AreCellsOf h after.now → IsMoveOf f h result }
 {
@@ -56,6 +58,9 @@ pub fn moved_by(before: &[Cell], after: &[Cell]) -> Option<Move>
     if before.is_empty() {
         return Some(Move { x: 0, y: 0 });
     }
+    if !have_one_size(before, after) {
+        return None;
+    }
     let by = Move::between(&before[0], &after[0]);
     if are_moved(before, after, by) {
         Some(by)
@@ -64,17 +69,19 @@ pub fn moved_by(before: &[Cell], after: &[Cell]) -> Option<Move>
     }
 }
 
-/// Whether each cell of a second list is that of a first one, moved so. The last ones are compared first, since they
-/// tell the height of the box.
+/// Whether the boxes of the cells of two lists are as wide and as high.
+fn have_one_size(before: &[Cell], after: &[Cell]) -> bool
+    ensures { result ≡ are_as_large (extent_of before.now) (extent_of after.now) }
+{
+    Extent::of(before).is_as_large(Extent::of(after))
+}
+
+/// Whether each cell of a second list is that of a first one, moved so.
 fn are_moved(before: &[Cell], after: &[Cell], by: Move) -> bool
     requires { length before.now ≡ length after.now }
     ensures { IsTrue result ↔ (after.now ≡ map (moved_cell by.x by.y) before.now) }
 {
-    let count = before.len();
-    if count > 0 && !by.takes(&before[count - 1], &after[count - 1]) {
-        return false;
-    }
-    for index in 0..count {
+    for index in 0..before.len() {
         if !by.takes(&before[index], &after[index]) {
             return false;
         }

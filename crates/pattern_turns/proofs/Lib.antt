@@ -2,3 +2,4 @@ pub mod WayLaws
 pub mod PlaneLaws
 pub mod TurningLaws
 pub mod PatternLaws
+pub mod OrderLaws

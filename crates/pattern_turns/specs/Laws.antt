@@ -6,7 +6,7 @@ use Rattle.generations_rule.specs.Evolution.{at}
 use Rattle.pattern_cells.specs.declared.pattern.PatternCell.{PatternCell}
 use Rattle.pattern_cells.specs.Pattern.{RlePattern, IsPattern}
 use Rattle.pattern_turns.specs.declared.turn.Turn.{Turn}
-use Rattle.pattern_turns.specs.Turning.{IsTurned, turned_cell}
+use Rattle.pattern_turns.specs.Turning.{IsTurned, turned_cell, turned_pattern}
 use Rattle.pattern_turns.specs.Way.{Way, Unturned, after, inverse, laid, put, way_of}
 
 -- The eight ways are a group under "after", which is the composition of what they do to places; no two do the same; and each is two turns.
@@ -42,6 +42,10 @@ PatternsTurn = (turn : Turn) (old new : RlePattern) → IsPattern old → IsTurn
 -- a pattern has one turned pattern
 abbrev pub HasOneTurn : Type 0
 HasOneTurn = (turn : Turn) (old p q : RlePattern) → IsPattern p → IsPattern q → IsTurned turn old p → IsTurned turn old q → p ≡ q
+
+-- it is the one that is told by its parts
+abbrev pub IsTurnedPattern : Type 0
+IsTurnedPattern = (turn : Turn) (old : RlePattern) → IsPattern old → IsPattern (turned_pattern turn old) × IsTurned turn old (turned_pattern turn old)
 
 -- a map laid in some way evolves as the map does, laid in that way
 abbrev pub TurnsCommute : Type 0

@@ -1,7 +1,7 @@
 -- Where the cells of a turned pattern stand.
-use Rattle.std.specs.Prelude.{◌≡◌, ℕ, ◌-◌, Bool, true, false, if◌then◌else◌, Contains}
+use Rattle.std.specs.Prelude.{◌≡◌, ℕ, ◌-◌, Bool, true, false, if◌then◌else◌, List, [], ◌∷◌, map, Contains}
 use Rattle.pattern_cells.specs.declared.pattern.PatternCell.{PatternCell}
-use Rattle.pattern_cells.specs.Pattern.{RlePattern}
+use Rattle.pattern_cells.specs.Pattern.{RlePattern, precedes}
 use Rattle.pattern_turns.specs.declared.turn.Turn.{Turn}
 use Rattle.pattern_turns.specs.declared.turn.Turn.TheVariants.{Left, Right, Half, Mirror, Flip}
 
@@ -36,3 +36,25 @@ pub record IsTurned (turn : Turn) (old new : RlePattern) : Type 0 where
   pub generation : new.generation ≡ old.generation
   pub goes : (cell : PatternCell) → Contains old.cells cell → Contains new.cells (turned_cell turn old.width old.height cell)
   pub comes : (cell : PatternCell) → Contains new.cells cell → (from : PatternCell) × Contains old.cells from × (cell ≡ turned_cell turn old.width old.height from)
+
+-- ---- the one such pattern
+
+-- a cell among cells that are in order, before the first that it precedes
+abbrev pub put_in_order : PatternCell → List PatternCell → List PatternCell
+put_in_order cell [] = cell ∷ []
+put_in_order cell (other ∷ cells) = if precedes cell other then cell ∷ other ∷ cells else other ∷ put_in_order cell cells
+
+-- cells by row, then column
+abbrev pub in_order : List PatternCell → List PatternCell
+in_order [] = []
+in_order (cell ∷ cells) = put_in_order cell (in_order cells)
+
+-- a pattern turned: each cell where the turn puts it
+unfoldable pub turned_pattern : Turn → RlePattern → RlePattern
+turned_pattern turn old = record {
+  width = turned_width turn old.width old.height;
+  height = turned_height turn old.width old.height;
+  pos = old.pos;
+  generation = old.generation;
+  cells = in_order (map (turned_cell turn old.width old.height) old.cells);
+}

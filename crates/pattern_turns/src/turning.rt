@@ -3,7 +3,7 @@
 ghost use Rattle.std.specs.Prelude.{◌≡◌, ◌≤◌, ◌^◌, IfOk, map};
 ghost use Rattle.std.specs.List.Sorted.{IsPermutation, IsSortedBy};
 ghost use Rattle.pattern_cells.specs.Pattern.{precedes};
-ghost use Rattle.pattern_turns.specs.Turning.{IsTurned, turned_cell};
+ghost use Rattle.pattern_turns.specs.Turning.{IsTurned, turned_cell, turned_pattern};
 
 use crate::turn::{Sides, Turn};
 use pattern_cells::{Pattern, PatternCell};
@@ -12,7 +12,8 @@ use std::alloc::{AllocError, Global};
 /// A pattern turned: its box with all that is in it. The corner of the box stays where it was, and so does the
 /// generation.
 pub fn turned(alloc: Global, pattern: &Pattern, turn: Turn) -> Result<Pattern, AllocError>
-    ensures { IfOk result (λ new. IsTurned turn pattern.now new) }
+    ensures turned { IfOk result (λ new. IsTurned turn pattern.now new) }
+    ensures one { IfOk result (λ new. new ≡ turned_pattern turn pattern.now) }
 {
     let before = sides_of(pattern);
     let cells = turned_cells(alloc, pattern.cells(), before, turn)?;

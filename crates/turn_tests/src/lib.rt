@@ -6,4 +6,6 @@ mod later;
 #[cfg(test)]
 mod periods;
 #[cfg(test)]
+mod planes;
+#[cfg(test)]
 mod turns;

@@ -1,3 +1,4 @@
+use Rattle.pattern_turns.proofs.OrderLaws.{is_turned_pattern}
 use Rattle.pattern_turns.proofs.PatternLaws.{patterns_turn}
 use Rattle.pattern_turns.proofs.PlaneLaws.{are_turns_of_the_plane, moves_commute, turns_commute}
 use Rattle.pattern_turns.proofs.TurningLaws.{has_one_turn}
@@ -21,3 +22,6 @@ returns-clause-moves c = moves_commute
 
 pub returns-clause-patterns : goal.returns-clause-patterns
 returns-clause-patterns c = patterns_turn
+
+pub returns-clause-told : goal.returns-clause-told
+returns-clause-told c = is_turned_pattern
