@@ -10,7 +10,6 @@ ghost use Rattle.stamped_tree.specs.LeafKind.{plane_grid};
 
 use crate::leaf_kind::PlaneLeaf;
 use indexmap::IndexMap;
-use keyed_hash::HashKey;
 use square_store::{Part, Square, Store, StoreFault};
 use std::alloc::AllocError;
 
@@ -18,7 +17,7 @@ use std::alloc::AllocError;
 pub(crate) fn copy_square(
     source: &Store<PlaneLeaf>,
     target: &mut Store<PlaneLeaf>,
-    copies: &mut IndexMap<Part, Part, HashKey>,
+    copies: &mut IndexMap<Part, Part>,
     level: u32,
     part: Part,
 ) -> Result<Part, AllocError>
@@ -63,7 +62,7 @@ pub(crate) fn copy_square(
 fn copy_blank(
     source: &Store<PlaneLeaf>,
     target: &mut Store<PlaneLeaf>,
-    copies: &mut IndexMap<Part, Part, HashKey>,
+    copies: &mut IndexMap<Part, Part>,
     part: Part,
     stamp: u64,
 ) -> Result<Part, AllocError>
@@ -88,7 +87,7 @@ fn copy_blank(
 fn copy_leaf(
     source: &Store<PlaneLeaf>,
     target: &mut Store<PlaneLeaf>,
-    copies: &mut IndexMap<Part, Part, HashKey>,
+    copies: &mut IndexMap<Part, Part>,
     part: Part,
     leaf: &PlaneLeaf,
 ) -> Result<Part, AllocError>
@@ -114,7 +113,7 @@ fn copy_leaf(
 fn copy_four(
     source: &Store<PlaneLeaf>,
     target: &mut Store<PlaneLeaf>,
-    copies: &mut IndexMap<Part, Part, HashKey>,
+    copies: &mut IndexMap<Part, Part>,
     level: u32,
     part: Part,
     parts: &[Part; 4],
@@ -140,11 +139,7 @@ fn copy_four(
 }
 
 /// Notes the copy of a part.
-fn note(
-    copies: &mut IndexMap<Part, Part, HashKey>,
-    part: Part,
-    copy: Part,
-) -> Result<(), AllocError>
+fn note(copies: &mut IndexMap<Part, Part>, part: Part, copy: Part) -> Result<(), AllocError>
     ensures { OnOk result (IsNoted copies.old.entries copies.new.entries part copy) }
 {
     match copies.insert(part, copy) {

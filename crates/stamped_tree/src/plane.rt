@@ -282,7 +282,7 @@ impl Plane {
         ensures nodes { IfOk result (λ plane. length plane.store.squares ≤ length self.now.store.squares) }
     {
         let mut store = Store::new(self.alloc, self.store.limits());
-        let mut copies = IndexMap::with_hasher(self.alloc, self.store.key());
+        let mut copies = IndexMap::new(self.alloc);
         let root = copy_square(
             &self.store,
             &mut store,
