@@ -9,6 +9,7 @@ mod pattern;
 mod rule;
 mod seen;
 mod shown;
+mod universe;
 mod viewing;
 mod words;
 
@@ -17,5 +18,6 @@ pub use fault::ViewFault;
 pub use options::ViewOptions;
 pub use seen::SeenCells;
 pub use shown::see;
+pub use universe::{SeenUniverse, see_universe};
 pub use viewing::{view, view_within};
 pub use words::{WindowFault, window_of};
