@@ -10,3 +10,4 @@ pub mod Middles
 pub mod Levels
 pub mod Texts
 pub mod Listed
+pub mod OneText

@@ -32,3 +32,7 @@ pub record IsMacrocell (r : GenerationsRule) (g : ℕ) (f : Place → ℕ) (text
   pub level : ℕ
   pub root : IsRootLevel (least_level (r.states == 2)) f level
   pub is : text ≡ macrocell_text r g (root_of f level)
+
+-- a rule, a generation and a map of states have one macrocell
+abbrev pub HasOneMacrocell : Type 0
+HasOneMacrocell = (r : GenerationsRule) (g : ℕ) (f : Place → ℕ) (a b : List ℕ) → IsMacrocell r g f a → IsMacrocell r g f b → a ≡ b

@@ -2,6 +2,7 @@
 #![tactic(auto)]
 
 mod block;
+mod laws;
 mod level;
 mod line;
 mod lines;
@@ -12,6 +13,7 @@ mod pairs;
 mod root;
 mod text;
 
+pub use laws::macrocell_laws;
 pub use line::Line;
 pub use macrocell::write_macrocell;
 pub use name::rule_name;
