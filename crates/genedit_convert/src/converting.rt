@@ -63,7 +63,7 @@ fn as_view(options: &ConvertOptions) -> ViewOptions
 }
 
 /// A generation and those that are asked for, if that has 64 bits.
-fn later(generation: u64, count: Option<u32>) -> Option<u64>
+pub(crate) fn later(generation: u64, count: Option<u32>) -> Option<u64>
     ensures { MatchOption result (2 ^ 64 ≤ generation + asked count) (λ later. (later ≡ generation + asked count) × (later < 2 ^ 64)) }
 {
     generation.checked_add(u64::from(count.unwrap_or(0)))
