@@ -8,4 +8,6 @@ mod files;
 #[cfg(test)]
 mod hostile;
 #[cfg(test)]
+mod macrocells;
+#[cfg(test)]
 mod told;

@@ -1,7 +1,7 @@
 //! What is read of a file, as a text.
 
 use cell_files::read_cells;
-use genedit_convert::{ConvertOptions, Converted, conversion_of};
+use genedit_convert::{ConvertOptions, Converted, conversion_of, macrocell_of};
 use generations_rule::Rule;
 use std::alloc::{AllocError, Global};
 
@@ -45,6 +45,23 @@ pub fn converted(
             }
             Ok(told)
         }
+        Err(fault) => format!(in alloc; "{fault}"),
+    }
+}
+
+/// The macrocell that a file is converted to so many generations later, under this rule or its own; or its fault.
+pub fn macrocell(
+    alloc: Global,
+    file: &[u8],
+    generation: Option<u32>,
+    rule: &str,
+) -> Result<String, AllocError> {
+    let options = ConvertOptions {
+        generation,
+        rule: Rule::parse(rule.as_bytes()).ok(),
+    };
+    match macrocell_of(alloc, &options, file) {
+        Ok(made) => String::from_utf8_lossy(alloc, &made.text),
         Err(fault) => format!(in alloc; "{fault}"),
     }
 }

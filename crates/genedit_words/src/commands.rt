@@ -96,10 +96,11 @@ Examples:
 
 const CONVERT_HELP: &str = "\
 IN is an RLE text, a file of MCell (.mcl), plaintext (.cells), or a state as it is saved; what it is, its
-first bytes tell, and `-` is standard input. OUT ends with .rle. Its text has the cells where IN has them
-and at IN's generation; with --gen, G generations later. Without --rule its own rule is taken. A rule of
-two states is written as B3/S23, so that Golly takes it for Life. IN's comments stand in front of the
-header: lines #N, #O and #C of RLE, #D of MCell, ! of plaintext.
+first bytes tell, and `-` is standard input. OUT ends with .rle or .mc. Its text has the cells where IN
+has them and at IN's generation; with --gen, G generations later. Without --rule its own rule is taken. A
+rule of two states is written as B3/S23, so that Golly takes it for Life. In an .rle file IN's comments
+stand in front of the header: lines #N, #O and #C of RLE, #D of MCell, ! of plaintext. An .mc file is a
+macrocell, as Golly writes it: it has any number of cells, which lie in the plane of edits, and no comment.
 
 OUT is written beside and then gets its name, so it is whole or as it was. A file that is there is
 replaced only with --replace. Bounds of a grid are passed over, which is said: cells live on the whole
@@ -108,7 +109,8 @@ plane.
 Examples:
   genedit convert Lava.mcl lava.rle
   genedit convert glider.cells glider.rle --rule B3/S23
-  genedit convert gun.rle later.rle --gen 30 --replace";
+  genedit convert gun.rle later.rle --gen 30 --replace
+  genedit convert breeder.rle late.mc --gen 100000";
 
 const SERVE_HELP: &str = "\
 Serves one board to programs on this machine, each of which speaks the protocol of docs/FORMATS.md over
@@ -399,7 +401,7 @@ fn convert_command<'a>(alloc: Global) -> Result<Command<'a>, AllocError>
         alloc,
         "out",
         "OUT",
-        "The file to write, which ends with .rle",
+        "The file to write, which ends with .rle or .mc",
     ))?
     .arg(optional(
         alloc,
