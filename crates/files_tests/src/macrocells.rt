@@ -51,7 +51,8 @@ fn files_are_made_macrocells(rt: HostRuntime) -> Result<(), AllocError> {
 }
 
 /// 1 and 2 in the corners of the plane.
-const CORNERS: &str = "#CXRLE Pos=-1073741824,-1073741824\nx = 2147483648, y = 2147483648, rule = /2/3\n\
+const CORNERS: &str =
+    "#CXRLE Pos=-1073741824,-1073741824\nx = 2147483648, y = 2147483648, rule = /2/3\n\
     A2147483647$2147483647.B!";
 
 #[test]

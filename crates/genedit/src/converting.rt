@@ -4,8 +4,8 @@ use crate::bounds::tell_bounds;
 use crate::document_reading::{name_of, seen_text};
 use devices::ReadSource;
 use genedit_convert::{
-    ConvertOptions, Converted, convert, is_macrocell_name, is_rle_name, macrocell_of, output_status,
-    output_text,
+    ConvertOptions, Converted, convert, is_macrocell_name, is_rle_name, macrocell_of,
+    output_status, output_text,
 };
 use genedit_io::RunFault;
 use genedit_view::ViewFault;
