@@ -393,7 +393,7 @@ fn convert_command<'a>(alloc: Global) -> Result<Command<'a>, AllocError>
     let command = titled(
         alloc,
         "convert",
-        "Makes an RLE text of a pattern's file or of a state",
+        "Makes an RLE text or a macrocell of a pattern's file or of a state",
         CONVERT_HELP,
     )
     .arg(place_argument(alloc, "in", "IN", "The file to read; - for standard input"))?
