@@ -1,7 +1,9 @@
 //! What lines come to, by the names of the commands in them.
 
 use client_commands::{ClientCommand, Dictation, FileName, FileTarget, Heard, Placement};
+use genedit_script::Turning;
 use pattern_cells::Window;
+use pattern_turns::Turn;
 use replica_events::EditSpec;
 use std::alloc::{AllocError, Global};
 use std::test::Fail;
@@ -10,6 +12,8 @@ use std::test::Fail;
 static SPELT: &str = "\
 cells 0 -1 255 7 8 0
 clear -3 4 5 6
+turn Glider7 g2 left
+turn g2 Glider7 half
 copy Glider7 -3 4
 or abcdefghijklmn09 -3 4
 show -3 4
@@ -48,6 +52,10 @@ cells 2147483648 0 1
 clear 0 0 1
 clear 0 0 1 -1
 clear 1 0 0 1 1
+turn a b
+turn a b up
+turn a b left right
+turn a b_ left
 copy a 0
 copy a 0 0 0
 copy abcdefghijklmno09 0 0
@@ -192,6 +200,7 @@ fn told_command(alloc: Global, command: &ClientCommand) -> Result<String, AllocE
             let text = word(alloc, text.as_slice())?;
             format!(in alloc; "pattern {name} [{text}]")
         }
+        ClientCommand::Turn(turning) => told_turning(alloc, turning),
         ClientCommand::Copy(placement) => told_placement(alloc, "copy", placement),
         ClientCommand::Or(placement) => told_placement(alloc, "or", placement),
         ClientCommand::Show(x, y) => format!(in alloc; "show {x} {y}"),
@@ -257,6 +266,22 @@ fn told_drawing(alloc: Global, drawn: &EditSpec) -> Result<String, AllocError> {
             )
         }
         EditSpec::Copy(..) | EditSpec::Or(..) => format!(in alloc; "a pattern"),
+    }
+}
+
+fn told_turning(alloc: Global, turning: &Turning) -> Result<String, AllocError> {
+    let name = word(alloc, turning.name.as_bytes())?;
+    let new_name = word(alloc, turning.new_name.as_bytes())?;
+    format!(in alloc; "turn {name} {new_name} {}", turn_word(turning.turn))
+}
+
+fn turn_word(turn: Turn) -> &'static str {
+    match turn {
+        Turn::Left => "left",
+        Turn::Right => "right",
+        Turn::Half => "half",
+        Turn::Mirror => "mirror",
+        Turn::Flip => "flip",
     }
 }
 

@@ -71,7 +71,15 @@ static BLOCKS: [Mistake; 3] = [
     },
 ];
 
-static WORDS: [Mistake; 7] = [
+static WORDS: [Mistake; 9] = [
+    Mistake {
+        script: b"rule 23/3/2\nreplicas 1\nturn g h up\n",
+        told: "script:3:10: `up` is no turn: left, right, half, mirror or flip\nturn g h up\n         ^^\n1 faults\n",
+    },
+    Mistake {
+        script: b"rule 23/3/2\nreplicas 1\nturn g h\n",
+        told: "script:3:9: the turn is missing: `turn NAME NEW left|right|half|mirror|flip`\nturn g h\n        ^\n1 faults\n",
+    },
     Mistake {
         script: b"rule 23/3/2\nreplicas 1\ncopy 1 g\n",
         told: "script:3:9: x is missing: `copy R NAME x y`\ncopy 1 g\n        ^\n1 faults\n",

@@ -19,8 +19,8 @@ use Rattle.client_commands.specs.declared.dictation.Heard.{Heard}
 use Rattle.client_commands.specs.declared.dictation.Heard.TheVariants as heard
 use Rattle.client_commands.specs.Commands.{client_command_spelled}
 use Rattle.client_commands.specs.Dictation.{command_or_fault, line_heard, lines_heard, next_number, all_heard_by}
-use Rattle.client_commands.specs.Laws.{at_replica_1, with_replica_1, SpellTheSame, ExportTheSame, CutTheSame, AskTheSame, nothing, skipped, shared, export, cut, own, opening, inside, closing, onto_found, asked_of_replica_1, HearTheSame, HearInOrder}
-use Rattle.client_commands.proofs.SpellingLaws.{Agree, neither, both, equal, IsCommandLine, line_says, line_opens_none, shared_line, export_line, cut_line, command_begins}
+use Rattle.client_commands.specs.Laws.{at_replica_1, with_replica_1, SpellTheSame, ExportTheSame, CutTheSame, TurnTheSame, AskTheSame, nothing, skipped, shared, export, cut, turn, own, opening, inside, closing, onto_found, asked_of_replica_1, HearTheSame, HearInOrder}
+use Rattle.client_commands.proofs.SpellingLaws.{Agree, neither, both, equal, AreCommandLines, IsCommandLine, line_says, line_opens_none, shared_line, export_line, cut_line, turn_line, command_begins}
 
 -- ---- one command
 
@@ -32,6 +32,9 @@ export_the_same generation = equal (export_line generation).agrees
 
 pub cut_the_same : CutTheSame
 cut_the_same x y width height generation = equal (cut_line x y width height generation).agrees
+
+pub turn_the_same : TurnTheSame
+turn_the_same name new_name how = equal (turn_line name new_name how).agrees
 
 -- ---- one line of a client
 
@@ -76,9 +79,9 @@ agreed (both is) n more rest same = λ i. onto_found (is i) (same i)
 abbrev Same : Option PatternBlock → ℕ → List (List ℕ) → List (List ℕ) → Type 0
 Same block n lines others = asked_of_replica_1 (lines_heard block (numbered_lines n lines)) ≡ commands_spelled block (numbered_lines n others)
 
-both_ask : (n : ℕ) (line other : List ℕ) (lines others : List (List ℕ)) → IsCommandLine (client_words line) → words other ≡ with_replica_1 (client_words line) →
+both_ask : (n : ℕ) (line other : List ℕ) (lines others ws : List (List ℕ)) → AreCommandLines (client_words line) ws → words other ≡ ws →
     Same None (n + 1) lines others → Same None n (line ∷ lines) (other ∷ others)
-both_ask n line other lines others known beside more =
+both_ask n line other lines others ws known beside more =
     ap asked_of_replica_1 (asks n line lines (line_says line known.begins) (line_opens_none line known.begins))
     ∙ agreed known.agrees n (lines_heard None (numbered_lines (n + 1) lines)) (commands_spelled None (numbered_lines (n + 1) others)) more
     ∙ ap (λ ws. ok_or (command_spelled ws) n >>= λ command. onto command (commands_spelled None (numbered_lines (n + 1) others))) (sym beside)
@@ -109,13 +112,16 @@ hears (skipped {line = line} {lines = lines} {others = others} skip more) None i
     ap asked_of_replica_1 (skips n line lines skip) ∙ hears more None refl (n + 1) ∙ sym (skips_one n line others skip)
 hears (shared known beside more) (Some block) is n = absurd (cc)
 hears (shared {line = line} {other = other} {lines = lines} {others = others} known beside more) None is n =
-    both_ask n line other lines others (shared_line (client_words line) known) beside (hears more None refl (n + 1))
+    both_ask n line other lines others (with_replica_1 (client_words line)) (shared_line (client_words line) known) beside (hears more None refl (n + 1))
 hears (export ws beside more) (Some block) is n = absurd (cc)
 hears (export {line = line} {other = other} {generation = generation} {lines = lines} {others = others} ws beside more) None is n =
-    both_ask n line other lines others (subst IsCommandLine (sym ws) (export_line generation)) beside (hears more None refl (n + 1))
+    both_ask n line other lines others (with_replica_1 (client_words line)) (subst IsCommandLine (sym ws) (export_line generation)) beside (hears more None refl (n + 1))
 hears (cut ws beside more) (Some block) is n = absurd (cc)
 hears (cut {line = line} {other = other} {x = x} {y = y} {width = width} {height = height} {generation = generation} {lines = lines} {others = others} ws beside more) None is n =
-    both_ask n line other lines others (subst IsCommandLine (sym ws) (cut_line x y width height generation)) beside (hears more None refl (n + 1))
+    both_ask n line other lines others (with_replica_1 (client_words line)) (subst IsCommandLine (sym ws) (cut_line x y width height generation)) beside (hears more None refl (n + 1))
+hears (turn ws beside more) (Some block) is n = absurd (cc)
+hears (turn {line = line} {other = other} {name = name} {new_name = new_name} {how = how} {lines = lines} {others = others} ws beside more) None is n =
+    both_ask n line other lines others (client_words line) (subst (λ (words : List (List ℕ)). AreCommandLines words words) (sym ws) (turn_line name new_name how)) beside (hears more None refl (n + 1))
 hears (own spelt none skip more) (Some block) is n = absurd (cc)
 hears (own {line = line} {other = other} {command = command} {lines = lines} {others = others} spelt none skip more) None is n =
     one_asks n line other lines others command spelt none skip (hears more None refl (n + 1))

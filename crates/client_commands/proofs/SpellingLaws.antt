@@ -19,8 +19,9 @@ use Rattle.command_words.specs.Values.{cells_spelled, number_spelled}
 use Rattle.command_words.proofs.QuoteLaws.{first_alike}
 use Rattle.command_words.proofs.SpelledLaws.{begins, both_read, keyword_of, name_no_replica, named, of_replica_1}
 use Rattle.genedit_script.specs.declared.command.Command.{Command}
-use Rattle.genedit_script.specs.declared.command.Command.TheVariants.{Does}
-use Rattle.genedit_script.specs.Script.{is_spoken, opening_spelled, command_asked, command_spelled}
+use Rattle.genedit_script.specs.declared.command.Command.TheVariants.{Does, Turns}
+use Rattle.genedit_script.specs.declared.command.Turning.{Turning}
+use Rattle.genedit_script.specs.Script.{is_spoken, opening_spelled, command_asked, command_spelled, turning_asked}
 use Rattle.genedit_script.proofs.WordLaws.{keyword_says, opens_no_block}
 use Rattle.client_commands.specs.declared.command.ClientCommand.{ClientCommand}
 use Rattle.client_commands.specs.declared.command.ClientCommand.TheVariants as client
@@ -116,6 +117,27 @@ module _ (x y width height generation : List ℕ) where
   pub cut_alike : CutsAlike
   cut_alike = cuts (signed_number x) (signed_number y) (number_spelled width) (number_spelled height) (number_spelled generation) refl refl refl refl refl
 
+-- ---- turns, which no replica does
+
+turned : (turning : Option Turning) → Agree (option_map client.Turn turning) (option_map Turns turning)
+turned None = neither
+turned (Some turning) = both refl
+
+turn_alike : (line : SpelledValue) → line.keyword ≡ keyword.Turn → Agree (client_command_asked line) (command_asked line)
+turn_alike line is = rw is (turned (turning_asked line))
+
+turns_by : (ws : List (List ℕ)) (spelled : Option SpelledValue) → line_spelled Client (codes "turn" ∷ ws) ≡ spelled → Agree (spelled >=> client_command_asked) (spelled >=> command_asked)
+turns_by ws None is = neither
+turns_by ws (Some line) is = turn_alike line (keyword_of Client (codes "turn") ws keyword.Turn line refl is)
+
+turns_spelled : (ws : List (List ℕ)) → line_spelled Client (codes "turn" ∷ ws) ≡ line_spelled Script (codes "turn" ∷ ws)
+turns_spelled ws = refl
+
+turns : (ws : List (List ℕ)) → Agree (client_command_spelled (codes "turn" ∷ ws)) (command_spelled (codes "turn" ∷ ws))
+turns ws =
+    subst (λ (spelled : Option SpelledValue). Agree (client_command_spelled (codes "turn" ∷ ws)) (spelled >=> command_asked)) (turns_spelled ws)
+    (turns_by ws (line_spelled Client (codes "turn" ∷ ws)) refl)
+
 -- ---- a line
 
 keyword_is_plain : (k : Keyword) → opens_quote (keyword_name k) ≡ false
@@ -142,11 +164,15 @@ line_opens_none line begins =
     ap opening_spelled first.1 ∙ opens_no_block (keyword_name begins.first) first.0 begins.opens_none
 
 -- what is known of a line that a client has from scripts, and of the line of a script beside it
-pub record IsCommandLine (ws : List (List ℕ)) : Type 0 where
+pub record AreCommandLines (ws others : List (List ℕ)) : Type 0 where
   pub begins : Begins ws
-  pub other_says : is_spoken (with_replica_1 ws) ≡ true
-  pub other_opens_none : opening_spelled (with_replica_1 ws) ≡ None
-  pub agrees : Agree (client_command_spelled ws) (command_spelled (with_replica_1 ws))
+  pub other_says : is_spoken others ≡ true
+  pub other_opens_none : opening_spelled others ≡ None
+  pub agrees : Agree (client_command_spelled ws) (command_spelled others)
+
+-- where that is the same with the replica's number
+abbrev pub IsCommandLine : List (List ℕ) → Type 0
+IsCommandLine ws = AreCommandLines ws (with_replica_1 ws)
 
 command_line : (k : Keyword) (ws : List (List ℕ)) → IsShared k → IsCommandLine (keyword_name k ∷ ws)
 command_line k ws known = record {
@@ -185,6 +211,14 @@ cut_line x y width height generation = record {
   other_says = refl;
   other_opens_none = opens_no_block (codes "cut") (codes "1" ∷ x ∷ y ∷ width ∷ height ∷ generation ∷ []) refl;
   agrees = cut_alike x y width height generation;
+}
+
+pub turn_line : (name new_name turn : List ℕ) → AreCommandLines (codes "turn" ∷ name ∷ new_name ∷ turn ∷ []) (codes "turn" ∷ name ∷ new_name ∷ turn ∷ [])
+turn_line name new_name turn = record {
+  begins = record { first = keyword.Turn; behind = name ∷ new_name ∷ turn ∷ []; words_are = refl; opens_none = refl };
+  other_says = refl;
+  other_opens_none = opens_no_block (codes "turn") (name ∷ new_name ∷ turn ∷ []) refl;
+  agrees = turns (name ∷ new_name ∷ turn ∷ []);
 }
 
 -- ---- a command that only a client has

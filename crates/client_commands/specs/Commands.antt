@@ -7,9 +7,9 @@ use Rattle.command_words.specs.declared.dialect.Dialect.TheVariants.{Client}
 use Rattle.command_words.specs.declared.keyword.Keyword.TheVariants as keyword
 use Rattle.command_words.specs.Spelled.{SpelledValue, line_spelled}
 use Rattle.command_words.specs.Values.{cells_spelled}
-use Rattle.genedit_script.specs.Script.{area_of, window_of}
+use Rattle.genedit_script.specs.Script.{area_of, turning_asked, window_of}
 use Rattle.client_commands.specs.declared.command.ClientCommand.{ClientCommand}
-use Rattle.client_commands.specs.declared.command.ClientCommand.TheVariants.{Draw, Copy, Or, Show, Export, Cut, Count, Undo, Redo, Poll, Wait, Sleep, Save, Open, Help, Bye}
+use Rattle.client_commands.specs.declared.command.ClientCommand.TheVariants.{Draw, Turn, Copy, Or, Show, Export, Cut, Count, Undo, Redo, Poll, Wait, Sleep, Save, Open, Help, Bye}
 use Rattle.client_commands.specs.declared.command.FileTarget.{FileTarget}
 use Rattle.client_commands.specs.declared.command.Placement.{Placement}
 use Rattle.client_commands.specs.declared.command.Wait as waits
@@ -54,6 +54,7 @@ client_command_asked line = elim line.keyword [
   | keyword.Clear ↦ Some (Draw (Clear (area_of line)))
   | keyword.Copy ↦ Some (Copy (placement_of line))
   | keyword.Or ↦ Some (Or (placement_of line))
+  | keyword.Turn ↦ option_map Turn (turning_asked line)
   | keyword.Undo ↦ Some Undo
   | keyword.Redo ↦ Some Redo
   | keyword.Show ↦ Some (Show line.x line.y)

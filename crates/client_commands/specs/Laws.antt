@@ -14,7 +14,7 @@ use Rattle.command_words.specs.Arguments.{optional_of, script_arguments}
 use Rattle.command_words.specs.Keywords.{keyword_spelled}
 use Rattle.command_words.specs.Quotes.{client_words}
 use Rattle.genedit_script.specs.declared.command.Command.{Command}
-use Rattle.genedit_script.specs.declared.command.Command.TheVariants.{Does, Names, Copies, Ors}
+use Rattle.genedit_script.specs.declared.command.Command.TheVariants.{Does, Names, Copies, Ors, Turns}
 use Rattle.genedit_script.specs.Script.{opening_spelled, command_spelled, numbered_lines, commands_spelled, onto}
 use Rattle.genedit_script.specs.Laws.{is_skipped, HaveNoEnd, block_text}
 use Rattle.client_commands.specs.declared.command.ClientCommand.{ClientCommand}
@@ -30,6 +30,7 @@ use Rattle.client_commands.specs.Dictation.{lines_heard, all_heard_by}
 abbrev pub at_replica_1 : ClientCommand → Option Command
 at_replica_1 (client.Draw drawn) = Some (Does (event.Draw 1 drawn))
 at_replica_1 (client.Pattern name text) = Some (Names name text)
+at_replica_1 (client.Turn turning) = Some (Turns turning)
 at_replica_1 (client.Copy placement) = Some (Copies (record { replica = 1; name = placement.name; x = placement.x; y = placement.y }))
 at_replica_1 (client.Or placement) = Some (Ors (record { replica = 1; name = placement.name; x = placement.x; y = placement.y }))
 at_replica_1 (client.Show x y) = Some (Does (event.Show 1 x y))
@@ -83,6 +84,11 @@ CutTheSame = (x y width height generation : List ℕ) →
     client_command_spelled (codes "cut" ∷ x ∷ y ∷ width ∷ height ∷ generation ∷ []) >=> at_replica_1
     ≡ command_spelled (with_replica_1 (codes "cut" ∷ x ∷ y ∷ width ∷ height ∷ generation ∷ []))
 
+-- and at `turn`, which no replica does
+abbrev pub TurnTheSame : Type 0
+TurnTheSame = (name new_name how : List ℕ) →
+    client_command_spelled (codes "turn" ∷ name ∷ new_name ∷ how ∷ []) >=> at_replica_1 ≡ command_spelled (codes "turn" ∷ name ∷ new_name ∷ how ∷ [])
+
 -- ---- all lines
 
 -- Lines of a client, and lines of a script that ask the same of replica 1. They begin in a block, or in none. Each line of a
@@ -98,6 +104,9 @@ pub data AskTheSame : Bool → List (List ℕ) → List (List ℕ) → Type 0 wh
       AskTheSame false lines others → AskTheSame false (line ∷ lines) (other ∷ others)
   cut : {line other x y width height generation : List ℕ} {lines others : List (List ℕ)} →
       client_words line ≡ codes "cut" ∷ x ∷ y ∷ width ∷ height ∷ generation ∷ [] → words other ≡ with_replica_1 (client_words line) →
+      AskTheSame false lines others → AskTheSame false (line ∷ lines) (other ∷ others)
+  turn : {line other name new_name how : List ℕ} {lines others : List (List ℕ)} →
+      client_words line ≡ codes "turn" ∷ name ∷ new_name ∷ how ∷ [] → words other ≡ client_words line →
       AskTheSame false lines others → AskTheSame false (line ∷ lines) (other ∷ others)
   own : {line other : List ℕ} {command : ClientCommand} {lines others : List (List ℕ)} →
       client_command_spelled (client_words line) ≡ Some command → at_replica_1 command ≡ None → is_skipped other ≡ true →

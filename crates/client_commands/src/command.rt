@@ -2,7 +2,7 @@
 
 ghost use Rattle.std.specs.Prelude.{◌≡◌, IfOk};
 
-use genedit_script::{PatternName, PatternText};
+use genedit_script::{PatternName, PatternText, Turning};
 use pattern_cells::Window;
 use replica_events::EditSpec;
 use std::alloc::{AllocError, Global};
@@ -16,6 +16,8 @@ pub enum ClientCommand {
     /// `pattern NAME`, lines, `end`: from here on the name stands for the pattern of the text, if it
     /// is one.
     Pattern(PatternName, PatternText),
+    /// `turn NAME NEW left`: from here on the new name stands for the named pattern, turned.
+    Turn(Turning),
     /// `copy NAME x y`: every cell of the named pattern's box is drawn.
     Copy(Placement),
     /// `or NAME x y`: the nonzero cells of the named pattern are drawn.

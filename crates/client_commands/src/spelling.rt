@@ -12,7 +12,7 @@ ghost use Rattle.client_commands.specs.Commands.{begins_script, client_command_a
 
 use crate::command::{ClientCommand, FileName, FileTarget, Placement, Wait};
 use command_words::{Dialect, Keyword, Spelled, cells_in, read_line};
-use genedit_script::{PatternName, area_of, window_of};
+use genedit_script::{PatternName, area_of, turning_in, window_of};
 use replica_events::{CellList, EditSpec};
 use std::alloc::{AllocError, Global};
 use text_scan::split_word;
@@ -39,6 +39,7 @@ fn command_asked(alloc: Global, spelled: &Spelled<'_>) -> Result<Option<ClientCo
         Keyword::Clear => ClientCommand::Draw(EditSpec::Clear(area_of(spelled))),
         Keyword::Copy => ClientCommand::Copy(placement_of(alloc, spelled)?),
         Keyword::Or => ClientCommand::Or(placement_of(alloc, spelled)?),
+        Keyword::Turn => return Ok(turning_in(alloc, spelled)?.map(ClientCommand::Turn)),
         Keyword::Undo => ClientCommand::Undo,
         Keyword::Redo => ClientCommand::Redo,
         Keyword::Show => ClientCommand::Show(spelled.x, spelled.y),

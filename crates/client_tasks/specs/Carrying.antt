@@ -10,8 +10,9 @@ use Rattle.replica_core.specs.declared.event.Question.{Question}
 use Rattle.replica_core.specs.declared.event.Question.TheVariants as questions
 use Rattle.replica_core.specs.declared.event.Reply.TheVariants as reply
 use Rattle.stamped_tree.specs.Plane.{map_of}
-use Rattle.genedit_lib.specs.Output.{naming_text, reply_line, with_text}
+use Rattle.genedit_lib.specs.Output.{naming_text, reply_line, turned_named, turning_text, with_named, with_text}
 use Rattle.genedit_lib.specs.Patterns.{pattern_in}
+use Rattle.genedit_script.specs.declared.command.Turning.{Turning}
 use Rattle.client_commands.specs.declared.command.FileTarget.{FileTarget}
 use Rattle.client_commands.specs.declared.command.ClientCommand.{ClientCommand}
 use Rattle.client_commands.specs.declared.command.ClientCommand.TheVariants as command
@@ -69,6 +70,14 @@ IsNaming name text m n (Ok done) =
     × ((other : List ℕ) → pattern_in n.workspace.patterns other ≡ with_text (pattern_in m.workspace.patterns) name (parsed text) other) × KeepsAllButNames m n
 IsNaming name text m n (Err fault) = (fault ≡ Memory) × LacksNaming m n
 
+-- a named pattern was turned, if there is one, and given a name, and its line printed; or memory is wanting
+abbrev pub IsTurning : Turning → Moment → Moment → Result Done CommandFault → Type 0
+IsTurning turning m n (Ok done) =
+    let turned = turned_named (pattern_in m.workspace.patterns) turning in
+    (done ≡ Told) × (n.out ≡ m.out ++ (turning_text turning.new_name turned ++ codes "\n"))
+    × ((other : List ℕ) → pattern_in n.workspace.patterns other ≡ with_named (pattern_in m.workspace.patterns) turning.new_name turned other) × KeepsAllButNames m n
+IsTurning turning m n (Err fault) = (fault ≡ Memory) × LacksNaming m n
+
 -- the write at a coordinate was printed; or memory is wanting, and what was printed before stands
 abbrev pub IsShowing : ℤ → ℤ → Moment → Moment → Result Done CommandFault → Type 0
 IsShowing x y m n result = IsPrinted Told (reply_line (reply.Shown (map_of m.workspace.replica.plane (at_place x y)))) m n result
@@ -80,6 +89,7 @@ abbrev pub help_text : List ℕ
 help_text =
     codes "cells x y s .., clear x y w h  draw cells, or an area of dead ones\n"
     ++ codes "pattern NAME, lines, end       keeps the pattern of these lines of RLE\n"
+    ++ codes "turn NAME NEW left|right|half|mirror|flip  keeps NAME's pattern, turned, as NEW\n"
     ++ codes "copy NAME x y, or NAME x y     draw its whole box there, or its live cells\n"
     ++ codes "show x y, poll                 print a cell, or what others drew\n"
     ++ codes "count G                        prints how many cells live G generations later\n"
@@ -114,6 +124,7 @@ cut_of window generation = questions.Cut (record { window = window; generation =
 abbrev pub IsCarriedOut : ClientCommand → Moment → Moment → Result Done CommandFault → Type 0
 IsCarriedOut (command.Draw drawing) m n result = Comes (DrawsAndEnds (IsDrawCommand 0 drawing) m n) behind_drawing result
 IsCarriedOut (command.Pattern name text) m n result = IsNaming name text m n result
+IsCarriedOut (command.Turn turning) m n result = IsTurning turning m n result
 IsCarriedOut (command.Copy at) m n result = Comes (DrawsAndEnds (IsPaste Copy at.name (record { x = at.x; y = at.y })) m n) behind_drawing result
 IsCarriedOut (command.Or at) m n result = Comes (DrawsAndEnds (IsPaste Or at.name (record { x = at.x; y = at.y })) m n) behind_drawing result
 IsCarriedOut (command.Show x y) m n result = IsShowing x y m n result
@@ -141,6 +152,7 @@ no_server_line = codes "no server\n"
 
 abbrev pub IsCarriedOn : ClientCommand → Moment → Moment → Result Done CommandFault → Type 0
 IsCarriedOn (command.Pattern name text) m n result = IsNaming name text m n result
+IsCarriedOn (command.Turn turning) m n result = IsTurning turning m n result
 IsCarriedOn (command.Show x y) m n result = IsShowing x y m n result
 IsCarriedOn (command.Count generation) m n result = Comes (TellsNow (questions.Count generation) m n) (λ _. Told) result
 IsCarriedOn (command.Export generation None) m n result = Comes (TellsNow (questions.Export generation) m n) (λ _. Told) result

@@ -2,7 +2,7 @@
 
 ghost use Rattle.client_tasks.specs.Carrying.{IsCarriedOn};
 
-use crate::carrying::{named, shown, tell_line};
+use crate::carrying::{named, shown, tell_line, turned};
 use crate::done::{Done, told, written};
 use crate::printing::{helped, printed};
 use client_commands::ClientCommand;
@@ -21,6 +21,7 @@ pub fn carry_on<C: Clock, S: Source + Drop, K: Sink + Drop>(
 {
     match command {
         ClientCommand::Pattern(name, text) => named(client, name, &text),
+        ClientCommand::Turn(turning) => turned(client, turning),
         ClientCommand::Show(x, y) => shown(client, x, y),
         ClientCommand::Count(generation) => told(client.tell_now(Question::Count(generation))),
         ClientCommand::Export(generation, None) => {

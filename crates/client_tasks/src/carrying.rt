@@ -1,7 +1,7 @@
 //! Commands.
 
 ghost use Rattle.client_session.specs.Moment.{IsPrinted};
-ghost use Rattle.client_tasks.specs.Carrying.{IsCarriedOut, IsNaming, IsShowing};
+ghost use Rattle.client_tasks.specs.Carrying.{IsCarriedOut, IsNaming, IsShowing, IsTurning};
 ghost use Rattle.client_tasks.specs.declared.done.Done.TheVariants.{Told};
 
 use crate::done::{Done, drawn, told, written};
@@ -12,7 +12,7 @@ use client_commands::{ClientCommand, Wait};
 use client_session::{Client, CommandFault, PasteMode, Patience};
 use devices::{Sink, Source};
 use drawing_history::Way;
-use genedit_script::{PatternName, PatternText};
+use genedit_script::{PatternName, PatternText, Turning};
 use replica_core::{Cut, Question};
 use std::time::Clock;
 
@@ -28,6 +28,7 @@ pub fn carry_out<C: Clock, S: Source + Drop, K: Sink + Drop>(
     match command {
         ClientCommand::Draw(spec) => drawn(draw_whole(client, &spec)),
         ClientCommand::Pattern(name, text) => named(client, name, &text),
+        ClientCommand::Turn(turning) => turned(client, turning),
         ClientCommand::Copy(placed) => drawn(paste_whole(client, PasteMode::Copy, &placed)),
         ClientCommand::Or(placed) => drawn(paste_whole(client, PasteMode::Or, &placed)),
         ClientCommand::Show(x, y) => shown(client, x, y),
@@ -85,6 +86,19 @@ pub(crate) fn named<C: Clock, S: Source + Drop, K: Sink + Drop>(
     ensures { IsNaming name text.now client.old client.new result }
 {
     match client.name_pattern(name, text) {
+        Ok(()) => Ok(Done::Told),
+        Err(_) => Err(CommandFault::Memory),
+    }
+}
+
+/// Gives a name to a pattern that is turned.
+pub(crate) fn turned<C: Clock, S: Source + Drop, K: Sink + Drop>(
+    client: &mut Client<'_, C, S, K>,
+    turning: Turning,
+) -> Result<Done, CommandFault>
+    ensures { IsTurning turning client.old client.new result }
+{
+    match client.turn_pattern(turning) {
         Ok(()) => Ok(Done::Told),
         Err(_) => Err(CommandFault::Memory),
     }

@@ -20,13 +20,14 @@ pub(crate) fn helped<C: Clock, S: Source + Drop, K: Sink + Drop>(
     Ok(Done::Told)
 }
 
-/// The commands of a client, in thirteen lines.
+/// The commands of a client, in fourteen lines.
 fn help_text() -> &'static str
     ensures { result.now ≡ help_text }
 {
     "\
 cells x y s .., clear x y w h  draw cells, or an area of dead ones
 pattern NAME, lines, end       keeps the pattern of these lines of RLE
+turn NAME NEW left|right|half|mirror|flip  keeps NAME's pattern, turned, as NEW
 copy NAME x y, or NAME x y     draw its whole box there, or its live cells
 show x y, poll                 print a cell, or what others drew
 count G                        prints how many cells live G generations later

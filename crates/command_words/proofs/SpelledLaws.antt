@@ -8,12 +8,13 @@ use Rattle.std.proofs.lemmas.Slice.Eq.{bytes_eq-Decides}
 use Rattle.text_scan.specs.Bytes.{◌>=>◌}
 use Rattle.text_scan.specs.Words.{signed_number}
 use Rattle.command_words.specs.declared.argument.Argument.{Argument}
-use Rattle.command_words.specs.declared.argument.Argument.TheVariants.{Rule, Replicas, Name, Replica, OneReplica, X, Y, State, File, NewFile}
+use Rattle.command_words.specs.declared.argument.Argument.TheVariants.{Rule, Replicas, Name, NewName, Turn, Replica, OneReplica, X, Y, State, File, NewFile}
 use Rattle.command_words.specs.declared.dialect.Dialect.{Dialect}
 use Rattle.command_words.specs.declared.keyword.Keyword.{Keyword}
 use Rattle.command_words.specs.Arguments.{arguments_of, optional_of}
 use Rattle.command_words.specs.Keywords.{keyword_name, keyword_spelled, keywords_of}
 use Rattle.command_words.specs.Spelled.{SpelledValue, begun, with_word, with_first, with_next, with_all, is_empty, with_optional, is_whole, if_whole, line_spelled}
+use Rattle.command_words.specs.Turns.{turn_spelled}
 use Rattle.command_words.specs.Values.{file_spelled, name_spelled, new_file_spelled, number_spelled, replicas_spelled, rule_text_spelled, state_spelled}
 
 -- what is seen of a line stays as it is where a word is read as an argument
@@ -33,6 +34,8 @@ keyword_stays : (argument : Argument) → Keeps (λ line. line.keyword) argument
 keyword_stays Rule word line next is = made (λ l. l.keyword) line.keyword (rule_text_spelled word) _ next (λ a. refl) is
 keyword_stays Replicas word line next is = made (λ l. l.keyword) line.keyword (replicas_spelled word) _ next (λ a. refl) is
 keyword_stays Name word line next is = made (λ l. l.keyword) line.keyword (name_spelled word) _ next (λ a. refl) is
+keyword_stays NewName word line next is = made (λ l. l.keyword) line.keyword (name_spelled word) _ next (λ a. refl) is
+keyword_stays Turn word line next is = made (λ l. l.keyword) line.keyword (turn_spelled word) (λ turn. record line { turn = Some turn }) next (λ a. refl) is
 keyword_stays X word line next is = made (λ l. l.keyword) line.keyword (signed_number word) _ next (λ a. refl) is
 keyword_stays Y word line next is = made (λ l. l.keyword) line.keyword (signed_number word) _ next (λ a. refl) is
 keyword_stays State word line next is = made (λ l. l.keyword) line.keyword (state_spelled word) _ next (λ a. refl) is
@@ -52,6 +55,8 @@ replica_stays OneReplica other word line next is = absurd (cc)
 replica_stays Rule other word line next is = made (λ l. l.replica) line.replica (rule_text_spelled word) _ next (λ a. refl) is
 replica_stays Replicas other word line next is = made (λ l. l.replica) line.replica (replicas_spelled word) _ next (λ a. refl) is
 replica_stays Name other word line next is = made (λ l. l.replica) line.replica (name_spelled word) _ next (λ a. refl) is
+replica_stays NewName other word line next is = made (λ l. l.replica) line.replica (name_spelled word) _ next (λ a. refl) is
+replica_stays Turn other word line next is = made (λ l. l.replica) line.replica (turn_spelled word) (λ turn. record line { turn = Some turn }) next (λ a. refl) is
 replica_stays X other word line next is = made (λ l. l.replica) line.replica (signed_number word) _ next (λ a. refl) is
 replica_stays Y other word line next is = made (λ l. l.replica) line.replica (signed_number word) _ next (λ a. refl) is
 replica_stays State other word line next is = made (λ l. l.replica) line.replica (state_spelled word) _ next (λ a. refl) is

@@ -5,7 +5,7 @@ use Rattle.std.specs.Str.{bytes_eq}
 use Rattle.command_words.specs.declared.dialect.Dialect.{Dialect}
 use Rattle.command_words.specs.declared.dialect.Dialect.TheVariants.{Script, Client}
 use Rattle.command_words.specs.declared.keyword.Keyword.{Keyword}
-use Rattle.command_words.specs.declared.keyword.Keyword.TheVariants.{Rule, Replicas, Cells, Clear, Pattern, End, Copy, Or, State, Delta, Deliver, Show, Same, Dump, Export, ExportOver, Cut, CutOver, Count, Undo, Redo, Poll, Wait, Sleep, Save, SaveOver, Open, Help, Question, Bye, Quit, Exit}
+use Rattle.command_words.specs.declared.keyword.Keyword.TheVariants.{Rule, Replicas, Cells, Clear, Pattern, End, Turn, Copy, Or, State, Delta, Deliver, Show, Same, Dump, Export, ExportOver, Cut, CutOver, Count, Undo, Redo, Poll, Wait, Sleep, Save, SaveOver, Open, Help, Question, Bye, Quit, Exit}
 
 abbrev pub keyword_name : Keyword → List ℕ
 keyword_name Rule = codes "rule"
@@ -14,6 +14,7 @@ keyword_name Cells = codes "cells"
 keyword_name Clear = codes "clear"
 keyword_name Pattern = codes "pattern"
 keyword_name End = codes "end"
+keyword_name Turn = codes "turn"
 keyword_name Copy = codes "copy"
 keyword_name Or = codes "or"
 keyword_name State = codes "state"
@@ -43,8 +44,8 @@ keyword_name Exit = codes "exit"
 
 -- the words of a dialect
 abbrev pub keywords_of : Dialect → List Keyword
-keywords_of Script = Rule ∷ Replicas ∷ Cells ∷ Clear ∷ Pattern ∷ End ∷ Copy ∷ Or ∷ State ∷ Delta ∷ Deliver ∷ Show ∷ Same ∷ Dump ∷ Export ∷ Cut ∷ Count ∷ []
-keywords_of Client = Cells ∷ Clear ∷ Pattern ∷ End ∷ Copy ∷ Or ∷ Undo ∷ Redo ∷ Show ∷ Count ∷ Export ∷ ExportOver ∷ Cut ∷ CutOver ∷ Poll ∷ Wait ∷ Sleep ∷ Save ∷ SaveOver ∷ Open ∷ Help ∷ Question ∷ Bye ∷ Quit ∷ Exit ∷ []
+keywords_of Script = Rule ∷ Replicas ∷ Cells ∷ Clear ∷ Pattern ∷ End ∷ Turn ∷ Copy ∷ Or ∷ State ∷ Delta ∷ Deliver ∷ Show ∷ Same ∷ Dump ∷ Export ∷ Cut ∷ Count ∷ []
+keywords_of Client = Cells ∷ Clear ∷ Pattern ∷ End ∷ Turn ∷ Copy ∷ Or ∷ Undo ∷ Redo ∷ Show ∷ Count ∷ Export ∷ ExportOver ∷ Cut ∷ CutOver ∷ Poll ∷ Wait ∷ Sleep ∷ Save ∷ SaveOver ∷ Open ∷ Help ∷ Question ∷ Bye ∷ Quit ∷ Exit ∷ []
 
 -- the one of them that a word is
 abbrev pub keyword_spelled : Dialect → List ℕ → Option Keyword

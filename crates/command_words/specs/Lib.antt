@@ -3,4 +3,5 @@ pub mod Keywords
 pub mod Quotes
 pub mod Rows
 pub mod Spelled
+pub mod Turns
 pub mod Values

@@ -1,8 +1,9 @@
 -- Worked values of the definitions.
 use Rattle.std.specs.Prelude.{◌≡◌, ℕ, List, [], ◌∷◌, true, false, Option, Some, None, codes, refl, negsuc, pos}
+use Rattle.pattern_turns.specs.declared.turn.Turn.TheVariants as turned
 use Rattle.command_words.specs.declared.argument.Argument.TheVariants as argument
 use Rattle.command_words.specs.declared.dialect.Dialect.TheVariants.{Script, Client}
-use Rattle.command_words.specs.declared.keyword.Keyword.TheVariants.{Cells, Clear, Copy, Count, Cut, CutOver, Exit, Export, ExportOver, Help, Open, Poll, Question, Quit, Redo, Replicas, Rule, Save, SaveOver, Show, Undo, Wait}
+use Rattle.command_words.specs.declared.keyword.Keyword.TheVariants.{Cells, Clear, Copy, Count, Cut, CutOver, Exit, Export, ExportOver, Help, Open, Poll, Question, Quit, Redo, Replicas, Rule, Save, SaveOver, Show, Turn, Undo, Wait}
 use Rattle.command_words.specs.Arguments.{arguments_of}
 use Rattle.command_words.specs.Keywords.{keyword_spelled}
 use Rattle.command_words.specs.Quotes.{line_words, name_in_quotes}
@@ -140,6 +141,23 @@ over_a_file = refl
 
 pub over_no_file : client (codes "export! 4") ≡ None
 over_no_file = refl
+
+-- a pattern is turned alike by a script and by a client
+pub turned_in_a_script : script (codes "turn glider g2 left")
+    ≡ Some (record (begun Turn []) { name = codes "glider"; new_name = codes "g2"; turn = Some turned.Left })
+turned_in_a_script = refl
+
+pub turned_by_a_client : client (codes "turn glider g2 flip") ≡ script (codes "turn glider g2 flip")
+turned_by_a_client = refl
+
+pub other_turns : (fits argument.Turn (codes "half") ≡ true) × (fits argument.Turn (codes "mirror") ≡ true) × (fits argument.Turn (codes "Left") ≡ false)
+other_turns = (refl, refl, refl)
+
+pub turned_nowhere : script (codes "turn glider g2") ≡ None
+turned_nowhere = refl
+
+pub turned_in_no_name : script (codes "turn glider g_2 left") ≡ None
+turned_in_no_name = refl
 
 -- a script's cut tells no file, and a client's may
 pub cut_in_a_script : script (codes "cut 2 -3 4 5 6 7")

@@ -4,6 +4,7 @@ use Rattle.std.specs.Bool.{beq}
 use Rattle.std.specs.Option.{is_some}
 use Rattle.text_scan.specs.Bytes.{◌>=>◌}
 use Rattle.text_scan.specs.Words.{words, signed_number}
+use Rattle.pattern_turns.specs.declared.turn.Turn.{Turn}
 use Rattle.command_words.specs.declared.argument.Argument.{Argument}
 use Rattle.command_words.specs.declared.argument.Argument.TheVariants as argument
 use Rattle.command_words.specs.declared.dialect.Dialect.{Dialect}
@@ -13,6 +14,7 @@ use Rattle.command_words.specs.declared.spelled.Spelled.{Spelled}
 use Rattle.command_words.specs.Arguments.{arguments_of, optional_of, repeated_of}
 use Rattle.command_words.specs.Keywords.{keyword_spelled}
 use Rattle.command_words.specs.Quotes.{are_unquoted, line_words}
+use Rattle.command_words.specs.Turns.{turn_spelled}
 use Rattle.command_words.specs.Values.{file_spelled, name_spelled, new_file_spelled, number_spelled, replicas_spelled, rule_text_spelled, state_spelled}
 
 -- the keyword of a line, what its arguments say, and the words that are left
@@ -21,6 +23,8 @@ pub record SpelledValue : Type 0 where
   pub rule : List ℕ
   pub replicas : ℕ
   pub name : List ℕ
+  pub new_name : List ℕ
+  pub turn : Option Turn
   pub replica : ℕ
   pub other_replica : ℕ
   pub x : ℤ
@@ -44,6 +48,8 @@ spelled_of spelled = record {
   rule = spelled.rule.now;
   replicas = spelled.replicas;
   name = spelled.name.now;
+  new_name = spelled.new_name.now;
+  turn = spelled.turn;
   replica = spelled.replica;
   other_replica = spelled.other_replica;
   x = spelled.x;
@@ -72,6 +78,8 @@ begun keyword behind = record {
   rule = [];
   replicas = 0;
   name = [];
+  new_name = [];
+  turn = None;
   replica = 1;
   other_replica = 0;
   x = pos 0;
@@ -111,6 +119,8 @@ abbrev pub with_word : Argument → List ℕ → SpelledValue → Option Spelled
 with_word argument.Rule word line = option_map (λ text. record line { rule = text }) (rule_text_spelled word)
 with_word argument.Replicas word line = option_map (λ n. record line { replicas = n }) (replicas_spelled word)
 with_word argument.Name word line = option_map (λ name. record line { name = name }) (name_spelled word)
+with_word argument.NewName word line = option_map (λ name. record line { new_name = name }) (name_spelled word)
+with_word argument.Turn word line = option_map (λ turn. record line { turn = Some turn }) (turn_spelled word)
 with_word argument.X word line = option_map (λ x. record line { x = x }) (signed_number word)
 with_word argument.Y word line = option_map (λ y. record line { y = y }) (signed_number word)
 with_word argument.State word line = option_map (λ state. record line { state = state }) (state_spelled word)

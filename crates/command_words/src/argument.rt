@@ -13,6 +13,10 @@ pub enum Argument {
     Replicas,
     /// The name of a pattern: 1 to 16 ASCII letters and digits.
     Name,
+    /// The name that is given to what becomes of the pattern.
+    NewName,
+    /// A turn of a pattern: `left`, `right`, `half`, `mirror` or `flip`.
+    Turn,
     /// The number of a replica.
     Replica,
     /// The number of one of two replicas.
@@ -63,6 +67,8 @@ impl Argument {
             Argument::Rule => "the rule",
             Argument::Replicas => "the number of replicas",
             Argument::Name => "the pattern's name",
+            Argument::NewName => "the new pattern's name",
+            Argument::Turn => "the turn",
             Argument::Replica | Argument::OneReplica => "the replica's number",
             Argument::OtherReplica => "the other replica's number",
             Argument::X => "x",
@@ -86,6 +92,8 @@ impl Argument {
             Argument::Rule => "S/B/C",
             Argument::Replicas | Argument::Edits => "N",
             Argument::Name => "NAME",
+            Argument::NewName => "NEW",
+            Argument::Turn => "left|right|half|mirror|flip",
             Argument::Replica => "R",
             Argument::OneReplica => "A",
             Argument::OtherReplica => "B",
@@ -108,7 +116,8 @@ impl Argument {
         match self {
             Argument::Rule => "survival/birth/states, as 23/3/2",
             Argument::Replicas => "0 to 64",
-            Argument::Name => "1 to 16 letters and digits",
+            Argument::Name | Argument::NewName => "1 to 16 letters and digits",
+            Argument::Turn => "left, right, half, mirror or flip",
             Argument::X | Argument::Y => "-2147483648 to 2147483647",
             Argument::State => "0 to 255",
             Argument::File => "any word",

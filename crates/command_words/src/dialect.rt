@@ -17,13 +17,14 @@ pub enum Dialect {
     Client,
 }
 
-static SCRIPT: [Keyword; 17] = [
+static SCRIPT: [Keyword; 18] = [
     Keyword::Rule,
     Keyword::Replicas,
     Keyword::Cells,
     Keyword::Clear,
     Keyword::Pattern,
     Keyword::End,
+    Keyword::Turn,
     Keyword::Copy,
     Keyword::Or,
     Keyword::State,
@@ -37,11 +38,12 @@ static SCRIPT: [Keyword; 17] = [
     Keyword::Count,
 ];
 
-static CLIENT: [Keyword; 25] = [
+static CLIENT: [Keyword; 26] = [
     Keyword::Cells,
     Keyword::Clear,
     Keyword::Pattern,
     Keyword::End,
+    Keyword::Turn,
     Keyword::Copy,
     Keyword::Or,
     Keyword::Undo,

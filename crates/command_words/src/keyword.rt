@@ -16,6 +16,7 @@ pub enum Keyword {
     Clear,
     Pattern,
     End,
+    Turn,
     Copy,
     Or,
     State,
@@ -67,6 +68,7 @@ impl Keyword {
             Keyword::Clear => "clear",
             Keyword::Pattern => "pattern",
             Keyword::End => "end",
+            Keyword::Turn => "turn",
             Keyword::Copy => "copy",
             Keyword::Or => "or",
             Keyword::State => "state",
@@ -142,6 +144,7 @@ impl Keyword {
                 Argument::Height,
             ],
             Keyword::Pattern => &[Argument::Name],
+            Keyword::Turn => &[Argument::Name, Argument::NewName, Argument::Turn],
             Keyword::Copy | Keyword::Or => &[
                 Argument::Replica,
                 Argument::Name,

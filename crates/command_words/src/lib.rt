@@ -7,6 +7,7 @@ mod dialect;
 mod keyword;
 mod quotes;
 mod spelled;
+mod turns;
 mod values;
 
 pub use argument::Argument;

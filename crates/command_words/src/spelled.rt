@@ -8,7 +8,9 @@ use crate::argument::Argument;
 use crate::dialect::Dialect;
 use crate::keyword::Keyword;
 use crate::quotes::opens_quote;
+use crate::turns::turn_in;
 use crate::values::{file_in, name_in, new_name_in, replicas_in, rule_in, state_in, unsigned};
+use pattern_turns::Turn;
 use text_scan::signed;
 
 /// What the words of a line spell: the keyword that it begins with, and what is said by each argument
@@ -25,6 +27,10 @@ pub struct Spelled<'a> {
     pub replicas: u16,
     /// The name of a pattern.
     pub name: &'a [u8],
+    /// The name that is given to what becomes of it.
+    pub new_name: &'a [u8],
+    /// A turn of a pattern.
+    pub turn: Option<Turn>,
     pub replica: u32,
     pub other_replica: u32,
     pub x: i32,
@@ -76,6 +82,8 @@ impl<'a> Spelled<'a> {
             rule: b"",
             replicas: 0,
             name: b"",
+            new_name: b"",
+            turn: None,
             replica: 1,
             other_replica: 0,
             x: 0,
@@ -141,6 +149,14 @@ impl<'a> Spelled<'a> {
             }),
             Argument::Name => Some(Spelled {
                 name: name_in(word)?,
+                ..*self
+            }),
+            Argument::NewName => Some(Spelled {
+                new_name: name_in(word)?,
+                ..*self
+            }),
+            Argument::Turn => Some(Spelled {
+                turn: Some(turn_in(word)?),
                 ..*self
             }),
             Argument::X => Some(Spelled {

@@ -9,8 +9,9 @@ use Rattle.drawing_history.specs.declared.way.Way.TheVariants.{Undo, Redo}
 use Rattle.replica_core.specs.declared.event.Question.{Question}
 use Rattle.replica_core.specs.declared.event.Question.TheVariants as questions
 use Rattle.replica_core.specs.declared.event.Reply.TheVariants as reply
-use Rattle.genedit_lib.specs.Output.{naming_text, reply_line, with_text}
+use Rattle.genedit_lib.specs.Output.{naming_text, reply_line, turned_named, turning_text, with_named, with_text}
 use Rattle.genedit_lib.specs.Patterns.{pattern_in}
+use Rattle.genedit_script.specs.declared.command.Turning.{Turning}
 use Rattle.client_commands.specs.declared.command.FileTarget.{FileTarget}
 use Rattle.client_commands.specs.declared.command.ClientCommand.{ClientCommand}
 use Rattle.client_commands.specs.declared.command.ClientCommand.TheVariants as command
@@ -60,6 +61,15 @@ IsNaming name text m n (Ok done) =
 IsNaming name text m n (Err fault) =
     (fault ≡ Memory) × (n.out ≡ m.out) × ((other : List ℕ) → pattern_in n.patterns other ≡ pattern_in m.patterns other) × KeepsAllButNames m n
 
+-- a named pattern was turned, if there is one, and given a name, and its line printed; or memory is wanting, and each name stands for what it did
+abbrev pub IsTurning : {A : Type 0} → Turning → PenState → PenState → Result A PenFault → Type 0
+IsTurning turning m n (Ok done) =
+    let turned = turned_named (pattern_in m.patterns) turning in
+    (n.out ≡ m.out ++ (turning_text turning.new_name turned ++ codes "\n"))
+    × ((other : List ℕ) → pattern_in n.patterns other ≡ with_named (pattern_in m.patterns) turning.new_name turned other) × KeepsAllButNames m n
+IsTurning turning m n (Err fault) =
+    (fault ≡ Memory) × (n.out ≡ m.out) × ((other : List ℕ) → pattern_in n.patterns other ≡ pattern_in m.patterns other) × KeepsAllButNames m n
+
 -- ---- commands
 
 -- the commands that draw in a document
@@ -67,6 +77,7 @@ abbrev pub help_text : List ℕ
 help_text =
     codes "cells x y s .., clear x y w h  draw cells, or an area of dead ones\n"
     ++ codes "pattern NAME, lines, end       keeps the pattern of these lines of RLE\n"
+    ++ codes "turn NAME NEW left|right|half|mirror|flip  keeps NAME's pattern, turned, as NEW\n"
     ++ codes "copy NAME x y, or NAME x y     draw its whole box there, or its live cells\n"
     ++ codes "show x y                       prints a cell\n"
     ++ codes "count G                        prints how many cells live G generations later\n"
@@ -86,6 +97,7 @@ cut_of window generation = questions.Cut (record { window = window; generation =
 abbrev pub IsCarriedOut : ClientCommand → PenState → PenState → Result Done PenFault → Type 0
 IsCarriedOut (command.Draw drawing) m n result = Comes (DrawsAndEnds (IsDrawn 0 drawing) m n) (λ (_ : Outcome). Told) result
 IsCarriedOut (command.Pattern name text) m n result = Comes {A = Unit {0}} (IsNaming name text m n) (λ _. Told) result
+IsCarriedOut (command.Turn turning) m n result = Comes {A = Unit {0}} (IsTurning turning m n) (λ _. Told) result
 IsCarriedOut (command.Copy at) m n result = Comes (IsPaste (pasted mode.Copy at m) m n) (λ (_ : Outcome). Told) result
 IsCarriedOut (command.Or at) m n result = Comes (IsPaste (pasted mode.Or at m) m n) (λ (_ : Outcome). Told) result
 IsCarriedOut (command.Show x y) m n result = Comes {A = Unit {0}} (IsPrinted tt (reply_line (reply.Shown (map_of m.replica.plane (at_place x y)))) m n) (λ _. Told) result

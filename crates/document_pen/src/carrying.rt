@@ -21,6 +21,7 @@ pub fn carry_out<K: Keep>(pen: &mut Pen<K>, command: ClientCommand) -> Result<Do
     match command {
         ClientCommand::Draw(spec) => told(pen.draw(0, &spec)),
         ClientCommand::Pattern(name, text) => told(pen.name_pattern(name, &text)),
+        ClientCommand::Turn(turning) => told(pen.turn_pattern(turning)),
         ClientCommand::Copy(placed) => told(pen.paste(PasteMode::Copy, &placed)),
         ClientCommand::Or(placed) => told(pen.paste(PasteMode::Or, &placed)),
         ClientCommand::Show(x, y) => told(pen.show(x, y)),

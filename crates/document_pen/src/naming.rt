@@ -2,15 +2,15 @@
 
 ghost use Rattle.std.specs.Prelude.{◌≡◌, ◌++◌, IfErr, IfOk, IsSome, codes};
 ghost use Rattle.genedit_lib.specs.Output.{no_pattern_line};
-ghost use Rattle.document_pen.specs.Carrying.{IsNaming};
+ghost use Rattle.document_pen.specs.Carrying.{IsNaming, IsTurning};
 ghost use Rattle.document_pen.specs.Drawing.{IsPaste, paste_spec, pasted};
 ghost use Rattle.document_pen.specs.Pen.{IsPrinted};
 
 use crate::fault::PenFault;
 use crate::pen::{Outcome, Pen};
 use client_commands::Placement;
-use genedit_lib::{give_name, no_pattern_text, push_text};
-use genedit_script::{PatternName, PatternText};
+use genedit_lib::{give_name, no_pattern_text, push_text, turn_pattern};
+use genedit_script::{PatternName, PatternText, Turning};
 use kept_devices::Keep;
 use pattern_cells::Pattern;
 use replica_events::EditSpec;
@@ -32,6 +32,21 @@ impl<K: Keep> Pen<K> {
     {
         let before = self.out.len();
         match give_name(self.alloc, &mut self.patterns, &mut self.out, name, text) {
+            Ok(()) => Ok(()),
+            Err(_) => {
+                self.out.truncate(before);
+                Err(PenFault::Memory)
+            }
+        }
+    }
+
+    /// From here on the new name stands for the named pattern, turned, whose line is printed as by `genedit run`.
+    /// Where the name stands for no pattern the new one is left as it was, and that is printed.
+    pub fn turn_pattern(&mut self, turning: Turning) -> Result<(), PenFault>
+        ensures { IsTurning turning self.old self.new result }
+    {
+        let before = self.out.len();
+        match turn_pattern(self.alloc, &mut self.patterns, &mut self.out, turning) {
             Ok(()) => Ok(()),
             Err(_) => {
                 self.out.truncate(before);

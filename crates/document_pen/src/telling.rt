@@ -30,13 +30,14 @@ impl<K: Keep> Pen<K> {
     }
 }
 
-/// The commands that draw in a document, in thirteen lines.
+/// The commands that draw in a document, in fourteen lines.
 fn help_text() -> &'static str
     ensures { result.now ≡ help_text }
 {
     "\
 cells x y s .., clear x y w h  draw cells, or an area of dead ones
 pattern NAME, lines, end       keeps the pattern of these lines of RLE
+turn NAME NEW left|right|half|mirror|flip  keeps NAME's pattern, turned, as NEW
 copy NAME x y, or NAME x y     draw its whole box there, or its live cells
 show x y                       prints a cell
 count G                        prints how many cells live G generations later

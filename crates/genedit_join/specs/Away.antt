@@ -47,6 +47,7 @@ needs_server (command.Wait wait) = true
 needs_server (command.Save file) = true
 needs_server (command.Open file) = true
 needs_server (command.Pattern name text) = false
+needs_server (command.Turn turning) = false
 needs_server (command.Show x y) = false
 needs_server (command.Sleep milliseconds) = false
 needs_server command.Help = false

@@ -25,6 +25,7 @@ asks_ahead command.Poll awaited = true
 asks_ahead (command.Wait wait) awaited = true
 asks_ahead (command.Save file) awaited = true
 asks_ahead (command.Pattern name text) awaited = false
+asks_ahead (command.Turn turning) awaited = false
 asks_ahead (command.Show x y) awaited = false
 asks_ahead (command.Sleep milliseconds) awaited = false
 asks_ahead (command.Open file) awaited = false

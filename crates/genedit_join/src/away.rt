@@ -72,6 +72,7 @@ pub(crate) fn needs_server(command: &ClientCommand) -> bool
         | ClientCommand::Save(_)
         | ClientCommand::Open(_) => true,
         ClientCommand::Pattern(_, _)
+        | ClientCommand::Turn(_)
         | ClientCommand::Show(_, _)
         | ClientCommand::Sleep(_)
         | ClientCommand::Help

@@ -586,6 +586,7 @@ fn asks_ahead(command: &ClientCommand, awaited: bool) -> bool
         | ClientCommand::Wait(_)
         | ClientCommand::Save(_) => true,
         ClientCommand::Pattern(_, _)
+        | ClientCommand::Turn(_)
         | ClientCommand::Show(_, _)
         | ClientCommand::Sleep(_)
         | ClientCommand::Open(_)

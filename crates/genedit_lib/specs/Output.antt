@@ -5,6 +5,7 @@ use Rattle.multistate_rle.specs.declared.fault.RleFault.{RleFault}
 use Rattle.export.specs.declared.asking.Count.{Count}
 use Rattle.pattern_cells.specs.declared.window.Window.{Window}
 use Rattle.pattern_cells.specs.Pattern.{RlePattern}
+use Rattle.pattern_turns.specs.Turning.{turned_pattern}
 use Rattle.multistate_rle.specs.Reading.{parsed}
 use Rattle.multistate_rle.specs.RleFault.{text_fault_number, text_fault_text}
 use Rattle.stamped_writes.specs.declared.write.Write.{Write}
@@ -20,7 +21,8 @@ use Rattle.replica_core.specs.Fault.{replica_fault_number, replica_fault_text}
 use Rattle.replica_core.specs.World.{opening, AreReplies}
 use Rattle.genedit_io.specs.RunFault.{name_of_number}
 use Rattle.genedit_script.specs.declared.command.Command.{Command}
-use Rattle.genedit_script.specs.declared.command.Command.TheVariants.{Does, Names, Copies, Ors}
+use Rattle.genedit_script.specs.declared.command.Command.TheVariants.{Does, Names, Copies, Ors, Turns}
+use Rattle.genedit_script.specs.declared.command.Turning.{Turning}
 use Rattle.genedit_script.specs.Script.{ScriptValue}
 
 -- ---- steps and lines
@@ -92,6 +94,11 @@ naming_text name (Err fault) = refused_text (text_fault_number fault) (text_faul
 abbrev pub no_pattern_line : List ℕ
 no_pattern_line = refused_text 38 (name_of_number 38)
 
+-- what is said of a pattern that was turned and given a name, or of none
+abbrev pub turning_text : List ℕ → Option RlePattern → List ℕ
+turning_text name (Some pattern) = pattern_line name pattern
+turning_text name None = no_pattern_line
+
 -- ---- names
 
 -- which pattern each name stands for
@@ -109,6 +116,15 @@ abbrev pub with_text : NamedPatterns → List ℕ → Result RlePattern RleFault
 with_text patterns name (Ok pattern) = with_pattern patterns name pattern
 with_text patterns name (Err fault) = patterns
 
+-- no pattern leaves the name as it was
+abbrev pub with_named : NamedPatterns → List ℕ → Option RlePattern → NamedPatterns
+with_named patterns name (Some pattern) = with_pattern patterns name pattern
+with_named patterns name None = patterns
+
+-- the pattern of a name, turned
+abbrev pub turned_named : NamedPatterns → Turning → Option RlePattern
+turned_named patterns turning = option_map (turned_pattern turning.turn) (patterns turning.name)
+
 -- ---- commands
 
 -- the draw of a paste, or that no pattern has its name
@@ -120,12 +136,14 @@ paste_step replica None = Says no_pattern_line
 abbrev pub command_step : NamedPatterns → Command → ScriptStep
 command_step patterns (Does event) = Happens event
 command_step patterns (Names name text) = Says (naming_text name (parsed text))
+command_step patterns (Turns turning) = Says (turning_text turning.new_name (turned_named patterns turning))
 command_step patterns (Copies paste) = paste_step paste.replica (option_map (λ pattern. Copy pattern paste.x paste.y) (patterns paste.name))
 command_step patterns (Ors paste) = paste_step paste.replica (option_map (λ pattern. Or pattern paste.x paste.y) (patterns paste.name))
 
 -- the names after a command
 abbrev pub after_command : NamedPatterns → Command → NamedPatterns
 after_command patterns (Names name text) = with_text patterns name (parsed text)
+after_command patterns (Turns turning) = with_named patterns turning.new_name (turned_named patterns turning)
 after_command patterns (Does event) = patterns
 after_command patterns (Copies paste) = patterns
 after_command patterns (Ors paste) = patterns

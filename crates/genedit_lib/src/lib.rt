@@ -13,7 +13,7 @@ mod step;
 pub use edit_lines::{push_cells, push_edit, push_edits};
 pub use genedit_io::RunFault;
 pub use laws::output_laws;
-pub use naming::give_name;
+pub use naming::{give_name, turn_pattern};
 pub use output::{
     no_pattern_text, pattern_text, push_line, push_taken_back, push_text, text_refusal,
 };

@@ -1,11 +1,13 @@
 //! Patterns by their names.
 
-ghost use Rattle.std.specs.Prelude.{◌≡◌, List, ℕ, OnOk, OnErr, IfErr, IfOk, IsSome, option_copied};
+ghost use Rattle.std.specs.Prelude.{◌≡◌, List, ℕ, OnOk, OnErr, IfErr, IfOk, IsSome, option_copied, option_map};
+ghost use Rattle.pattern_turns.specs.Turning.{turned_pattern};
 ghost use Rattle.genedit_lib.specs.Output.{no_patterns, with_pattern};
 ghost use Rattle.genedit_lib.specs.Patterns.{pattern_in};
 
 use genedit_script::PatternName;
 use pattern_cells::Pattern;
+use pattern_turns::{Turn, turned};
 use std::alloc::{AllocError, Global};
 use std::collections::BTreeMap;
 
@@ -16,7 +18,8 @@ pub struct Patterns {
 }
 
 impl Patterns {
-    ghost use Rattle.std.specs.Prelude.{◌≡◌, List, ℕ, OnOk, OnErr, IfErr, IfOk, IsSome, option_copied};
+    ghost use Rattle.std.specs.Prelude.{◌≡◌, List, ℕ, OnOk, OnErr, IfErr, IfOk, IsSome, option_copied, option_map};
+    ghost use Rattle.pattern_turns.specs.Turning.{turned_pattern};
     ghost use Rattle.genedit_lib.specs.Output.{no_patterns, with_pattern};
     ghost use Rattle.genedit_lib.specs.Patterns.{pattern_in};
 
@@ -38,6 +41,25 @@ impl Patterns {
             Some(pattern) => {
                 let copy = pattern.copy()?;
                 Ok(Some(copy))
+            }
+            None => Ok(None),
+        }
+    }
+
+    /// The pattern that a name stands for, turned.
+    pub fn turned_of(
+        &self,
+        alloc: Global,
+        name: &PatternName,
+        turn: Turn,
+    ) -> Result<Option<Pattern>, AllocError>
+        ensures turned { IfOk result (λ pattern. pattern ≡ option_map (turned_pattern turn) (pattern_in self.now name.now)) }
+        ensures want { IfErr result (λ _. IsSome (pattern_in self.now name.now)) }
+    {
+        match self.by_name.get(name) {
+            Some(pattern) => {
+                let turned = turned(alloc, pattern, turn)?;
+                Ok(Some(turned))
             }
             None => Ok(None),
         }

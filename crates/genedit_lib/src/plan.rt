@@ -2,14 +2,14 @@
 
 ghost use Rattle.std.specs.Prelude.{◌≡◌, ◌↔◌, List, ℕ, map, IfOk, IsErr, OnOk};
 ghost use Rattle.multistate_rle.specs.Reading.{parsed};
-ghost use Rattle.genedit_lib.specs.Output.{Says, after_command, command_step, events_among, naming_text, no_patterns, paste_step, step_line, steps, with_text};
+ghost use Rattle.genedit_lib.specs.Output.{Says, after_command, command_step, events_among, naming_text, no_patterns, paste_step, step_line, steps, turned_named, turning_text, with_named, with_text};
 ghost use Rattle.genedit_lib.specs.Patterns.{pattern_in};
 ghost use Rattle.genedit_lib.specs.Plan.{line_of, step_of};
 
 use crate::output::{no_pattern_text, pattern_text, text_refusal};
 use crate::patterns::Patterns;
 use crate::step::{Step, Text};
-use genedit_script::{Command, PatternName, PatternText};
+use genedit_script::{Command, PatternName, PatternText, Turning};
 use multistate_rle::{RleFault, parse};
 use replica_core::{EditSpec, Event};
 use std::alloc::{AllocError, Global};
@@ -58,6 +58,7 @@ fn next_step(alloc: Global, patterns: &mut Patterns, command: Command) -> Result
     match command {
         Command::Does(event) => Ok(Step::Happens(event)),
         Command::Names(name, text) => give_name(alloc, patterns, name, &text),
+        Command::Turns(turning) => turn_named(alloc, patterns, turning),
         Command::Copies(paste) => {
             let pattern = patterns.copy_of(&paste.name)?;
             let spec = pattern.map(|pattern| EditSpec::Copy(pattern, paste.x, paste.y));
@@ -98,6 +99,26 @@ fn give_name(
             Ok(Step::Says(line))
         }
         Err(fault) => Ok(Step::Says(text_refusal(alloc, refusal(fault)?)?)),
+    }
+}
+
+/// Lets a name stand for what becomes of a named pattern that is turned.
+fn turn_named(alloc: Global, patterns: &mut Patterns, turning: Turning) -> Result<Step, AllocError>
+    ensures step { IfOk result (λ step. step_of step ≡ Says (turning_text turning.new_name (turned_named (pattern_in patterns.old) turning))) }
+    ensures after { OnOk result ((other : List ℕ) → pattern_in patterns.new other ≡ with_named (pattern_in patterns.old) turning.new_name (turned_named (pattern_in patterns.old) turning) other) }
+{
+    let Turning {
+        name,
+        new_name,
+        turn,
+    } = turning;
+    match patterns.turned_of(alloc, &name, turn)? {
+        Some(pattern) => {
+            let line = pattern_text(alloc, new_name.as_bytes(), &pattern)?;
+            patterns.insert(new_name, pattern)?;
+            Ok(Step::Says(line))
+        }
+        None => Ok(Step::Says(no_pattern_text(alloc)?)),
     }
 }
 

@@ -2,10 +2,11 @@
 use Rattle.std.specs.Prelude.{◌≡◌, [], ◌∷◌, Some, None, Ok, Err, codes, refl, pos, negsuc}
 use Rattle.std.specs.Str.Lines.{lines}
 use Rattle.generations_rule.specs.RuleText.{rule_of_text}
+use Rattle.pattern_turns.specs.declared.turn.Turn.TheVariants.{Mirror}
 use Rattle.text_scan.specs.Words.{words, signed_number}
 use Rattle.replica_events.specs.declared.event.Event.TheVariants.{Draw, SendState, Deliver, Show}
 use Rattle.replica_events.specs.declared.edit_spec.EditSpec.TheVariants.{Cells, Clear}
-use Rattle.genedit_script.specs.declared.command.Command.TheVariants.{Does, Names, Copies, Ors}
+use Rattle.genedit_script.specs.declared.command.Command.TheVariants.{Does, Names, Copies, Ors, Turns}
 use Rattle.command_words.specs.Values.{number_spelled, name_spelled}
 use Rattle.genedit_script.specs.Script.{script_of, event_spelled, command_spelled, replicas_spelled}
 
@@ -162,6 +163,15 @@ no_replica_drawn_over = refl
 
 pub no_count_of_replicas : replicas_spelled (words (codes "replicas -0")) ≡ None
 no_count_of_replicas = refl
+
+-- ---- turns
+
+pub turned : command_spelled (words (codes "turn a b mirror"))
+    ≡ Some (Turns (record { name = codes "a"; new_name = codes "b"; turn = Mirror }))
+turned = refl
+
+pub turned_by_a_replica : command_spelled (words (codes "turn 1 a b mirror")) ≡ None
+turned_by_a_replica = refl
 
 -- ---- names
 

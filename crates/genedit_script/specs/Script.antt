@@ -19,8 +19,9 @@ use Rattle.command_words.specs.declared.keyword.Keyword.TheVariants as keyword
 use Rattle.command_words.specs.Spelled.{SpelledValue, line_spelled}
 use Rattle.command_words.specs.Values.{cells_spelled}
 use Rattle.genedit_script.specs.declared.command.Command.{Command}
-use Rattle.genedit_script.specs.declared.command.Command.TheVariants.{Does, Names, Copies, Ors}
+use Rattle.genedit_script.specs.declared.command.Command.TheVariants.{Does, Names, Copies, Ors, Turns}
 use Rattle.genedit_script.specs.declared.command.Paste.{Paste}
+use Rattle.genedit_script.specs.declared.command.Turning.{Turning}
 
 -- a world's rule and number of replicas, and what is asked for in it
 pub record ScriptValue : Type 0 where
@@ -57,6 +58,10 @@ area_of line = record { x = line.x; y = line.y; width = line.width; height = lin
 abbrev pub paste_of : SpelledValue → Paste
 paste_of line = record { replica = line.replica; name = line.name; x = line.x; y = line.y }
 
+-- which pattern is turned, how, and the name of what becomes of it
+abbrev pub turning_asked : SpelledValue → Option Turning
+turning_asked line = option_map (λ turn. record { name = line.name; new_name = line.new_name; turn = turn }) line.turn
+
 -- what happens
 abbrev pub event_asked : SpelledValue → Option Event
 event_asked line = elim line.keyword [
@@ -74,11 +79,12 @@ event_asked line = elim line.keyword [
   | _ ↦ None
 ]
 
--- a paste, or what happens
+-- a paste, a turn, or what happens
 abbrev pub command_asked : SpelledValue → Option Command
 command_asked line = elim line.keyword [
   | keyword.Copy ↦ Some (Copies (paste_of line))
   | keyword.Or ↦ Some (Ors (paste_of line))
+  | keyword.Turn ↦ option_map Turns (turning_asked line)
   | _ ↦ option_map Does (event_asked line)
 ]
 

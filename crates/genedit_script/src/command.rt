@@ -3,6 +3,7 @@
 ghost use Rattle.std.specs.Prelude.{◌≡◌, IfOk};
 
 use lists::ListOf;
+use pattern_turns::Turn;
 use replica_events::Event;
 use std::alloc::{AllocError, Global};
 use std::marker::Model;
@@ -18,6 +19,8 @@ pub enum Command {
     Copies(Paste),
     /// `or R NAME x y`: a replica draws the nonzero cells of the named pattern.
     Ors(Paste),
+    /// `turn NAME NEW left`: from here on the new name stands for the named pattern, turned.
+    Turns(Turning),
 }
 
 /// Who pastes which pattern, and where the upper left corner of its box goes.
@@ -29,6 +32,16 @@ pub struct Paste {
     pub name: PatternName,
     pub x: i32,
     pub y: i32,
+}
+
+/// Which pattern is turned, how, and which name stands for what becomes of it.
+#[derive(Debug, Drop)]
+pub struct Turning {
+    /// The name of the pattern.
+    pub name: PatternName,
+    /// The name of the turned one.
+    pub new_name: PatternName,
+    pub turn: Turn,
 }
 
 /// The name of a pattern: in a script that was read, 1 to 16 ASCII letters and digits.

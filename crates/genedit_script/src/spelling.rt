@@ -6,9 +6,9 @@ ghost use Rattle.replica_events.specs.declared.event.Event.TheVariants.{Draw};
 ghost use Rattle.replica_events.specs.declared.edit_spec.EditSpec.TheVariants.{Cells};
 ghost use Rattle.command_words.specs.Spelled.{spelled_of};
 ghost use Rattle.command_words.specs.Values.{cells_spelled};
-ghost use Rattle.genedit_script.specs.Script.{area_of, command_asked, command_spelled, event_asked, opening_spelled, paste_of, replicas_spelled, rule_spelled, window_of};
+ghost use Rattle.genedit_script.specs.Script.{area_of, command_asked, command_spelled, event_asked, opening_spelled, paste_of, replicas_spelled, rule_spelled, turning_asked, window_of};
 
-use crate::command::{Command, Paste, PatternName};
+use crate::command::{Command, Paste, PatternName, Turning};
 use command_words::{Dialect, Keyword, Spelled, cells_in, read_line};
 use edit_stamps::Rect;
 use generations_rule::Rule;
@@ -66,6 +66,7 @@ fn command_asked(alloc: Global, spelled: &Spelled<'_>) -> Result<Option<Command>
     match spelled.keyword {
         Keyword::Copy => Ok(Some(Command::Copies(paste_of(alloc, spelled)?))),
         Keyword::Or => Ok(Some(Command::Ors(paste_of(alloc, spelled)?))),
+        Keyword::Turn => Ok(turning_in(alloc, spelled)?.map(Command::Turns)),
         _ => {
             let event = event_asked(alloc, spelled)?;
             Ok(event.map(Command::Does))
@@ -140,4 +141,18 @@ fn paste_of(alloc: Global, spelled: &Spelled<'_>) -> Result<Paste, AllocError>
         x: spelled.x,
         y: spelled.y,
     })
+}
+
+/// Which pattern is turned, and how, where a line tells a turn.
+pub fn turning_in(alloc: Global, spelled: &Spelled<'_>) -> Result<Option<Turning>, AllocError>
+    ensures { IfOk result (λ turning. turning ≡ turning_asked (spelled_of spelled.now)) }
+{
+    let Some(turn) = spelled.turn else {
+        return Ok(None);
+    };
+    Ok(Some(Turning {
+        name: PatternName::of(alloc, spelled.name)?,
+        new_name: PatternName::of(alloc, spelled.new_name)?,
+        turn,
+    }))
 }

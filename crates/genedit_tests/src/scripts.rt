@@ -2,12 +2,12 @@
 
 use crate::told;
 use edit_stamps::{Cell, Rect};
-use genedit_script::{Command, Paste, Script, ScriptFault, read_script};
+use genedit_script::{Command, Paste, Script, ScriptFault, Turning, read_script};
 use replica_core::{EditSpec, Event};
 use std::alloc::{AllocError, Global};
 
 const EVERY_COMMAND: &[u8] = b"# three replicas\r\nrule 345/2/4\nreplicas 03\n\npattern Glider7\r\n\
-    # a comment of the pattern\r\n\r\nx = 3, y = 3\r\nbob$2bo$\n end\n3o!\nend\ncells 1 0 -1 3 2 3 1\n\
+    # a comment of the pattern\r\n\r\nx = 3, y = 3\r\nbob$2bo$\n end\n3o!\nend\nturn Glider7 g2 flip\ncells 1 0 -1 3 2 3 1\n\
     \tclear 1 -4 5 9 8\ncopy 2 Glider7 -1 7\nor 3 Glider7 8 -2\nstate 1\ndeliver 4294967295 2\n\
     show 2 0 -1\nsame 1 4294967295\ndelta 2 0 4294967295\ndump 007\nexport 2 536870913\n";
 
@@ -62,6 +62,12 @@ fn paste_told(alloc: Global, mode: &str, paste: &Paste) -> Result<String, AllocE
     format!(in alloc; "{mode} {} {name} {} {}", paste.replica, paste.x, paste.y)
 }
 
+fn turning_told(alloc: Global, turning: &Turning) -> Result<String, AllocError> {
+    let name = String::from_utf8_lossy(alloc, turning.name.as_bytes())?;
+    let new_name = String::from_utf8_lossy(alloc, turning.new_name.as_bytes())?;
+    format!(in alloc; "turn {name} {new_name} {:?}", turning.turn)
+}
+
 fn command_told(alloc: Global, command: &Command) -> Result<String, AllocError> {
     match command {
         Command::Does(event) => event_told(alloc, event),
@@ -72,6 +78,7 @@ fn command_told(alloc: Global, command: &Command) -> Result<String, AllocError> 
         }
         Command::Copies(paste) => paste_told(alloc, "copy", paste),
         Command::Ors(paste) => paste_told(alloc, "or", paste),
+        Command::Turns(turning) => turning_told(alloc, turning),
     }
 }
 
@@ -98,7 +105,7 @@ fn every_command_is_read(rt: HostRuntime) -> Result<(), AllocError> {
     assert_eq!(rt;
         read(rt.alloc(), EVERY_COMMAND)?.as_str(),
         "rule 345/2/4\nreplicas 3\npattern Glider7\n# a comment of the pattern\n\nx = 3, y = 3\n\
-        bob$2bo$\n end\n3o!\nend\ncells 1 0 -1 3 2 3 1\nclear 1 -4 5 9 8\ncopy 2 Glider7 -1 7\n\
+        bob$2bo$\n end\n3o!\nend\nturn Glider7 g2 Flip\ncells 1 0 -1 3 2 3 1\nclear 1 -4 5 9 8\ncopy 2 Glider7 -1 7\n\
         or 3 Glider7 8 -2\nstate 1\ndeliver 4294967295 2\nshow 2 0 -1\nsame 1 4294967295\n\
         delta 2 0 4294967295\ndump 7\nexport 2 536870913\n"
     );

@@ -29,6 +29,9 @@ generation and the rule that its text tells are passed over. y grows downwards.
   deliver M R            message M reaches replica R
   show R x y             prints a cell of replica R: state, counter and replica of its stamp
   pattern NAME           the lines up to a line `end` are an RLE text; keeps its pattern by name
+  turn NAME NEW left|right|half|mirror|flip  keeps NAME's pattern, turned, as NEW: by a quarter, by a half,
+                         with left and right exchanged, or with top and bottom; in Golly's menu Rotate
+                         Anticlockwise, Rotate Clockwise, that twice, Flip Left-Right, Flip Top-Bottom
   copy R NAME x y        replica R draws the pattern's whole box there, dead cells too
   or R NAME x y          replica R draws the pattern's live and dying cells there
   clear R x y w h        replica R draws an area of dead cells, w wide and h high
@@ -167,6 +170,9 @@ polls, so that the drawing goes over all that others drew by then.
   cells x y s ..         draws cells, each a coordinate and a state
   clear x y w h          draws an area of dead cells, w wide and h high
   pattern NAME           the lines up to a line `end` are an RLE text; keeps its pattern by name
+  turn NAME NEW left|right|half|mirror|flip  keeps NAME's pattern, turned, as NEW: by a quarter, by a half,
+                         with left and right exchanged, or with top and bottom; in Golly's menu Rotate
+                         Anticlockwise, Rotate Clockwise, that twice, Flip Left-Right, Flip Top-Bottom
   copy NAME x y          draws the pattern's whole box there, dead cells too
   or NAME x y            draws the pattern's live and dying cells there
   undo                   takes your last drawing back; the cells that others drew since stay

@@ -26,6 +26,9 @@ before a line, or after it. N is the number of whoever draws, 65 to 65535: two p
   cells x y s ..         draws cells, each a coordinate and a state
   clear x y w h          draws an area of dead cells, w wide and h high
   pattern NAME           the lines up to a line `end` are an RLE text; keeps its pattern by name
+  turn NAME NEW left|right|half|mirror|flip  keeps NAME's pattern, turned, as NEW: by a quarter, by a half,
+                         with left and right exchanged, or with top and bottom; in Golly's menu Rotate
+                         Anticlockwise, Rotate Clockwise, that twice, Flip Left-Right, Flip Top-Bottom
   copy NAME x y          draws the pattern's whole box there, dead cells too
   or NAME x y            draws the pattern's live and dying cells there
   undo                   takes the last drawing back: `undone COUNTER N`, or `nothing to undo`

@@ -8,7 +8,8 @@ use header_rules::{Misspelling, spelled_rule};
 pub fn misfit(argument: Argument, word: &[u8]) -> Reason {
     match argument {
         Argument::Rule => rule_misfit(word),
-        Argument::Name => Reason::NoName,
+        Argument::Name | Argument::NewName => Reason::NoName,
+        Argument::Turn => Reason::NoTurn,
         _ if word.first() == Some(&b'#') => Reason::Remark,
         _ if is_whole_number(word) => Reason::OutOfRange(argument),
         _ => Reason::NoNumber(argument),

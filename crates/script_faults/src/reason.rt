@@ -27,6 +27,8 @@ pub enum Reason {
     OutOfRange(Argument),
     /// The word is no name of a pattern.
     NoName,
+    /// The word is no turn.
+    NoTurn,
     /// The rule is spelt as Golly spells it too, and a script does not.
     OtherSpelling,
     /// The rule is of another family.

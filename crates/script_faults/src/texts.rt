@@ -37,6 +37,12 @@ pub fn reason_text(
                 shown(alloc, word)?
             )
         }
+        Reason::NoTurn => {
+            format!(in alloc;
+                "`{}` is no turn: left, right, half, mirror or flip",
+                shown(alloc, word)?
+            )
+        }
         Reason::OtherSpelling => other_spelling_text(alloc, word),
         Reason::OtherFamily(family) => other_family_text(alloc, family, word),
         Reason::NoRule(fault) => no_rule_text(alloc, fault, word),

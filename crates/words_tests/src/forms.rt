@@ -3,13 +3,14 @@
 use command_words::Dialect;
 use std::alloc::{AllocError, Global};
 
-static SCRIPT: [&str; 17] = [
+static SCRIPT: [&str; 18] = [
     "rule S/B/C",
     "replicas N",
     "cells R x y state ..",
     "clear R x y w h",
     "pattern NAME",
     "end",
+    "turn NAME NEW left|right|half|mirror|flip",
     "copy R NAME x y",
     "or R NAME x y",
     "state R",
@@ -23,11 +24,12 @@ static SCRIPT: [&str; 17] = [
     "count R [G]",
 ];
 
-static CLIENT: [&str; 25] = [
+static CLIENT: [&str; 26] = [
     "cells x y state ..",
     "clear x y w h",
     "pattern NAME",
     "end",
+    "turn NAME NEW left|right|half|mirror|flip",
     "copy NAME x y",
     "or NAME x y",
     "undo",
@@ -64,14 +66,14 @@ fn alike(alloc: Global, dialect: Dialect, forms: &[&str]) -> Result<usize, Alloc
 
 #[test]
 fn forms_of_scripts(rt: HostRuntime) -> Result<(), AllocError> {
-    assert_eq!(rt; Dialect::Script.keywords().len(), 17);
-    assert_eq!(rt; alike(rt.alloc(), Dialect::Script, &SCRIPT)?, 17);
+    assert_eq!(rt; Dialect::Script.keywords().len(), 18);
+    assert_eq!(rt; alike(rt.alloc(), Dialect::Script, &SCRIPT)?, 18);
     Ok(())
 }
 
 #[test]
 fn forms_of_clients(rt: HostRuntime) -> Result<(), AllocError> {
-    assert_eq!(rt; Dialect::Client.keywords().len(), 25);
-    assert_eq!(rt; alike(rt.alloc(), Dialect::Client, &CLIENT)?, 25);
+    assert_eq!(rt; Dialect::Client.keywords().len(), 26);
+    assert_eq!(rt; alike(rt.alloc(), Dialect::Client, &CLIENT)?, 26);
     Ok(())
 }

@@ -55,9 +55,9 @@ fn told_keywords(alloc: Global, dialect: Dialect, forms: &[&str]) -> Result<usiz
 fn help_of_scripts(rt: HostRuntime) -> Result<(), AllocError> {
     let forms = told_forms(rt.alloc(), SCRIPT_HELP)?;
     let told = told_keywords(rt.alloc(), Dialect::Script, &forms)?;
-    assert_eq!(rt; forms.len(), 16);
-    assert_eq!(rt; told, 16);
-    assert_eq!(rt; Dialect::Script.keywords().len(), 17);
+    assert_eq!(rt; forms.len(), 17);
+    assert_eq!(rt; told, 17);
+    assert_eq!(rt; Dialect::Script.keywords().len(), 18);
     Ok(())
 }
 
@@ -65,8 +65,8 @@ fn help_of_scripts(rt: HostRuntime) -> Result<(), AllocError> {
 fn help_of_clients(rt: HostRuntime) -> Result<(), AllocError> {
     let forms = told_forms(rt.alloc(), JOIN_HELP)?;
     let told = told_keywords(rt.alloc(), Dialect::Client, &forms)?;
-    assert_eq!(rt; forms.len(), 24);
-    assert_eq!(rt; told, 24);
-    assert_eq!(rt; Dialect::Client.keywords().len(), 25);
+    assert_eq!(rt; forms.len(), 25);
+    assert_eq!(rt; told, 25);
+    assert_eq!(rt; Dialect::Client.keywords().len(), 26);
     Ok(())
 }

@@ -13,7 +13,7 @@ static HEADS: [&str; 5] = [
 ];
 
 /// Commands, blocks, and lines that are skipped.
-static LINES: [&str; 22] = [
+static LINES: [&str; 24] = [
     "cells 1 0 0 1",
     "cells 002 -3 -0 255 5 6 0",
     "cells 4294967295 -2147483648 2147483647 1",
@@ -21,6 +21,8 @@ static LINES: [&str; 22] = [
     "pattern g\nx = 3, y = 3\nbo$2bo$3o!\nend",
     "pattern ABCdefghij012345\n#C\n\nbz!\n end\nend",
     "pattern h\nend",
+    "turn g g2 left",
+    "turn nothing h mirror",
     "copy 1 g -1 7",
     "or 2 nothing 8 -2",
     "state 1",
@@ -39,12 +41,14 @@ static LINES: [&str; 22] = [
 ];
 
 /// Lines with a fault.
-static FAULTY: [&str; 12] = [
+static FAULTY: [&str; 14] = [
     "cells 1 0 0",
     "cells 1 0 0 256",
     "clear 1 0 0 -1 2",
     "pattern my-gun",
     "pattern abcdefghijklmnopq",
+    "turn g h",
+    "turn g h up",
     "end",
     "state 4294967296",
     "rule 23/3/2",

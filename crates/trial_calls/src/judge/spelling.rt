@@ -1,8 +1,9 @@
 //! Scripts that were read, in one spelling.
 
 use edit_stamps::Rect;
-use genedit_script::{Command, Paste, Script};
+use genedit_script::{Command, Paste, Script, Turning};
 use pattern_cells::{Cell, Window};
+use pattern_turns::Turn;
 use replica_events::{EditSpec, Event};
 use std::alloc::{AllocError, Global};
 
@@ -47,6 +48,7 @@ fn push_command(alloc: Global, all: &mut Vec<u8>, command: &Command) -> Result<(
         Command::Names(name, text) => push_block(all, name.as_bytes(), text.as_slice()),
         Command::Copies(paste) => push_paste(alloc, all, "copy", paste),
         Command::Ors(paste) => push_paste(alloc, all, "or", paste),
+        Command::Turns(turning) => push_turn(all, turning),
     }
 }
 
@@ -67,6 +69,25 @@ fn push_paste(
     all.push(b' ')?;
     all.extend_from_slice(paste.name.as_bytes())?;
     push_words(alloc, all, "", &[i64::from(paste.x), i64::from(paste.y)])
+}
+
+fn push_turn(all: &mut Vec<u8>, turning: &Turning) -> Result<(), AllocError> {
+    let (name, new_name) = (turning.name.as_bytes(), turning.new_name.as_bytes());
+    let turn = turn_word(turning.turn).as_bytes();
+    for part in [b"turn ".as_slice(), name, b" ", new_name, b" ", turn] {
+        all.extend_from_slice(part)?;
+    }
+    Ok(())
+}
+
+fn turn_word(turn: Turn) -> &'static str {
+    match turn {
+        Turn::Left => "left",
+        Turn::Right => "right",
+        Turn::Half => "half",
+        Turn::Mirror => "mirror",
+        Turn::Flip => "flip",
+    }
 }
 
 /// The number of a message; -1, which no script names, where it is greater than all that one can name.

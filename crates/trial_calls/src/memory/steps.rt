@@ -58,7 +58,7 @@ const SILENT: Step = Step {
 /// The board once it has eleven edits.
 const BOARD: &[u8] = b"#CXRLE Pos=0,0 Gen=0\nx = 10, y = 10, rule = /2/3\nA4$4.2A3$7.B2$9.A!\n";
 
-pub static STEPS: [Step; 21] = [
+pub static STEPS: [Step; 23] = [
     Step {
         call: "Client::join",
         draws: &cells![(9, 9, 1)],
@@ -86,6 +86,20 @@ pub static STEPS: [Step; 21] = [
         act: Act::Command(&[b"pattern p", b"x = 2, y = 1", b"A.!", b"end"]),
         edits: b"pattern p 2 1 1 0 0 0\n",
         cells: b"pattern p 2 1 1 0 0 0\n",
+        ..SILENT
+    },
+    Step {
+        call: "turn",
+        act: Act::Command(&[b"turn p t left"]),
+        edits: b"pattern t 1 2 1 0 0 0\n",
+        cells: b"pattern t 1 2 1 0 0 0\n",
+        ..SILENT
+    },
+    Step {
+        call: "turn of no pattern",
+        act: Act::Command(&[b"turn q t left"]),
+        edits: b"refused 38 NoPattern\n",
+        cells: b"refused 38 NoPattern\n",
         ..SILENT
     },
     Step {

@@ -15,10 +15,12 @@ enum Word {
     State,
     /// 1 to 16 letters and digits.
     Name,
+    /// How a pattern is turned.
+    Turn,
 }
 
 /// The words behind the name of each command, of `cells` those of its replica and one cell.
-static COMMANDS: [(&[u8], &[Word]); 13] = [
+static COMMANDS: [(&[u8], &[Word]); 14] = [
     (
         b"clear",
         &[
@@ -56,6 +58,7 @@ static COMMANDS: [(&[u8], &[Word]); 13] = [
         ],
     ),
     (b"pattern", &[Word::Name]),
+    (b"turn", &[Word::Name, Word::Name, Word::Turn]),
     (
         b"cells",
         &[
@@ -275,6 +278,7 @@ fn push_word(
         Word::State => unsigned(argument, 255),
         Word::Coordinate => signed(argument),
         Word::Name => return push_name(spelling, argument),
+        Word::Turn => return push_turn(spelling, argument),
     };
     match text {
         Some(number) => {
@@ -300,4 +304,15 @@ fn push_name(spelling: &mut Vec<u8>, name: &[u8]) -> Result<bool, AllocError> {
     spelling.extend_from_slice(b" ")?;
     spelling.extend_from_slice(name)?;
     Ok(true)
+}
+
+fn push_turn(spelling: &mut Vec<u8>, turn: &[u8]) -> Result<bool, AllocError> {
+    let is_turn = [b"left".as_slice(), b"right", b"half", b"mirror", b"flip"]
+        .iter()
+        .any(|word| *word == turn);
+    if is_turn {
+        spelling.extend_from_slice(b" ")?;
+        spelling.extend_from_slice(turn)?;
+    }
+    Ok(is_turn)
 }

@@ -1,4 +1,4 @@
-use Rattle.client_commands.proofs.DictationLaws.{spell_the_same, export_the_same, cut_the_same, hear_the_same, hear_in_order}
+use Rattle.client_commands.proofs.DictationLaws.{spell_the_same, export_the_same, cut_the_same, turn_the_same, hear_the_same, hear_in_order}
 use Rattle.client_commands.proofs.PieceLaws.{hear_pieces}
 use Rattle.client_commands.proofs.laws.command_laws.Goals as goal
 
@@ -10,6 +10,9 @@ returns-clause-exported c = export_the_same
 
 pub returns-clause-cut : goal.returns-clause-cut
 returns-clause-cut c = cut_the_same
+
+pub returns-clause-turned : goal.returns-clause-turned
+returns-clause-turned c = turn_the_same
 
 pub returns-clause-heard : goal.returns-clause-heard
 returns-clause-heard c = hear_the_same
