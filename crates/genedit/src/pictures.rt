@@ -1,11 +1,15 @@
-//! Pictures of patterns and of states.
+//! Pictures of patterns and of states, and their periods.
 
 use crate::bounds::tell_bounds;
-use crate::document_reading::{name_of, seen_text};
+use crate::document_reading::{name_of, printed, seen_text};
 use devices::{ReadSource, WriteSink};
 use genedit_io::RunFault;
-use genedit_view::{BufferedSink, Form, ViewFault, ViewOptions, Window, WindowFault, window_of};
+use genedit_view::{
+    BufferedSink, Form, PeriodSearch, ViewFault, ViewOptions, Window, WindowFault, find_period,
+    window_of,
+};
 use genedit_words::Viewing;
+use map_periods::ToldPeriod;
 use std::alloc::Global;
 use std::io;
 use std::random::RandomSource;
@@ -33,13 +37,20 @@ enum NoWindow<'a> {
     Value(&'a str, &'static str, WindowFault),
 }
 
-/// Draws what a file has, or standard input. To a terminal it is in colours, unless another form is asked for.
+/// Draws what a file has, or standard input; or tells its period, where that is asked for. To a terminal a picture is in
+/// colours, unless another form is asked for.
 pub fn view<R: Files + Input + Print + Eprint + RandomSource>(
     rt: &R,
     alloc: Global,
     viewing: &Viewing<'_>,
     to_terminal: bool,
 ) -> Result<u8, RunFault> {
+    if let Some(most) = viewing.longest_period {
+        return match seen_text(rt, alloc, viewing.file, viewing.edits) {
+            Ok(text) => told_period(rt, alloc, viewing, most, &text),
+            Err(left) => left.end(),
+        };
+    }
     let window = match window(viewing) {
         Ok(window) => window,
         Err(fault) => return Ok(tell_no_window(rt, fault)),
@@ -112,10 +123,39 @@ fn drawn(
             tell_bounds(rt, alloc, name, bounds, options.generation.is_some())?;
             Ok(WELL)
         }
-        Err(ViewFault::Run(fault)) => Err(fault),
-        Err(fault) => {
-            let _ = eprintln!(rt; "genedit: {fault}");
-            Ok(fault.exit_status())
-        }
+        Err(fault) => ended(rt, fault),
     }
+}
+
+/// Tells the period of what a text has.
+fn told_period(
+    rt: &(impl Print + Eprint),
+    alloc: Global,
+    viewing: &Viewing<'_>,
+    most: u16,
+    text: &[u8],
+) -> Result<u8, RunFault> {
+    let first = viewing.generation.unwrap_or(0);
+    let search = PeriodSearch { first, most };
+    match find_period(alloc, viewing.rule, search, text) {
+        Ok(found) => {
+            let told = ToldPeriod {
+                period: found.period,
+                most,
+            };
+            let line = format!(in alloc; "{told}\n")?;
+            tell_bounds(rt, alloc, name_of(viewing.file), found.bounds, true)?;
+            printed(rt, line.as_bytes(), WELL)
+        }
+        Err(fault) => ended(rt, fault),
+    }
+}
+
+/// Says why nothing is told of a text; the status of the process.
+fn ended(rt: &impl Eprint, fault: ViewFault) -> Result<u8, RunFault> {
+    if let ViewFault::Run(fault) = fault {
+        return Err(fault);
+    }
+    let _ = eprintln!(rt; "genedit: {fault}");
+    Ok(fault.exit_status())
 }

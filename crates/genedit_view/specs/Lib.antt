@@ -5,4 +5,5 @@ pub mod Seeing
 pub mod Universes
 pub mod Words
 pub mod Runs
+pub mod Searches
 pub mod Rows

@@ -20,7 +20,7 @@ use Rattle.clap.specs.declared.builder.value_parser.Reading.TheVariants as readi
 use Rattle.clap.specs.declared.builder.value_parser.ValueParser.TheVariants as vp
 use Rattle.genedit_words.specs.Given.{Has, HasClient, HasConversion, HasDiff, HasDraw, HasExport, HasFeed, HasFlag, HasFollow, HasLog, HasMerge, HasNew, HasNumber, HasNumbering, HasRule, HasServer, HasText, HasTexts, HasView, IsNamed, MayHaveNumber}
 use Rattle.genedit_words.specs.Needs.{no_needs}
-use Rattle.genedit_words.specs.Words.{board_port, board_rule, board_web, check_shape, convert_shape, diff_shape, draw_shape, edits_option, every_option, export_shape, feed_shape, file_argument, first_option, flag, follow_shape, from_option, gen_option, generation_place, genedit_app, idle_option, join_shape, log_shape, merge_shape, new_document_shape, number_shape, optional, others_argument, place_argument, port_option, renumber_option, replica_option, rle_shape, rule_option, run_shape, serve_shape, sessions_option, view_shape}
+use Rattle.genedit_words.specs.Words.{board_port, board_rule, board_web, check_shape, convert_shape, diff_shape, draw_shape, edits_option, every_option, export_shape, feed_shape, file_argument, first_option, flag, follow_shape, from_option, gen_option, generation_place, genedit_app, idle_option, join_shape, log_shape, merge_shape, new_document_shape, number_shape, optional, others_argument, period_option, place_argument, port_option, renumber_option, replica_option, rle_shape, rule_option, run_shape, serve_shape, sessions_option, view_shape}
 use Rattle.genedit_words.proofs.Stops.{both_pass, stops_at_help, walk_passes}
 use Rattle.genedit_words.proofs.RowFacts.{IsWellUsed, all_ok, both_true, rows_well}
 use Rattle.genedit_words.proofs.RuleFacts.{AreOrderly, HasValue, IsOrderly, append_orderly, defaults_orderly, drops_minus, first_passes, fits, flag_orderly, found_value, given_value, is_flag_text, keeps_all, no_default, ok, option_orderly, uses_found}
@@ -110,6 +110,9 @@ gen_orderly place = option_orderly (given place gen_option) refl refl (λ rows h
 edits_orderly : (place : ℕ) → IsOrderly (given place edits_option)
 edits_orderly place = option_orderly (given place edits_option) refl refl (λ rows h. cc) (λ v vs passes. first_passes false (vp.Signed (pos 0) (pos 4294967295)) v vs passes)
 
+period_orderly : (place : ℕ) → IsOrderly (given place period_option)
+period_orderly place = option_orderly (given place period_option) refl refl (λ rows h. cc) (λ v vs passes. first_passes false (vp.Signed (pos 1) (pos 65535)) v vs passes)
+
 from_orderly : (place : ℕ) → IsOrderly (given place from_option)
 from_orderly place = option_orderly (given place from_option) refl refl (λ rows h. cc) (λ v vs passes. first_passes false (vp.Signed (pos 0) (pos 4294967295)) v vs passes)
 
@@ -162,7 +165,7 @@ rle_rules : AreOrderly (leaf rle_shape).rules
 rle_rules = (file_orderly 1, (rule_orderly 2, (help_orderly, tt)))
 
 view_rules : AreOrderly (leaf view_shape).rules
-view_rules = (file_orderly 1, (own_rule_orderly 2, (at_orderly 2, (size_orderly 2, (gen_orderly 2, (edits_orderly 2, (plain_orderly 2, (svg_orderly 2, (help_orderly, tt)))))))))
+view_rules = (file_orderly 1, (own_rule_orderly 2, (at_orderly 2, (size_orderly 2, (gen_orderly 2, (edits_orderly 2, (period_orderly 2, (plain_orderly 2, (svg_orderly 2, (help_orderly, tt))))))))))
 
 convert_rules : AreOrderly (leaf convert_shape).rules
 convert_rules = (in_orderly 1, (out_orderly 2, (own_rule_orderly 3, (gen_orderly 3, (replace_orderly 3, (help_orderly, tt))))))
@@ -376,6 +379,7 @@ view_has words passes =
     record {
       generation = may_have_number 0 536870912 (codes "gen") rows read.fine (λ how v fit. fit);
       edits = may_have_number 0 4294967295 (codes "edits") rows read.fine (λ how v fit. fit);
+      period = may_have_number 1 65535 (codes "period") rows read.fine (λ how v fit. fit);
       plain = has_flag (codes "plain") rows read.fine (λ how v fit. fit);
       svg = has_flag (codes "svg") rows read.fine (λ how v fit. fit);
     }

@@ -44,6 +44,7 @@ fits id how v = if bytes_eq id (codes "port") then drops_minus how && accepts fa
     else if bytes_eq id (codes "sessions") then drops_minus how && accepts false (vp.Signed (pos 1) (pos 64)) v
     else if bytes_eq id (codes "first") then drops_minus how && accepts false (vp.Signed (pos 1) (pos 65472)) v
     else if bytes_eq id (codes "gen") then drops_minus how && accepts false (vp.Signed (pos 0) (pos 536870912)) v
+    else if bytes_eq id (codes "period") then drops_minus how && accepts false (vp.Signed (pos 1) (pos 65535)) v
     else if bytes_eq id (codes "plain") then keeps_all how && is_flag_text v
     else if bytes_eq id (codes "svg") then keeps_all how && is_flag_text v
     else if bytes_eq id (codes "every") then drops_minus how && accepts false (vp.Signed (pos 1) (pos 60000)) v

@@ -45,6 +45,7 @@ pub record HasServer (rows : List Row) : Type 0 where
 pub record HasView (rows : List Row) : Type 0 where
   pub generation : MayHaveNumber 0 536870912 (codes "gen") rows
   pub edits : MayHaveNumber 0 4294967295 (codes "edits") rows
+  pub period : MayHaveNumber 1 65535 (codes "period") rows
   pub plain : HasFlag (codes "plain") rows
   pub svg : HasFlag (codes "svg") rows
 

@@ -17,6 +17,7 @@ pub record Viewed : Type 0 where
   pub size : Option (List ℕ)
   pub generation : Option ℕ
   pub edits : Option ℕ
+  pub longest_period : Option ℕ
   pub is_plain : Bool
   pub is_svg : Bool
 
@@ -94,6 +95,7 @@ told_of (task.View viewing) = View (record {
   size = option_map (λ s. s.now) viewing.size;
   generation = viewing.generation;
   edits = viewing.edits;
+  longest_period = viewing.longest_period;
   is_plain = viewing.is_plain;
   is_svg = viewing.is_svg;
 })

@@ -121,9 +121,13 @@ check_shape = record (new_shape (codes "check")) { rules = file_argument ∷ [] 
 abbrev pub edits_option : Rule
 edits_option = record (optional (codes "edits")) { parser = Some (vp.Signed (pos 0) (pos 4294967295)) }
 
+-- the longest period that is looked for: 1 to 65535
+abbrev pub period_option : Rule
+period_option = record (optional (codes "period")) { parser = Some (vp.Signed (pos 1) (pos 65535)) }
+
 abbrev pub view_shape : Shape
 view_shape = record (new_shape (codes "view")) {
-  rules = file_argument ∷ optional (codes "rule") ∷ optional (codes "at") ∷ optional (codes "size") ∷ gen_option ∷ edits_option ∷ flag (codes "plain") ∷ flag (codes "svg") ∷ [];
+  rules = file_argument ∷ optional (codes "rule") ∷ optional (codes "at") ∷ optional (codes "size") ∷ gen_option ∷ edits_option ∷ period_option ∷ flag (codes "plain") ∷ flag (codes "svg") ∷ [];
 }
 
 -- a file that has to be named, at its place among the words
@@ -264,6 +268,7 @@ viewing rows rule = record {
   size = first_of (codes "size") rows;
   generation = number_of (codes "gen") rows;
   edits = number_of (codes "edits") rows;
+  longest_period = number_of (codes "period") rows;
   is_plain = is_set (codes "plain") rows;
   is_svg = is_set (codes "svg") rows;
 }

@@ -5,7 +5,7 @@ use clap::error::ErrorKind;
 use std::alloc::{AllocError, Global};
 
 /// The options with a value, and what has to stand at a place, as `clap` names them, and an example of each.
-const EXAMPLES: [(&str, &str); 26] = [
+const EXAMPLES: [(&str, &str); 27] = [
     ("--rule <", " --rule 23/3/2"),
     ("--port <", " --port 7020"),
     ("--web <", " --web 7080"),
@@ -19,6 +19,7 @@ const EXAMPLES: [(&str, &str); 26] = [
     ("--size <", " --size 40x20"),
     ("--gen <", " --gen 30"),
     ("--edits <", " --edits 100"),
+    ("--period <", " --period 1000"),
     ("--from <", " --from 100"),
     ("--replica <", " --replica 65"),
     ("--renumber <", " --renumber 67"),

@@ -4,7 +4,7 @@ ghost use Rattle.std.specs.Prelude.{◌≡◌, IfOk, false, codes};
 ghost use Rattle.clap.specs.Simple.{new_app};
 ghost use Rattle.clap.specs.Words.{app_of, rule_of, shape_of};
 ghost use Rattle.clap.specs.declared.builder.command.Command.TheViews.{out-Command as fields_of};
-ghost use Rattle.genedit_words.specs.Words.{app_by, board_app, board_port, board_rule, board_web, check_shape, convert_shape, every_option, file_argument, first_option, flag, gen_option, idle_option, join_shape, option, optional, place_argument, port_option, rle_shape, run_shape, serve_shape, sessions_option, text_app, top_app, view_shape};
+ghost use Rattle.genedit_words.specs.Words.{app_by, board_app, board_port, board_rule, board_web, check_shape, convert_shape, every_option, file_argument, first_option, flag, gen_option, idle_option, join_shape, option, optional, period_option, place_argument, port_option, rle_shape, run_shape, serve_shape, sessions_option, text_app, top_app, view_shape};
 
 use crate::document_commands::{
     diff_command, draw_command, edits_argument, export_command, feed_command, follow_command,
@@ -91,11 +91,16 @@ for each cell: `.` is dead, and of two states `O` is live; of more, `A` to `Z`, 
 64 rows of the pattern's box, and then says `cut: W by H` where the box is larger. An SVG is never cut;
 it goes before --plain.
 
+With --period MOST it prints `period P moves X Y` in place of a picture, where P is the least from 1 to MOST
+after which the cells of generation G (0 without --gen) stand as they did, moved by X and Y; else
+`none to MOST`. Cells lie in the plane of edits then.
+
 Examples:
   genedit view gun.rle
   genedit view --gen 30 --svg < gun.rle > gun.svg
   genedit view gun.rle --at -3,4 --size 40x20
-  genedit view my.glwl --edits 100";
+  genedit view my.glwl --edits 100
+  genedit view lwss.rle --period 100";
 
 const CONVERT_HELP: &str = "\
 IN is an RLE text, a file of MCell (.mcl), plaintext (.cells), or a state as it is saved; what it is, its
@@ -360,20 +365,11 @@ fn view_command<'a>(alloc: Global) -> Result<Command<'a>, AllocError>
         "TEXT",
         "The rule of the cells, as 345/2/4 or B3/S23; else the one that the text tells",
     ))?
-    .arg(optional(
-        alloc,
-        "at",
-        "X,Y",
-        "The corner of the window, as -3,4; with --size",
-    ))?
-    .arg(optional(
-        alloc,
-        "size",
-        "W,H",
-        "The width and height of the window, as 40,20 or 40x20",
-    ))?
+    .arg(corner_argument(alloc))?
+    .arg(sides_argument(alloc))?
     .arg(generation_argument(alloc))?
     .arg(edits_argument(alloc))?
+    .arg(period_argument(alloc))?
     .arg(flag(alloc, "plain", "Draws a character for each cell"))?
     .arg(flag(alloc, "svg", "Draws an SVG"))?;
     Ok(command)
@@ -390,6 +386,43 @@ fn generation_argument<'a>(alloc: Global) -> Arg<'a>
         "So many generations after the text's own, 0 to 2^29",
     );
     generation.value_parser(value_parser!(u32).range(0..=536_870_912))
+}
+
+fn corner_argument<'a>(alloc: Global) -> Arg<'a>
+    ensures rule { rule_of result ≡ optional (codes "at") }
+    ensures local { result.global ≡ false }
+{
+    optional(
+        alloc,
+        "at",
+        "X,Y",
+        "The corner of the window, as -3,4; with --size",
+    )
+}
+
+fn sides_argument<'a>(alloc: Global) -> Arg<'a>
+    ensures rule { rule_of result ≡ optional (codes "size") }
+    ensures local { result.global ≡ false }
+{
+    optional(
+        alloc,
+        "size",
+        "W,H",
+        "The width and height of the window, as 40,20 or 40x20",
+    )
+}
+
+fn period_argument<'a>(alloc: Global) -> Arg<'a>
+    ensures rule { rule_of result ≡ period_option }
+    ensures local { result.global ≡ false }
+{
+    let period = optional(
+        alloc,
+        "period",
+        "MOST",
+        "Prints the least period, 1 to MOST, which is 65535 at most",
+    );
+    period.value_parser(value_parser!(u16).range(1..=65_535))
 }
 
 fn convert_command<'a>(alloc: Global) -> Result<Command<'a>, AllocError>

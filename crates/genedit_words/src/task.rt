@@ -58,7 +58,7 @@ pub struct JoinTask {
     pub leaves_no_file: bool,
 }
 
-/// A picture of a pattern, of a state or of a document.
+/// A picture of a pattern, of a state or of a document; or its period.
 #[derive(Clone, Copy)]
 pub struct Viewing<'a> {
     /// The file to read; standard input if none is given.
@@ -70,6 +70,8 @@ pub struct Viewing<'a> {
     pub generation: Option<u32>,
     /// Of a document, how many of its records of edits are looked at, from the first on; all if none is given.
     pub edits: Option<u32>,
+    /// The longest period that is looked for, 1 to 65,535, where a period is asked for in place of a picture.
+    pub longest_period: Option<u16>,
     pub is_plain: bool,
     pub is_svg: bool,
 }

@@ -454,6 +454,7 @@ fn view<'a>(words: &ArgMatches<'a>) -> Result<Task<'a>, MisspeltRule<'a>>
         size: words.get_str("size"),
         generation: generation(words),
         edits: count_if_given(words, "edits"),
+        longest_period: number_if_given(words, "period"),
         is_plain: is_set(words, "plain"),
         is_svg: is_set(words, "svg"),
     }))

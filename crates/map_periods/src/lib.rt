@@ -10,9 +10,11 @@ mod laws;
 mod moves;
 mod period;
 mod plane;
+mod told;
 
 pub use generations::Generations;
 pub use laws::period_laws;
 pub use moves::{Move, moved_by};
 pub use period::{Period, period_of};
 pub use plane::{PlaneGenerations, period_in};
+pub use told::ToldPeriod;

@@ -8,6 +8,8 @@ mod colours;
 #[cfg(test)]
 mod faulty;
 #[cfg(test)]
+mod periods;
+#[cfg(test)]
 mod refusals;
 #[cfg(test)]
 mod states;
