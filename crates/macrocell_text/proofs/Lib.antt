@@ -1,0 +1,3 @@
+pub mod LinesLeft
+pub mod Levels
+pub mod Bits

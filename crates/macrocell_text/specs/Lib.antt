@@ -1,0 +1,9 @@
+pub mod Squares
+pub mod Faults
+pub mod Marks
+pub mod Numbers
+pub mod SquareLines
+pub mod Heads
+pub mod Macrocells
+pub mod Texts
+pub mod Readings

@@ -1,0 +1,46 @@
+-- What a macrocell tells: the rule's text, a generation, and squares, of which the last is the root.
+use Rattle.std.specs.Prelude.{◌≡◌, ℕ, ◌+◌, ◌-◌, ◌*◌, List, [], ◌∷◌, ◌++◌, fold, map, ◌==◌, if◌then◌else◌, Option, Some, None, slice_get, unwrap_or}
+use Rattle.std.specs.Int.{bit_at}
+use Rattle.macrocell_text.specs.declared.head.RulePlace.{RulePlace}
+use Rattle.macrocell_text.specs.declared.entry.Entry.{Entry}
+use Rattle.macrocell_text.specs.declared.entry.Entry.TheVariants as entries
+use Rattle.macrocell_text.specs.Squares.{StateSquare, Cell, Four, level_of, square_of}
+use Rattle.macrocell_text.specs.SquareLines.{dead_square}
+
+-- where a text tells its rule, if it does; the generation, 0 if none is told; and the square of each square line
+pub record MacrocellTold : Type 0 where
+  pub rule : Option RulePlace
+  pub generation : ℕ
+  pub squares : List StateSquare
+
+-- ---- entries
+
+-- the square of level 3 that has a bit for each state, row by row
+abbrev pub square_of_bits : ℕ → StateSquare
+square_of_bits rows = square_of 3 (λ u v. bit_at rows (8 * v + u))
+
+-- the square of a level that a number stands for among others
+abbrev pub square_standing : ℕ → List StateSquare → ℕ → StateSquare
+square_standing level squares n =
+    if level == 0 then Cell n else (if n == 0 then dead_square level else unwrap_or (slice_get squares (n - 1)) (dead_square level))
+
+-- the square of an entry behind others
+abbrev pub entry_square : List StateSquare → Entry → StateSquare
+entry_square squares (entries.Rows rows) = square_of_bits rows
+entry_square squares (entries.Four level nw ne sw se) =
+    Four (square_standing (level - 1) squares nw) (square_standing (level - 1) squares ne) (square_standing (level - 1) squares sw) (square_standing (level - 1) squares se)
+
+abbrev pub with_entry : List StateSquare → Entry → List StateSquare
+with_entry squares entry = squares ++ entry_square squares entry ∷ []
+
+-- the squares of entries
+abbrev pub squares_of : List Entry → List StateSquare
+squares_of es = fold with_entry [] es
+
+abbrev pub entry_level : Entry → ℕ
+entry_level (entries.Rows rows) = 3
+entry_level (entries.Four level nw ne sw se) = level
+
+-- each entry names its square's level
+abbrev pub AreLevelled : List Entry → Type 0
+AreLevelled es = map level_of (squares_of es) ≡ map entry_level es
