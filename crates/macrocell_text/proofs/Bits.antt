@@ -8,27 +8,10 @@ use Rattle.std.proofs.lemmas.Bool.Decides.{nat_tests}
 use Rattle.std.proofs.lemmas.List.{drop_all}
 use Rattle.macrocell_text.specs.declared.fault.MacrocellFault.TheVariants.{Tag}
 use Rattle.macrocell_text.specs.declared.marks.Spot.{Spot}
-use Rattle.macrocell_text.specs.Squares.{StateSquare, Cell, Four, seen_from, square_of}
+use Rattle.macrocell_lines.specs.Squares.{StateSquare, Cell, Four, seen_from, square_of}
+use Rattle.macrocell_lines.proofs.States.{same_square}
 use Rattle.macrocell_text.specs.Marks.{first_spot, is_in_square, is_live_at, may_stand, misplaced, rows_told, spot_behind, square_marked, state_marked}
 use Rattle.macrocell_text.specs.Macrocells.{square_of_bits}
-
-double : (k : ℕ) → 2 ^ suc k ≡ 2 ^ k + 2 ^ k
-double k = pow-suc 2 k ∙ twice (2 ^ k)
-  where
-    twice : (n : ℕ) → n * 2 ≡ n + n
-    twice n = omega arith
-
--- squares of states that agree are one
-pub same_square : (k : ℕ) (f g : ℕ → ℕ → ℕ) → ((u v : ℕ) → u < 2 ^ k → v < 2 ^ k → f u v ≡ g u v) → square_of k f ≡ square_of k g
-unfolding square_of
-same_square zero f g h = ap Cell (h 0 0 (omega arith) (omega arith))
-same_square (suc k) f g h =
-    let two = double k in
-    let a = same_square k f g (λ u v hu hv. h u v (omega (arith, hu, two)) (omega (arith, hv, two))) in
-    let b = same_square k (seen_from (2 ^ k) 0 f) (seen_from (2 ^ k) 0 g) (λ u v hu hv. h (2 ^ k + u) (0 + v) (omega (arith, hu, two)) (omega (arith, hv, two))) in
-    let c = same_square k (seen_from 0 (2 ^ k) f) (seen_from 0 (2 ^ k) g) (λ u v hu hv. h (0 + u) (2 ^ k + v) (omega (arith, hu, two)) (omega (arith, hv, two))) in
-    let d = same_square k (seen_from (2 ^ k) (2 ^ k) f) (seen_from (2 ^ k) (2 ^ k) g) (λ u v hu hv. h (2 ^ k + u) (2 ^ k + v) (omega (arith, hu, two)) (omega (arith, hv, two))) in
-    λ i. Four (a i) (b i) (c i) (d i)
 
 same_bit : (rows column row u v : ℕ) → 8 * row + column < 64 → column ≡ u → row ≡ v → bit_at (bit_or rows (1 * 2 ^ (8 * row + column) % 2 ^ 64)) (8 * v + u) ≡ max (bit_at rows (8 * v + u)) 1
 same_bit rows column row u v within e f =

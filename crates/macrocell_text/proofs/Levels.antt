@@ -7,7 +7,7 @@ use Rattle.std.proofs.lemmas.List.Sums.{fold-append}
 use Rattle.std.proofs.lemmas.Option.{slice_get-map}
 use Rattle.text_scan.specs.Bytes.{◌>=>◌}
 use Rattle.macrocell_text.specs.declared.entry.Entry.{Entry}
-use Rattle.macrocell_text.specs.Squares.{StateSquare, Cell, Four, level_of, square_of, seen_from}
+use Rattle.macrocell_lines.specs.Squares.{StateSquare, Cell, Four, level_of, square_of, seen_from}
 use Rattle.macrocell_text.specs.SquareLines.{dead_square, square_if_of, square_numbered}
 use Rattle.macrocell_text.specs.Macrocells.{AreLevelled, entry_level, entry_square, square_standing, squares_of, with_entry}
 

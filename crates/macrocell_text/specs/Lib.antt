@@ -1,4 +1,3 @@
-pub mod Squares
 pub mod Faults
 pub mod Marks
 pub mod Numbers
@@ -7,3 +6,5 @@ pub mod Heads
 pub mod Macrocells
 pub mod Texts
 pub mod Readings
+pub mod Maps
+pub mod Rows

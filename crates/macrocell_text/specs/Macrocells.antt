@@ -4,7 +4,7 @@ use Rattle.std.specs.Int.{bit_at}
 use Rattle.macrocell_text.specs.declared.head.RulePlace.{RulePlace}
 use Rattle.macrocell_text.specs.declared.entry.Entry.{Entry}
 use Rattle.macrocell_text.specs.declared.entry.Entry.TheVariants as entries
-use Rattle.macrocell_text.specs.Squares.{StateSquare, Cell, Four, level_of, square_of}
+use Rattle.macrocell_lines.specs.Squares.{StateSquare, Cell, Four, level_of, square_of}
 use Rattle.macrocell_text.specs.SquareLines.{dead_square}
 
 -- where a text tells its rule, if it does; the generation, 0 if none is told; and the square of each square line

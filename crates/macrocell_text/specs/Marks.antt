@@ -3,7 +3,7 @@ use Rattle.std.specs.Prelude.{ℕ, suc, Bool, ◌||◌, ◌&&◌, List, [], ◌�
 use Rattle.macrocell_text.specs.declared.fault.MacrocellFault.{MacrocellFault}
 use Rattle.macrocell_text.specs.declared.fault.MacrocellFault.TheVariants.{Tag}
 use Rattle.macrocell_text.specs.declared.marks.Spot.{Spot}
-use Rattle.macrocell_text.specs.Squares.{StateSquare, square_of}
+use Rattle.macrocell_lines.specs.Squares.{StateSquare, square_of}
 
 abbrev pub first_spot : Spot
 first_spot = record { column = 0; row = 0 }

@@ -6,7 +6,7 @@ use Rattle.macrocell_text.specs.declared.fault.MacrocellFault.{MacrocellFault}
 use Rattle.macrocell_text.specs.declared.fault.MacrocellFault.TheVariants.{State, Square}
 use Rattle.macrocell_text.specs.declared.leaves.Leaves.{Leaves}
 use Rattle.macrocell_text.specs.declared.leaves.Leaves.TheVariants.{ByStates, ByRows}
-use Rattle.macrocell_text.specs.Squares.{StateSquare, Cell, Four, level_of, square_of}
+use Rattle.macrocell_lines.specs.Squares.{StateSquare, Cell, Four, level_of, square_of}
 use Rattle.macrocell_text.specs.Faults.{found_or}
 use Rattle.macrocell_text.specs.Numbers.{Number, number_told}
 

@@ -10,7 +10,7 @@ use Rattle.macrocell_text.specs.declared.fault.MacrocellFault.TheVariants.{Heade
 use Rattle.macrocell_text.specs.declared.head.RulePlace.{RulePlace}
 use Rattle.macrocell_text.specs.declared.leaves.Leaves.{Leaves}
 use Rattle.macrocell_text.specs.declared.leaves.Leaves.TheVariants.{ByRows, ByStates}
-use Rattle.macrocell_text.specs.Squares.{StateSquare}
+use Rattle.macrocell_lines.specs.Squares.{StateSquare}
 use Rattle.macrocell_text.specs.Marks.{rows_told}
 use Rattle.macrocell_text.specs.Numbers.{number_told}
 use Rattle.macrocell_text.specs.SquareLines.{is_other, leaves_with, level_told, quarters_told}

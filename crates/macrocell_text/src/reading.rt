@@ -3,7 +3,7 @@
 ghost use Rattle.std.specs.Prelude.{◌≡◌, ◌⊎◌, ◌≤◌, ◌<◌, ◌^◌, ◌+◌, ◌-◌, length, MatchResult, IfOk, OnOk, Ok, Err};
 ghost use Rattle.multistate_rle.specs.HeaderLine.{text_lines};
 ghost use Rattle.macrocell_text.specs.Macrocells.{AreLevelled, entry_level, entry_square, squares_of};
-ghost use Rattle.macrocell_text.specs.Squares.{level_of};
+ghost use Rattle.macrocell_lines.specs.Squares.{level_of};
 ghost use Rattle.macrocell_text.specs.Texts.{begins_comment, begins_rows, square_numbers};
 
 use crate::entry::Entry;
@@ -30,7 +30,7 @@ pub struct Reader {
 impl Reader {
     ghost use Rattle.std.specs.Prelude.{◌≡◌, ◌⊎◌, ◌≤◌, ◌<◌, ◌^◌, ◌+◌, ◌-◌, length, MatchResult, IfOk, OnOk, Ok, Err};
     ghost use Rattle.macrocell_text.specs.Macrocells.{AreLevelled, entry_level, entry_square, squares_of};
-    ghost use Rattle.macrocell_text.specs.Squares.{level_of};
+    ghost use Rattle.macrocell_lines.specs.Squares.{level_of};
     ghost use Rattle.macrocell_text.specs.Readings.{reading_of};
     ghost use Rattle.macrocell_text.specs.Texts.{nothing_told, with_comment, with_line, with_numbers, with_rows, with_square, with_told};
 

@@ -3,7 +3,7 @@
 ghost use Rattle.std.specs.Prelude.{◌≡◌, ◌≤◌, ◌<◌, ◌^◌, ◌+◌, ◌-◌, if◌then◌else◌, length, option_map, slice_get, MatchResult, IfOk, Ok, Err, Some, IfSome, IsTrue};
 ghost use Rattle.text_scan.specs.Bytes.{◌>=>◌};
 ghost use Rattle.macrocell_text.specs.Macrocells.{AreLevelled, entry_level, entry_square, square_standing, squares_of};
-ghost use Rattle.macrocell_text.specs.Squares.{level_of};
+ghost use Rattle.macrocell_lines.specs.Squares.{level_of};
 ghost use Rattle.macrocell_text.specs.SquareLines.{is_level, leaves_with, level_if, level_told, quarter_fault, quarter_told, quarters_told, square_numbered};
 
 use crate::entry::Entry;
