@@ -2,6 +2,8 @@
 use Rattle.std.specs.Prelude.{ℕ, List, ◌++◌, Option, Some, None, Result, Ok, Err, codes, decimal}
 use Rattle.macrocell_text.specs.declared.fault.MacrocellFault.{MacrocellFault}
 use Rattle.macrocell_text.specs.declared.fault.MacrocellFault.TheVariants.{Header, Tag, State, Square, Memory}
+use Rattle.macrocell_text.specs.declared.listing_fault.ListingFault.{ListingFault}
+use Rattle.macrocell_text.specs.declared.listing_fault.ListingFault.TheVariants as listing
 
 -- its number in the table of faults
 abbrev pub macrocell_fault_number : MacrocellFault → ℕ
@@ -31,3 +33,15 @@ macrocell_fault_text Memory = codes "Memory"
 abbrev pub found_or : {A : Type 0} → MacrocellFault → Option A → Result A MacrocellFault
 found_or fault None = Err fault
 found_or fault (Some x) = Ok x
+
+-- ---- why cells are not listed
+
+abbrev pub listing_fault_number : ListingFault → ℕ
+listing_fault_number listing.TooMany = 23
+listing_fault_number listing.OutOfPlane = 10
+listing_fault_number listing.Memory = 255
+
+abbrev pub listing_fault_text : ListingFault → List ℕ
+listing_fault_text listing.TooMany = codes "TooMany"
+listing_fault_text listing.OutOfPlane = codes "OutOfPlane"
+listing_fault_text listing.Memory = codes "Memory"

@@ -7,4 +7,7 @@ pub mod Macrocells
 pub mod Texts
 pub mod Readings
 pub mod Maps
+pub mod LiveCells
+pub mod Finding
+pub mod Standings
 pub mod Rows

@@ -1,6 +1,7 @@
 -- What a macrocell tells: the rule's text, a generation, and squares, of which the last is the root.
-use Rattle.std.specs.Prelude.{◌≡◌, ℕ, ◌+◌, ◌-◌, ◌*◌, List, [], ◌∷◌, ◌++◌, fold, map, ◌==◌, if◌then◌else◌, Option, Some, None, slice_get, unwrap_or}
+use Rattle.std.specs.Prelude.{◌≡◌, ℕ, ◌+◌, ◌-◌, ◌*◌, Bool, true, ◌&&◌, nat_le, List, [], ◌∷◌, ◌++◌, fold, map, ◌==◌, if◌then◌else◌, Option, Some, None, slice_get, unwrap_or}
 use Rattle.std.specs.Int.{bit_at}
+use Rattle.std.specs.List.{list_all}
 use Rattle.macrocell_text.specs.declared.head.RulePlace.{RulePlace}
 use Rattle.macrocell_text.specs.declared.entry.Entry.{Entry}
 use Rattle.macrocell_text.specs.declared.entry.Entry.TheVariants as entries
@@ -44,3 +45,12 @@ entry_level (entries.Four level nw ne sw se) = level
 -- each entry names its square's level
 abbrev pub AreLevelled : List Entry → Type 0
 AreLevelled es = map level_of (squares_of es) ≡ map entry_level es
+
+-- a level from 1 to 63, and at level 1 states of a byte
+abbrev pub is_entry : Entry → Bool
+is_entry (entries.Rows rows) = true
+is_entry (entries.Four level nw ne sw se) =
+    (nat_le 1 level && nat_le level 63) && (if level == 1 then (nat_le nw 255 && nat_le ne 255) && (nat_le sw 255 && nat_le se 255) else true)
+
+abbrev pub are_entries : List Entry → Bool
+are_entries es = list_all is_entry es

@@ -1,7 +1,7 @@
 //! What a macrocell tells.
 
-ghost use Rattle.std.specs.Prelude.{◌≡◌};
-ghost use Rattle.macrocell_text.specs.Macrocells.{AreLevelled};
+ghost use Rattle.std.specs.Prelude.{◌≡◌, true};
+ghost use Rattle.macrocell_text.specs.Macrocells.{AreLevelled, are_entries};
 
 use crate::entry::Entry;
 use crate::head::RulePlace;
@@ -13,6 +13,7 @@ pub struct Macrocell {
     pub(crate) generation: u64,
     pub(crate) entries: Vec<Entry>,
     ghost levelled: { AreLevelled entries.items },
+    ghost bytes: { are_entries entries.items ≡ true },
 }
 
 impl Macrocell {

@@ -1,8 +1,8 @@
 //! The lines of a macrocell, one after another.
 
-ghost use Rattle.std.specs.Prelude.{◌≡◌, ◌⊎◌, ◌≤◌, ◌<◌, ◌^◌, ◌+◌, ◌-◌, length, MatchResult, IfOk, OnOk, Ok, Err};
+ghost use Rattle.std.specs.Prelude.{◌≡◌, ◌⊎◌, ◌≤◌, ◌<◌, ◌^◌, ◌+◌, ◌-◌, length, MatchResult, IfOk, OnOk, Ok, Err, true};
 ghost use Rattle.multistate_rle.specs.HeaderLine.{text_lines};
-ghost use Rattle.macrocell_text.specs.Macrocells.{AreLevelled, entry_level, entry_square, squares_of};
+ghost use Rattle.macrocell_text.specs.Macrocells.{AreLevelled, are_entries, entry_level, entry_square, is_entry, squares_of};
 ghost use Rattle.macrocell_lines.specs.Squares.{level_of};
 ghost use Rattle.macrocell_text.specs.Texts.{begins_comment, begins_rows, square_numbers};
 
@@ -25,11 +25,12 @@ pub struct Reader {
     leaves: Option<Leaves>,
     pub(crate) entries: Vec<Entry>,
     ghost levelled: { AreLevelled entries.items },
+    ghost bytes: { are_entries entries.items ≡ true },
 }
 
 impl Reader {
-    ghost use Rattle.std.specs.Prelude.{◌≡◌, ◌⊎◌, ◌≤◌, ◌<◌, ◌^◌, ◌+◌, ◌-◌, length, MatchResult, IfOk, OnOk, Ok, Err};
-    ghost use Rattle.macrocell_text.specs.Macrocells.{AreLevelled, entry_level, entry_square, squares_of};
+    ghost use Rattle.std.specs.Prelude.{◌≡◌, ◌⊎◌, ◌≤◌, ◌<◌, ◌^◌, ◌+◌, ◌-◌, length, MatchResult, IfOk, OnOk, Ok, Err, true};
+    ghost use Rattle.macrocell_text.specs.Macrocells.{AreLevelled, are_entries, entry_level, entry_square, is_entry, squares_of};
     ghost use Rattle.macrocell_lines.specs.Squares.{level_of};
     ghost use Rattle.macrocell_text.specs.Readings.{reading_of};
     ghost use Rattle.macrocell_text.specs.Texts.{nothing_told, with_comment, with_line, with_numbers, with_rows, with_square, with_told};
@@ -119,7 +120,8 @@ impl Reader {
 
     /// Puts a square line behind the others.
     fn push(&mut self, leaves: Option<Leaves>, entry: Entry) -> Result<(), AllocError>
-        requires { level_of (entry_square (squares_of self.old.entries.items) entry) ≡ entry_level entry }
+        requires level { level_of (entry_square (squares_of self.old.entries.items) entry) ≡ entry_level entry }
+        requires bytes { is_entry entry ≡ true }
         ensures { OnOk result (reading_of self.new ≡ with_square (reading_of self.old) leaves (entry_square (squares_of self.old.entries.items) entry)) }
     {
         self.entries.push(entry)?;
@@ -138,6 +140,7 @@ fn entry_numbered(
     requires place { length line.now ≤ line_end }
     requires levels { AreLevelled entries.now }
     ensures told { MatchResult result (λ entry. square_numbers line_end leaves (squares_of entries.now) line.now ≡ Ok (entry_level entry, entry_square (squares_of entries.now) entry)) (λ fault. square_numbers line_end leaves (squares_of entries.now) line.now ≡ Err fault) }
+    ensures bytes { IfOk result (λ entry. is_entry entry ≡ true) }
     ensures level { IfOk result (λ entry. level_of (entry_square (squares_of entries.now) entry) ≡ entry_level entry) }
 {
     let first = number_told(line_end, line)?;

@@ -1,8 +1,8 @@
 //! A line of five numbers.
 
-ghost use Rattle.std.specs.Prelude.{◌≡◌, ◌≤◌, ◌<◌, ◌^◌, ◌+◌, ◌-◌, if◌then◌else◌, length, option_map, slice_get, MatchResult, IfOk, Ok, Err, Some, IfSome, IsTrue};
+ghost use Rattle.std.specs.Prelude.{◌≡◌, ◌≤◌, ◌<◌, ◌^◌, ◌+◌, ◌-◌, if◌then◌else◌, length, option_map, slice_get, MatchResult, IfOk, Ok, Err, Some, IfSome, IsTrue, true};
 ghost use Rattle.text_scan.specs.Bytes.{◌>=>◌};
-ghost use Rattle.macrocell_text.specs.Macrocells.{AreLevelled, entry_level, entry_square, square_standing, squares_of};
+ghost use Rattle.macrocell_text.specs.Macrocells.{AreLevelled, entry_level, entry_square, is_entry, square_standing, squares_of};
 ghost use Rattle.macrocell_lines.specs.Squares.{level_of};
 ghost use Rattle.macrocell_text.specs.SquareLines.{is_level, leaves_with, level_if, level_told, quarter_fault, quarter_told, quarters_told, square_numbered};
 
@@ -32,6 +32,7 @@ fn is_level(leaves: Option<Leaves>, level: u32) -> bool
 fn level_if(leaves: Option<Leaves>, level: u32) -> Option<u8>
     ensures level { result ≡ level_if leaves level }
     ensures some { IfSome result (λ level. 1 ≤ level) }
+    ensures few { IfSome result (λ level. level ≤ 63) }
 {
     if is_level(leaves, level) {
         Some(level as u8)
@@ -48,6 +49,7 @@ pub(crate) fn level_told(
 ) -> Result<u8, MacrocellFault>
     ensures level { MatchResult result (λ level. value >=> level_if leaves ≡ Some level) (λ fault. (value >=> level_if leaves ≡ None) × (fault ≡ MacrocellFault.Square place)) }
     ensures some { IfOk result (λ level. 1 ≤ level) }
+    ensures few { IfOk result (λ level. level ≤ 63) }
 {
     let Some(number) = value else {
         return Err(MacrocellFault::Square(place));
@@ -63,6 +65,7 @@ fn stands(entries: &[Entry], level: u8, number: u32) -> bool
     requires { AreLevelled entries.now }
     ensures stands { square_numbered level (squares_of entries.now) number ≡ (if result then Some (square_standing level (squares_of entries.now) number) else None) }
     ensures level { IsTrue result → level_of (square_standing level (squares_of entries.now) number) ≡ level }
+    ensures state { IsTrue result → level ≡ 0 → number ≤ 255 }
 {
     if level == 0 {
         return number <= 255;
@@ -114,6 +117,7 @@ fn quarter_told<'a>(
     requires levels { AreLevelled entries.now }
     ensures told { MatchResult result (λ q. quarter_told line_end level (squares_of entries.now) rest.now ≡ Ok (square_standing level (squares_of entries.now) q.number, q.rest.now)) (λ fault. quarter_told line_end level (squares_of entries.now) rest.now ≡ Err fault) }
     ensures level { IfOk result (λ q. level_of (square_standing level (squares_of entries.now) q.number) ≡ level) }
+    ensures state { IfOk result (λ q. level ≡ 0 → q.number ≤ 255) }
     ensures within { IfOk result (λ q. length q.rest.now ≤ length rest.now) }
 {
     let number = number_told(line_end, rest)?;
@@ -136,8 +140,10 @@ pub(crate) fn quarters_told(
     requires place { length rest.now ≤ line_end }
     requires levels { AreLevelled entries.now }
     requires some { 1 ≤ level }
+    requires few { level ≤ 63 }
     ensures told { MatchResult result (λ entry. quarters_told line_end (level - 1) (squares_of entries.now) rest.now ≡ Ok (entry_square (squares_of entries.now) entry)) (λ fault. quarters_told line_end (level - 1) (squares_of entries.now) rest.now ≡ Err fault) }
     ensures entry { IfOk result (λ entry. entry_level entry ≡ level) }
+    ensures bytes { IfOk result (λ entry. is_entry entry ≡ true) }
     ensures level { IfOk result (λ entry. level_of (entry_square (squares_of entries.now) entry) ≡ level) }
 {
     let below = level - 1;
