@@ -5,3 +5,5 @@ pub mod Entries
 pub mod FoundLists
 pub mod Prefixes
 pub mod ListedRoots
+pub mod NumbersBack
+pub mod RowsBack

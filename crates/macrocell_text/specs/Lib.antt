@@ -11,3 +11,4 @@ pub mod LiveCells
 pub mod Finding
 pub mod Standings
 pub mod Rows
+pub mod Laws

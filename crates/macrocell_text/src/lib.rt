@@ -9,6 +9,7 @@ mod entry;
 mod fault;
 mod found;
 mod head;
+mod laws;
 mod leaves;
 mod listed;
 mod listing_fault;
@@ -22,6 +23,7 @@ mod text;
 
 pub use fault::MacrocellFault;
 pub use head::RulePlace;
+pub use laws::line_laws;
 pub use listing_fault::ListingFault;
 pub use macrocell::Macrocell;
 pub use text::read_macrocell;

@@ -1,0 +1,37 @@
+-- What the writer of macrocells writes of a square is read back as that square.
+use Rattle.std.specs.Prelude.{◌≡◌, ℕ, ◌-◌, ◌≤◌, true, List, ◌∷◌, ◌++◌, codes, decimal, ◌==◌, if◌then◌else◌, Option, Some, Result, Ok}
+use Rattle.bitplane_kernel.specs.Square.{state_at}
+use Rattle.macrocell_lines.specs.declared.line.Line.TheVariants as lines
+use Rattle.macrocell_lines.specs.Lines.{line_text, rows_text}
+use Rattle.macrocell_lines.specs.Squares.{StateSquare, Four, square_of}
+use Rattle.macrocell_text.specs.declared.leaves.Leaves.{Leaves}
+use Rattle.macrocell_text.specs.Marks.{rows_told}
+use Rattle.macrocell_text.specs.SquareLines.{is_level, square_numbered}
+use Rattle.macrocell_text.specs.Texts.{square_numbers}
+
+-- a line of five numbers, without its end
+abbrev pub numbers_text : ℕ → ℕ → ℕ → ℕ → ℕ → List ℕ
+numbers_text level nw ne sw se = decimal level ++ (32 ∷ (decimal nw ++ (32 ∷ (decimal ne ++ (32 ∷ (decimal sw ++ (32 ∷ decimal se)))))))
+
+-- the writer's line of a square by its quarters
+abbrev pub WritesNumbers : Type 0
+WritesNumbers = (level nw ne sw se : ℕ) → line_text (lines.Four level nw ne sw se) ≡ numbers_text level nw ne sw se ++ codes "\n"
+
+-- it is read as the square whose quarters its numbers stand for
+abbrev pub ReadsNumbersBack : Type 0
+ReadsNumbersBack = (line_end : ℕ) (leaves : Option Leaves) (squares : List StateSquare) (level nw ne sw se : ℕ) (a b c d : StateSquare) →
+    is_level leaves level ≡ true → nw ≤ 4294967295 → ne ≤ 4294967295 → sw ≤ 4294967295 → se ≤ 4294967295 →
+    square_numbered (level - 1) squares nw ≡ Some a → square_numbered (level - 1) squares ne ≡ Some b → square_numbered (level - 1) squares sw ≡ Some c → square_numbered (level - 1) squares se ≡ Some d →
+    square_numbers line_end leaves squares (numbers_text level nw ne sw se) ≡ Ok (level, Four a b c d)
+
+-- a state as a mark tells it: dead or live
+abbrev pub state_told : ℕ → ℕ
+state_told s = if s == 0 then 0 else 1
+
+-- the writer's line of a square by its rows
+abbrev pub WritesRows : Type 0
+WritesRows = (states : List ℕ) → line_text (lines.Leaf states) ≡ rows_text states ++ codes "\n"
+
+-- it is read as that square, where states are dead or live
+abbrev pub ReadsRowsBack : Type 0
+ReadsRowsBack = (place : ℕ) (states : List ℕ) → rows_told place (rows_text states) ≡ Ok (square_of 3 (λ u v. state_told (state_at 8 states u v)))
