@@ -7,3 +7,4 @@ pub mod Prefixes
 pub mod ListedRoots
 pub mod NumbersBack
 pub mod RowsBack
+pub mod LiveLaws

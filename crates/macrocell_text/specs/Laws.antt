@@ -1,10 +1,12 @@
--- What the writer of macrocells writes of a square is read back as that square.
-use Rattle.std.specs.Prelude.{◌≡◌, ℕ, ◌-◌, ◌≤◌, true, List, ◌∷◌, ◌++◌, codes, decimal, ◌==◌, if◌then◌else◌, Option, Some, Result, Ok}
+-- What the writer of macrocells writes of a square is read back as that square; what the live cells of a square are.
+use Rattle.std.specs.Prelude.{◌≡◌, ◌≢◌, ℕ, ◌+◌, ◌-◌, ◌^◌, ◌≤◌, ◌<◌, true, Contains, List, ◌∷◌, ◌++◌, codes, decimal, ◌==◌, if◌then◌else◌, Option, Some, Result, Ok}
 use Rattle.bitplane_kernel.specs.Square.{state_at}
 use Rattle.macrocell_lines.specs.declared.line.Line.TheVariants as lines
 use Rattle.macrocell_lines.specs.Lines.{line_text, rows_text}
-use Rattle.macrocell_lines.specs.Squares.{StateSquare, Four, square_of}
+use Rattle.macrocell_lines.specs.Squares.{StateSquare, Four, square_of, state_in}
+use Rattle.macrocell_lines.specs.Listing.{IsSquare}
 use Rattle.macrocell_text.specs.declared.leaves.Leaves.{Leaves}
+use Rattle.macrocell_text.specs.LiveCells.{LiveCell, live_cells}
 use Rattle.macrocell_text.specs.Marks.{rows_told}
 use Rattle.macrocell_text.specs.SquareLines.{is_level, square_numbered}
 use Rattle.macrocell_text.specs.Texts.{square_numbers}
@@ -35,3 +37,22 @@ WritesRows = (states : List ℕ) → line_text (lines.Leaf states) ≡ rows_text
 -- it is read as that square, where states are dead or live
 abbrev pub ReadsRowsBack : Type 0
 ReadsRowsBack = (place : ℕ) (states : List ℕ) → rows_told place (rows_text states) ≡ Ok (square_of 3 (λ u v. state_told (state_at 8 states u v)))
+
+-- ---- live cells
+
+-- a live cell of a square of level k whose upper left cell stands in a column and a row
+pub record IsLiveIn (k : ℕ) (q : StateSquare) (column row : ℕ) (cell : LiveCell) : Type 0 where
+  pub left : column ≤ cell.column
+  pub right : cell.column < column + 2 ^ k
+  pub top : row ≤ cell.row
+  pub bottom : cell.row < row + 2 ^ k
+  pub state_is : state_in q (cell.column - column) (cell.row - row) ≡ cell.state
+  pub live : cell.state ≢ 0
+
+-- the live cells that are found of a square of level k are such
+abbrev pub FindsOnlyLiveCells : Type 0
+FindsOnlyLiveCells = (k : ℕ) (q : StateSquare) (column row : ℕ) (cell : LiveCell) → IsSquare k q → Contains (live_cells (2 ^ k) q column row) cell → IsLiveIn k q column row cell
+
+-- and are all of them
+abbrev pub FindsAllLiveCells : Type 0
+FindsAllLiveCells = (k : ℕ) (q : StateSquare) (column row : ℕ) (cell : LiveCell) → IsSquare k q → IsLiveIn k q column row cell → Contains (live_cells (2 ^ k) q column row) cell

@@ -1,6 +1,6 @@
-//! What is read of written macrocells, for all squares: the contract of a function that does nothing.
+//! What macrocells obey, for all squares: contracts of functions that do nothing.
 
-ghost use Rattle.macrocell_text.specs.Laws.{ReadsNumbersBack, ReadsRowsBack, WritesNumbers, WritesRows};
+ghost use Rattle.macrocell_text.specs.Laws.{FindsAllLiveCells, FindsOnlyLiveCells, ReadsNumbersBack, ReadsRowsBack, WritesNumbers, WritesRows};
 
 /// The line that the writer writes of a square is read as that square: by its quarters, as the square whose quarters
 /// its numbers stand for; of level 3 by its rows, where states are dead or live.
@@ -9,4 +9,10 @@ pub fn line_laws()
     ensures numbers { ReadsNumbersBack }
     ensures written_rows { WritesRows }
     ensures rows { ReadsRowsBack }
+{}
+
+/// The live cells that are found of a square are its states that are not 0, each at its column and row.
+pub fn cell_laws()
+    ensures only { FindsOnlyLiveCells }
+    ensures all { FindsAllLiveCells }
 {}
