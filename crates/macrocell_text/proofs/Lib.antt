@@ -8,3 +8,4 @@ pub mod ListedRoots
 pub mod NumbersBack
 pub mod RowsBack
 pub mod LiveLaws
+pub mod SquaresRead

@@ -1,15 +1,16 @@
 -- What the writer of macrocells writes of a square is read back as that square; what the live cells of a square are.
-use Rattle.std.specs.Prelude.{◌≡◌, ◌≢◌, ℕ, ◌+◌, ◌-◌, ◌^◌, ◌≤◌, ◌<◌, true, Contains, List, ◌∷◌, ◌++◌, codes, decimal, ◌==◌, if◌then◌else◌, Option, Some, Result, Ok}
+use Rattle.std.specs.Prelude.{◌≡◌, ◌≢◌, ℕ, ◌+◌, ◌-◌, ◌^◌, ◌≤◌, ◌<◌, true, Contains, List, ◌∷◌, ◌++◌, codes, decimal, ◌==◌, if◌then◌else◌, Option, Some, Result, Ok, slice_get}
 use Rattle.bitplane_kernel.specs.Square.{state_at}
 use Rattle.macrocell_lines.specs.declared.line.Line.TheVariants as lines
 use Rattle.macrocell_lines.specs.Lines.{line_text, rows_text}
-use Rattle.macrocell_lines.specs.Squares.{StateSquare, Four, square_of, state_in}
+use Rattle.macrocell_lines.specs.Squares.{StateSquare, Four, level_of, square_of, state_in}
 use Rattle.macrocell_lines.specs.Listing.{IsSquare}
 use Rattle.macrocell_text.specs.declared.leaves.Leaves.{Leaves}
 use Rattle.macrocell_text.specs.LiveCells.{LiveCell, live_cells}
 use Rattle.macrocell_text.specs.Marks.{rows_told}
 use Rattle.macrocell_text.specs.SquareLines.{is_level, square_numbered}
-use Rattle.macrocell_text.specs.Texts.{square_numbers}
+use Rattle.macrocell_text.specs.Macrocells.{MacrocellTold}
+use Rattle.macrocell_text.specs.Texts.{macrocell_read, square_numbers}
 
 -- a line of five numbers, without its end
 abbrev pub numbers_text : ℕ → ℕ → ℕ → ℕ → ℕ → List ℕ
@@ -56,3 +57,11 @@ FindsOnlyLiveCells = (k : ℕ) (q : StateSquare) (column row : ℕ) (cell : Live
 -- and are all of them
 abbrev pub FindsAllLiveCells : Type 0
 FindsAllLiveCells = (k : ℕ) (q : StateSquare) (column row : ℕ) (cell : LiveCell) → IsSquare k q → IsLiveIn k q column row cell → Contains (live_cells (2 ^ k) q column row) cell
+
+-- each square has a level from 1 on, and four quarters of the level below
+abbrev pub AreSquares : List StateSquare → Type 0
+AreSquares squares = (i : ℕ) (q : StateSquare) → slice_get squares i ≡ Some q → (1 ≤ level_of q) × IsSquare (level_of q) q
+
+-- the squares that a text tells are such
+abbrev pub TellsSquares : Type 0
+TellsSquares = (text : List ℕ) (told : MacrocellTold) → macrocell_read text ≡ Ok told → AreSquares told.squares
