@@ -9,3 +9,4 @@ pub mod NumbersBack
 pub mod RowsBack
 pub mod LiveLaws
 pub mod SquaresRead
+pub mod MapLaws

@@ -9,7 +9,7 @@ use Rattle.macrocell_lines.proofs.States.{double, level_is, put, put_nw, put_ne,
 use Rattle.macrocell_text.specs.LiveCells.{LiveCell, live_cells}
 use Rattle.macrocell_text.specs.Laws.{FindsAllLiveCells, FindsOnlyLiveCells, IsLiveIn}
 
-none_in : {X : Type 0} (x : X) → Contains [] x → ⊥
+pub none_in : {X : Type 0} (x : X) → Contains [] x → ⊥
 none_in x h = omega (arith, h.1)
 
 -- ---- a square and its quarters

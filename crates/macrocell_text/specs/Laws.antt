@@ -1,12 +1,16 @@
 -- What the writer of macrocells writes of a square is read back as that square; what the live cells of a square are.
 use Rattle.std.specs.Prelude.{◌≡◌, ◌≢◌, ℕ, ◌+◌, ◌-◌, ◌^◌, ◌≤◌, ◌<◌, true, Contains, List, ◌∷◌, ◌++◌, codes, decimal, ◌==◌, if◌then◌else◌, Option, Some, Result, Ok, slice_get}
+use Rattle.generations_rule.specs.Place.{Place}
+use Rattle.pattern_cells.specs.declared.cell.Cell.{Cell}
+use Rattle.pattern_cells.specs.Cells.{place_of}
 use Rattle.bitplane_kernel.specs.Square.{state_at}
 use Rattle.macrocell_lines.specs.declared.line.Line.TheVariants as lines
 use Rattle.macrocell_lines.specs.Lines.{line_text, rows_text}
 use Rattle.macrocell_lines.specs.Squares.{StateSquare, Four, level_of, square_of, state_in}
 use Rattle.macrocell_lines.specs.Listing.{IsSquare}
 use Rattle.macrocell_text.specs.declared.leaves.Leaves.{Leaves}
-use Rattle.macrocell_text.specs.LiveCells.{LiveCell, live_cells}
+use Rattle.macrocell_text.specs.LiveCells.{LiveCell, cells_of_root, live_cells}
+use Rattle.macrocell_text.specs.Maps.{map_of_squares, root_of_squares}
 use Rattle.macrocell_text.specs.Marks.{rows_told}
 use Rattle.macrocell_text.specs.SquareLines.{is_level, square_numbered}
 use Rattle.macrocell_text.specs.Macrocells.{MacrocellTold}
@@ -65,3 +69,13 @@ AreSquares squares = (i : ℕ) (q : StateSquare) → slice_get squares i ≡ Som
 -- the squares that a text tells are such
 abbrev pub TellsSquares : Type 0
 TellsSquares = (text : List ℕ) (told : MacrocellTold) → macrocell_read text ≡ Ok told → AreSquares told.squares
+
+-- the cells that are listed of a text have the states of its map at their places, and none is dead
+abbrev pub ListsOnlyMap : Type 0
+ListsOnlyMap = (text : List ℕ) (told : MacrocellTold) (cell : Cell) → macrocell_read text ≡ Ok told → Contains (cells_of_root (root_of_squares told.squares)) cell →
+    (map_of_squares told.squares (place_of cell) ≡ cell.state) × (cell.state ≢ 0)
+
+-- and each place of the map that is not dead has its cell
+abbrev pub ListsWholeMap : Type 0
+ListsWholeMap = (text : List ℕ) (told : MacrocellTold) (c : Place) → macrocell_read text ≡ Ok told → map_of_squares told.squares c ≢ 0 →
+    Contains (cells_of_root (root_of_squares told.squares)) (record { x = c.x; y = c.y; state = map_of_squares told.squares c })

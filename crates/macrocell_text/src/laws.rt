@@ -1,6 +1,6 @@
 //! What macrocells obey, for all squares: contracts of functions that do nothing.
 
-ghost use Rattle.macrocell_text.specs.Laws.{FindsAllLiveCells, FindsOnlyLiveCells, ReadsNumbersBack, ReadsRowsBack, TellsSquares, WritesNumbers, WritesRows};
+ghost use Rattle.macrocell_text.specs.Laws.{FindsAllLiveCells, FindsOnlyLiveCells, ListsOnlyMap, ListsWholeMap, ReadsNumbersBack, ReadsRowsBack, TellsSquares, WritesNumbers, WritesRows};
 
 /// The line that the writer writes of a square is read as that square: by its quarters, as the square whose quarters
 /// its numbers stand for; of level 3 by its rows, where states are dead or live.
@@ -17,4 +17,10 @@ pub fn cell_laws()
     ensures squares { TellsSquares }
     ensures only { FindsOnlyLiveCells }
     ensures all { FindsAllLiveCells }
+{}
+
+/// The cells that are listed of a text are those of its map that are not dead, each with its state.
+pub fn map_laws()
+    ensures only { ListsOnlyMap }
+    ensures whole { ListsWholeMap }
 {}

@@ -23,7 +23,7 @@ mod text;
 
 pub use fault::MacrocellFault;
 pub use head::RulePlace;
-pub use laws::{cell_laws, line_laws};
+pub use laws::{cell_laws, line_laws, map_laws};
 pub use listing_fault::ListingFault;
 pub use macrocell::Macrocell;
 pub use text::read_macrocell;
