@@ -159,15 +159,21 @@ fn a_block_goes_to_its_end(rt: HostRuntime) -> Result<(), Fail> {
 fn an_open_block_is_told_at_its_pattern_line(rt: HostRuntime) -> Result<(), Fail> {
     let mut dictation = Dictation::new(rt.alloc());
     assert_eq!(rt; dictation.ended(), None);
-    let _skipped = dictation.hear(b"# a block")?;
+    pass(&mut dictation, b"# a block")?;
     assert!(rt; !dictation.is_in_block());
-    let _opened = dictation.hear(b"pattern a")?;
-    let _within = dictation.hear(b"bo!")?;
+    pass(&mut dictation, b"pattern a")?;
+    pass(&mut dictation, b"bo!")?;
     assert!(rt; dictation.is_in_block());
     assert_eq!(rt; dictation.ended(), Some(2));
-    let _closed = dictation.hear(b"end")?;
+    pass(&mut dictation, b"end")?;
     assert!(rt; !dictation.is_in_block());
     assert_eq!(rt; dictation.ended(), None);
+    Ok(())
+}
+
+/// Hears a line, whatever it comes to.
+fn pass(dictation: &mut Dictation, line: &[u8]) -> Result<(), AllocError> {
+    let _heard = dictation.hear(line)?;
     Ok(())
 }
 
