@@ -72,12 +72,16 @@ fn push_paste(
 }
 
 fn push_turn(all: &mut Vec<u8>, turning: &Turning) -> Result<(), AllocError> {
-    let (name, new_name) = (turning.name.as_bytes(), turning.new_name.as_bytes());
-    let turn = turn_word(turning.turn).as_bytes();
-    for part in [b"turn ".as_slice(), name, b" ", new_name, b" ", turn] {
-        all.extend_from_slice(part)?;
-    }
-    Ok(())
+    all.extend_from_slice(b"turn")?;
+    push_word(all, turning.name.as_bytes())?;
+    push_word(all, turning.new_name.as_bytes())?;
+    push_word(all, turn_word(turning.turn).as_bytes())
+}
+
+/// Puts a blank last, and a word.
+fn push_word(all: &mut Vec<u8>, word: &[u8]) -> Result<(), AllocError> {
+    all.push(b' ')?;
+    all.extend_from_slice(word)
 }
 
 fn turn_word(turn: Turn) -> &'static str {
