@@ -1,5 +1,5 @@
 // @ts-check
-// Golly's multi-state RLE, read and written as docs/MODEL.md has it.
+// Golly's multi-state RLE, read and written as crates/multistate_rle has it.
 import { Fault, MOST_CELLS, textIn } from "./formats.js";
 import { fileRule } from "./rules.js";
 

@@ -1,5 +1,5 @@
 // @ts-check
-// Rules of the Generations family, as Golly and docs/MODEL.md have them.
+// Rules of the Generations family, as Golly has them, and crates/generations_rule.
 
 /**
  * A rule: its printed form, its survival and birth counts as bits, and its number of states.

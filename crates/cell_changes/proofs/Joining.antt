@@ -62,11 +62,11 @@ sorted_listed (e ∷ cells) d sorted h = elim (contains_cases e d cells h) [
       listed_there e cells (place_of d) (same_sym (place_of e) (place_of d) ∙ before_is_other (place_of e) (place_of d) first) ∙ sorted_listed cells d (sorted_tail e cells sorted) below)
 ]
 
-nonzero_states : (p : Writes) (cells : List Cell) → AreNonzeroCells p cells → HaveStatesOf p cells
+pub nonzero_states : (p : Writes) (cells : List Cell) → AreNonzeroCells p cells → HaveStatesOf p cells
 nonzero_states p cells are d h = sym (are.states (place_of d)) ∙ ap (λ o. unwrap_or o 0) (sorted_listed cells d are.sorted h)
 
 -- a state that is not 0 is listed
-nonzero_listed : (p : Writes) (cells : List Cell) (c : Place) → AreNonzeroCells p cells → (p c).state ≢ 0 → (d : Cell) × (Contains cells d × (place_of d ≡ c) × (d.state ≡ (p c).state))
+pub nonzero_listed : (p : Writes) (cells : List Cell) (c : Place) → AreNonzeroCells p cells → (p c).state ≢ 0 → (d : Cell) × (Contains cells d × (place_of d ≡ c) × (d.state ≡ (p c).state))
 nonzero_listed p cells c are nonzero = go (listed cells c) refl
   where
     go : (o : Option ℕ) → listed cells c ≡ o → (d : Cell) × (Contains cells d × (place_of d ≡ c) × (d.state ≡ (p c).state))

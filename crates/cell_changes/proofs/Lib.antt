@@ -4,4 +4,4 @@ pub mod SettledCells
 pub mod Changing
 pub mod Putting
 pub mod Joining
-pub mod Walking
+pub mod Covering

@@ -1,6 +1,6 @@
 -- Which elements lists have.
 use Rattle.std.proofs.Common.{◌≡◌, ◌⊎◌, zero, suc, Bool, true, List, [], ◌∷◌, map, inl, inr, refl, sym, ap, subst, ◌∙◌, arith}
-use Rattle.std.specs.Prelude.{Contains, filter, find, length, Some, ◌==◌, IfOk, OnOk, Result, Ok, Err}
+use Rattle.std.specs.Prelude.{Contains, filter, length, ◌==◌, IfOk, Result, Ok, Err}
 use Rattle.std.proofs.lemmas.Bool.{cases_Bool}
 use Rattle.stamped_tree.proofs.Overwriting.{no_length}
 use Rattle.stamped_tree.proofs.Gathering.{contains_head, contains_tail}
@@ -57,26 +57,11 @@ filtered_has p (y ∷ xs) x h passes = elim (contains_cases y x xs h) [
   ]
 ]
 
--- what is found passes the test
-pub find_passes : {X : Type 0} (p : X → Bool) (xs : List X) (x : X) → find p xs ≡ Some x → p x ≡ true
-find_passes p [] x e = cc
-find_passes p (y ∷ xs) x e = elim (cases_Bool (p y)) [
-  | inl passes ↦ subst (λ z. p z ≡ true) (the_one (rw passes at e)) passes
-  | inr fails ↦ find_passes p xs x (rw fails at e)
-]
-  where
-    the_one : Some y ≡ Some x → y ≡ x
-    the_one z = cc
-
 pub no_items : {X : Type 0} (xs : List X) → true ≡ (length xs == 0) → xs ≡ []
 no_items [] h = refl
 no_items (x ∷ xs) h = absurd (let none = no_length (length (x ∷ xs)) h in omega (arith, none))
 
 -- ---- results
-
-pub on_ok : {A F : Type 0} {P Q : Type 0} (r : Result A F) → (P → Q) → OnOk r P → OnOk r Q
-on_ok (Ok x) f p = f p
-on_ok (Err e) f p = tt
 
 pub if_ok : {A F : Type 0} {P Q : A → Type 0} (r : Result A F) → ((x : A) → P x → Q x) → IfOk r P → IfOk r Q
 if_ok (Ok x) f p = f x p

@@ -9,18 +9,9 @@ use Rattle.pattern_cells.specs.Cells.{place_of}
 use Rattle.stamped_writes.specs.Write.{Writes}
 use Rattle.edit_stamps.specs.Edit.{PlaneEdit}
 use Rattle.cell_changes.specs.Changes.{cell_in}
-use Rattle.cell_changes.specs.Put.{IsNonzeroIn, IsPlaceOf, Puts, PutsCell, SomeLists, SomeMayChange}
+use Rattle.cell_changes.specs.Put.{IsNonzeroIn, IsPlaceOf, Puts, SomeLists, SomeMayChange}
 use Rattle.cell_changes.proofs.AreaLaws.{some_area}
 use Rattle.cell_changes.proofs.Lists.{contains_none}
-
--- ---- one cell
-
-pub puts_one : (cell : Cell) (IsSought : Type 0) (old : List Cell) → PutsCell IsSought cell old (old ++ cell ∷ [])
-puts_one cell IsSought old = record {
-  kept = λ d h. Contains-append_left old (cell ∷ []) d h;
-  put = λ is. Contains-push old cell;
-  only = λ d h. elim (Contains-push_cases old cell d h) [ inl there ↦ inl there | inr is ↦ inr (sym is) ];
-}
 
 -- ---- places, from a list on
 

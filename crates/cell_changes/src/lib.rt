@@ -2,8 +2,6 @@
 //! are looked at before, and again afterwards.
 #![tactic(auto)]
 
-mod area_walk;
-mod areas;
 mod settling;
 mod states;
 mod watched;

@@ -2,13 +2,11 @@
 
 ghost use Rattle.std.specs.Prelude.{◌≡◌, map, filter, filter_map, IfOk, OnOk};
 ghost use Rattle.stamped_tree.specs.Plane.{map_of};
-ghost use Rattle.cell_changes.specs.Put.{IsNonzeroIn, Puts, SomeLists, has_changed, now_in};
+ghost use Rattle.cell_changes.specs.Put.{Puts, SomeLists, has_changed, now_in};
 
-use crate::area_walk::push_covered;
-use crate::areas::areas_of;
 use crate::settling::settled_cells;
 use crate::states::{has_changed, now_in, push_places};
-use edit_stamps::Edit;
+use edit_stamps::{Edit, Rect};
 use pattern_cells::Cell;
 use stamped_tree::Plane;
 use std::alloc::{AllocError, Global};
@@ -37,13 +35,13 @@ impl Watched {
     ghost use Rattle.cell_changes.specs.Changes.{AreChanges, Watches, WatchesJoin};
 
     /// What may change in a plane by edits: the places that they list, and the cells in their areas whose
-    /// state is not 0. The areas are walked together, and what several have is found once.
+    /// state is not 0. Those are found by one walk, and what several areas have once.
     /// The only error is want of memory.
     pub fn of_edits(alloc: Global, plane: &Plane, edits: &[Edit]) -> Result<Watched, AllocError>
         ensures { IfOk result (λ watched. WatchesJoin watched (map_of plane.now) (greatest edits.now)) }
     {
-        let mut cells = Vec::new(alloc);
-        push_covered_by_edits(alloc, plane, edits, &mut cells)?;
+        let areas = areas_of(alloc, edits)?;
+        let mut cells = plane.walk_in(&areas)?;
         push_listed(plane, edits, &mut cells)?;
         Ok(Watched { cells })
     }
@@ -103,17 +101,12 @@ fn outdated_cells(alloc: Global, cells: &[Cell], now: &Plane) -> Result<Vec<Cell
     Ok(outdated)
 }
 
-/// Puts the cells of the areas of edits last whose state is not 0.
-fn push_covered_by_edits(
-    alloc: Global,
-    plane: &Plane,
-    edits: &[Edit],
-    cells: &mut Vec<Cell>,
-) -> Result<(), AllocError>
-    ensures { OnOk result (Puts (map_of plane.now) (IsNonzeroIn (map_of plane.now) (filter_map (λ e. e.area) edits.now)) cells.old.items cells.new.items) }
+/// The areas of edits.
+fn areas_of(alloc: Global, edits: &[Edit]) -> Result<Vec<Rect>, AllocError>
+    ensures { IfOk result (λ areas. areas.items ≡ filter_map (λ e. e.area) edits.now) }
 {
-    let areas = areas_of(alloc, edits)?;
-    push_covered(alloc, plane, &areas, cells)
+    let areas = edits.iter().filter_map(|edit| edit.area()).collect(alloc)?;
+    Ok(areas)
 }
 
 /// Puts the places that edits list last.

@@ -21,5 +21,5 @@ pub use colour::{Colour, colour_of};
 pub use laws::picture_laws;
 pub use picture::{Form, draw};
 pub use plain::plain_text;
-pub use svg::svg_text;
+pub use svg::{hex_colour, push_number, svg_text};
 pub use window::Window;

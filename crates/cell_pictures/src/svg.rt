@@ -188,15 +188,16 @@ fn push_signed<K: Sink>(sink: &mut K, name: &[u8], number: i32) -> Result<(), Fa
     sink.push_all(Buffer::new().format(number).as_bytes())
 }
 
-/// A number, behind what names it.
-fn push_number<K: Sink>(sink: &mut K, name: &[u8], number: u64) -> Result<(), Failed>
+/// A number, behind what names it: a part of an SVG's text.
+pub fn push_number<K: Sink>(sink: &mut K, name: &[u8], number: u64) -> Result<(), Failed>
     ensures { IsDrawn (K.known sink.old) result (number_text name.now number) (K.known sink.new) }
 {
     sink.push_all(name)?;
     sink.push_all(Buffer::new().format(number).as_bytes())
 }
 
-fn hex_colour(colour: Colour) -> [u8; 7]
+/// A colour as SVG writes it: `#ff8000`.
+pub fn hex_colour(colour: Colour) -> [u8; 7]
     ensures { result ≡ hex_colour colour }
 {
     [

@@ -59,7 +59,7 @@ static DRAWN: [Faulty; 11] = [
     },
 ];
 
-static ASKED: [Faulty; 20] = [
+static ASKED: [Faulty; 23] = [
     Faulty {
         line: b"export",
         told: "7: the generation is missing: `export G [FILE]`",
@@ -75,6 +75,18 @@ static ASKED: [Faulty; 20] = [
     Faulty {
         line: b"export 1 4",
         told: "10: the file's name is any word but a number",
+    },
+    Faulty {
+        line: b"export 0..9",
+        told: "12: a range is exported to files: `export G1..G2 FILE`, and one % in FILE stands for the generation",
+    },
+    Faulty {
+        line: b"export! 0..9/3 \"a b.rle\"",
+        told: "16: a range is exported to files: `export G1..G2 FILE`, and one % in FILE stands for the generation",
+    },
+    Faulty {
+        line: b"export 0..9 a% b",
+        told: "16: a word too many: `export G [FILE]`; a name with blanks stands in double quotes",
     },
     Faulty {
         line: b"export! 1",

@@ -1,6 +1,7 @@
 //! What lines come to, by the names of the commands in them.
 
-use client_commands::{ClientCommand, Dictation, FileName, FileTarget, Heard, Placement};
+use client_commands::{ClientCommand, Dictation, FileName, FileTarget, Film, Heard, Placement};
+use command_words::GenerationRange;
 use genedit_script::Turning;
 use pattern_cells::Window;
 use pattern_turns::Turn;
@@ -20,10 +21,14 @@ show -3 4
 export 4
 export 4 a.rle
 export! 4 a.rle
+export 4..20/8 a%.rle
+export! 0..9/1 %.mc
 cut -3 4 5 6 7
 cut -3 4 5 6 7 a.rle
 cut! -3 4 5 6 7 a.rle
 count 4
+count 4..20/8
+period 65535 7
 undo
 redo
 poll
@@ -41,6 +46,18 @@ cut -3 4 5
 cut -3 4 5 -6
 cut! -3 4 5 6 7
 count -1
+count 4..3
+count 0..9/0
+count 0..
+count ..9
+count 0..9/
+count 0..9/2 3
+count 0..4294967296
+period
+period 0
+period 65536
+period 1 -1
+period 1 2 3
 undo 1
 redo 0
 Undo
@@ -66,6 +83,11 @@ export
 export 1 2 3
 export 1 100000
 export! 4
+export 4..20
+export 4..20 -
+export 4..20 a.rle
+export 20..4 a%.rle
+export! 4..20 a%%.rle
 poll 1
 wait
 wait 4294967296
@@ -79,8 +101,11 @@ pattern abcdefghijklmno09
 end";
 
 /// Other lines, each with what it comes to.
-static OTHERS: [(&str, &str); 9] = [
+static OTHERS: [(&str, &str); 12] = [
     ("count", "count 0"),
+    ("count 4..20", "count 4..20/1"),
+    ("count 4..4", "count 4..4/1"),
+    ("period 100", "period 100 0"),
     ("wait 3", "wait 3 10000"),
     (" \tpoll\t ", "poll"),
     ("poll\r", "poll"),
@@ -215,10 +240,17 @@ fn told_command(alloc: Global, command: &ClientCommand) -> Result<String, AllocE
             let name = format!(in alloc; "export{} {generation}", sign_of(target))?;
             told_file(alloc, name.as_str(), &target.name)
         }
+        ClientCommand::Film(film) => told_film(alloc, film),
         ClientCommand::Cut(window, generation, file) => {
             told_cut(alloc, *window, *generation, file.as_ref())
         }
         ClientCommand::Count(generation) => format!(in alloc; "count {generation}"),
+        ClientCommand::Counts(range) => {
+            format!(in alloc; "count {}..{}/{}", range.first, range.last, range.step)
+        }
+        ClientCommand::Period(search) => {
+            format!(in alloc; "period {} {}", search.most, search.first)
+        }
         ClientCommand::Undo => format!(in alloc; "undo"),
         ClientCommand::Redo => format!(in alloc; "redo"),
         ClientCommand::Poll => format!(in alloc; "poll"),
@@ -233,6 +265,13 @@ fn told_command(alloc: Global, command: &ClientCommand) -> Result<String, AllocE
         ClientCommand::Help => format!(in alloc; "help"),
         ClientCommand::Bye => format!(in alloc; "bye"),
     }
+}
+
+fn told_film(alloc: Global, film: &Film) -> Result<String, AllocError> {
+    let sign = sign_of(&film.files);
+    let GenerationRange { first, last, step } = film.range;
+    let export = format!(in alloc; "export{sign} {first}..{last}/{step}")?;
+    told_file(alloc, export.as_str(), &film.files.name)
 }
 
 fn told_cut(

@@ -19,8 +19,8 @@ use Rattle.client_commands.specs.declared.dictation.Heard.{Heard}
 use Rattle.client_commands.specs.declared.dictation.Heard.TheVariants as heard
 use Rattle.client_commands.specs.Commands.{client_command_spelled}
 use Rattle.client_commands.specs.Dictation.{command_or_fault, line_heard, lines_heard, next_number, all_heard_by}
-use Rattle.client_commands.specs.Laws.{at_replica_1, with_replica_1, SpellTheSame, ExportTheSame, CutTheSame, TurnTheSame, AskTheSame, nothing, skipped, shared, export, cut, turn, own, opening, inside, closing, onto_found, asked_of_replica_1, HearTheSame, HearInOrder}
-use Rattle.client_commands.proofs.SpellingLaws.{Agree, neither, both, equal, AreCommandLines, IsCommandLine, line_says, line_opens_none, shared_line, export_line, cut_line, turn_line, command_begins}
+use Rattle.client_commands.specs.Laws.{at_replica_1, with_replica_1, SpellTheSame, ExportTheSame, CountTheSame, CutTheSame, TurnTheSame, AskTheSame, nothing, skipped, shared, export, count, cut, turn, own, opening, inside, closing, onto_found, asked_of_replica_1, HearTheSame, HearInOrder}
+use Rattle.client_commands.proofs.SpellingLaws.{Agree, neither, both, equal, AreCommandLines, IsCommandLine, line_says, line_opens_none, shared_line, export_line, count_line, cut_line, turn_line, command_begins}
 
 -- ---- one command
 
@@ -29,6 +29,9 @@ spell_the_same ws is = equal (shared_line ws is).agrees
 
 pub export_the_same : ExportTheSame
 export_the_same generation = equal (export_line generation).agrees
+
+pub count_the_same : CountTheSame
+count_the_same words none = equal (count_line words none).agrees
 
 pub cut_the_same : CutTheSame
 cut_the_same x y width height generation = equal (cut_line x y width height generation).agrees
@@ -116,6 +119,9 @@ hears (shared {line = line} {other = other} {lines = lines} {others = others} kn
 hears (export ws beside more) (Some block) is n = absurd (cc)
 hears (export {line = line} {other = other} {generation = generation} {lines = lines} {others = others} ws beside more) None is n =
     both_ask n line other lines others (with_replica_1 (client_words line)) (subst IsCommandLine (sym ws) (export_line generation)) beside (hears more None refl (n + 1))
+hears (count ws none beside more) (Some block) is n = absurd (cc)
+hears (count {line = line} {other = other} {behind = behind} {lines = lines} {others = others} ws none beside more) None is n =
+    both_ask n line other lines others (with_replica_1 (client_words line)) (subst IsCommandLine (sym ws) (count_line behind none)) beside (hears more None refl (n + 1))
 hears (cut ws beside more) (Some block) is n = absurd (cc)
 hears (cut {line = line} {other = other} {x = x} {y = y} {width = width} {height = height} {generation = generation} {lines = lines} {others = others} ws beside more) None is n =
     both_ask n line other lines others (with_replica_1 (client_words line)) (subst IsCommandLine (sym ws) (cut_line x y width height generation)) beside (hears more None refl (n + 1))

@@ -1,6 +1,6 @@
 -- At a keyword that a client has from scripts, a client asks for what a script asks of replica 1.
-use Rattle.std.proofs.Common.{◌≡◌, ℕ, List, [], ◌∷◌, refl, sym, ◌∙◌, ap, subst}
-use Rattle.std.specs.Prelude.{ℤ, true, false, codes, Option, Some, None, option_map}
+use Rattle.std.proofs.Common.{◌≡◌, ℕ, List, [], ◌∷◌, refl, sym, ◌∙◌, ap, subst, arith}
+use Rattle.std.specs.Prelude.{All, ℤ, true, false, codes, Option, Some, None, option_map}
 use Rattle.std.specs.Option.{option_map_or}
 use Rattle.std.specs.Str.{bytes_eq}
 use Rattle.text_scan.specs.Bytes.{◌>=>◌}
@@ -14,6 +14,8 @@ use Rattle.command_words.specs.declared.keyword.Keyword.TheVariants as keyword
 use Rattle.command_words.specs.Arguments.{arguments_of, optional_of}
 use Rattle.command_words.specs.Keywords.{keyword_name, keyword_spelled}
 use Rattle.command_words.specs.Quotes.{client_words, opens_quote}
+use Rattle.command_words.specs.declared.ranges.GenerationRange.{GenerationRange}
+use Rattle.command_words.specs.Ranges.{range_spelled}
 use Rattle.command_words.specs.Spelled.{SpelledValue, line_spelled}
 use Rattle.command_words.specs.Values.{cells_spelled, number_spelled}
 use Rattle.command_words.proofs.QuoteLaws.{first_alike}
@@ -62,9 +64,6 @@ or_alike line is one = rw (is, one) (both refl)
 show_alike : AskAlike keyword.Show
 show_alike line is one = rw (is, one) (both refl)
 
-count_alike : AskAlike keyword.Count
-count_alike line is one = rw (is, one) (both refl)
-
 -- ---- each of these keywords
 
 -- what is known of such a keyword: where it begins a line of a client, a script's line with the replica's number spells the same
@@ -82,7 +81,6 @@ shared keyword.Clear is known = record { spelled = refl; no_replica = refl; no_o
 shared keyword.Copy is known = record { spelled = refl; no_replica = refl; no_optional_replica = refl; opens_none = refl; same = λ ws. refl; alike = copy_alike }
 shared keyword.Or is known = record { spelled = refl; no_replica = refl; no_optional_replica = refl; opens_none = refl; same = λ ws. refl; alike = or_alike }
 shared keyword.Show is known = record { spelled = refl; no_replica = refl; no_optional_replica = refl; opens_none = refl; same = λ ws. refl; alike = show_alike }
-shared keyword.Count is known = record { spelled = refl; no_replica = refl; no_optional_replica = refl; opens_none = refl; same = λ ws. refl; alike = count_alike }
 shared other is known = absurd (cc)
 
 agree_by : (k : Keyword) (ws : List (List ℕ)) → IsShared k → (spelled : Option SpelledValue) → line_spelled Client (keyword_name k ∷ ws) ≡ spelled →
@@ -97,10 +95,28 @@ agrees k ws known =
     subst (λ (spelled : Option SpelledValue). Agree (client_command_spelled (keyword_name k ∷ ws)) (spelled >=> command_asked)) (known.same ws)
     (agree_by k ws known (line_spelled Client (keyword_name k ∷ ws)) refl)
 
-exported : (generation : List ℕ) (n : Option ℕ) → number_spelled generation ≡ n →
+-- a range is exported to files alone
+exported : (generation : List ℕ) (n : Option ℕ) (range : Option GenerationRange) → number_spelled generation ≡ n → range_spelled generation ≡ range →
     Agree (client_command_spelled (codes "export" ∷ generation ∷ [])) (command_spelled (codes "export" ∷ codes "1" ∷ generation ∷ []))
-exported generation None is = rw is neither
-exported generation (Some n) is = rw is (both refl)
+exported generation None None is is_range = rw (is, is_range) neither
+exported generation None (Some range) is is_range = rw (is, is_range) neither
+exported generation (Some n) range is is_range = rw is (both refl)
+
+counted_at : (word : List ℕ) (n : Option ℕ) → number_spelled word ≡ n → range_spelled word ≡ None →
+    Agree (client_command_spelled (codes "count" ∷ word ∷ [])) (command_spelled (codes "count" ∷ codes "1" ∷ word ∷ []))
+counted_at word None is no_range = rw (is, no_range) neither
+counted_at word (Some n) is no_range = rw is (both refl)
+
+-- a word too many
+counted_no_more : (word other : List ℕ) (ws : List (List ℕ)) (n : Option ℕ) → number_spelled word ≡ n → range_spelled word ≡ None →
+    Agree (client_command_spelled (codes "count" ∷ word ∷ other ∷ ws)) (command_spelled (codes "count" ∷ codes "1" ∷ word ∷ other ∷ ws))
+counted_no_more word other ws None is no_range = rw (is, no_range) neither
+counted_no_more word other ws (Some n) is no_range = rw is neither
+
+counted : (ws : List (List ℕ)) → All (λ word. range_spelled word ≡ None) ws → Agree (client_command_spelled (codes "count" ∷ ws)) (command_spelled (codes "count" ∷ codes "1" ∷ ws))
+counted [] none = both refl
+counted (word ∷ []) none = counted_at word (number_spelled word) refl (none 0 [] (omega arith))
+counted (word ∷ other ∷ ws) none = counted_no_more word other ws (number_spelled word) refl (none 0 [] (omega arith))
 
 module _ (x y width height generation : List ℕ) where
   abbrev CutsAlike : Type 0
@@ -202,7 +218,15 @@ export_line generation = record {
   begins = record { first = keyword.Export; behind = generation ∷ []; words_are = refl; opens_none = refl };
   other_says = refl;
   other_opens_none = opens_no_block (codes "export") (codes "1" ∷ generation ∷ []) refl;
-  agrees = exported generation (number_spelled generation) refl;
+  agrees = exported generation (number_spelled generation) (range_spelled generation) refl refl;
+}
+
+pub count_line : (ws : List (List ℕ)) → All (λ word. range_spelled word ≡ None) ws → IsCommandLine (codes "count" ∷ ws)
+count_line ws none = record {
+  begins = record { first = keyword.Count; behind = ws; words_are = refl; opens_none = refl };
+  other_says = refl;
+  other_opens_none = opens_no_block (codes "count") (codes "1" ∷ ws) refl;
+  agrees = counted ws none;
 }
 
 pub cut_line : (x y width height generation : List ℕ) → IsCommandLine (codes "cut" ∷ x ∷ y ∷ width ∷ height ∷ generation ∷ [])

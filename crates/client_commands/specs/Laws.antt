@@ -1,5 +1,5 @@
 -- What a client's commands are beside those of a script, and what its lines come to from the first on.
-use Rattle.std.specs.Prelude.{◌≡◌, ◌↔◌, ℕ, ◌+◌, ◌<◌, ◌^◌, Bool, true, false, ◌&&◌, ◌==◌, List, [], ◌∷◌, ◌++◌, length, map, codes, Option, Some, None, Result, Ok, Err}
+use Rattle.std.specs.Prelude.{◌≡◌, ◌↔◌, ℕ, ◌+◌, ◌<◌, ◌^◌, All, Bool, true, false, ◌&&◌, List, [], ◌∷◌, ◌++◌, length, map, codes, Option, Some, None, Result, Ok, Err}
 use Rattle.std.specs.Option.{option_map_or}
 use Rattle.std.specs.Str.{bytes_eq}
 use Rattle.std.specs.Str.Lines.{strip_carriage_return}
@@ -13,6 +13,8 @@ use Rattle.command_words.specs.declared.keyword.Keyword.{Keyword}
 use Rattle.command_words.specs.Arguments.{optional_of, script_arguments}
 use Rattle.command_words.specs.Keywords.{keyword_spelled}
 use Rattle.command_words.specs.Quotes.{client_words}
+use Rattle.command_words.specs.Ranges.{range_spelled}
+use Rattle.command_words.specs.Spelled.{is_empty}
 use Rattle.genedit_script.specs.declared.command.Command.{Command}
 use Rattle.genedit_script.specs.declared.command.Command.TheVariants.{Does, Names, Copies, Ors, Turns}
 use Rattle.genedit_script.specs.Script.{opening_spelled, command_spelled, numbered_lines, commands_spelled, onto}
@@ -36,9 +38,12 @@ at_replica_1 (client.Or placement) = Some (Ors (record { replica = 1; name = pla
 at_replica_1 (client.Show x y) = Some (Does (event.Show 1 x y))
 at_replica_1 (client.Export generation None) = Some (Does (event.Export 1 generation))
 at_replica_1 (client.Export generation (Some file)) = None
+at_replica_1 (client.Film film) = None
 at_replica_1 (client.Cut window generation None) = Some (Does (event.Cut 1 window generation))
 at_replica_1 (client.Cut window generation (Some file)) = None
 at_replica_1 (client.Count generation) = Some (Does (event.Count 1 generation))
+at_replica_1 (client.Counts range) = None
+at_replica_1 (client.Period search) = None
 at_replica_1 client.Undo = None
 at_replica_1 client.Redo = None
 at_replica_1 client.Poll = None
@@ -59,9 +64,9 @@ abbrev pub take_replica : List Argument → Bool
 take_replica (Replica ∷ arguments) = true
 take_replica arguments = false
 
--- Scripts have the same behind this keyword of a client, but for the replica in front; as many words may be left out.
+-- Scripts have the same behind this keyword of a client, but for the replica in front; no word may be left out.
 abbrev pub is_shared : Keyword → Bool
-is_shared keyword = take_replica (script_arguments keyword) && length (optional_of Client keyword) == length (optional_of Script keyword)
+is_shared keyword = take_replica (script_arguments keyword) && is_empty (optional_of Client keyword)
 
 -- whether a line of a client begins with such a keyword
 abbrev pub is_shared_line : List (List ℕ) → Bool
@@ -77,6 +82,11 @@ SpellTheSame = (words : List (List ℕ)) → is_shared_line words ≡ true →
 abbrev pub ExportTheSame : Type 0
 ExportTheSame = (generation : List ℕ) →
     client_command_spelled (codes "export" ∷ generation ∷ []) >=> at_replica_1 ≡ command_spelled (with_replica_1 (codes "export" ∷ generation ∷ []))
+
+-- and at `count`, where no range is named
+abbrev pub CountTheSame : Type 0
+CountTheSame = (words : List (List ℕ)) → All (λ word. range_spelled word ≡ None) words →
+    client_command_spelled (codes "count" ∷ words) >=> at_replica_1 ≡ command_spelled (with_replica_1 (codes "count" ∷ words))
 
 -- and at `cut`
 abbrev pub CutTheSame : Type 0
@@ -101,6 +111,9 @@ pub data AskTheSame : Bool → List (List ℕ) → List (List ℕ) → Type 0 wh
       AskTheSame false lines others → AskTheSame false (line ∷ lines) (other ∷ others)
   export : {line other generation : List ℕ} {lines others : List (List ℕ)} →
       client_words line ≡ codes "export" ∷ generation ∷ [] → words other ≡ with_replica_1 (client_words line) →
+      AskTheSame false lines others → AskTheSame false (line ∷ lines) (other ∷ others)
+  count : {line other : List ℕ} {behind lines others : List (List ℕ)} →
+      client_words line ≡ codes "count" ∷ behind → All (λ word. range_spelled word ≡ None) behind → words other ≡ with_replica_1 (client_words line) →
       AskTheSame false lines others → AskTheSame false (line ∷ lines) (other ∷ others)
   cut : {line other x y width height generation : List ℕ} {lines others : List (List ℕ)} →
       client_words line ≡ codes "cut" ∷ x ∷ y ∷ width ∷ height ∷ generation ∷ [] → words other ≡ with_replica_1 (client_words line) →

@@ -6,7 +6,7 @@ use Rattle.replica_events.specs.declared.edit_spec.EditSpec.TheVariants.{Cells, 
 use Rattle.command_words.specs.Quotes.{client_words}
 use Rattle.genedit_script.specs.Script.{command_spelled, numbered_lines, opening_spelled}
 use Rattle.client_commands.specs.declared.command.ClientCommand.{ClientCommand}
-use Rattle.client_commands.specs.declared.command.ClientCommand.TheVariants.{Draw, Pattern, Copy, Or, Show, Export, Poll, Wait, Sleep, Save, Open, Help, Bye}
+use Rattle.client_commands.specs.declared.command.ClientCommand.TheVariants.{Count, Counts, Draw, Pattern, Copy, Or, Show, Export, Film, Period, Poll, Wait, Sleep, Save, Open, Help, Bye}
 use Rattle.client_commands.specs.declared.dictation.Heard.{Heard}
 use Rattle.client_commands.specs.declared.dictation.Heard.TheVariants.{Nothing, Command, Faulty}
 use Rattle.client_commands.specs.Commands.{begins_script, client_command_spelled, target_of}
@@ -62,6 +62,23 @@ shown = refl
 pub shown_past_the_edge : command (codes "show 2147483648 0") ≡ None
 shown_past_the_edge = refl
 
+-- ---- counts and periods
+
+pub counted : command (codes "count 4") ≡ Some (Count 4)
+counted = refl
+
+pub counted_as_it_is : command (codes "count") ≡ Some (Count 0)
+counted_as_it_is = refl
+
+pub counted_at_each : command (codes "count 4..9/2") ≡ Some (Counts (record { first = 4; last = 9; step = 2 }))
+counted_at_each = refl
+
+pub counted_backwards : command (codes "count 9..4") ≡ None
+counted_backwards = refl
+
+pub period_searched : command (codes "period 100 4") ≡ Some (Period (record { first = 4; most = 100 }))
+period_searched = refl
+
 -- ---- exports and files
 
 pub exported : command (codes "export 4") ≡ Some (Export 4 None)
@@ -85,6 +102,38 @@ exported_with_a_word_too_many = refl
 
 pub exported_at_no_generation : command (codes "export") ≡ None
 exported_at_no_generation = refl
+
+-- ---- films
+
+pub filmed : command (codes "export 4..9/2 a%.rle") ≡ Some (Film (record { range = record { first = 4; last = 9; step = 2 }; files = target_of false (codes "a%.rle") }))
+filmed = refl
+
+pub filmed_over_files : command (codes "export! 0..1 %") ≡ Some (Film (record { range = record { first = 0; last = 1; step = 1 }; files = target_of true (codes "%") }))
+filmed_over_files = refl
+
+pub filmed_in_quotes : command (codes "export 0..1 \"a b%.mc\"") ≡ Some (Film (record { range = record { first = 0; last = 1; step = 1 }; files = target_of false (codes "a b%.mc") }))
+filmed_in_quotes = refl
+
+pub filmed_to_no_file : command (codes "export 0..1") ≡ None
+filmed_to_no_file = refl
+
+pub filmed_to_output : command (codes "export 0..1 -") ≡ None
+filmed_to_output = refl
+
+pub filmed_over_one_file : command (codes "export! 0..1 a.rle") ≡ None
+filmed_over_one_file = refl
+
+pub filmed_with_two_signs : command (codes "export 0..1 a%b%.rle") ≡ None
+filmed_with_two_signs = refl
+
+pub filmed_backwards : command (codes "export 1..0 a%.rle") ≡ None
+filmed_backwards = refl
+
+-- of one generation a `%` is a letter as any
+pub exported_to_a_sign : command (codes "export 4 a%.rle") ≡ Some (Export 4 (Some (target_of false (codes "a%.rle"))))
+exported_to_a_sign = refl
+
+-- ---- boards in files
 
 pub saved : command (codes "save a.rle") ≡ Some (Save (Some (target_of false (codes "a.rle"))))
 saved = refl

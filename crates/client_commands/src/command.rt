@@ -2,6 +2,8 @@
 
 ghost use Rattle.std.specs.Prelude.{◌≡◌, IfOk};
 
+use crate::film::Film;
+use command_words::GenerationRange;
 use genedit_script::{PatternName, PatternText, Turning};
 use pattern_cells::Window;
 use replica_events::EditSpec;
@@ -27,10 +29,18 @@ pub enum ClientCommand {
     /// `export G [FILE]`, `export! G FILE`: the text of the cells G generations later is written to the
     /// file, or told where none is named, as by `-`.
     Export(u32, Option<FileTarget>),
+    /// `export G1..G2 FILE`, `export G1..G2/STEP FILE`, and with `export!`: the same of each generation of a range, to a file
+    /// each.
+    Film(Film),
     /// `cut X Y W H G [FILE]`, `cut! X Y W H G FILE`: the same of the cells in a window.
     Cut(Window, u32, Option<FileTarget>),
     /// `count [G]`: how many cells there are G generations later, 0 where none is named, and where, is told.
     Count(u32),
+    /// `count G1..G2`, `count G1..G2/STEP`: the same is told of each generation of a range.
+    Counts(GenerationRange),
+    /// `period MOST [G]`: after how many generations, MOST at most, the cells of generation G stand as they do
+    /// there, moved as a whole, and by what, is told.
+    Period(PeriodSearch),
     /// `undo`: the last drawing that was not taken back is.
     Undo,
     /// `redo`: what was taken back last is drawn again.
@@ -65,6 +75,15 @@ pub struct Placement {
 pub struct Wait {
     pub edits: u32,
     pub milliseconds: u32,
+}
+
+/// A search for a period.
+#[derive(Clone, Copy, Debug, PartialEq, Eq)]
+pub struct PeriodSearch {
+    /// The generation of which it is the period.
+    pub first: u32,
+    /// The longest period that is looked for, 1 to 65535 where a line asks for it.
+    pub most: u16,
 }
 
 /// A file that is written.

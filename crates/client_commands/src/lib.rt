@@ -5,10 +5,12 @@
 mod block;
 mod command;
 mod dictation;
+mod film;
 mod laws;
 mod spelling;
 
-pub use command::{ClientCommand, FileName, FileTarget, Placement, Wait};
+pub use command::{ClientCommand, FileName, FileTarget, PeriodSearch, Placement, Wait};
 pub use dictation::{Dictation, Heard};
+pub use film::Film;
 pub use laws::command_laws;
 pub use spelling::{begins_script, command_in};

@@ -6,12 +6,15 @@ ghost use Rattle.replica_events.specs.declared.edit_spec.EditSpec.TheVariants.{C
 ghost use Rattle.command_words.specs.Quotes.{client_words};
 ghost use Rattle.command_words.specs.Spelled.{spelled_of};
 ghost use Rattle.command_words.specs.Values.{cells_spelled};
-ghost use Rattle.client_commands.specs.declared.command.ClientCommand.TheVariants.{Cut, Draw, Export};
+ghost use Rattle.client_commands.specs.declared.command.ClientCommand.TheVariants.{Cut, Draw};
 ghost use Rattle.genedit_script.specs.Script.{window_of};
-ghost use Rattle.client_commands.specs.Commands.{begins_script, client_command_asked, client_command_spelled, placement_of, session_asked, target_of, wait_of};
+ghost use Rattle.client_commands.specs.Commands.{begins_script, client_command_asked, client_command_spelled, count_asked, export_asked, film_asked, period_search_of, placement_of, session_asked, target_of, wait_of};
 
-use crate::command::{ClientCommand, FileName, FileTarget, Placement, Wait};
-use command_words::{Dialect, Keyword, Spelled, cells_in, read_line};
+use crate::command::{ClientCommand, FileName, FileTarget, PeriodSearch, Placement, Wait};
+use crate::film::Film;
+use command_words::{
+    Dialect, GenerationRange, Keyword, Spelled, cells_in, is_film_name, read_line,
+};
 use genedit_script::{PatternName, area_of, turning_in, window_of};
 use replica_events::{CellList, EditSpec};
 use std::alloc::{AllocError, Global};
@@ -53,11 +56,12 @@ fn session_asked(alloc: Global, spelled: &Spelled<'_>) -> Result<Option<ClientCo
     ensures { IfOk result (λ command. command ≡ session_asked (spelled_of spelled.now)) }
 {
     match spelled.keyword {
-        Keyword::Export => Ok(Some(export_asked(alloc, spelled, false)?)),
-        Keyword::ExportOver => Ok(Some(export_asked(alloc, spelled, true)?)),
+        Keyword::Export => export_asked(alloc, spelled, false),
+        Keyword::ExportOver => export_asked(alloc, spelled, true),
         Keyword::Cut => Ok(Some(cut_asked(alloc, spelled, false)?)),
         Keyword::CutOver => Ok(Some(cut_asked(alloc, spelled, true)?)),
-        Keyword::Count => Ok(Some(ClientCommand::Count(spelled.generation))),
+        Keyword::Count => Ok(Some(count_asked(spelled))),
+        Keyword::Period => Ok(Some(ClientCommand::Period(period_search_of(spelled)))),
         Keyword::Poll => Ok(Some(ClientCommand::Poll)),
         Keyword::Wait => Ok(Some(ClientCommand::Wait(wait_of(spelled)))),
         Keyword::Sleep => Ok(spelled.milliseconds.map(ClientCommand::Sleep)),
@@ -70,16 +74,31 @@ fn session_asked(alloc: Global, spelled: &Spelled<'_>) -> Result<Option<ClientCo
     }
 }
 
-/// `export G [FILE]`, `export! G FILE`
+/// `export G [FILE]`, `export! G FILE`, and a range of generations in the place of one.
 fn export_asked(
     alloc: Global,
     spelled: &Spelled<'_>,
     replaces: bool,
-) -> Result<ClientCommand, AllocError>
-    ensures { IfOk result (λ command. command ≡ Export spelled.now.generation (option_map (target_of replaces) (option_map (λ word. word.now) spelled.now.file))) }
+) -> Result<Option<ClientCommand>, AllocError>
+    ensures { IfOk result (λ command. command ≡ export_asked replaces (spelled_of spelled.now)) }
 {
     let file = target_of(alloc, spelled, replaces)?;
-    Ok(ClientCommand::Export(spelled.generation, file))
+    match spelled.range {
+        Some(range) => Ok(film_asked(range, file)),
+        None => Ok(Some(ClientCommand::Export(spelled.generation, file))),
+    }
+}
+
+/// The film of a range, if files are named that a film can have.
+fn film_asked(range: GenerationRange, files: Option<FileTarget>) -> Option<ClientCommand>
+    ensures { result ≡ film_asked range files }
+{
+    let files = files?;
+    if is_film_name(files.name.as_bytes()) {
+        Some(ClientCommand::Film(Film { range, files }))
+    } else {
+        None
+    }
 }
 
 /// `cut X Y W H G [FILE]`, `cut! X Y W H G FILE`
@@ -114,6 +133,26 @@ fn placement_of(alloc: Global, spelled: &Spelled<'_>) -> Result<Placement, Alloc
         x: spelled.x,
         y: spelled.y,
     })
+}
+
+/// `count [G]`, `count G1..G2/STEP`
+fn count_asked(spelled: &Spelled<'_>) -> ClientCommand
+    ensures { result ≡ count_asked (spelled_of spelled.now) }
+{
+    match spelled.range {
+        Some(range) => ClientCommand::Counts(range),
+        None => ClientCommand::Count(spelled.generation),
+    }
+}
+
+/// Which period is looked for.
+fn period_search_of(spelled: &Spelled<'_>) -> PeriodSearch
+    ensures { result ≡ period_search_of (spelled_of spelled.now) }
+{
+    PeriodSearch {
+        first: spelled.generation,
+        most: spelled.most,
+    }
 }
 
 /// How many edits are waited for, and how long.

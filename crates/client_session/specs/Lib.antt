@@ -8,6 +8,10 @@ pub mod Waiting
 pub mod Drawing
 pub mod Undoing
 pub mod Exporting
+pub mod Searching
+pub mod Counting
+pub mod Filming
+pub mod Macrocells
 pub mod Joining
 pub mod Returning
 pub mod Laws

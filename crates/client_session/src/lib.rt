@@ -4,20 +4,24 @@
 
 mod anew;
 mod client;
+mod counting;
 mod drawn;
 mod drawn_behind;
 mod exporting;
 mod fault;
+mod filming;
 mod following;
 mod joining;
 mod late;
 mod laws;
 mod lines;
+mod macrocell;
 mod naming;
 mod outcome;
 mod pasting;
 mod polling;
 mod returning;
+mod searching;
 mod showing;
 mod telling;
 mod undoing;

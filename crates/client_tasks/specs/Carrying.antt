@@ -1,5 +1,5 @@
 -- What each command of a client does at a board, and what is left to its caller.
-use Rattle.std.specs.Prelude.{◌≡◌, ℕ, ℤ, List, ◌++◌, codes, Option, Some, None, Result, Ok, Err}
+use Rattle.std.specs.Prelude.{◌≡◌, ℕ, ℤ, Bool, true, false, List, ◌++◌, codes, Option, Some, None, Result, Ok, Err}
 use mathlib.Core.List.{IsPrefix}
 use Rattle.std.specs.Global.{Vec}
 use Rattle.generations_rule.specs.Place.{at_place}
@@ -13,6 +13,7 @@ use Rattle.stamped_tree.specs.Plane.{map_of}
 use Rattle.genedit_lib.specs.Output.{naming_text, reply_line, turned_named, turning_text, with_named, with_text}
 use Rattle.genedit_lib.specs.Patterns.{pattern_in}
 use Rattle.genedit_script.specs.declared.command.Turning.{Turning}
+use Rattle.macrocell_lines.specs.FileNames.{ends_with_mc}
 use Rattle.client_commands.specs.declared.command.FileTarget.{FileTarget}
 use Rattle.client_commands.specs.declared.command.ClientCommand.{ClientCommand}
 use Rattle.client_commands.specs.declared.command.ClientCommand.TheVariants as command
@@ -24,9 +25,12 @@ use Rattle.client_session.specs.declared.pasting.PasteMode.TheVariants.{Copy, Or
 use Rattle.client_session.specs.Drawing.{DrawsAndEnds, IsDrawCommand, IsPaste}
 use Rattle.client_session.specs.Exporting.{GivesTextNow, IsSaveCommand, IsTellCommand, IsTextCommand, SavesNow, TellsNow}
 use Rattle.client_session.specs.Moment.{IsPrinted, KeepsAllButNames, Moment}
+use Rattle.client_session.specs.Counting.{IsCountsCommand, TellsCountsNow}
+use Rattle.client_session.specs.Macrocells.{GivesMacrocellNow, IsMacrocellCommand}
+use Rattle.client_session.specs.Searching.{IsPeriodCommand, TellsPeriodNow}
 use Rattle.client_session.specs.Waiting.{IsCount, IsWait}
 use Rattle.client_tasks.specs.declared.done.Done.{Done}
-use Rattle.client_tasks.specs.declared.done.Done.TheVariants.{Told, InDoubt, Write, Open, Sleep, Leave}
+use Rattle.client_tasks.specs.declared.done.Done.TheVariants.{Told, InDoubt, Write, Film, Open, Sleep, Leave}
 use Rattle.client_tasks.specs.Undoing.{IsTakenBack}
 
 -- ---- what is left
@@ -92,8 +96,10 @@ help_text =
     ++ codes "turn NAME NEW left|right|half|mirror|flip  keeps NAME's pattern, turned, as NEW\n"
     ++ codes "copy NAME x y, or NAME x y     draw its whole box there, or its live cells\n"
     ++ codes "show x y, poll                 print a cell, or what others drew\n"
-    ++ codes "count G                        prints how many cells live G generations later\n"
+    ++ codes "count G, count G1..G2[/STEP]   print how many cells live G generations later\n"
+    ++ codes "period MOST [G]                prints after how many generations they stand again\n"
     ++ codes "export G [FILE], save FILE     write the cells G generations later; the board\n"
+    ++ codes "export G1..G2[/STEP] FILE      writes a FILE each; one % in it is the generation\n"
     ++ codes "export! G FILE, save! FILE     also over a file that is there; a FILE - prints\n"
     ++ codes "cut x y w h G [FILE]           writes what a window shows G generations later\n"
     ++ codes "open FILE                      draws what a file holds; a FILE may be \"a b\"\n"
@@ -121,6 +127,16 @@ pub record ComesPrinted (P : Moment → Result (Option (Vec ℕ)) CommandFault �
 abbrev pub cut_of : Window → ℕ → Question
 cut_of window generation = questions.Cut (record { window = window; generation = generation })
 
+-- an export goes to a file, as a macrocell where its name is that of one, and else as RLE text
+abbrev pub IsExported : Bool → ℕ → FileTarget → Moment → Moment → Result Done CommandFault → Type 0
+IsExported true generation file m n result = Comes (IsMacrocellCommand (λ (text : Vec ℕ). text.items) generation m n) (to_file file) result
+IsExported false generation file m n result = Comes (IsTextCommand (λ (text : Vec ℕ). text.items) (questions.Export generation) m n) (to_file file) result
+
+-- the same of what the replica holds
+abbrev pub IsExportedNow : Bool → ℕ → FileTarget → Moment → Moment → Result Done CommandFault → Type 0
+IsExportedNow true generation file m n result = Comes (GivesMacrocellNow (λ (text : Vec ℕ). text.items) generation m n) (to_file file) result
+IsExportedNow false generation file m n result = Comes (GivesTextNow (λ (text : Vec ℕ). text.items) (questions.Export generation) m n) (to_file file) result
+
 abbrev pub IsCarriedOut : ClientCommand → Moment → Moment → Result Done CommandFault → Type 0
 IsCarriedOut (command.Draw drawing) m n result = Comes (DrawsAndEnds (IsDrawCommand 0 drawing) m n) behind_drawing result
 IsCarriedOut (command.Pattern name text) m n result = IsNaming name text m n result
@@ -129,8 +145,11 @@ IsCarriedOut (command.Copy at) m n result = Comes (DrawsAndEnds (IsPaste Copy at
 IsCarriedOut (command.Or at) m n result = Comes (DrawsAndEnds (IsPaste Or at.name (record { x = at.x; y = at.y })) m n) behind_drawing result
 IsCarriedOut (command.Show x y) m n result = IsShowing x y m n result
 IsCarriedOut (command.Count generation) m n result = Comes (IsTellCommand (questions.Count generation) m n) (λ _. Told) result
+IsCarriedOut (command.Counts range) m n result = Comes (IsCountsCommand range m n) (λ _. Told) result
+IsCarriedOut (command.Period search) m n result = Comes (IsPeriodCommand search.first search.most m n) (λ _. Told) result
 IsCarriedOut (command.Export generation None) m n result = Comes (IsTellCommand (questions.Export generation) m n) (λ _. Told) result
-IsCarriedOut (command.Export generation (Some file)) m n result = Comes (IsTextCommand (λ (text : Vec ℕ). text.items) (questions.Export generation) m n) (to_file file) result
+IsCarriedOut (command.Export generation (Some file)) m n result = IsExported (ends_with_mc file.name) generation file m n result
+IsCarriedOut (command.Film film) m n result = Leaves (Film film) m n result
 IsCarriedOut (command.Cut window generation None) m n result = Comes (IsTellCommand (cut_of window generation) m n) (λ _. Told) result
 IsCarriedOut (command.Cut window generation (Some file)) m n result = Comes (IsTextCommand (λ (text : Vec ℕ). text.items) (cut_of window generation) m n) (to_file file) result
 IsCarriedOut (command.Undo) m n result = Comes (IsTakenBack Undo m n) behind_drawing result
@@ -155,8 +174,11 @@ IsCarriedOn (command.Pattern name text) m n result = IsNaming name text m n resu
 IsCarriedOn (command.Turn turning) m n result = IsTurning turning m n result
 IsCarriedOn (command.Show x y) m n result = IsShowing x y m n result
 IsCarriedOn (command.Count generation) m n result = Comes (TellsNow (questions.Count generation) m n) (λ _. Told) result
+IsCarriedOn (command.Counts range) m n result = Comes (TellsCountsNow range m n) (λ _. Told) result
+IsCarriedOn (command.Period search) m n result = Comes (TellsPeriodNow search.first search.most m n) (λ _. Told) result
 IsCarriedOn (command.Export generation None) m n result = Comes (TellsNow (questions.Export generation) m n) (λ _. Told) result
-IsCarriedOn (command.Export generation (Some file)) m n result = Comes (GivesTextNow (λ (text : Vec ℕ). text.items) (questions.Export generation) m n) (to_file file) result
+IsCarriedOn (command.Export generation (Some file)) m n result = IsExportedNow (ends_with_mc file.name) generation file m n result
+IsCarriedOn (command.Film film) m n result = Leaves (Film film) m n result
 IsCarriedOn (command.Cut window generation None) m n result = Comes (TellsNow (cut_of window generation) m n) (λ _. Told) result
 IsCarriedOn (command.Cut window generation (Some file)) m n result = Comes (GivesTextNow (λ (text : Vec ℕ). text.items) (cut_of window generation) m n) (to_file file) result
 IsCarriedOn (command.Save None) m n result = ComesPrinted (SavesNow (λ (text : Vec ℕ). text.items) m) n result

@@ -11,6 +11,7 @@ use Rattle.opened_files.specs.declared.opening.Opening.{Opening}
 use Rattle.opened_files.specs.declared.opening.Opening.TheVariants as opens
 use Rattle.opened_files.specs.declared.opening.Unopened.{Unopened}
 use Rattle.opened_files.specs.declared.opening.Unopened.TheVariants as opens_not
+use Rattle.opened_files.specs.Macrocells.{macrocell_refusal}
 use Rattle.opened_files.specs.Opening.{IsOpening}
 use Rattle.client_session.specs.declared.outcome.Outcome.{Outcome}
 use Rattle.client_session.specs.declared.outcome.Outcome.TheVariants.{Drawn, InDoubt, Refused}
@@ -55,13 +56,15 @@ pub data DrawsAll (part : Part) : List Cell → Moment → Moment → Result Out
 
 -- ---- what a text draws
 
--- all cells of a board that was saved, with counters above its own too, or a pattern, as one drawing; a text that draws nothing is
+-- all cells of a board that was saved, with counters above its own too, or of a macrocell, or a pattern, as one drawing; a text that draws nothing is
 -- refused, and nothing said on the line, or memory or room is wanting for it
 abbrev pub DrawsOpening : Result Opening Unopened → Moment → Moment → Result Outcome CommandFault → Type 0
 DrawsOpening (Ok (opens.Board saved)) m n result = DrawsAndEnds (DrawsAll (Drawing saved.counter) saved.cells.items) m n result
+DrawsOpening (Ok (opens.Cells cells)) m n result = DrawsAndEnds (DrawsAll (Drawing 0) cells.items) m n result
 DrawsOpening (Ok (opens.Pattern spec)) m n result = DrawsAndEnds (IsDrawCommand 0 spec) m n result
 DrawsOpening (Err (opens_not.Refused fault)) m n result = IsPrinted Refused (reply_line (reply.Refused fault)) m n result
 DrawsOpening (Err (opens_not.NoPattern fault)) m n result = IsPrinted Refused (refused_text (text_fault_number fault) (text_fault_text fault) ++ codes "\n") m n result
+DrawsOpening (Err (opens_not.NoMacrocell fault)) m n result = IsPrinted Refused (macrocell_refusal fault) m n result
 DrawsOpening (Err opens_not.Memory) m n result = LacksMemory m n result
 DrawsOpening (Err opens_not.StoreFull) m n result = (result ≡ Err StoreFull) × (n ≡ m)
 

@@ -1,18 +1,20 @@
 //! Commands.
 
 ghost use Rattle.client_session.specs.Moment.{IsPrinted};
-ghost use Rattle.client_tasks.specs.Carrying.{IsCarriedOut, IsNaming, IsShowing, IsTurning};
+ghost use Rattle.macrocell_lines.specs.FileNames.{ends_with_mc};
+ghost use Rattle.client_tasks.specs.Carrying.{IsCarriedOut, IsExported, IsNaming, IsShowing, IsTurning};
 ghost use Rattle.client_tasks.specs.declared.done.Done.TheVariants.{Told};
 
 use crate::done::{Done, drawn, told, written};
 use crate::printing::{helped, printed};
 use crate::undoing::taken_back;
 use crate::whole::{draw_whole, paste_whole};
-use client_commands::{ClientCommand, Wait};
+use client_commands::{ClientCommand, FileTarget, Wait};
 use client_session::{Client, CommandFault, PasteMode, Patience};
 use devices::{Sink, Source};
 use drawing_history::Way;
 use genedit_script::{PatternName, PatternText, Turning};
+use macrocell_lines::is_macrocell_name;
 use replica_core::{Cut, Question};
 use std::time::Clock;
 
@@ -33,10 +35,11 @@ pub fn carry_out<C: Clock, S: Source + Drop, K: Sink + Drop>(
         ClientCommand::Or(placed) => drawn(paste_whole(client, PasteMode::Or, &placed)),
         ClientCommand::Show(x, y) => shown(client, x, y),
         ClientCommand::Count(generation) => told(client.tell(Question::Count(generation))),
+        ClientCommand::Counts(range) => told(client.counts(range)),
+        ClientCommand::Period(search) => told(client.period(search.first, search.most)),
         ClientCommand::Export(generation, None) => told(client.tell(Question::Export(generation))),
-        ClientCommand::Export(generation, Some(file)) => {
-            written(file, client.text(Question::Export(generation)))
-        }
+        ClientCommand::Export(generation, Some(file)) => exported(client, generation, file),
+        ClientCommand::Film(film) => Ok(Done::Film(film)),
         ClientCommand::Cut(window, generation, None) => {
             told(client.tell(Question::Cut(Cut { window, generation })))
         }
@@ -56,6 +59,21 @@ pub fn carry_out<C: Clock, S: Source + Drop, K: Sink + Drop>(
         ClientCommand::Open(file) => Ok(Done::Open(file)),
         ClientCommand::Help => helped(client),
         ClientCommand::Bye => Ok(Done::Leave),
+    }
+}
+
+/// Exports to a file: as a macrocell, where its name is that of one.
+fn exported<C: Clock, S: Source + Drop, K: Sink + Drop>(
+    client: &mut Client<'_, C, S, K>,
+    generation: u32,
+    file: FileTarget,
+) -> Result<Done, CommandFault>
+    ensures { IsExported (ends_with_mc file.name) generation file client.old client.new result }
+{
+    if is_macrocell_name(file.name.as_bytes()) {
+        written(file, client.macrocell(generation))
+    } else {
+        written(file, client.text(Question::Export(generation)))
     }
 }
 

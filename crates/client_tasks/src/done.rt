@@ -4,7 +4,7 @@ ghost use Rattle.std.specs.Prelude.{◌≡◌};
 ghost use Rattle.client_tasks.specs.Carrying.{behind_drawing, left_behind, to_file};
 ghost use Rattle.client_tasks.specs.declared.done.Done.TheVariants.{Told};
 
-use client_commands::{FileName, FileTarget};
+use client_commands::{FileName, FileTarget, Film};
 use client_session::{CommandFault, Outcome};
 
 /// What is left to do behind a command, beside the board.
@@ -16,6 +16,8 @@ pub enum Done {
     InDoubt,
     /// The text goes to the file, and what came of that is printed.
     Write(FileTarget, Vec<u8>),
+    /// The film is made of what is there then: each generation as a text, which goes to its file.
+    Film(Film),
     /// The file is read, and its text opened.
     Open(FileName),
     /// So many milliseconds are let pass.

@@ -6,11 +6,14 @@ ghost use Rattle.replica_core.specs.declared.event.Reply.TheVariants as reply;
 ghost use Rattle.std.specs.Prelude.{◌≡◌, ◌++◌, IfOk, codes};
 ghost use Rattle.client_session.specs.declared.outcome.Outcome.TheVariants.{Refused};
 ghost use Rattle.client_session.specs.Moment.{IsPrinted};
+ghost use Rattle.opened_files.specs.Macrocells.{macrocell_refusal};
 
 use client_session::{Client, CommandFault, Outcome};
 use devices::{Sink, Source};
 use genedit_lib::{push_line, push_text, text_refusal};
+use macrocell_text::MacrocellFault;
 use multistate_rle::RleFault;
+use opened_files::macrocell_refusal;
 use replica_core::{Fault, Reply};
 use std::alloc::{AllocError, Global};
 use std::time::Clock;
@@ -34,6 +37,17 @@ pub(crate) fn refuse_text<C: Clock, S: Source + Drop, K: Sink + Drop>(
     ensures { IsPrinted Refused (refused_text (text_fault_number fault) (text_fault_text fault) ++ codes "\n") client.old client.new result }
 {
     let line = text_line_of(client.alloc(), fault)?;
+    tell_refusal(client, &line)
+}
+
+/// Prints the refusal of a text that is no macrocell.
+pub(crate) fn refuse_macrocell<C: Clock, S: Source + Drop, K: Sink + Drop>(
+    client: &mut Client<'_, C, S, K>,
+    fault: MacrocellFault,
+) -> Result<Outcome, CommandFault>
+    ensures { IsPrinted Refused (macrocell_refusal fault) client.old client.new result }
+{
+    let line = macrocell_refusal(client.alloc(), fault)?;
     tell_refusal(client, &line)
 }
 

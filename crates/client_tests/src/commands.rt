@@ -2,9 +2,10 @@
 
 use crate::clients::{Guest, dot, join, name, obey, obey_alone, told};
 use crate::refusals::{CLOSED, NO_PLACE, refuse};
-use client_commands::{FileName, FileTarget};
+use client_commands::{FileName, FileTarget, Film};
 use client_session::Telling;
 use client_tasks::Done;
+use command_words::GenerationRange;
 use edit_stamps::Cell;
 use memory_board::{MemoryBoard, Shared, line_to};
 use std::alloc::{AllocError, Global};
@@ -19,8 +20,10 @@ pattern NAME, lines, end       keeps the pattern of these lines of RLE
 turn NAME NEW left|right|half|mirror|flip  keeps NAME's pattern, turned, as NEW
 copy NAME x y, or NAME x y     draw its whole box there, or its live cells
 show x y, poll                 print a cell, or what others drew
-count G                        prints how many cells live G generations later
+count G, count G1..G2[/STEP]   print how many cells live G generations later
+period MOST [G]                prints after how many generations they stand again
 export G [FILE], save FILE     write the cells G generations later; the board
+export G1..G2[/STEP] FILE      writes a FILE each; one % in it is the generation
 export! G FILE, save! FILE     also over a file that is there; a FILE - prints
 cut x y w h G [FILE]           writes what a window shows G generations later
 open FILE                      draws what a file holds; a FILE may be \"a b\"
@@ -38,7 +41,7 @@ struct Row {
     draws: bool,
 }
 
-static ROWS: [Row; 26] = [
+static ROWS: [Row; 33] = [
     Row {
         line: "cells 0 0 1 1 0 2",
         left: "told",
@@ -112,9 +115,39 @@ static ROWS: [Row; 26] = [
         draws: false,
     },
     Row {
+        line: "export 0 b.mc",
+        left: "write b.mc: [M2] (pazgrot)\n#R /2/3\n1 0 0 1 0\n2 0 0 1 1\n3 0 0 2 0\n4 0 0 3 0\n1 1 0 0 0\n2 0 5 0 0\n3 6 0 0 0\n2 5 0 0 0\n3 8 0 0 0\n4 7 0 9 0\n5 0 4 0 10\n",
+        told: "",
+        draws: false,
+    },
+    Row {
         line: "count",
         left: "told",
         told: "cells 4 box 0 0 3 10\n",
+        draws: false,
+    },
+    Row {
+        line: "count 1..6/2",
+        left: "told",
+        told: "generation 1: cells 7 box 0 -1 4 11\ngeneration 3: cells 6 box 2 -1 4 3\ngeneration 5: cells 6 box 4 -1 4 3\n",
+        draws: false,
+    },
+    Row {
+        line: "count 536870912..536870913",
+        left: "told",
+        told: "refused 22 GenRange\n",
+        draws: false,
+    },
+    Row {
+        line: "period 4",
+        left: "told",
+        told: "none to 4\n",
+        draws: false,
+    },
+    Row {
+        line: "period 4 3",
+        left: "told",
+        told: "period 1 moves 1 0\n",
         draws: false,
     },
     Row {
@@ -157,6 +190,18 @@ static ROWS: [Row; 26] = [
         line: "export 536870913 b.rle",
         left: "told",
         told: "refused 22 GenRange\n",
+        draws: false,
+    },
+    Row {
+        line: "export 1..4/3 b%.rle",
+        left: "film 1..4/3: write b%.rle",
+        told: "",
+        draws: false,
+    },
+    Row {
+        line: "export! 0..1 %.mc",
+        left: "film 0..1/1: replace %.mc",
+        told: "",
         draws: false,
     },
     Row {
@@ -203,6 +248,7 @@ fn words_of(alloc: Global, done: &Done) -> Result<String, Fail> {
         Done::Told => Ok(String::from_str(alloc, "told")?),
         Done::InDoubt => Ok(String::from_str(alloc, "in doubt")?),
         Done::Write(target, text) => Ok(written(alloc, target, text)?),
+        Done::Film(film) => Ok(filmed(alloc, film)?),
         Done::Open(file) => {
             let name = std::str::from_utf8(file.as_bytes()).ok().ok_or("name")?;
             Ok(format!(in alloc; "open {name}")?)
@@ -210,6 +256,18 @@ fn words_of(alloc: Global, done: &Done) -> Result<String, Fail> {
         Done::Sleep(milliseconds) => Ok(format!(in alloc; "sleep {milliseconds}")?),
         Done::Leave => Ok(String::from_str(alloc, "leave")?),
     }
+}
+
+/// Of which generations a film is made, and to which files.
+fn filmed(alloc: Global, film: &Film) -> Result<String, AllocError> {
+    let name = std::str::from_utf8(film.files.name.as_bytes()).unwrap_or("?");
+    let verb = if film.files.replaces {
+        "replace"
+    } else {
+        "write"
+    };
+    let GenerationRange { first, last, step } = film.range;
+    format!(in alloc; "film {first}..{last}/{step}: {verb} {name}")
 }
 
 /// What is written to which file, where it is a text.
@@ -346,7 +404,7 @@ fn a_drawing_in_doubt(rt: HostRuntime) -> Result<(), Fail> {
 }
 
 /// Commands of a client that lost its server, what is left behind each, and what it prints.
-static ALONE: [(&str, &str, &str); 15] = [
+static ALONE: [(&str, &str, &str); 21] = [
     ("show 0 0", "told", "cell 2 1 1\n"),
     (
         "export 0",
@@ -359,6 +417,20 @@ static ALONE: [(&str, &str, &str); 15] = [
         "",
     ),
     ("export 536870913 b.rle", "told", "refused 22 GenRange\n"),
+    (
+        "export 0 b.mc",
+        "write b.mc: [M2] (pazgrot)\n#R /2/3\n1 0 2 0 0\n",
+        "",
+    ),
+    ("export 536870913 b.mc", "told", "refused 22 GenRange\n"),
+    (
+        "count 0..1",
+        "told",
+        "generation 0: cells 1 box 0 0 1 1\ngeneration 1: cells 0\n",
+    ),
+    ("period 9", "told", "none to 9\n"),
+    ("period 9 1", "told", "period 1 moves 0 0\n"),
+    ("period 9 536870912", "told", "refused 22 GenRange\n"),
     ("cells 0 0 1", "told", "no server\n"),
     ("clear 0 0 1 1", "told", "no server\n"),
     ("copy p 0 0", "told", "no server\n"),

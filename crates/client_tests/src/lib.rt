@@ -10,6 +10,8 @@ mod commands;
 #[cfg(test)]
 mod crowd;
 #[cfg(test)]
+mod films;
+#[cfg(test)]
 mod late;
 #[cfg(test)]
 mod lines;

@@ -34,6 +34,27 @@ fn a_pattern_is_drawn_at_its_position(rt: HostRuntime) -> Result<(), Fail> {
     play(&rt, rt.alloc(), &[Telling::Changes], &AT_ITS_POSITION)
 }
 
+/// 1 at 0 0 and 0 1, 2 at 1 0, under another rule.
+const MACROCELL: &[u8] = b"[M2] (golly 3.3)\n#R 345/2/4\n#G 5\n1 0 0 1 2\n1 1 0 0 0\n2 0 1 0 2\n";
+
+static OF_A_MACROCELL: [Step; 4] = [
+    Step::Does(A, Act::Dot(0, 0, 2, Outcome::Drawn)),
+    Step::Does(A, Act::Open(Text::Bytes(MACROCELL), Outcome::Drawn)),
+    Step::Does(A, Act::Obey("export 0")),
+    Step::Does(
+        A,
+        Act::Told(
+            "joined 1 /2/3\ndrawn 1 1\nnow 0 0 2\ndrawn 2 1\nnow 0 0 1 1 0 2 0 1 1\n\
+            #CXRLE Pos=0,0 Gen=0\nx = 2, y = 2, rule = /2/3\nAB$A!\n",
+        ),
+    ),
+];
+
+#[test]
+fn a_macrocell_is_drawn(rt: HostRuntime) -> Result<(), Fail> {
+    play(&rt, rt.alloc(), &[Telling::Changes], &OF_A_MACROCELL)
+}
+
 static BOTH_VERSIONS: [Step; 5] = [
     Step::Does(A, Act::Open(Text::First, Outcome::Drawn)),
     Step::Does(A, Act::Obey("show 0 0")),
@@ -83,7 +104,7 @@ struct Refused {
     polls: u32,
 }
 
-static REFUSED: [Refused; 9] = [
+static REFUSED: [Refused; 14] = [
     Refused {
         text: b"hello\n",
         told: "refused 4 Header\n",
@@ -114,6 +135,35 @@ static REFUSED: [Refused; 9] = [
         text: b"GLWS\x02\x04/2/3\0\0\0\0\0\0\0\0\0\0\0",
         told: "refused 17 Short\n",
         polls: 0,
+    },
+    // macrocells
+    Refused {
+        text: b"[M2]\n1 0 a",
+        told: "refused 5 Tag 9\n",
+        polls: 0,
+    },
+    Refused {
+        text: b"[M2]\n1 0 0 0 1\n2 0 1 0 2\n",
+        told: "refused 44 Square 23\n",
+        polls: 0,
+    },
+    Refused {
+        text: b"[M2]\n1 1 0 0 3\n",
+        told: "refused 11 StateRange\n",
+        polls: 0,
+    },
+    // 2^26 cells
+    Refused {
+        text: b"[M2]\n1 1 1 1 1\n2 1 1 1 1\n3 2 2 2 2\n4 3 3 3 3\n5 4 4 4 4\n6 5 5 5 5\n7 6 6 6 6\n\
+            8 7 7 7 7\n9 8 8 8 8\n10 9 9 9 9\n11 10 10 10 10\n12 11 11 11 11\n13 12 12 12 12\n",
+        told: "refused 23 TooManyCells\n",
+        polls: 0,
+    },
+    // no cell
+    Refused {
+        text: b"[M2]\n#R /2/3\n",
+        told: "refused 9 Nothing\n",
+        polls: 1,
     },
     // nothing was written
     Refused {

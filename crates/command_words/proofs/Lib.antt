@@ -1,2 +1,3 @@
 pub mod QuoteLaws
+pub mod RangeLaws
 pub mod SpelledLaws

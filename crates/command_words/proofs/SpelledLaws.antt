@@ -2,20 +2,22 @@
 use Rattle.std.proofs.Common.{◌≡◌, ℕ, List, [], ◌∷◌, refl, sym, ◌∙◌, ap}
 use Rattle.std.specs.Prelude.{⊤, Bool, true, false, not, Option, Some, None, option_map}
 use Rattle.std.specs.List.{find, list_all}
+use Rattle.std.specs.Option.{option_map_or}
 use Rattle.std.specs.Str.{bytes_eq}
 use Rattle.std.proofs.lemmas.Bool.{not-true, and_parts}
 use Rattle.std.proofs.lemmas.Slice.Eq.{bytes_eq-Decides}
 use Rattle.text_scan.specs.Bytes.{◌>=>◌}
 use Rattle.text_scan.specs.Words.{signed_number}
 use Rattle.command_words.specs.declared.argument.Argument.{Argument}
-use Rattle.command_words.specs.declared.argument.Argument.TheVariants.{Rule, Replicas, Name, NewName, Turn, Replica, OneReplica, X, Y, State, File, NewFile}
+use Rattle.command_words.specs.declared.argument.Argument.TheVariants.{Rule, Replicas, Name, NewName, Turn, Replica, OneReplica, X, Y, State, Generations, Most, File, NewFile}
 use Rattle.command_words.specs.declared.dialect.Dialect.{Dialect}
 use Rattle.command_words.specs.declared.keyword.Keyword.{Keyword}
 use Rattle.command_words.specs.Arguments.{arguments_of, optional_of}
 use Rattle.command_words.specs.Keywords.{keyword_name, keyword_spelled, keywords_of}
-use Rattle.command_words.specs.Spelled.{SpelledValue, begun, with_word, with_first, with_next, with_all, is_empty, with_optional, is_whole, if_whole, line_spelled}
+use Rattle.command_words.specs.Spelled.{SpelledValue, begun, with_generations, with_word, with_first, with_next, with_all, is_empty, with_optional, is_whole, if_whole, line_spelled}
+use Rattle.command_words.specs.Ranges.{range_spelled}
 use Rattle.command_words.specs.Turns.{turn_spelled}
-use Rattle.command_words.specs.Values.{file_spelled, name_spelled, new_file_spelled, number_spelled, replicas_spelled, rule_text_spelled, state_spelled}
+use Rattle.command_words.specs.Values.{file_spelled, most_spelled, name_spelled, new_file_spelled, number_spelled, replicas_spelled, rule_text_spelled, state_spelled}
 
 -- what is seen of a line stays as it is where a word is read as an argument
 abbrev pub Keeps : {A : Type 0} → (SpelledValue → A) → Argument → Type 0
@@ -29,6 +31,14 @@ made see seen (Some a) make next keeps is =
     let same : make a ≡ next = cc in
     ap see (sym same) ∙ keeps a
 
+-- the same of one of two values, where the first was read
+either_made : {A B C : Type 0} (see : SpelledValue → C) (seen : C) (first : Option A) (second : Option B) (make : A → SpelledValue) (make_other : B → SpelledValue) (next : SpelledValue) →
+    ((a : A) → see (make a) ≡ seen) → ((b : B) → see (make_other b) ≡ seen) → option_map_or (λ a. Some (make a)) first (option_map make_other second) ≡ Some next → see next ≡ seen
+either_made see seen None second make make_other next keeps keeps_other is = made see seen second make_other next keeps_other is
+either_made see seen (Some a) second make make_other next keeps keeps_other is =
+    let same : make a ≡ next = cc in
+    ap see (sym same) ∙ keeps a
+
 -- the keyword stays
 keyword_stays : (argument : Argument) → Keeps (λ line. line.keyword) argument
 keyword_stays Rule word line next is = made (λ l. l.keyword) line.keyword (rule_text_spelled word) _ next (λ a. refl) is
@@ -39,6 +49,8 @@ keyword_stays Turn word line next is = made (λ l. l.keyword) line.keyword (turn
 keyword_stays X word line next is = made (λ l. l.keyword) line.keyword (signed_number word) _ next (λ a. refl) is
 keyword_stays Y word line next is = made (λ l. l.keyword) line.keyword (signed_number word) _ next (λ a. refl) is
 keyword_stays State word line next is = made (λ l. l.keyword) line.keyword (state_spelled word) _ next (λ a. refl) is
+keyword_stays Generations word line next is = either_made (λ l. l.keyword) line.keyword (number_spelled word) (range_spelled word) _ _ next (λ a. refl) (λ b. refl) is
+keyword_stays Most word line next is = made (λ l. l.keyword) line.keyword (most_spelled word) _ next (λ a. refl) is
 keyword_stays File word line next is = made (λ l. l.keyword) line.keyword (Some (file_spelled word)) (λ w. record line { file = Some w }) next (λ a. refl) is
 keyword_stays NewFile word line next is = made (λ l. l.keyword) line.keyword (new_file_spelled word) _ next (λ a. refl) is
 keyword_stays number word line next is = made (λ l. l.keyword) line.keyword (number_spelled word) _ next (λ a. refl) is
@@ -60,6 +72,8 @@ replica_stays Turn other word line next is = made (λ l. l.replica) line.replica
 replica_stays X other word line next is = made (λ l. l.replica) line.replica (signed_number word) _ next (λ a. refl) is
 replica_stays Y other word line next is = made (λ l. l.replica) line.replica (signed_number word) _ next (λ a. refl) is
 replica_stays State other word line next is = made (λ l. l.replica) line.replica (state_spelled word) _ next (λ a. refl) is
+replica_stays Generations other word line next is = either_made (λ l. l.replica) line.replica (number_spelled word) (range_spelled word) _ _ next (λ a. refl) (λ b. refl) is
+replica_stays Most other word line next is = made (λ l. l.replica) line.replica (most_spelled word) _ next (λ a. refl) is
 replica_stays File other word line next is = made (λ l. l.replica) line.replica (Some (file_spelled word)) (λ w. record line { file = Some w }) next (λ a. refl) is
 replica_stays NewFile other word line next is = made (λ l. l.replica) line.replica (new_file_spelled word) _ next (λ a. refl) is
 replica_stays number other word line next is = made (λ l. l.replica) line.replica (number_spelled word) _ next (λ a. refl) is

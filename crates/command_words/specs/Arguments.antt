@@ -25,10 +25,11 @@ script_arguments keyword.Show = argument.Replica ∷ argument.X ∷ argument.Y �
 script_arguments keyword.Same = argument.OneReplica ∷ argument.OtherReplica ∷ []
 script_arguments keyword.Dump = argument.Message ∷ []
 script_arguments keyword.Export = argument.Replica ∷ argument.Generation ∷ []
-script_arguments keyword.ExportOver = argument.Generation ∷ argument.NewFile ∷ []
+script_arguments keyword.ExportOver = argument.Generations ∷ argument.NewFile ∷ []
 script_arguments keyword.Cut = argument.Replica ∷ argument.X ∷ argument.Y ∷ argument.Width ∷ argument.Height ∷ argument.Generation ∷ []
 script_arguments keyword.CutOver = argument.X ∷ argument.Y ∷ argument.Width ∷ argument.Height ∷ argument.Generation ∷ argument.NewFile ∷ []
 script_arguments keyword.Count = argument.Replica ∷ []
+script_arguments keyword.Period = argument.Most ∷ []
 script_arguments keyword.Undo = []
 script_arguments keyword.Redo = []
 script_arguments keyword.Poll = []
@@ -48,8 +49,9 @@ abbrev pub without_replica : List Argument → List Argument
 without_replica (argument.Replica ∷ behind) = behind
 without_replica arguments = arguments
 
--- what stands behind a word
+-- what stands behind a word; a client's export may be of a range of generations
 abbrev pub arguments_of : Dialect → Keyword → List Argument
+arguments_of Client keyword.Export = argument.Generations ∷ []
 arguments_of Script keyword = script_arguments keyword
 arguments_of Client keyword = without_replica (script_arguments keyword)
 
@@ -58,7 +60,9 @@ abbrev pub optional_of : Dialect → Keyword → List Argument
 optional_of Client keyword.Export = argument.NewFile ∷ []
 optional_of Client keyword.Cut = argument.NewFile ∷ []
 optional_of Client keyword.Wait = argument.Milliseconds ∷ []
-optional_of dialect keyword.Count = argument.Generation ∷ []
+optional_of Client keyword.Period = argument.Generation ∷ []
+optional_of Client keyword.Count = argument.Generations ∷ []
+optional_of Script keyword.Count = argument.Generation ∷ []
 optional_of dialect keyword = []
 
 -- what stands behind that once or more often

@@ -5,7 +5,7 @@ use Rattle.std.specs.Str.{bytes_eq}
 use Rattle.command_words.specs.declared.dialect.Dialect.{Dialect}
 use Rattle.command_words.specs.declared.dialect.Dialect.TheVariants.{Script, Client}
 use Rattle.command_words.specs.declared.keyword.Keyword.{Keyword}
-use Rattle.command_words.specs.declared.keyword.Keyword.TheVariants.{Rule, Replicas, Cells, Clear, Pattern, End, Turn, Copy, Or, State, Delta, Deliver, Show, Same, Dump, Export, ExportOver, Cut, CutOver, Count, Undo, Redo, Poll, Wait, Sleep, Save, SaveOver, Open, Help, Question, Bye, Quit, Exit}
+use Rattle.command_words.specs.declared.keyword.Keyword.TheVariants.{Rule, Replicas, Cells, Clear, Pattern, End, Turn, Copy, Or, State, Delta, Deliver, Show, Same, Dump, Export, ExportOver, Cut, CutOver, Count, Period, Undo, Redo, Poll, Wait, Sleep, Save, SaveOver, Open, Help, Question, Bye, Quit, Exit}
 
 abbrev pub keyword_name : Keyword → List ℕ
 keyword_name Rule = codes "rule"
@@ -28,6 +28,7 @@ keyword_name ExportOver = codes "export!"
 keyword_name Cut = codes "cut"
 keyword_name CutOver = codes "cut!"
 keyword_name Count = codes "count"
+keyword_name Period = codes "period"
 keyword_name Undo = codes "undo"
 keyword_name Redo = codes "redo"
 keyword_name Poll = codes "poll"
@@ -45,7 +46,7 @@ keyword_name Exit = codes "exit"
 -- the words of a dialect
 abbrev pub keywords_of : Dialect → List Keyword
 keywords_of Script = Rule ∷ Replicas ∷ Cells ∷ Clear ∷ Pattern ∷ End ∷ Turn ∷ Copy ∷ Or ∷ State ∷ Delta ∷ Deliver ∷ Show ∷ Same ∷ Dump ∷ Export ∷ Cut ∷ Count ∷ []
-keywords_of Client = Cells ∷ Clear ∷ Pattern ∷ End ∷ Turn ∷ Copy ∷ Or ∷ Undo ∷ Redo ∷ Show ∷ Count ∷ Export ∷ ExportOver ∷ Cut ∷ CutOver ∷ Poll ∷ Wait ∷ Sleep ∷ Save ∷ SaveOver ∷ Open ∷ Help ∷ Question ∷ Bye ∷ Quit ∷ Exit ∷ []
+keywords_of Client = Cells ∷ Clear ∷ Pattern ∷ End ∷ Turn ∷ Copy ∷ Or ∷ Undo ∷ Redo ∷ Show ∷ Count ∷ Period ∷ Export ∷ ExportOver ∷ Cut ∷ CutOver ∷ Poll ∷ Wait ∷ Sleep ∷ Save ∷ SaveOver ∷ Open ∷ Help ∷ Question ∷ Bye ∷ Quit ∷ Exit ∷ []
 
 -- the one of them that a word is
 abbrev pub keyword_spelled : Dialect → List ℕ → Option Keyword

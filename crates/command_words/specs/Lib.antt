@@ -1,6 +1,8 @@
 pub mod Arguments
+pub mod Films
 pub mod Keywords
 pub mod Quotes
+pub mod Ranges
 pub mod Rows
 pub mod Spelled
 pub mod Turns

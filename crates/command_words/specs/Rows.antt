@@ -1,12 +1,15 @@
 -- Worked values of the definitions.
+use Rattle.std.specs.Fmt.{digits}
 use Rattle.std.specs.Prelude.{◌≡◌, ℕ, List, [], ◌∷◌, true, false, Option, Some, None, codes, refl, negsuc, pos}
 use Rattle.pattern_turns.specs.declared.turn.Turn.TheVariants as turned
 use Rattle.command_words.specs.declared.argument.Argument.TheVariants as argument
 use Rattle.command_words.specs.declared.dialect.Dialect.TheVariants.{Script, Client}
-use Rattle.command_words.specs.declared.keyword.Keyword.TheVariants.{Cells, Clear, Copy, Count, Cut, CutOver, Exit, Export, ExportOver, Help, Open, Poll, Question, Quit, Redo, Replicas, Rule, Save, SaveOver, Show, Turn, Undo, Wait}
+use Rattle.command_words.specs.declared.keyword.Keyword.TheVariants.{Cells, Clear, Copy, Count, Cut, Exit, Export, ExportOver, Help, Open, Period, Poll, Question, Quit, Redo, Replicas, Rule, Save, SaveOver, Show, Turn, Undo, Wait}
 use Rattle.command_words.specs.Arguments.{arguments_of}
+use Rattle.command_words.specs.Films.{film_name_at, is_film_name}
 use Rattle.command_words.specs.Keywords.{keyword_spelled}
 use Rattle.command_words.specs.Quotes.{line_words, name_in_quotes}
+use Rattle.command_words.specs.Ranges.{generations_of, last_of}
 use Rattle.command_words.specs.Spelled.{SpelledValue, begun, fits, line_spelled}
 
 -- ---- keywords
@@ -158,6 +161,76 @@ turned_nowhere = refl
 
 pub turned_in_no_name : script (codes "turn glider g_2 left") ≡ None
 turned_in_no_name = refl
+
+-- a client counts at several generations, and a script at one
+pub counted_at_one : client (codes "count 4") ≡ Some (record (begun Count []) { generation = 4 })
+counted_at_one = refl
+
+pub counted_at_several : client (codes "count 4..20/8") ≡ Some (record (begun Count []) { range = Some (record { first = 4; last = 20; step = 8 }) })
+counted_at_several = refl
+
+pub counted_at_each : client (codes "count 4..4") ≡ Some (record (begun Count []) { range = Some (record { first = 4; last = 4; step = 1 }) })
+counted_at_each = refl
+
+-- ---- films
+
+pub exported_at_several : client (codes "export 4..20/8 a%.rle") ≡ Some (record (begun Export []) { range = Some (record { first = 4; last = 20; step = 8 }); file = Some (codes "a%.rle") })
+exported_at_several = refl
+
+pub exported_over_at_several : client (codes "export! 4..5 a") ≡ Some (record (begun ExportOver []) { range = Some (record { first = 4; last = 5; step = 1 }); file = Some (codes "a") })
+exported_over_at_several = refl
+
+pub script_exports_at_one : line_spelled Script (codes "export" ∷ codes "1" ∷ codes "4..20" ∷ []) ≡ None
+script_exports_at_one = refl
+
+pub one_sign : is_film_name (codes "a%.rle") ≡ true
+one_sign = refl
+
+pub no_sign : is_film_name (codes "a.rle") ≡ false
+no_sign = refl
+
+pub two_signs : is_film_name (codes "%%") ≡ false
+two_signs = refl
+
+pub named_by_the_generation : film_name_at (codes "a%.rle") 120 ≡ codes "a120.rle"
+unfolding digits
+named_by_the_generation = refl
+
+pub counted_backwards : client (codes "count 4..3") ≡ None
+counted_backwards = refl
+
+pub counted_in_place : client (codes "count 0..9/0") ≡ None
+counted_in_place = refl
+
+pub counted_at_several_in_a_script : script (codes "count 1 4..20") ≡ None
+counted_at_several_in_a_script = refl
+
+pub no_ranges : (fits argument.Generations (codes "4...9") ≡ false) × (fits argument.Generations (codes "4..") ≡ false) × (fits argument.Generations (codes "4..9/") ≡ false)
+    × (fits argument.Generations (codes "4.9") ≡ false) × (fits argument.Generations (codes "4..4294967296") ≡ false) × (fits argument.Generation (codes "4..9") ≡ false)
+no_ranges = (refl, refl, refl, refl, refl, refl)
+
+-- where whole steps lead
+pub all_of_a_range : generations_of (record { first = 4; last = 27; step = 8 }) ≡ 4 ∷ 12 ∷ 20 ∷ []
+all_of_a_range = refl
+
+pub last_of_a_range : last_of (record { first = 4; last = 28; step = 8 }) ≡ 28
+last_of_a_range = refl
+
+-- a client alone looks for a period, of generation 0 where it says none
+pub period_asked : client (codes "period 100 7") ≡ Some (record (begun Period []) { most = 100; generation = 7 })
+period_asked = refl
+
+pub period_of_the_board : client (codes "period 65535") ≡ Some (record (begun Period []) { most = 65535 })
+period_of_the_board = refl
+
+pub longest_periods : (fits argument.Most (codes "1") ≡ true) × (fits argument.Most (codes "0") ≡ false) × (fits argument.Most (codes "65536") ≡ false)
+longest_periods = (refl, refl, refl)
+
+pub period_up_to_nothing : client (codes "period") ≡ None
+period_up_to_nothing = refl
+
+pub period_in_a_script : script (codes "period 100 7") ≡ None
+period_in_a_script = refl
 
 -- a script's cut tells no file, and a client's may
 pub cut_in_a_script : script (codes "cut 2 -3 4 5 6 7")

@@ -1,7 +1,7 @@
 -- What the words of a line spell.
 use Rattle.std.specs.Prelude.{ℕ, ℤ, pos, Bool, true, false, ◌&&◌, if◌then◌else◌, List, [], ◌∷◌, Option, Some, None, option_map}
 use Rattle.std.specs.Bool.{beq}
-use Rattle.std.specs.Option.{is_some}
+use Rattle.std.specs.Option.{is_some, option_map_or}
 use Rattle.text_scan.specs.Bytes.{◌>=>◌}
 use Rattle.text_scan.specs.Words.{words, signed_number}
 use Rattle.pattern_turns.specs.declared.turn.Turn.{Turn}
@@ -10,12 +10,14 @@ use Rattle.command_words.specs.declared.argument.Argument.TheVariants as argumen
 use Rattle.command_words.specs.declared.dialect.Dialect.{Dialect}
 use Rattle.command_words.specs.declared.keyword.Keyword.{Keyword}
 use Rattle.command_words.specs.declared.keyword.Keyword.TheVariants as keyword
+use Rattle.command_words.specs.declared.ranges.GenerationRange.{GenerationRange}
 use Rattle.command_words.specs.declared.spelled.Spelled.{Spelled}
 use Rattle.command_words.specs.Arguments.{arguments_of, optional_of, repeated_of}
 use Rattle.command_words.specs.Keywords.{keyword_spelled}
 use Rattle.command_words.specs.Quotes.{are_unquoted, line_words}
+use Rattle.command_words.specs.Ranges.{range_spelled}
 use Rattle.command_words.specs.Turns.{turn_spelled}
-use Rattle.command_words.specs.Values.{file_spelled, name_spelled, new_file_spelled, number_spelled, replicas_spelled, rule_text_spelled, state_spelled}
+use Rattle.command_words.specs.Values.{file_spelled, most_spelled, name_spelled, new_file_spelled, number_spelled, replicas_spelled, rule_text_spelled, state_spelled}
 
 -- the keyword of a line, what its arguments say, and the words that are left
 pub record SpelledValue : Type 0 where
@@ -36,6 +38,8 @@ pub record SpelledValue : Type 0 where
   pub from : ℕ
   pub count : ℕ
   pub generation : ℕ
+  pub range : Option GenerationRange
+  pub most : ℕ
   pub file : Option (List ℕ)
   pub edits : ℕ
   pub milliseconds : Option ℕ
@@ -61,6 +65,8 @@ spelled_of spelled = record {
   from = spelled.from;
   count = spelled.count;
   generation = spelled.generation;
+  range = spelled.range;
+  most = spelled.most;
   file = option_map (λ file. file.now) spelled.file;
   edits = spelled.edits;
   milliseconds = spelled.milliseconds;
@@ -91,6 +97,8 @@ begun keyword behind = record {
   from = 0;
   count = 0;
   generation = 0;
+  range = None;
+  most = 0;
   file = None;
   edits = 0;
   milliseconds = None;
@@ -114,6 +122,11 @@ with_number argument.Edits number line = record line { edits = number }
 with_number argument.Milliseconds number line = record line { milliseconds = Some number }
 with_number argument number line = line
 
+-- with the generation that a word says, or with a range of them
+abbrev pub with_generations : List ℕ → SpelledValue → Option SpelledValue
+with_generations word line =
+    option_map_or (λ n. Some (record line { generation = n })) (number_spelled word) (option_map (λ range. record line { range = Some range }) (range_spelled word))
+
 -- with what a word says as an argument, if it can stand for it
 abbrev pub with_word : Argument → List ℕ → SpelledValue → Option SpelledValue
 with_word argument.Rule word line = option_map (λ text. record line { rule = text }) (rule_text_spelled word)
@@ -124,6 +137,8 @@ with_word argument.Turn word line = option_map (λ turn. record line { turn = So
 with_word argument.X word line = option_map (λ x. record line { x = x }) (signed_number word)
 with_word argument.Y word line = option_map (λ y. record line { y = y }) (signed_number word)
 with_word argument.State word line = option_map (λ state. record line { state = state }) (state_spelled word)
+with_word argument.Generations word line = with_generations word line
+with_word argument.Most word line = option_map (λ most. record line { most = most }) (most_spelled word)
 with_word argument.File word line = Some (record line { file = Some (file_spelled word) })
 with_word argument.NewFile word line = option_map (λ file. record line { file = file }) (new_file_spelled word)
 with_word argument word line = option_map (λ n. with_number argument n line) (number_spelled word)

@@ -1,5 +1,5 @@
 -- What single words say.
-use Rattle.std.specs.Prelude.{ℕ, Bool, ◌&&◌, nat_le, if◌then◌else◌, List, [], ◌∷◌, length, codes, Option, Some, None, option_map, unwrap_or}
+use Rattle.std.specs.Prelude.{ℕ, zero, suc, Bool, ◌&&◌, nat_le, if◌then◌else◌, List, [], ◌∷◌, length, codes, Option, Some, None, option_map, unwrap_or}
 use Rattle.std.specs.Char.{is_ascii_alphanumeric, is_ascii_digit}
 use Rattle.std.specs.List.{list_all}
 use Rattle.std.specs.Option.{option_map_or}
@@ -26,6 +26,15 @@ replicas_spelled word = decimal_number 64 word
 -- a state
 abbrev pub state_spelled : List ℕ → Option ℕ
 state_spelled word = decimal_number 255 word
+
+-- a number, unless it is 0
+abbrev pub positive : ℕ → Option ℕ
+positive zero = None
+positive (suc n) = Some (suc n)
+
+-- the longest period that is looked for
+abbrev pub most_spelled : List ℕ → Option ℕ
+most_spelled word = decimal_number 65535 word >=> positive
 
 -- 1 to 16 ASCII letters and digits
 abbrev pub is_pattern_name : List ℕ → Bool

@@ -38,6 +38,10 @@ pub enum Argument {
     /// How many edits of a journal.
     Count,
     Generation,
+    /// A generation, or a range of them: `G1..G2` or `G1..G2/STEP`.
+    Generations,
+    /// How many generations are looked at for a period, at most: 1 to 65535.
+    Most,
     /// The name of a file: any word, or what stands between its quotes.
     File,
     /// The name of a file that is written: any word but a number, or what stands between its quotes; `-`
@@ -79,7 +83,8 @@ impl Argument {
             Argument::Message => "the message's number",
             Argument::From => "the place of the first edit",
             Argument::Count => "the number of edits",
-            Argument::Generation => "the generation",
+            Argument::Generation | Argument::Generations => "the generation",
+            Argument::Most => "the longest period",
             Argument::File | Argument::NewFile => "the file's name",
             Argument::Edits => "the number of awaited edits",
             Argument::Milliseconds => "the number of milliseconds",
@@ -105,7 +110,8 @@ impl Argument {
             Argument::Message => "M",
             Argument::From => "FROM",
             Argument::Count => "COUNT",
-            Argument::Generation => "G",
+            Argument::Generation | Argument::Generations => "G",
+            Argument::Most => "MOST",
             Argument::File | Argument::NewFile => "FILE",
             Argument::Milliseconds => "MS",
         }
@@ -120,6 +126,7 @@ impl Argument {
             Argument::Turn => "left, right, half, mirror or flip",
             Argument::X | Argument::Y => "-2147483648 to 2147483647",
             Argument::State => "0 to 255",
+            Argument::Most => "1 to 65535",
             Argument::File => "any word",
             Argument::NewFile => "any word but a number",
             _ => "0 to 4294967295",

@@ -38,7 +38,7 @@ static SCRIPT: [Keyword; 18] = [
     Keyword::Count,
 ];
 
-static CLIENT: [Keyword; 26] = [
+static CLIENT: [Keyword; 27] = [
     Keyword::Cells,
     Keyword::Clear,
     Keyword::Pattern,
@@ -50,6 +50,7 @@ static CLIENT: [Keyword; 26] = [
     Keyword::Redo,
     Keyword::Show,
     Keyword::Count,
+    Keyword::Period,
     Keyword::Export,
     Keyword::ExportOver,
     Keyword::Cut,

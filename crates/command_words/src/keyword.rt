@@ -32,6 +32,7 @@ pub enum Keyword {
     /// `cut!`, which may replace a file.
     CutOver,
     Count,
+    Period,
     Undo,
     Redo,
     Poll,
@@ -82,6 +83,7 @@ impl Keyword {
             Keyword::Cut => "cut",
             Keyword::CutOver => "cut!",
             Keyword::Count => "count",
+            Keyword::Period => "period",
             Keyword::Undo => "undo",
             Keyword::Redo => "redo",
             Keyword::Poll => "poll",
@@ -118,14 +120,15 @@ impl Keyword {
         Ok(form)
     }
 
-    /// What stands behind it. A client is one replica, so that its lines do not begin with one.
+    /// What stands behind it. A client is one replica, so that its lines do not begin with one; and its exports may be of
+    /// a range of generations.
     pub fn arguments(self, dialect: Dialect) -> &'static [Argument]
         ensures { result.now ≡ arguments_of dialect self }
     {
-        let arguments = self.script_arguments();
-        match dialect {
-            Dialect::Script => arguments,
-            Dialect::Client => without_replica(arguments),
+        match (dialect, self) {
+            (Dialect::Client, Keyword::Export) => &[Argument::Generations],
+            (Dialect::Script, _) => self.script_arguments(),
+            (Dialect::Client, _) => without_replica(self.script_arguments()),
         }
     }
 
@@ -158,7 +161,7 @@ impl Keyword {
             Keyword::Same => &[Argument::OneReplica, Argument::OtherReplica],
             Keyword::Dump => &[Argument::Message],
             Keyword::Export => &[Argument::Replica, Argument::Generation],
-            Keyword::ExportOver => &[Argument::Generation, Argument::NewFile],
+            Keyword::ExportOver => &[Argument::Generations, Argument::NewFile],
             Keyword::Cut => &[
                 Argument::Replica,
                 Argument::X,
@@ -176,6 +179,7 @@ impl Keyword {
                 Argument::NewFile,
             ],
             Keyword::Count => &[Argument::Replica],
+            Keyword::Period => &[Argument::Most],
             Keyword::Wait => &[Argument::Edits],
             Keyword::Sleep => &[Argument::Milliseconds],
             Keyword::Save | Keyword::SaveOver => &[Argument::NewFile],
@@ -192,7 +196,9 @@ impl Keyword {
     {
         match (dialect, self) {
             (Dialect::Client, Keyword::Export | Keyword::Cut) => &[Argument::NewFile],
-            (_, Keyword::Count) => &[Argument::Generation],
+            (Dialect::Script, Keyword::Count) => &[Argument::Generation],
+            (Dialect::Client, Keyword::Count) => &[Argument::Generations],
+            (Dialect::Client, Keyword::Period) => &[Argument::Generation],
             (Dialect::Client, Keyword::Wait) => &[Argument::Milliseconds],
             _ => &[],
         }

@@ -8,8 +8,11 @@ use crate::argument::Argument;
 use crate::dialect::Dialect;
 use crate::keyword::Keyword;
 use crate::quotes::opens_quote;
+use crate::ranges::{GenerationRange, range_in};
 use crate::turns::turn_in;
-use crate::values::{file_in, name_in, new_name_in, replicas_in, rule_in, state_in, unsigned};
+use crate::values::{
+    file_in, most_in, name_in, new_name_in, replicas_in, rule_in, state_in, unsigned,
+};
 use pattern_turns::Turn;
 use text_scan::signed;
 
@@ -44,6 +47,10 @@ pub struct Spelled<'a> {
     /// How many edits of the journal.
     pub count: u32,
     pub generation: u32,
+    /// Several generations, where the line says them in the place of one.
+    pub range: Option<GenerationRange>,
+    /// How many generations are looked at for a period, at most; 0 alone where the line does not say it.
+    pub most: u16,
     /// The name of a file, without the quotes round it; `-` for one that is written names none.
     pub file: Option<&'a [u8]>,
     /// How many edits are waited for.
@@ -69,7 +76,7 @@ pub fn read_line(dialect: Dialect, line: &[u8]) -> Option<Spelled<'_>>
 impl<'a> Spelled<'a> {
     ghost use Rattle.std.specs.Prelude.{◌≡◌, option_map};
     ghost use Rattle.command_words.specs.Quotes.{line_words};
-    ghost use Rattle.command_words.specs.Spelled.{begun, if_whole, is_empty, is_whole, spelled_of, spoken_of, with_all, with_next, with_number, with_optional, with_word};
+    ghost use Rattle.command_words.specs.Spelled.{begun, if_whole, is_empty, is_whole, spelled_of, spoken_of, with_all, with_generations, with_next, with_number, with_optional, with_word};
     ghost use Rattle.command_words.specs.Values.{new_file_spelled};
 
     /// A line that begins with a keyword, where nothing behind it is read yet.
@@ -95,6 +102,8 @@ impl<'a> Spelled<'a> {
             from: 0,
             count: 0,
             generation: 0,
+            range: None,
+            most: 0,
             file: None,
             edits: 0,
             milliseconds: None,
@@ -171,11 +180,16 @@ impl<'a> Spelled<'a> {
                 state: state_in(word)?,
                 ..*self
             }),
+            Argument::Most => Some(Spelled {
+                most: most_in(word)?,
+                ..*self
+            }),
             Argument::File => Some(Spelled {
                 file: Some(file_in(word)),
                 ..*self
             }),
             Argument::NewFile => self.with_new_file(word),
+            Argument::Generations => self.with_generations(word),
             _ => Some(self.with_number(argument, unsigned(word)?)),
         }
     }
@@ -190,6 +204,22 @@ impl<'a> Spelled<'a> {
             Some(new_name_in(word)?)
         };
         Some(Spelled { file, ..*self })
+    }
+
+    /// The same with the generation that a word says, or with a range of them.
+    fn with_generations(&self, word: &'a [u8]) -> Option<Spelled<'a>>
+        ensures { option_map spoken_of result ≡ with_generations word.now (spoken_of self.now) }
+    {
+        match unsigned(word) {
+            Some(generation) => Some(Spelled {
+                generation,
+                ..*self
+            }),
+            None => Some(Spelled {
+                range: Some(range_in(word)?),
+                ..*self
+            }),
+        }
     }
 
     /// The same with a number of 32 bits as an argument; an argument that is none leaves all as it is.

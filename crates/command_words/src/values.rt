@@ -4,7 +4,7 @@ ghost use Rattle.std.specs.Prelude.{◌≡◌, ◌∷◌, [], ◌≤◌, IfOk, I
 ghost use Rattle.std.specs.Char.{is_ascii_alphanumeric, is_ascii_digit};
 ghost use Rattle.std.specs.List.{list_all};
 ghost use Rattle.text_scan.specs.Words.{words};
-ghost use Rattle.command_words.specs.Values.{cell_spelled, cells_spelled, file_spelled, is_pattern_name, name_spelled, new_name_spelled, number_spelled, replicas_spelled, rule_text_spelled, state_spelled};
+ghost use Rattle.command_words.specs.Values.{cell_spelled, cells_spelled, file_spelled, is_pattern_name, most_spelled, name_spelled, new_name_spelled, number_spelled, replicas_spelled, rule_text_spelled, state_spelled};
 
 use crate::quotes::name_in_quotes;
 use generations_rule::Rule;
@@ -45,6 +45,16 @@ pub fn state_in(word: &[u8]) -> Option<u8>
 {
     let state = number(255, word)?;
     Some(state as u8)
+}
+
+/// How many generations are looked at for a period, at most: 1 to 65535.
+pub fn most_in(word: &[u8]) -> Option<u16>
+    ensures { result ≡ most_spelled word.now }
+{
+    match number(65_535, word)? {
+        0 => None,
+        most => Some(most as u16),
+    }
 }
 
 /// The word, if it is a pattern's name: 1 to 16 ASCII letters and digits.

@@ -1,5 +1,5 @@
 -- Edits that a replica takes, and that are drawn one by one.
-use Rattle.std.proofs.Common.{◌≡◌, ◌⊎◌, ◌∙◌, ap, inr, refl, sym, Err, ℕ, ◌<◌, ◌≤◌, List, [], ◌∷◌, length, take, drop, Option, Result, Ok, subst}
+use Rattle.std.proofs.Common.{◌≡◌, ◌∙◌, ap, inr, refl, sym, Err, ℕ, ◌<◌, ◌≤◌, List, [], ◌∷◌, length, take, drop, Option, Result, Ok, subst}
 use Rattle.std.specs.Prelude.{IfSome}
 use Rattle.std.proofs.Math.Seq.{take-append_seam}
 use mathlib.Core.List.{IsPrefix}
@@ -17,7 +17,6 @@ use Rattle.replica_core.specs.Exchange.{TakesSome}
 use Rattle.replica_core.specs.Replica.{IsUnchanged, MeetsWant, ReplicaState, Takes}
 use Rattle.replica_core.specs.declared.fault.Fault.{Fault}
 use Rattle.replica_core.specs.declared.fault.Fault.TheVariants as faults
-use Rattle.replica_events.specs.declared.edit_spec.EditSpec.{EditSpec}
 use Rattle.document_pen.specs.declared.pen.Outcome.{Outcome}
 use Rattle.document_pen.specs.declared.pen.Outcome.TheVariants.{Drawn}
 use Rattle.document_pen.specs.declared.fault.PenFault.{PenFault}

@@ -1,5 +1,5 @@
 -- What each command does in a document, and what is left to its caller.
-use Rattle.std.specs.Prelude.{◌≡◌, ℕ, List, ◌++◌, codes, Option, Some, None, Result, Ok, Err}
+use Rattle.std.specs.Prelude.{◌≡◌, ℕ, Bool, true, false, List, ◌++◌, codes, Option, Some, None, Result, Ok, Err}
 use Rattle.std.specs.Global.{Vec}
 use Rattle.generations_rule.specs.Place.{at_place}
 use Rattle.multistate_rle.specs.Reading.{parsed}
@@ -12,18 +12,22 @@ use Rattle.replica_core.specs.declared.event.Reply.TheVariants as reply
 use Rattle.genedit_lib.specs.Output.{naming_text, reply_line, turned_named, turning_text, with_named, with_text}
 use Rattle.genedit_lib.specs.Patterns.{pattern_in}
 use Rattle.genedit_script.specs.declared.command.Turning.{Turning}
+use Rattle.macrocell_lines.specs.FileNames.{ends_with_mc}
 use Rattle.client_commands.specs.declared.command.FileTarget.{FileTarget}
 use Rattle.client_commands.specs.declared.command.ClientCommand.{ClientCommand}
 use Rattle.client_commands.specs.declared.command.ClientCommand.TheVariants as command
 use Rattle.document_pen.specs.declared.done.Done.{Done}
-use Rattle.document_pen.specs.declared.done.Done.TheVariants.{Told, Write, Open, Sleep, Leave, OfBoards}
+use Rattle.document_pen.specs.declared.done.Done.TheVariants.{Told, Write, Film, Open, Sleep, Leave, OfBoards}
 use Rattle.document_pen.specs.declared.naming.PasteMode.TheVariants as mode
 use Rattle.document_pen.specs.declared.pen.Outcome.{Outcome}
 use Rattle.document_pen.specs.declared.fault.PenFault.{PenFault}
 use Rattle.document_pen.specs.declared.fault.PenFault.TheVariants.{Memory}
+use Rattle.document_pen.specs.Counting.{AreCountsTold}
 use Rattle.document_pen.specs.Drawing.{DrawsAndEnds, IsDrawn, IsPaste, pasted}
 use Rattle.document_pen.specs.Exporting.{IsTextGiven, IsTold}
+use Rattle.document_pen.specs.Macrocells.{IsMacrocellTold}
 use Rattle.document_pen.specs.Pen.{IsPrinted, PenState}
+use Rattle.document_pen.specs.Searching.{IsPeriodTold}
 use Rattle.document_pen.specs.Undoing.{IsTakenBack}
 
 -- ---- what is left
@@ -80,8 +84,10 @@ help_text =
     ++ codes "turn NAME NEW left|right|half|mirror|flip  keeps NAME's pattern, turned, as NEW\n"
     ++ codes "copy NAME x y, or NAME x y     draw its whole box there, or its live cells\n"
     ++ codes "show x y                       prints a cell\n"
-    ++ codes "count G                        prints how many cells live G generations later\n"
+    ++ codes "count G, count G1..G2[/STEP]   print how many cells live G generations later\n"
+    ++ codes "period MOST [G]                prints after how many generations they stand again\n"
     ++ codes "export G [FILE]                writes the cells G generations later\n"
+    ++ codes "export G1..G2[/STEP] FILE      writes a FILE each; one % in it is the generation\n"
     ++ codes "export! G FILE                 also over a file that is there; a FILE - prints\n"
     ++ codes "cut x y w h G [FILE]           writes what a window shows G generations later\n"
     ++ codes "open FILE                      draws what a file holds; a FILE may be \"a b\"\n"
@@ -94,6 +100,11 @@ help_text =
 abbrev pub cut_of : Window → ℕ → Question
 cut_of window generation = questions.Cut (record { window = window; generation = generation })
 
+-- an export goes to a file, as a macrocell where its name is that of one, and else as RLE text
+abbrev pub IsExported : Bool → ℕ → FileTarget → PenState → PenState → Result Done PenFault → Type 0
+IsExported true generation file m n result = Comes (IsMacrocellTold (λ (text : Vec ℕ). text.items) generation m n) (to_file file) result
+IsExported false generation file m n result = Comes (IsTextGiven (λ (text : Vec ℕ). text.items) (questions.Export generation) m n) (to_file file) result
+
 abbrev pub IsCarriedOut : ClientCommand → PenState → PenState → Result Done PenFault → Type 0
 IsCarriedOut (command.Draw drawing) m n result = Comes (DrawsAndEnds (IsDrawn 0 drawing) m n) (λ (_ : Outcome). Told) result
 IsCarriedOut (command.Pattern name text) m n result = Comes {A = Unit {0}} (IsNaming name text m n) (λ _. Told) result
@@ -102,8 +113,11 @@ IsCarriedOut (command.Copy at) m n result = Comes (IsPaste (pasted mode.Copy at 
 IsCarriedOut (command.Or at) m n result = Comes (IsPaste (pasted mode.Or at m) m n) (λ (_ : Outcome). Told) result
 IsCarriedOut (command.Show x y) m n result = Comes {A = Unit {0}} (IsPrinted tt (reply_line (reply.Shown (map_of m.replica.plane (at_place x y)))) m n) (λ _. Told) result
 IsCarriedOut (command.Count generation) m n result = Comes {A = Unit {0}} (IsTold (questions.Count generation) m n) (λ _. Told) result
+IsCarriedOut (command.Counts range) m n result = Comes {A = Unit {0}} (AreCountsTold range m n) (λ _. Told) result
+IsCarriedOut (command.Period search) m n result = Comes {A = Unit {0}} (IsPeriodTold search.first search.most m n) (λ _. Told) result
 IsCarriedOut (command.Export generation None) m n result = Comes {A = Unit {0}} (IsTold (questions.Export generation) m n) (λ _. Told) result
-IsCarriedOut (command.Export generation (Some file)) m n result = Comes (IsTextGiven (λ (text : Vec ℕ). text.items) (questions.Export generation) m n) (to_file file) result
+IsCarriedOut (command.Export generation (Some file)) m n result = IsExported (ends_with_mc file.name) generation file m n result
+IsCarriedOut (command.Film film) m n result = Leaves (Film film) m n result
 IsCarriedOut (command.Cut window generation None) m n result = Comes {A = Unit {0}} (IsTold (cut_of window generation) m n) (λ _. Told) result
 IsCarriedOut (command.Cut window generation (Some file)) m n result = Comes (IsTextGiven (λ (text : Vec ℕ). text.items) (cut_of window generation) m n) (to_file file) result
 IsCarriedOut (command.Undo) m n result = Comes (IsTakenBack Undo m n) (λ (_ : Outcome). Told) result

@@ -1,6 +1,10 @@
 pub mod Pen
 pub mod Drawing
 pub mod Exporting
+pub mod Searching
+pub mod Macrocells
+pub mod Counting
+pub mod Filming
 pub mod Opening
 pub mod Undoing
 pub mod Carrying

@@ -10,6 +10,7 @@ use Rattle.opened_files.specs.declared.opening.Opening.{Opening}
 use Rattle.opened_files.specs.declared.opening.Opening.TheVariants as opens
 use Rattle.opened_files.specs.declared.opening.Unopened.{Unopened}
 use Rattle.opened_files.specs.declared.opening.Unopened.TheVariants as opens_not
+use Rattle.opened_files.specs.Macrocells.{macrocell_refusal}
 use Rattle.opened_files.specs.Opening.{IsOpening}
 use Rattle.document_pen.specs.declared.pen.Outcome.{Outcome}
 use Rattle.document_pen.specs.declared.pen.Outcome.TheVariants.{Drawn, Refused}
@@ -36,13 +37,15 @@ pub data DrawsAll (after : ℕ) : List Cell → PenState → PenState → Result
   stops : {cells : List Cell} {m n : PenState} {result : Result Outcome PenFault} → most_cells < length cells → DrawsSome after (take most_cells cells) m n result
       → IsStopped result → DrawsAll after cells m n result
 
--- all cells of a board that was saved, with counters above its own too, or a pattern, as one drawing; a text that draws nothing is refused, or memory
+-- all cells of a board that was saved, with counters above its own too, or of a macrocell, or a pattern, as one drawing; a text that draws nothing is refused, or memory
 -- or room is wanting for it
 abbrev pub DrawsOpening : Result Opening Unopened → PenState → PenState → Result Outcome PenFault → Type 0
 DrawsOpening (Ok (opens.Board saved)) m n result = DrawsAndEnds (DrawsAll saved.counter saved.cells.items) m n result
+DrawsOpening (Ok (opens.Cells cells)) m n result = DrawsAndEnds (DrawsAll 0 cells.items) m n result
 DrawsOpening (Ok (opens.Pattern spec)) m n result = DrawsAndEnds (IsDrawn 0 spec) m n result
 DrawsOpening (Err (opens_not.Refused fault)) m n result = IsPrinted Refused (reply_line (reply.Refused fault)) m n result
 DrawsOpening (Err (opens_not.NoPattern fault)) m n result = IsPrinted Refused (refused_text (text_fault_number fault) (text_fault_text fault) ++ codes "\n") m n result
+DrawsOpening (Err (opens_not.NoMacrocell fault)) m n result = IsPrinted Refused (macrocell_refusal fault) m n result
 DrawsOpening (Err opens_not.Memory) m n result = LacksMemory m n result
 DrawsOpening (Err opens_not.StoreFull) m n result = (result ≡ Err StoreFull) × (n ≡ m)
 

@@ -1,15 +1,17 @@
 //! Commands.
 
 ghost use Rattle.std.specs.Prelude.{◌≡◌};
-ghost use Rattle.document_pen.specs.Carrying.{IsCarriedOut, cut_of};
+ghost use Rattle.macrocell_lines.specs.FileNames.{ends_with_mc};
+ghost use Rattle.document_pen.specs.Carrying.{IsCarriedOut, IsExported, cut_of};
 
 use crate::done::{Done, told, written};
 use crate::fault::PenFault;
 use crate::naming::PasteMode;
 use crate::pen::Pen;
-use client_commands::ClientCommand;
+use client_commands::{ClientCommand, FileTarget};
 use drawing_history::Way;
 use kept_devices::Keep;
+use macrocell_lines::is_macrocell_name;
 use pattern_cells::Window;
 use replica_core::{Cut, Question};
 
@@ -26,10 +28,11 @@ pub fn carry_out<K: Keep>(pen: &mut Pen<K>, command: ClientCommand) -> Result<Do
         ClientCommand::Or(placed) => told(pen.paste(PasteMode::Or, &placed)),
         ClientCommand::Show(x, y) => told(pen.show(x, y)),
         ClientCommand::Count(generation) => told(pen.tell(Question::Count(generation))),
+        ClientCommand::Counts(range) => told(pen.counts(range)),
+        ClientCommand::Period(search) => told(pen.period(search.first, search.most)),
         ClientCommand::Export(generation, None) => told(pen.tell(Question::Export(generation))),
-        ClientCommand::Export(generation, Some(file)) => {
-            written(file, pen.text(Question::Export(generation)))
-        }
+        ClientCommand::Export(generation, Some(file)) => exported(pen, generation, file),
+        ClientCommand::Film(film) => Ok(Done::Film(film)),
         ClientCommand::Cut(window, generation, None) => told(pen.tell(cut_of(window, generation))),
         ClientCommand::Cut(window, generation, Some(file)) => {
             written(file, pen.text(cut_of(window, generation)))
@@ -41,6 +44,17 @@ pub fn carry_out<K: Keep>(pen: &mut Pen<K>, command: ClientCommand) -> Result<Do
         ClientCommand::Help => told(pen.help()),
         ClientCommand::Bye => Ok(Done::Leave),
         ClientCommand::Poll | ClientCommand::Wait(_) | ClientCommand::Save(_) => Ok(Done::OfBoards),
+    }
+}
+
+/// Exports to a file: as a macrocell, where its name is that of one.
+fn exported<K: Keep>(pen: &mut Pen<K>, generation: u32, file: FileTarget) -> Result<Done, PenFault>
+    ensures { IsExported (ends_with_mc file.name) generation file pen.old pen.new result }
+{
+    if is_macrocell_name(file.name.as_bytes()) {
+        written(file, pen.macrocell(generation))
+    } else {
+        written(file, pen.text(Question::Export(generation)))
     }
 }
 

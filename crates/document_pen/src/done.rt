@@ -5,7 +5,7 @@ ghost use Rattle.document_pen.specs.Carrying.{left_behind, to_file};
 ghost use Rattle.document_pen.specs.declared.done.Done.TheVariants.{Told};
 
 use crate::fault::PenFault;
-use client_commands::{FileName, FileTarget};
+use client_commands::{FileName, FileTarget, Film};
 
 /// What is left to do behind a command, beside the document.
 #[derive(Debug, Drop)]
@@ -14,6 +14,8 @@ pub enum Done {
     Told,
     /// The text goes to the file, and what came of that is printed.
     Write(FileTarget, Vec<u8>),
+    /// The film is made of what is there then: each generation as a text, which goes to its file.
+    Film(Film),
     /// The file is read, and its text opened.
     Open(FileName),
     /// So many milliseconds are let pass.

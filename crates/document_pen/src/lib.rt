@@ -2,13 +2,17 @@
 #![tactic(auto)]
 
 mod carrying;
+mod counting;
 mod done;
 mod exporting;
 mod fault;
 mod feeding;
+mod filming;
+mod macrocell;
 mod naming;
 mod opening;
 mod pen;
+mod searching;
 mod telling;
 mod undoing;
 

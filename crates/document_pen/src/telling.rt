@@ -30,7 +30,7 @@ impl<K: Keep> Pen<K> {
     }
 }
 
-/// The commands that draw in a document, in fourteen lines.
+/// The commands that draw in a document, in sixteen lines.
 fn help_text() -> &'static str
     ensures { result.now ≡ help_text }
 {
@@ -40,8 +40,10 @@ pattern NAME, lines, end       keeps the pattern of these lines of RLE
 turn NAME NEW left|right|half|mirror|flip  keeps NAME's pattern, turned, as NEW
 copy NAME x y, or NAME x y     draw its whole box there, or its live cells
 show x y                       prints a cell
-count G                        prints how many cells live G generations later
+count G, count G1..G2[/STEP]   print how many cells live G generations later
+period MOST [G]                prints after how many generations they stand again
 export G [FILE]                writes the cells G generations later
+export G1..G2[/STEP] FILE      writes a FILE each; one % in it is the generation
 export! G FILE                 also over a file that is there; a FILE - prints
 cut x y w h G [FILE]           writes what a window shows G generations later
 open FILE                      draws what a file holds; a FILE may be \"a b\"

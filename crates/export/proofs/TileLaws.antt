@@ -1,6 +1,6 @@
 -- Cells of a plane that tiles tell, and those of them that a window shows.
 use Rattle.std.proofs.Common.{◌≡◌, ℕ, ◌+◌, Bool, true, false, List, [], ◌∷◌, length, refl, sym, ap, subst, ◌∙◌, inl, inr}
-use Rattle.std.specs.Prelude.{filter, not, ◌==◌}
+use Rattle.std.specs.Prelude.{filter, not, ◌==◌, ◌&&◌, int_le, int_lt, pos, ◌+ℤ◌}
 use Rattle.std.specs.List.{list_all}
 use Rattle.std.proofs.lemmas.Bool.{and_parts, cases_Bool}
 use Rattle.generations_rule.specs.Place.{Place, is_before, is_place}
@@ -11,13 +11,17 @@ use Rattle.pattern_cells.specs.declared.cell.Cell.{Cell}
 use Rattle.pattern_cells.specs.Cells.{place_of, is_sorted}
 use Rattle.pattern_cells.specs.declared.window.Window.{Window}
 use Rattle.pattern_cells.specs.Window.{is_in_window, seen_where}
+use Rattle.edit_stamps.specs.declared.rect.Rect.{Rect}
+use Rattle.edit_stamps.specs.Plane.{is_in}
 use Rattle.edit_stamps.proofs.PlaceOrder.{before_trans, one_place}
 use Rattle.edit_stamps.proofs.SortedCells.{listed_here, listed_there, sorted_tail}
 use Rattle.stamped_tree.specs.Plane.{StampedPlane, map_of}
+use Rattle.stamped_tree.specs.Sought.{is_in_some, part_of}
 use Rattle.stamped_tree.specs.Walk.{AreNonzeroCells}
 use Rattle.tile_cells.specs.Listing.{IsListOf, states_in}
 use Rattle.generation_engine.specs.Universe.{states_in_writes}
 use Rattle.generation_engine.specs.Walk.{AreCellsOf, is_in_middle}
+use Rattle.export.specs.Asking.{area_of, seen_at}
 use Rattle.export.specs.Export.{population_in_universe}
 use Rattle.export.proofs.CountLaws.{population_is}
 use Rattle.export.proofs.ExportLaws.{one_map}
@@ -110,3 +114,29 @@ pub seen_listed : (h : Place → ℕ) (w : Window) (cells seen : List Cell) → 
 seen_listed h w cells seen are inside is =
     let list : AreCellsOf (seen_where (is_in_window w) h) seen = subst (AreCellsOf (seen_where (is_in_window w) h)) (sym is) (seen_cells (is_in_window w) h cells are) in
     (list, population_is (seen_where (is_in_window w) h) seen list (ap (list_all (λ cell. is_in_middle (place_of cell))) is ∙ all_of (is_in_window w) (λ cell. is_in_middle (place_of cell)) cells inside))
+
+-- ---- what a window shows of the map itself
+
+and_parted : (a b c d : Bool) → (a && b && c && d) ≡ ((a && b) && (c && d))
+and_parted true true c d = refl
+and_parted true false c d = refl
+and_parted false b c d = refl
+
+one_area : (area : Rect) (c : Place) → is_in_some (area ∷ []) c ≡ is_in area c
+one_area area c = elim (cases_Bool (is_in area c)) [ inl here ↦ rw here refl | inr there ↦ rw there refl ]
+
+in_area : (w : Window) (c : Place) → is_in_some (area_of w ∷ []) c ≡ is_in_window w c
+in_area w c = one_area (area_of w) c ∙ and_parted (int_le w.x c.x) (int_lt c.x (w.x +ℤ pos w.width)) (int_le w.y c.y) (int_lt c.y (w.y +ℤ pos w.height))
+
+-- the cells of a walk of its area
+pub now_seen : (r : GenerationsRule) (p : StampedPlane) (w : Window) (areas : List Rect) (cells : List Cell) → areas ≡ area_of w ∷ [] → AreNonzeroCells (part_of (is_in_some areas) (map_of p)) cells
+    → AreCellsOf (seen_at r (states_in_writes (map_of p)) w 0) cells
+now_seen r p w areas cells is are = record { sorted = are.sorted; nonzero = are.nonzero; states = λ c. are.states c ∙ part_is c }
+  where
+    part_is : (c : Place) → (part_of (is_in_some areas) (map_of p) c).state ≡ seen_at r (states_in_writes (map_of p)) w 0 c
+    part_is c =
+        let which : is_in_some areas c ≡ is_in_window w c = ap (λ xs. is_in_some xs c) is ∙ in_area w c in
+        elim (cases_Bool (is_in_window w c)) [
+          | inl here ↦ rw (which, here) refl
+          | inr there ↦ rw (which, there) refl
+        ]

@@ -5,11 +5,16 @@ use Rattle.generations_rule.specs.Rule.{GenerationsRule}
 use Rattle.generations_rule.specs.Evolution.{at}
 use Rattle.pattern_cells.specs.declared.window.Window.{Window}
 use Rattle.pattern_cells.specs.Window.{is_in_window, seen_where}
+use Rattle.edit_stamps.specs.declared.rect.Rect.{Rect}
 use Rattle.generation_engine.specs.Window.{IsExtent}
 use Rattle.export.specs.declared.asking.Count.{Count}
 use Rattle.export.specs.declared.fault.ExportFault.{ExportFault}
 use Rattle.export.specs.declared.fault.ExportFault.TheVariants.{GenRange, TooManyCells, StoreFull, Memory}
 use Rattle.export.specs.Export.{IsTold, IsWant, last_generation, population_at}
+
+-- the area of a window
+abbrev pub area_of : Window → Rect
+area_of w = record { x = w.x; y = w.y; width = w.width; height = w.height }
 
 -- what a window shows of a map of states g generations later
 abbrev pub seen_at : GenerationsRule → (Place → ℕ) → Window → ℕ → Place → ℕ

@@ -9,14 +9,15 @@ ghost use Rattle.square_store.specs.Limits.{usual_room};
 ghost use Rattle.stamped_tree.specs.Plane.{map_of};
 ghost use Rattle.generation_engine.specs.Universe.{states_in_writes};
 ghost use Rattle.generation_engine.specs.Walk.{is_in_middle};
-ghost use Rattle.export.specs.Asking.{CountsAt, IsCount, IsCountRefused, IsCut, IsCutRefused, seen_at};
+ghost use Rattle.export.specs.Asking.{CountsAt, IsCount, IsCountRefused, IsCut, IsCutRefused, area_of, seen_at};
 ghost use Rattle.export.specs.Export.{AreListed, IsRoomWanted, IsWant, most_cells};
 ghost use Rattle.export.specs.Kept.{IsListedOf, IsRunOf};
 
-use crate::by_tiles::{Listed, listed_at};
+use crate::by_tiles::{Listed, are_in_middle, listed_at};
 use crate::exporting::{LAST_GENERATION, MOST_CELLS, engine_at};
 use crate::fault::ExportFault;
 use crate::kept::universe_at;
+use edit_stamps::Rect;
 use generation_engine::Engine;
 use generations_rule::Rule;
 use multistate_rle::write;
@@ -121,8 +122,69 @@ pub fn cut_by_tiles(
     ensures err { IfSome result (λ answer. IfErr answer (IsCutRefused rule.now (states_in_writes (map_of plane.now)) cut.window cut.generation most_cells)) }
     ensures not_full { IfSome result (λ answer. IfErr answer (λ fault. (fault ≡ ExportFault.TooManyCells) ⊎ (fault ≡ ExportFault.Memory))) }
 {
+    if cut.generation == 0 {
+        if let Some(cells) = seen_now(rule, plane, cut.window) {
+            return Some(text_of_seen(alloc, rule, plane, cut, &cells));
+        }
+    }
     let listed = listed_at(alloc, rule, plane, cut.generation, None)?;
     Some(text_seen(alloc, rule, plane, cut.window, &listed))
+}
+
+/// What a window of at most 2^24 places shows of a plane as it is. Only squares that it meets are gone through. None where it
+/// has more places, whose cells are counted before they are listed, or where the system refuses memory.
+fn seen_now(rule: &Rule, plane: &Plane, window: Window) -> Option<Vec<Cell>>
+    requires { HasStatesBelow rule.now.states (map_of plane.now) }
+    ensures { IfSome result (λ cells. AreListed rule.now (seen_at rule.now (states_in_writes (map_of plane.now)) window 0) most_cells cells.items) }
+{
+    // For the proof alone: the call tells that what is held is a rule.
+    let _states = rule.states();
+    if places_in(window) > MOST_CELLS {
+        return None;
+    }
+    let Ok(cells) = plane.walk_in(&[area_of(window)]) else {
+        return None;
+    };
+    if cells.len() as u64 <= MOST_CELLS && are_in_middle(&cells) {
+        Some(cells)
+    } else {
+        None
+    }
+}
+
+/// How many places a window has.
+fn places_in(window: Window) -> u64 {
+    u64::from(window.width).saturating_mul(u64::from(window.height))
+}
+
+fn area_of(window: Window) -> Rect
+    ensures { result ≡ area_of window }
+{
+    Rect {
+        x: window.x,
+        y: window.y,
+        width: window.width,
+        height: window.height,
+    }
+}
+
+/// The text of what a window shows at a generation.
+fn text_of_seen(
+    alloc: Global,
+    rule: &Rule,
+    plane: &Plane,
+    cut: Cut,
+    cells: &[Cell],
+) -> Result<Vec<u8>, ExportFault>
+    requires states { HasStatesBelow rule.now.states (map_of plane.now) }
+    requires generation { cut.generation ≤ 2 ^ 29 }
+    requires cells { AreListed rule.now (seen_at rule.now (states_in_writes (map_of plane.now)) cut.window cut.generation) most_cells cells.now }
+    ensures text { IfOk result (λ text. IsCut rule.now (states_in_writes (map_of plane.now)) cut.window cut.generation most_cells (Ok text.items)) }
+    ensures err { IfErr result (IsCutRefused rule.now (states_in_writes (map_of plane.now)) cut.window cut.generation most_cells) }
+    ensures not_full { IfErr result (λ fault. (fault ≡ ExportFault.TooManyCells) ⊎ (fault ≡ ExportFault.Memory)) }
+{
+    let text = write(alloc, rule, u64::from(cut.generation), cells)?;
+    Ok(text)
 }
 
 /// The text of what a window shows of cells that are listed.
@@ -142,8 +204,11 @@ fn text_seen(
     ensures not_full { IfErr result (λ fault. (fault ≡ ExportFault.TooManyCells) ⊎ (fault ≡ ExportFault.Memory)) }
 {
     let cells = listed_seen(alloc, rule, plane, window, listed)?;
-    let text = write(alloc, rule, u64::from(listed.generation), &cells)?;
-    Ok(text)
+    let cut = Cut {
+        window,
+        generation: listed.generation,
+    };
+    text_of_seen(alloc, rule, plane, cut, &cells)
 }
 
 /// What a window shows of cells that are listed, if they are at most 2^24. They are counted before memory is taken.
@@ -215,8 +280,9 @@ fn is_in_span(first: i32, count: u32, coordinate: i32) -> bool
 }
 
 /// A universe of a plane at a generation: the one that is given, where it is not past it, run on. Where that finds
-/// no room or no memory, it is given back, and a new one is run.
-fn universe_on(
+/// no room or no memory, it is given back, and a new one is run: `StoreFull` where its room of 2^26 squares does not do, else
+/// want of memory. The generation is one.
+pub fn universe_on(
     alloc: Global,
     rule: &Rule,
     plane: &Plane,

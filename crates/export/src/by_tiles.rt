@@ -141,7 +141,7 @@ fn windows_for(cells: usize, generations: u32) -> u64 {
 }
 
 /// Whether all cells lie where they are counted, as all do whose coordinates have 32 bits.
-fn are_in_middle(cells: &[Cell]) -> bool
+pub(crate) fn are_in_middle(cells: &[Cell]) -> bool
     ensures { result ≡ list_all (λ cell. is_in_middle (place_of cell)) cells.now }
 {
     cells.iter().all(|cell| is_in_middle(cell))

@@ -200,8 +200,9 @@ fn cells_in_room(
     cells_of(rule, plane, generation, &engine, limit)
 }
 
-/// A new universe of a plane, with room for so many squares, run to a generation.
-pub(crate) fn engine_at(
+/// A new universe of a plane, with room for so many squares, run to a generation, which is one: `StoreFull` where that room
+/// does not do, else want of memory.
+pub fn engine_at(
     alloc: Global,
     rule: &Rule,
     plane: &Plane,
@@ -233,8 +234,9 @@ pub(crate) fn engine_at(
     }
 }
 
-/// The cells that a universe of a plane shows at a generation, if they are at most so many.
-pub(crate) fn cells_of(
+/// The cells that a universe of a plane shows at a generation, which is one, if they are at most so many: else
+/// `TooManyCells`, without a list.
+pub fn cells_of(
     rule: &Rule,
     plane: &Plane,
     generation: u32,
@@ -254,8 +256,8 @@ pub(crate) fn cells_of(
     cells_within(engine, limit)
 }
 
-/// The cells that an engine shows, sorted by `y`, then `x`, if they are at most so many. They are counted,
-/// in constant time, before they are listed.
+/// The cells that an engine shows, sorted by `y`, then `x`, if they are at most so many. They are counted
+/// before they are listed, each distinct square once.
 pub fn cells_within(engine: &Engine, limit: u64) -> Result<Vec<Cell>, ExportFault>
     ensures cells { IfOk result (λ cells. AreCellsOf (states_of engine.now) cells.items) }
     ensures too_many { (result ≡ Err ExportFault.TooManyCells) ↔ (limit < population_of engine.now) }

@@ -12,10 +12,11 @@ mod fault;
 mod kept;
 mod laws;
 
-pub use asking::{Count, Cut, count_on, cut_by_tiles, cut_on, cut_out};
+pub use asking::{Count, Cut, count_on, cut_by_tiles, cut_on, cut_out, universe_on};
 pub use by_tiles::Listed;
 pub use exporting::{
-    LAST_GENERATION, cells_at, cells_within, export, export_by_tiles, export_in_room, export_within,
+    LAST_GENERATION, cells_at, cells_of, cells_within, engine_at, export, export_by_tiles,
+    export_in_room, export_within,
 };
 pub use fault::ExportFault;
 pub use kept::{export_next, export_on};

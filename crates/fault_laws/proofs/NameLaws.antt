@@ -11,6 +11,11 @@ use Rattle.generations_rule.specs.RuleFault.{rule_fault_number, rule_fault_place
 use Rattle.multistate_rle.specs.declared.fault.RleFault.{RleFault}
 use Rattle.multistate_rle.specs.declared.fault.RleFault.TheVariants as texts
 use Rattle.multistate_rle.specs.RleFault.{text_fault_number, text_fault_place, text_fault_text}
+use Rattle.macrocell_text.specs.declared.fault.MacrocellFault.{MacrocellFault}
+use Rattle.macrocell_text.specs.declared.fault.MacrocellFault.TheVariants as macrocells
+use Rattle.macrocell_text.specs.declared.listing_fault.ListingFault.{ListingFault}
+use Rattle.macrocell_text.specs.declared.listing_fault.ListingFault.TheVariants as listings
+use Rattle.macrocell_text.specs.Faults.{listing_fault_number, listing_fault_text, macrocell_fault_number, macrocell_fault_place, macrocell_fault_text}
 use Rattle.edit_stamps.specs.declared.fault.EditFault.{EditFault}
 use Rattle.edit_stamps.specs.declared.fault.EditFault.TheVariants as edits
 use Rattle.edit_stamps.specs.EditFault.{edit_fault_number, edit_fault_text}
@@ -74,6 +79,18 @@ text_names (texts.Count place) refused = refl
 text_names (texts.State place) refused = refl
 text_names texts.TooMany refused = refl
 text_names texts.Memory refused = absurd (refused refl)
+
+macrocell_names : (fault : MacrocellFault) → IsNamed (macrocell_fault_number fault) (macrocell_fault_place fault) (macrocell_fault_text fault)
+macrocell_names macrocells.Header refused = refl
+macrocell_names (macrocells.Tag place) refused = refl
+macrocell_names (macrocells.State place) refused = refl
+macrocell_names (macrocells.Square place) refused = refl
+macrocell_names macrocells.Memory refused = absurd (refused refl)
+
+listing_names : (fault : ListingFault) → IsNamed (listing_fault_number fault) None (listing_fault_text fault)
+listing_names listings.TooManyCells refused = refl
+listing_names listings.OutOfPlane refused = refl
+listing_names listings.Memory refused = absurd (refused refl)
 
 edit_names : (fault : EditFault) → IsNamed (edit_fault_number fault) None (edit_fault_text fault)
 edit_names edits.TooMany refused = refl
@@ -191,6 +208,8 @@ pub names_agree : NamesAgree
 names_agree = record {
   rules = rule_names;
   texts = text_names;
+  macrocells = macrocell_names;
+  listings = listing_names;
   edits = edit_names;
   stores = store_names;
   engines = engine_names;

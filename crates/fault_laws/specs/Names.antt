@@ -6,6 +6,9 @@ use Rattle.generations_rule.specs.declared.fault.RuleFault.{RuleFault}
 use Rattle.generations_rule.specs.RuleFault.{rule_fault_number, rule_fault_place, rule_fault_text}
 use Rattle.multistate_rle.specs.declared.fault.RleFault.{RleFault}
 use Rattle.multistate_rle.specs.RleFault.{text_fault_number, text_fault_place, text_fault_text}
+use Rattle.macrocell_text.specs.declared.fault.MacrocellFault.{MacrocellFault}
+use Rattle.macrocell_text.specs.declared.listing_fault.ListingFault.{ListingFault}
+use Rattle.macrocell_text.specs.Faults.{listing_fault_number, listing_fault_text, macrocell_fault_number, macrocell_fault_place, macrocell_fault_text}
 use Rattle.edit_stamps.specs.declared.fault.EditFault.{EditFault}
 use Rattle.edit_stamps.specs.EditFault.{edit_fault_number, edit_fault_text}
 use Rattle.square_store.specs.declared.fault.StoreFault.{StoreFault}
@@ -47,6 +50,8 @@ IsNamed number place text = (number ≡ 255 → ⊥) → text ≡ refusal_text n
 pub record NamesAgree : Type 0 where
   pub rules : (fault : RuleFault) → IsNamed (rule_fault_number fault) (rule_fault_place fault) (rule_fault_text fault)
   pub texts : (fault : RleFault) → IsNamed (text_fault_number fault) (text_fault_place fault) (text_fault_text fault)
+  pub macrocells : (fault : MacrocellFault) → IsNamed (macrocell_fault_number fault) (macrocell_fault_place fault) (macrocell_fault_text fault)
+  pub listings : (fault : ListingFault) → IsNamed (listing_fault_number fault) None (listing_fault_text fault)
   pub edits : (fault : EditFault) → IsNamed (edit_fault_number fault) None (edit_fault_text fault)
   pub stores : (fault : StoreFault) → IsNamed (store_fault_number fault) None (store_fault_text fault)
   pub engines : (fault : EngineFault) → IsNamed (engine_fault_number fault) None (engine_fault_text fault)

@@ -8,6 +8,10 @@ mod files;
 #[cfg(test)]
 mod hostile;
 #[cfg(test)]
+mod hostile_macrocells;
+#[cfg(test)]
 mod macrocells;
+#[cfg(test)]
+mod read_macrocells;
 #[cfg(test)]
 mod told;

@@ -4,7 +4,7 @@ use crate::told::macrocell;
 use std::alloc::AllocError;
 
 /// Files, generations later, rules, and their macrocells.
-static MADE: [(&str, Option<u32>, &str, &str); 7] = [
+pub static MADE: [(&str, Option<u32>, &str, &str); 7] = [
     (
         "#CXRLE Pos=0,0 Gen=5\nx = 2, y = 2, rule = /2/3\nAB$A!",
         None,
@@ -51,7 +51,7 @@ fn files_are_made_macrocells(rt: HostRuntime) -> Result<(), AllocError> {
 }
 
 /// 1 and 2 in the corners of the plane.
-const CORNERS: &str =
+pub const CORNERS: &str =
     "#CXRLE Pos=-1073741824,-1073741824\nx = 2147483648, y = 2147483648, rule = /2/3\n\
     A2147483647$2147483647.B!";
 

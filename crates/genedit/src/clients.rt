@@ -17,7 +17,7 @@ use std::thread::Threads;
 use std::time::Clock;
 
 /// Joins a board, with hashes whose key is drawn from the system, and carries out the commands on standard
-/// input; the status of the process.
+/// input; the status of the process. It says on standard error how far a film is, where that is asked for.
 pub fn join<
     R: Files
         + Input<Reader = StdinLock<'static>>
@@ -33,12 +33,12 @@ pub fn join<
         + Send
         + Sync
         + 'static,
->(rt: &R, alloc: Global, client: JoinTask) -> Result<u8, RunFault> {
+>(rt: &R, alloc: Global, client: JoinTask, tells_progress: bool) -> Result<u8, RunFault> {
     let Ok(key) = HashKey::drawn(&mut RandomBytes::of(rt)) else {
         return Err(RunFault::Read);
     };
     let reader = rt.reader();
-    let options = options_of(client, key, reader.is_terminal());
+    let options = options_of(client, key, reader.is_terminal(), tells_progress);
     let terminal = Terminal {
         source: ReadSource::new(reader),
         sink: WriteSink::new(io::writer(rt)),
@@ -46,13 +46,19 @@ pub fn join<
     Ok(genedit_join::join(rt, alloc, options, terminal))
 }
 
-fn options_of(client: JoinTask, key: HashKey, is_terminal: bool) -> JoinOptions {
+fn options_of(
+    client: JoinTask,
+    key: HashKey,
+    is_terminal: bool,
+    tells_progress: bool,
+) -> JoinOptions {
     JoinOptions {
         port: client.port,
         interval: client.interval,
         is_following: client.is_following,
         telling: telling_of(client),
         is_terminal,
+        tells_progress,
         rescues: !client.leaves_no_file,
         key,
     }

@@ -29,7 +29,8 @@ const WELL: u8 = 0;
 /// The lines are no commands of a drawing.
 const NO_COMMANDS: u8 = 2;
 
-/// Draws in a document by the commands on standard input; the status of the process. What stood behind the last whole
+/// Draws in a document by the commands on standard input, and says on standard error how far a film is, where that is
+/// asked for; the status of the process. What stood behind the last whole
 /// record of its file is saved beside it first.
 pub fn draw_in_document<
     R: Files<File = File>
@@ -39,14 +40,14 @@ pub fn draw_in_document<
         + RandomSource
         + Clock
         + Wait,
->(rt: &R, alloc: Global, task: &DrawTask<'_>) -> Result<u8, RunFault>
+>(rt: &R, alloc: Global, task: &DrawTask<'_>, tells_progress: bool) -> Result<u8, RunFault>
     requires { 1 ≤ task.now.replica }
 {
     let Ok(key) = HashKey::drawn(&mut RandomBytes::of(rt)) else {
         return Err(RunFault::Read);
     };
     match pen_of(rt, alloc, task, key) {
-        Ok(pen) => drawn(rt, alloc, task.file, pen),
+        Ok(pen) => drawn(rt, alloc, task.file, pen, tells_progress),
         Err(left) => left.end(),
     }
 }
@@ -75,12 +76,18 @@ fn pen_of<'a, R: Files<File = File> + Eprint>(
 /// its end is 0: what came of its lines stands there.
 fn drawn<
     R: Files<File = File> + Input<Reader = StdinLock<'static>> + Print + Eprint + Clock + Wait,
->(rt: &R, alloc: Global, path: &str, pen: Pen<FileKeep<'_, R>>) -> Result<u8, RunFault> {
+>(
+    rt: &R,
+    alloc: Global,
+    path: &str,
+    pen: Pen<FileKeep<'_, R>>,
+    tells_progress: bool,
+) -> Result<u8, RunFault> {
     let reader = rt.reader();
     let is_terminal = reader.is_terminal();
     let mut source = ReadSource::new(reader);
     let mut sink = WriteSink::new(io::writer(rt));
-    let Drawn { pen, ended } = draw(rt, pen, &mut source, &mut sink);
+    let Drawn { pen, ended } = draw(rt, pen, &mut source, &mut sink, tells_progress);
     match ended {
         Ok(_) if is_terminal => Ok(WELL),
         Ok(tally) => Ok(tally.well_status()),

@@ -44,9 +44,22 @@ use std::sync::Wait;
 use std::thread::Threads;
 use std::time::Clock;
 
+/// Which of the streams that are written are terminals.
+#[derive(Clone, Copy)]
+struct Terminals {
+    output: bool,
+    errors: bool,
+}
+
 fn main(rt: HostRuntime) -> ExitCode {
     let status = match given(&rt) {
-        Ok(words) => work(&rt, &words, rt.stdout().is_terminal()),
+        Ok(words) => {
+            let terminals = Terminals {
+                output: rt.stdout().is_terminal(),
+                errors: rt.stderr().is_terminal(),
+            };
+            work(&rt, &words, terminals)
+        }
         Err(ending) => ending.tell(&rt),
     };
     ExitCode::from(status)
@@ -70,10 +83,10 @@ fn work<
         + Send
         + Sync
         + 'static,
->(rt: &R, words: &[String], to_terminal: bool) -> u8 {
+>(rt: &R, words: &[String], terminals: Terminals) -> u8 {
     let alloc = rt.alloc();
     match asked(alloc, words) {
-        Ok(task) => match perform(rt, alloc, &task, to_terminal) {
+        Ok(task) => match perform(rt, alloc, &task, terminals) {
             Ok(status) => status,
             Err(fault) => Ending::Run(fault).tell(rt),
         },
@@ -97,19 +110,19 @@ fn perform<
         + Send
         + Sync
         + 'static,
->(rt: &R, alloc: Global, task: &Task<'_>, to_terminal: bool) -> Result<u8, RunFault>
+>(rt: &R, alloc: Global, task: &Task<'_>, terminals: Terminals) -> Result<u8, RunFault>
     requires { IsInRange task.now }
 {
     match task {
         Task::Run(file) => run(rt, alloc, *file),
         Task::Check(file) => check(rt, alloc, *file),
         Task::Rle(form) => rle(rt, alloc, form),
-        Task::View(viewing) => view(rt, alloc, viewing, to_terminal),
+        Task::View(viewing) => view(rt, alloc, viewing, terminals.output),
         Task::Serve(server) => serve(rt, alloc, server),
-        Task::Join(client) => join(rt, alloc, *client),
+        Task::Join(client) => join(rt, alloc, *client, terminals.errors),
         Task::Convert(file) => convert_file(rt, alloc, file),
         Task::New(document) => new_document(rt, alloc, document),
-        Task::Draw(drawing) => draw_in_document(rt, alloc, drawing),
+        Task::Draw(drawing) => draw_in_document(rt, alloc, drawing, terminals.errors),
         Task::Merge(documents) => merge(rt, alloc, documents),
         Task::Diff(documents) => diff(rt, alloc, documents),
         Task::Log(document) => log(rt, alloc, document),

@@ -1,12 +1,13 @@
-//! Pictures of patterns and of states, and their periods.
+//! Pictures of patterns and of states, and their periods and charts.
 
 use crate::bounds::tell_bounds;
 use crate::document_reading::{name_of, printed, seen_text};
+use command_words::GenerationRange;
 use devices::{ReadSource, WriteSink};
 use genedit_io::RunFault;
 use genedit_view::{
-    BufferedSink, Form, PeriodSearch, ViewFault, ViewOptions, Window, WindowFault, find_period,
-    window_of,
+    BufferedSink, Form, PeriodSearch, ViewFault, ViewOptions, Window, WindowFault, chart,
+    chart_range, find_period, window_of,
 };
 use genedit_words::Viewing;
 use map_periods::ToldPeriod;
@@ -28,6 +29,9 @@ const NO_SIZE: &str =
 const NO_CORNER: &str =
     "--size is without --at: a window is asked for by both, as --at -3,4 --size 40x20";
 
+/// What is said of a word that names no range of a chart.
+const NO_RANGE: &str = "a range is G1..G2 or G1..G2/STEP, 65536 generations at most, as 0..1000/10";
+
 /// Why the words ask for no window.
 #[derive(Clone, Copy)]
 enum NoWindow<'a> {
@@ -37,14 +41,17 @@ enum NoWindow<'a> {
     Value(&'a str, &'static str, WindowFault),
 }
 
-/// Draws what a file has, or standard input; or tells its period, where that is asked for. To a terminal a picture is in
-/// colours, unless another form is asked for.
+/// Draws what a file has, or standard input; or a chart of it, or tells its period, where that is asked for. To a terminal a
+/// picture is in colours, unless another form is asked for.
 pub fn view<R: Files + Input + Print + Eprint + RandomSource>(
     rt: &R,
     alloc: Global,
     viewing: &Viewing<'_>,
     to_terminal: bool,
 ) -> Result<u8, RunFault> {
+    if let Some(word) = viewing.chart {
+        return view_chart(rt, alloc, viewing, word);
+    }
     if let Some(most) = viewing.longest_period {
         return match seen_text(rt, alloc, viewing.file, viewing.edits) {
             Ok(text) => told_period(rt, alloc, viewing, most, &text),
@@ -63,6 +70,23 @@ pub fn view<R: Files + Input + Print + Eprint + RandomSource>(
     };
     match seen_text(rt, alloc, viewing.file, viewing.edits) {
         Ok(text) => drawn(rt, alloc, &options, name_of(viewing.file), &text),
+        Err(left) => left.end(),
+    }
+}
+
+/// Draws a chart of what a file has, of the range of generations that a word names.
+fn view_chart<R: Files + Input + Print + Eprint + RandomSource>(
+    rt: &R,
+    alloc: Global,
+    viewing: &Viewing<'_>,
+    word: &str,
+) -> Result<u8, RunFault> {
+    let Some(range) = chart_range(word.as_bytes()) else {
+        let _ = eprintln!(rt; "genedit: invalid value '{word}' for '--chart <RANGE>': {NO_RANGE}");
+        return Ok(WORDS);
+    };
+    match seen_text(rt, alloc, viewing.file, viewing.edits) {
+        Ok(text) => charted(rt, alloc, viewing, range, &text),
         Err(left) => left.end(),
     }
 }
@@ -121,6 +145,27 @@ fn drawn(
     match genedit_view::view(alloc, options, &mut ReadSource::new(text), &mut sink) {
         Ok(bounds) => {
             tell_bounds(rt, alloc, name, bounds, options.generation.is_some())?;
+            Ok(WELL)
+        }
+        Err(fault) => ended(rt, fault),
+    }
+}
+
+/// Draws a chart of what a text has.
+fn charted(
+    rt: &(impl Print + Eprint),
+    alloc: Global,
+    viewing: &Viewing<'_>,
+    range: GenerationRange,
+    text: &[u8],
+) -> Result<u8, RunFault> {
+    let sink = WriteSink::new(io::writer(rt));
+    let Ok(mut sink) = BufferedSink::new(alloc, sink) else {
+        return Err(RunFault::Memory);
+    };
+    match chart(alloc, viewing.rule, range, text, &mut sink) {
+        Ok(bounds) => {
+            tell_bounds(rt, alloc, name_of(viewing.file), bounds, true)?;
             Ok(WELL)
         }
         Err(fault) => ended(rt, fault),

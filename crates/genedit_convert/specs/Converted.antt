@@ -12,7 +12,8 @@ use Rattle.genedit_view.specs.Fault.{fault_of_generation}
 use Rattle.genedit_view.specs.Reading.{generation_told}
 use Rattle.genedit_view.specs.Seeing.{AreSeen, IsNotSeen}
 use Rattle.genedit_convert.specs.declared.options.ConvertOptions.{ConvertOptions}
-use Rattle.genedit_convert.specs.Names.{rule_name, text_named}
+use Rattle.genedit_convert.specs.Names.{text_named}
+use Rattle.macrocell_lines.specs.Macrocell.{rule_name}
 
 -- which cells of a text are meant: those that a view of it shows
 abbrev pub as_view : ConvertOptions → ViewOptions

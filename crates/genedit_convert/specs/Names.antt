@@ -1,16 +1,11 @@
 -- The RLE text of cells, with the rule as Golly spells it.
-use Rattle.std.specs.Prelude.{ℕ, Bool, ◌+◌, List, ◌++◌, codes, drop, take, ◌==◌, if◌then◌else◌}
+use Rattle.std.specs.Prelude.{ℕ, Bool, ◌+◌, List, ◌++◌, drop, take, ◌==◌}
 use Rattle.std.specs.List.{position_or_len}
 use Rattle.generations_rule.specs.Rule.{GenerationsRule}
-use Rattle.generations_rule.specs.RuleText.{text_of, text_of_set}
 use Rattle.pattern_cells.specs.declared.cell.Cell.{Cell}
 use Rattle.multistate_rle.specs.Bounds.{bounds_of, in_box}
 use Rattle.multistate_rle.specs.Tokens.{tokens_from}
 use Rattle.multistate_rle.specs.Writing.{body, head_lines}
-
--- A rule of two states is spelled `B3/S23`, by which Golly knows one of Life's kind; any other `S/B/C`.
-abbrev pub rule_name : GenerationsRule → List ℕ
-rule_name r = if r.states == 2 then codes "B" ++ text_of_set r.birth ++ codes "/S" ++ text_of_set r.survival else text_of r
 
 -- the text that is written of cells, sorted and nonzero, at a generation, but for the rule's name in its header
 unfoldable pub text_named : List ℕ → GenerationsRule → ℕ → List Cell → List ℕ

@@ -9,10 +9,6 @@ use Rattle.whole_files.specs.declared.refusal.WriteRefusal.TheVariants.{Exists, 
 abbrev pub ends_with_rle : List ℕ → Bool
 ends_with_rle path = bytes_eq (drop (length path - 4) path) (codes ".rle")
 
--- the name of a macrocell
-abbrev pub ends_with_mc : List ℕ → Bool
-ends_with_mc path = bytes_eq (drop (length path - 3) path) (codes ".mc")
-
 -- what is said of it, behind the file's name
 abbrev pub output_text : WriteRefusal → List ℕ
 output_text Exists = codes "there is such a file; --replace replaces it"

@@ -2,7 +2,8 @@
 use Rattle.std.specs.Prelude.{◌≡◌, [], ◌∷◌, codes, pos, negsuc, refl}
 use Rattle.std.specs.Fmt.{digits}
 use Rattle.generations_rule.specs.RuleText.{rule_of_text, text_of_set}
-use Rattle.genedit_convert.specs.Names.{renamed, rule_name, text_named}
+use Rattle.genedit_convert.specs.Names.{renamed, text_named}
+use Rattle.macrocell_lines.specs.Macrocell.{rule_name}
 
 pub of_two_states : rule_name (rule_of_text (codes "23/3/2")) ≡ codes "B3/S23"
 unfolding digits text_of_set

@@ -3,15 +3,16 @@
 ghost use Rattle.std.specs.Prelude.{◌≡◌, ◌+◌, ◌++◌, true, ◌<◌, ◌≤◌, ◌^◌, ◌⊎◌, IfErr, IfOk, MatchOption, option_map};
 ghost use Rattle.pattern_cells.specs.Cells.{are_nonzero, are_states_below, is_sorted};
 ghost use Rattle.cell_files.specs.Comments.{comment_lines};
-ghost use Rattle.cell_files.specs.Files.{file_bounds_told};
 ghost use Rattle.cell_files.specs.Formats.{format_of};
+ghost use Rattle.genedit_view.specs.Reading.{bounds_told};
 ghost use Rattle.genedit_view.specs.Seeing.{IsWantAt};
 ghost use Rattle.genedit_convert.specs.Converted.{IsConverted, IsNotConverted, as_view, asked};
-ghost use Rattle.genedit_convert.specs.Names.{rule_name, text_named};
+ghost use Rattle.genedit_convert.specs.Names.{text_named};
+ghost use Rattle.macrocell_lines.specs.Macrocell.{rule_name};
 
 use crate::named::push_text;
 use crate::options::ConvertOptions;
-use cell_files::{CellFormat, comment_lines, file_bounds};
+use cell_files::{CellFormat, comment_lines};
 use export::ExportFault;
 use genedit_view::{Form, SeenCells, ViewFault, ViewOptions, see};
 use std::alloc::{AllocError, Global};
@@ -25,8 +26,8 @@ pub struct Converted {
     pub bounds: Option<Vec<u8>>,
 }
 
-/// The RLE text of a file in RLE, MCell's format or plaintext, or of a state, told by its first bytes; as it is,
-/// or some generations later. Its comments stand in front, as `#N`, `#O` and `#C` lines; behind them it is what
+/// The RLE text of a file in RLE, MCell's format or plaintext, of a macrocell or of a state, told by its first
+/// bytes; as it is, or some generations later. Its comments stand in front, as `#N`, `#O` and `#C` lines; behind them it is what
 /// `multistate_rle::write` writes of its cells, each moved by the file's position, at the generation that the
 /// file tells and those that are asked for, but that a rule of two states is spelled `B3/S23`.
 ///
@@ -38,7 +39,7 @@ pub fn conversion_of(
     text: &[u8],
 ) -> Result<Converted, ViewFault>
     ensures made { IfOk result (λ made. IsConverted options.now text.now made.text.items) }
-    ensures bounds { IfOk result (λ made. option_map (λ bounds. bounds.items) made.bounds ≡ file_bounds_told text.now) }
+    ensures bounds { IfOk result (λ made. option_map (λ bounds. bounds.items) made.bounds ≡ bounds_told text.now) }
     ensures fault { IfErr result (λ fault. IsNotConverted options.now text.now fault ⊎ IsWantAt (as_view options.now) text.now fault) }
 {
     let seen = see(alloc, &as_view(options), text)?;
@@ -46,8 +47,10 @@ pub fn conversion_of(
         return Err(ViewFault::from(ExportFault::GenRange));
     };
     let rle = rle_text(alloc, text, &seen, generation)?;
-    let bounds = file_bounds(alloc, text)?;
-    Ok(Converted { text: rle, bounds })
+    Ok(Converted {
+        text: rle,
+        bounds: seen.bounds,
+    })
 }
 
 /// What is asked of a view that shows the same cells.

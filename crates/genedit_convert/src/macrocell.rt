@@ -1,7 +1,7 @@
 //! What a text is converted to, as a macrocell.
 
 ghost use Rattle.std.specs.Prelude.{◌≡◌, ◌⊎◌, IfErr, IfOk, option_map};
-ghost use Rattle.cell_files.specs.Files.{file_bounds_told};
+ghost use Rattle.genedit_view.specs.Reading.{bounds_told};
 ghost use Rattle.genedit_view.specs.Seeing.{IsWantAt};
 ghost use Rattle.genedit_view.specs.Universes.{universe_view};
 ghost use Rattle.genedit_convert.specs.Converted.{asked};
@@ -9,15 +9,14 @@ ghost use Rattle.genedit_convert.specs.Macrocells.{IsMacrocellOf, IsNoMacrocell}
 
 use crate::converting::{Converted, later};
 use crate::options::ConvertOptions;
-use cell_files::file_bounds;
 use export::ExportFault;
 use genedit_view::{ViewFault, see_universe};
 use macrocell_lines::write_macrocell;
 use std::alloc::Global;
 
-/// The macrocell of a file in RLE, MCell's format or plaintext, or of a state, told by its first bytes; as it is, or
-/// some generations later. Its comments are left out. How many cells there are does not matter, but they lie in the
-/// plane of edits.
+/// The macrocell of a file in RLE, MCell's format or plaintext, of a macrocell or of a state, told by its first bytes;
+/// as it is, or some generations later. Its comments are left out. How many cells there are then does not matter, but
+/// those of the file lie in the plane of edits.
 ///
 /// Of several faults the first of these is told: those of a view of that generation (`genedit_view::view`), and 22
 /// where the generation has more than 64 bits.
@@ -27,7 +26,7 @@ pub fn macrocell_of(
     text: &[u8],
 ) -> Result<Converted, ViewFault>
     ensures made { IfOk result (λ made. IsMacrocellOf options.now text.now made.text.items) }
-    ensures bounds { IfOk result (λ made. option_map (λ bounds. bounds.items) made.bounds ≡ file_bounds_told text.now) }
+    ensures bounds { IfOk result (λ made. option_map (λ bounds. bounds.items) made.bounds ≡ bounds_told text.now) }
     ensures fault { IfErr result (λ fault. IsNoMacrocell options.now text.now fault ⊎ IsWantAt (universe_view options.now.rule (asked options.now.generation)) text.now fault) }
 {
     let seen = see_universe(alloc, options.rule, count_of(options), text)?;
@@ -35,10 +34,9 @@ pub fn macrocell_of(
         return Err(ViewFault::from(ExportFault::GenRange));
     };
     let macrocell = write_macrocell(alloc, &seen.rule, generation, &seen.engine)?;
-    let bounds = file_bounds(alloc, text)?;
     Ok(Converted {
         text: macrocell,
-        bounds,
+        bounds: seen.into_bounds(),
     })
 }
 

@@ -1,12 +1,14 @@
 //! The RLE text of cells, with the rule as Golly spells it.
 
-ghost use Rattle.std.specs.Prelude.{◌≡◌, ◌+◌, ◌≤◌, ◌++◌, IfOk, OnOk, codes, length, true};
+ghost use Rattle.std.specs.Prelude.{◌≡◌, ◌+◌, ◌≤◌, ◌++◌, OnOk, length, true};
 ghost use Rattle.std.specs.List.{position_or_len};
-ghost use Rattle.generations_rule.specs.RuleText.{text_of, text_of_set};
+ghost use Rattle.generations_rule.specs.RuleText.{text_of};
 ghost use Rattle.pattern_cells.specs.Cells.{are_nonzero, is_sorted, are_states_below};
-ghost use Rattle.genedit_convert.specs.Names.{is_rule_letter, name_place, renamed, rule_name, text_named};
+ghost use Rattle.genedit_convert.specs.Names.{is_rule_letter, name_place, renamed, text_named};
+ghost use Rattle.macrocell_lines.specs.Macrocell.{rule_name};
 
 use generations_rule::Rule;
+use macrocell_lines::rule_name;
 use multistate_rle::write;
 use pattern_cells::Cell;
 use std::alloc::{AllocError, Global};
@@ -47,48 +49,4 @@ fn rule_letter_at(text: &[u8]) -> usize
     ensures within { result ≤ length text.now }
 {
     text.iter().take_while(|byte| **byte != b'r').count()
-}
-
-/// A rule's name: `B3/S23` of two states, else `S/B/C`.
-fn rule_name(alloc: Global, rule: &Rule) -> Result<Vec<u8>, AllocError>
-    ensures { IfOk result (λ name. name.items ≡ rule_name rule.now) }
-{
-    if rule.states() == 2 {
-        return life_name(alloc, rule);
-    }
-    rule.write_text(alloc)
-}
-
-fn life_name(alloc: Global, rule: &Rule) -> Result<Vec<u8>, AllocError>
-    ensures { IfOk result (λ name. name.items ≡ codes "B" ++ text_of_set rule.now.birth ++ codes "/S" ++ text_of_set rule.now.survival) }
-{
-    let mut name = b"B".to_vec(alloc)?;
-    push_births(&mut name, rule)?;
-    name.extend_from_slice(b"/S")?;
-    push_survivals(&mut name, rule)?;
-    Ok(name)
-}
-
-/// The counts of birth, ascending.
-fn push_births(name: &mut Vec<u8>, rule: &Rule) -> Result<(), AllocError>
-    ensures { OnOk result (name.new.items ≡ name.old.items ++ text_of_set rule.now.birth) }
-{
-    for n in 0..9u8 {
-        if rule.born(n) {
-            name.push(b'0' + n)?;
-        }
-    }
-    Ok(())
-}
-
-/// The counts of survival, ascending.
-fn push_survivals(name: &mut Vec<u8>, rule: &Rule) -> Result<(), AllocError>
-    ensures { OnOk result (name.new.items ≡ name.old.items ++ text_of_set rule.now.survival) }
-{
-    for n in 0..9u8 {
-        if rule.survives(n) {
-            name.push(b'0' + n)?;
-        }
-    }
-    Ok(())
 }

@@ -1,7 +1,7 @@
 //! The file that is written.
 
 ghost use Rattle.std.specs.Prelude.{◌≡◌};
-ghost use Rattle.genedit_convert.specs.Outputs.{ends_with_mc, ends_with_rle, output_status, output_text};
+ghost use Rattle.genedit_convert.specs.Outputs.{ends_with_rle, output_status, output_text};
 
 use whole_files::WriteRefusal;
 
@@ -10,13 +10,6 @@ pub fn is_rle_name(path: &[u8]) -> bool
     ensures { result ≡ ends_with_rle path.now }
 {
     &path[path.len().saturating_sub(4)..] == b".rle".as_slice()
-}
-
-/// Whether a name is that of a macrocell.
-pub fn is_macrocell_name(path: &[u8]) -> bool
-    ensures { result ≡ ends_with_mc path.now }
-{
-    &path[path.len().saturating_sub(3)..] == b".mc".as_slice()
 }
 
 /// Why a file is not written, in words, behind its name.

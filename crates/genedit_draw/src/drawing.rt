@@ -2,7 +2,7 @@
 
 use crate::fault::DrawFault;
 use crate::lines::Lines;
-use client_commands::{ClientCommand, Dictation, FileName, FileTarget, Heard};
+use client_commands::{ClientCommand, Dictation, FileName, FileTarget, Film, Heard};
 use devices::{Sink, Source};
 use document_pen::{Done, Pen, carry_out};
 use genedit_io::{RunFault, push_output};
@@ -10,15 +10,12 @@ use genedit_script::{says_something, without_return};
 use kept_devices::Keep;
 use std::rt::Files;
 use std::sync::Wait;
-use std::thread;
 use std::time::{Clock, Duration};
+use std::{mem, thread};
 use typed_commands::{
-    About, FileFault, OpenedFile, OwnFiles, Tally, cure, is_script, read_opened, refusal_in,
-    refused_text, tell_cure, tell_fault, tell_open_block, warn_of_rule, write_target, wrote_text,
+    About, FilmFiles, OpenedFile, OwnFiles, Progress, Tally, cure, is_script, plan_of, read_opened,
+    refusal_in, tell_cure, tell_fault, tell_open_block, warn_of_rule,
 };
-
-/// The refusal of a file that cannot be written.
-const WRITE: u8 = 37;
 
 /// A drawing that has ended: the pen, and what came of the lines, or why it ended before them.
 #[derive(Drop)]
@@ -42,6 +39,8 @@ struct Drawing<'a, R: Eprint, K: Keep> {
     pen: Pen<K>,
     /// The files that it wrote, which it may write again.
     files: OwnFiles,
+    /// Whether it is said on standard error how far a film is.
+    tells_progress: bool,
     tally: Tally,
     /// Whether a line said something.
     has_heard: bool,
@@ -49,18 +48,20 @@ struct Drawing<'a, R: Eprint, K: Keep> {
 
 /// Carries out the commands of a source in the document of a pen, to `bye` or the end of the source. What each prints is
 /// pushed before the next line is awaited. Lines at fault are told on standard error, and passed over; so is what would
-/// be right in the place of a command that was refused.
+/// be right in the place of a command that was refused, and, where it is asked for, how far a film is.
 pub fn draw<R: Files + Clock + Wait + Eprint, K: Keep, S: Source, O: Sink>(
     rt: &R,
     pen: Pen<K>,
     source: &mut S,
     sink: &mut O,
+    tells_progress: bool,
 ) -> Drawn<K> {
     let files = OwnFiles::none(pen.alloc());
     let mut drawing = Drawing {
         rt,
         pen,
         files,
+        tells_progress,
         tally: Tally::none(),
         has_heard: false,
     };
@@ -156,6 +157,7 @@ impl<'a, R: Files + Clock + Wait + Eprint, K: Keep> Drawing<'a, R, K> {
         match carry_out(&mut self.pen, command)? {
             Done::Told => {}
             Done::Write(target, text) => self.write(target, &text)?,
+            Done::Film(film) => self.film(&film)?,
             Done::Open(file) => self.open(&file)?,
             Done::Sleep(milliseconds) => self.sleep(milliseconds, sink)?,
             Done::Leave => return Ok(Going::Leaving),
@@ -187,26 +189,26 @@ impl<'a, R: Files + Clock + Wait + Eprint, K: Keep> Drawing<'a, R, K> {
     /// Writes a file, and says so, or that it was refused. One that was written here before may be replaced.
     fn write(&mut self, target: FileTarget, text: &[u8]) -> Result<(), DrawFault> {
         let alloc = self.pen.alloc();
-        let is_own = self.files.has(&target.name);
-        let allowed = FileTarget {
-            name: target.name,
-            replaces: target.replaces || is_own,
+        let written = self.files.write(self.rt, alloc, target, text)?;
+        self.pen.print(&written.line)?;
+        Ok(())
+    }
+
+    /// Makes a film of what the document shows.
+    fn film(&mut self, film: &Film) -> Result<(), DrawFault> {
+        let alloc = self.pen.alloc();
+        let mut album = FilmFiles {
+            rt: self.rt,
+            alloc,
+            film,
+            files: mem::replace(&mut self.files, OwnFiles::none(alloc)),
+            progress: Progress::of(self.rt, film, self.tells_progress),
         };
-        match write_target(self.rt, alloc, &allowed, text) {
-            Ok(()) => {
-                let told = wrote_text(alloc, text.len() as u64, &allowed.name)?;
-                self.pen.print(&told)?;
-                self.files.add(alloc, &allowed.name, false)?;
-                Ok(())
-            }
-            Err(FileFault::Refused(cause)) => {
-                let refusal = RunFault::Refused(WRITE, None);
-                let told = refused_text(alloc, refusal, &allowed.name, cause)?;
-                self.pen.print(&told)?;
-                Ok(())
-            }
-            Err(FileFault::Memory) => Err(DrawFault::Run(RunFault::Memory)),
-        }
+        let made = self.pen.film(plan_of(film), &mut album);
+        let FilmFiles { files, .. } = album;
+        self.files = files;
+        made?;
+        Ok(())
     }
 
     /// Draws what a file holds.

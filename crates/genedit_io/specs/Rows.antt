@@ -138,9 +138,8 @@ no_document = refl
 pub busy : name_of_number 43 ≡ codes "Busy"
 busy = refl
 
--- 44 is not used
-pub not_used : name_of_number 44 ≡ codes "?"
-not_used = refl
+pub square : name_of_number 44 ≡ codes "Square"
+square = refl
 
 pub no_name : name_of_number 255 ≡ codes "?"
 no_name = refl

@@ -31,7 +31,7 @@ names =
     ∷ (28, codes "NotYours") ∷ (29, codes "Full") ∷ (30, codes "Closed") ∷ (31, codes "NoPlace") ∷ (32, codes "Size")
     ∷ (33, codes "Request") ∷ (34, codes "Cut") ∷ (35, codes "Turns") ∷ (36, codes "Read") ∷ (37, codes "Write")
     ∷ (38, codes "NoPattern") ∷ (39, codes "Script") ∷ (40, codes "OldStamp") ∷ (41, codes "SameStamp")
-    ∷ (42, codes "NoDocument") ∷ (43, codes "Busy") ∷ (45, codes "NoSeat") ∷ []
+    ∷ (42, codes "NoDocument") ∷ (43, codes "Busy") ∷ (44, codes "Square") ∷ (45, codes "NoSeat") ∷ []
 
 -- the name of a number; a number that the table has not is "?"
 abbrev pub name_of_number : ℕ → List ℕ

@@ -139,6 +139,7 @@ fn name_of(number: u8) -> &'static str
         41 => "SameStamp",
         42 => "NoDocument",
         43 => "Busy",
+        44 => "Square",
         45 => "NoSeat",
         _ => "?",
     }

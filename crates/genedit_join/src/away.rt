@@ -65,7 +65,10 @@ pub(crate) fn needs_server(command: &ClientCommand) -> bool
         | ClientCommand::Undo
         | ClientCommand::Redo
         | ClientCommand::Count(_)
+        | ClientCommand::Counts(_)
+        | ClientCommand::Period(_)
         | ClientCommand::Export(_, _)
+        | ClientCommand::Film(_)
         | ClientCommand::Cut(_, _, _)
         | ClientCommand::Poll
         | ClientCommand::Wait(_)

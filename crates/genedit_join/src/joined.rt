@@ -17,7 +17,7 @@ use crate::patience::{Patience, SECONDS, WaitStep, is_kept_after, say_waiting, s
 use crate::rescue::{SeatPlace, has_writes, keep};
 use crate::telling::{tell_kept, tell_left_out, tell_lost, tell_say_again, tell_unkept};
 use board_client::Pushing;
-use client_commands::{ClientCommand, FileName, FileTarget};
+use client_commands::{ClientCommand, FileName, FileTarget, Film};
 use client_session::{Client, Followed, Outcome, end_of, rest_within, time_until};
 use client_tasks::{Done, carry_on, carry_out, open};
 use devices::Sink;
@@ -28,11 +28,11 @@ use std::alloc::{AllocError, Global};
 use std::net::{Net, TcpListener, TcpStream};
 use std::rt::Files;
 use std::sync::{Arc, Wait};
-use std::thread;
 use std::time::{Clock, Duration};
+use std::{mem, thread};
 use typed_commands::{
-    About, FileFault, OpenedFile, OwnFiles, Tally, cure, read_opened, read_whole, refusal_in,
-    refused_text, tell_cure, warn_of_rule, write_target, wrote_text,
+    About, FileFault, FilmFiles, OpenedFile, OwnFiles, Progress, Tally, cure, plan_of, read_opened,
+    read_whole, refusal_in, tell_cure, warn_of_rule,
 };
 
 /// How often a sleep or a wait is broken by a poll, at most.
@@ -379,26 +379,47 @@ impl<'a, R: Clock + Files + Eprint + Drop> Joined<'a, R> {
     /// Writes a file, and says so, or that it was refused. One that this client wrote may be replaced.
     fn write(&mut self, target: FileTarget, text: &[u8], saves: bool) -> Result<(), JoinFault> {
         let alloc = self.client.alloc();
-        let is_own = self.files.has(&target.name);
-        let allowed = FileTarget {
-            name: target.name,
-            replaces: target.replaces || is_own,
-        };
-        match write_target(self.rt, alloc, &allowed, text) {
-            Ok(()) => {
-                let told = wrote_text(alloc, text.len() as u64, &allowed.name)?;
-                self.client.print(&told)?;
-                self.files.add(alloc, &allowed.name, saves)?;
-                Ok(())
-            }
-            Err(FileFault::Refused(cause)) => {
-                let refusal = RunFault::Refused(WRITE, None);
-                let told = refused_text(alloc, refusal, &allowed.name, cause)?;
-                self.client.print(&told)?;
-                Ok(())
-            }
-            Err(FileFault::Memory) => Err(JoinFault::Run(RunFault::Memory)),
+        let written = self.files.write(self.rt, alloc, target, text)?;
+        self.client.print(&written.line)?;
+        match &written.file {
+            Some(file) if saves => Ok(self.files.add(alloc, file, true)?),
+            _ => Ok(()),
         }
+    }
+
+    /// Makes a film of the board, or of what is kept of it.
+    fn film(&mut self, film: &Film) -> Result<(), JoinFault> {
+        let is_alone = self.lost.is_some();
+        if !is_alone {
+            self.await_poll();
+        }
+        self.film_behind(film, is_alone)?;
+        if !is_alone {
+            self.hear_ahead()?;
+        }
+        Ok(())
+    }
+
+    /// The same behind the answer that was awaited.
+    fn film_behind(&mut self, film: &Film, is_alone: bool) -> Result<(), JoinFault> {
+        let alloc = self.client.alloc();
+        let mut album = FilmFiles {
+            rt: self.rt,
+            alloc,
+            film,
+            files: mem::replace(&mut self.files, OwnFiles::none(alloc)),
+            progress: Progress::of(self.rt, film, self.options.tells_progress),
+        };
+        let plan = plan_of(film);
+        let made = if is_alone {
+            self.client.film_now(plan, &mut album)
+        } else {
+            self.client.film(plan, &mut album)
+        };
+        let FilmFiles { files, .. } = album;
+        self.files = files;
+        made?;
+        Ok(())
     }
 
     /// Draws what a file holds.
@@ -558,6 +579,10 @@ impl<
                 self.write(target, &text, saves)?;
                 Ok(Going::On)
             }
+            Done::Film(film) => {
+                self.film(&film)?;
+                Ok(Going::On)
+            }
             Done::Open(file) => self.open(&file),
             Done::Sleep(milliseconds) => {
                 self.sleep(milliseconds, sink)?;
@@ -568,11 +593,9 @@ impl<
     }
 }
 
-/// The refusal of a file that cannot be written.
-const WRITE: u8 = 37;
-
 /// Whether a command begins with a poll, which is then asked ahead: one that draws only where no poll waits,
-/// since what that brought is heard already. One that opens a file reads that first.
+/// since what that brought is heard already. One that opens a file reads that first; one that makes a film does it by a call
+/// of its own, which asks ahead.
 fn asks_ahead(command: &ClientCommand, awaited: bool) -> bool
     ensures { result ≡ asks_ahead command.now awaited }
 {
@@ -580,6 +603,8 @@ fn asks_ahead(command: &ClientCommand, awaited: bool) -> bool
         ClientCommand::Draw(_) | ClientCommand::Copy(_) | ClientCommand::Or(_) => !awaited,
         ClientCommand::Undo | ClientCommand::Redo => !awaited,
         ClientCommand::Count(_)
+        | ClientCommand::Counts(_)
+        | ClientCommand::Period(_)
         | ClientCommand::Export(_, _)
         | ClientCommand::Cut(_, _, _)
         | ClientCommand::Poll
@@ -589,6 +614,7 @@ fn asks_ahead(command: &ClientCommand, awaited: bool) -> bool
         | ClientCommand::Turn(_)
         | ClientCommand::Show(_, _)
         | ClientCommand::Sleep(_)
+        | ClientCommand::Film(_)
         | ClientCommand::Open(_)
         | ClientCommand::Help
         | ClientCommand::Bye => false,

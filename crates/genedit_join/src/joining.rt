@@ -42,6 +42,8 @@ pub struct JoinOptions {
     pub telling: Telling,
     /// Whether somebody types the commands.
     pub is_terminal: bool,
+    /// Whether it is said on standard error how far a film is.
+    pub tells_progress: bool,
     /// Whether its board is written to a file where it loses its server.
     pub rescues: bool,
     /// By whose hashes the client finds what it holds.

@@ -1,14 +1,13 @@
 -- A pattern that is refused nothing has cells that can be drawn, and run.
-use Rattle.std.proofs.Common.{◌≡◌, ◌≤◌, ◌^◌, Bool, true, false, List, [], ◌∷◌, refl, sym, ◌∙◌, subst}
+use Rattle.std.proofs.Common.{◌≡◌, Bool, true, false, List, [], ◌∷◌, refl, sym, ◌∙◌, subst}
 use Rattle.std.specs.Prelude.{not, ◌||◌, ◌&&◌, None}
 use Rattle.std.specs.Bool.{OnTrue}
-use Rattle.std.proofs.lemmas.List.{length-map}
 use Rattle.generations_rule.specs.Refusal.{when, first_of}
 use Rattle.generations_rule.specs.Rule.{GenerationsRule, IsRule}
 use Rattle.pattern_cells.specs.declared.cell.Cell.{Cell}
 use Rattle.pattern_cells.specs.Pattern.{IsPattern, RlePattern}
 use Rattle.edit_stamps.specs.Making.{are_in_plane}
-use Rattle.edit_stamps.specs.Pasting.{are_placeable, cell_placed, have_states_below}
+use Rattle.edit_stamps.specs.Pasting.{are_placeable, have_states_below}
 use Rattle.edit_stamps.proofs.PastingLaws.{alive_placed, below_placed, in_plane_placed, sorted_placed}
 use Rattle.genedit_rle.specs.Canonical.{cells_in_plane}
 use Rattle.genedit_view.specs.declared.fault.ViewFault.{ViewFault}
@@ -40,7 +39,6 @@ pattern_cells_are is_run r p cells rule pattern none is =
       sorted = sorted_placed p.pos.0 p.pos.1 p.cells pattern.sorted;
       nonzero = alive_placed p.pos.0 p.pos.1 p.cells pattern.alive;
       below = below_placed r.states p.pos.0 p.pos.1 p.cells ∙ parts.1;
-      few = subst (λ n. n ≤ 2 ^ 20) (sym (length-map p.cells (cell_placed p.pos.0 p.pos.1))) pattern.few;
       inside = on_true is_run _ (inside is_run (are_placeable p.pos.0 p.pos.1 p.cells) (are_in_plane (cells_in_plane p)) parts.0);
     })
 

@@ -1,6 +1,6 @@
 -- What is seen of a text, and why nothing is.
 use Rattle.std.proofs.Common.{◌≡◌, inl, inr, Bool, ℕ, true, false, List, refl, sym, ap, subst, ◌∙◌}
-use Rattle.std.specs.Prelude.{◌⊎◌, Option, Some, None, Result, Ok, Err, IfErr, IsErrAnd, IsTrue, is_some}
+use Rattle.std.specs.Prelude.{◌⊎◌, Option, Some, None, Result, Ok, Err, IfErr, IfOk, IsErrAnd, OnOk, IsTrue, is_some}
 use Rattle.generations_rule.specs.Place.{Place}
 use Rattle.generations_rule.specs.Refusal.{AnswersAs}
 use Rattle.generations_rule.specs.Rule.{GenerationsRule}
@@ -28,16 +28,25 @@ use Rattle.export.specs.Export.{IsExport, IsExportRefused, IsWant, most_cells}
 use Rattle.cell_pictures.specs.Shown.{state_at}
 use Rattle.genedit_view.specs.declared.fault.ViewFault.{ViewFault}
 use Rattle.genedit_view.specs.declared.options.ViewOptions.{ViewOptions}
-use Rattle.genedit_view.specs.Fault.{IsViewWant, fault_of_generation, fault_of_state}
-use Rattle.genedit_view.specs.Reading.{IsReadAs, begins_as_state, pattern_seen, state_rule}
-use Rattle.genedit_view.specs.Reading.IsReadAs.{Pattern, State}
+use Rattle.genedit_view.specs.Fault.{IsViewWant, fault_of_generation, fault_of_state, memory_wanted}
+use Rattle.genedit_view.specs.Reading.{IsReadAs, IsRefusedFile, begins_as_state, state_rule}
+use Rattle.genedit_view.specs.Reading.IsReadAs.{State}
 use Rattle.genedit_view.specs.Seeing.{AreCellsAt, AreSeen, IsFullAt, IsLateFull, IsLateRefused, IsNotSeen, IsRefusedAt, IsStateTooLarge, IsViewFull, IsWantAt}
-use Rattle.genedit_view.specs.Seeing.IsNotSeen.{NoGeneration, NoState}
+use Rattle.genedit_view.specs.Seeing.IsNotSeen.{NoFile, NoGeneration, NoState}
 
 -- the end of a call by another's fault
 pub at_end : {A : Type 0} (r : Result A ViewFault) (Q P : ViewFault → Type 0) → IsErrAnd r Q → ((e : ViewFault) → Q e → P e) → IfErr r P
 at_end (Ok x) Q P h f = tt
 at_end (Err e) Q P h f = f e h
+
+-- what holds of what a call gives well
+pub on_ok : {A F : Type 0} (r : Result A F) (P Q : A → Type 0) → IfOk r P → ((x : A) → P x → Q x) → IfOk r Q
+on_ok (Ok x) P Q h f = f x h
+on_ok (Err e) P Q h f = tt
+
+pub on_done : {A F : Type 0} (r : Result A F) (P Q : Type 0) → OnOk r P → (P → Q) → OnOk r Q
+on_done (Ok x) P Q h f = f h
+on_done (Err e) P Q h f = tt
 
 -- ---- generations
 
@@ -59,21 +68,21 @@ pub late_told : (r : GenerationsRule) (f h : Place → ℕ) (g : ℕ) (refusal :
 late_told r f h g refusal e same (inl want) told = inr (want_told refusal e want.0 told)
 late_told r f h g refusal e same (inr refused) told = inl (record { refusal = refusal; refused = subst (λ k. IsExport r k g most_cells (Err refusal)) same refused; told = told })
 
--- ---- patterns
+-- ---- files of cells
 
-pub pattern_shown : (o : ViewOptions) (text : List ℕ) (r : GenerationsRule) (cells : List Cell) → begins_as_state text ≡ false → o.generation ≡ None →
-    pattern_seen (is_some o.generation) o.rule text ≡ Ok (r, cells) → is_sorted cells ≡ true → are_nonzero cells ≡ true → AreSeen o text r cells
-pattern_shown o text r cells begins none seen sorted nonzero = record {
+pub file_shown : (o : ViewOptions) (text : List ℕ) (r : GenerationsRule) (cells : List Cell) → o.generation ≡ None → IsReadAs (is_some o.generation) o.rule text r (state_at cells) →
+    is_sorted cells ≡ true → are_nonzero cells ≡ true → AreSeen o text r cells
+file_shown o text r cells none read sorted nonzero = record {
   states = state_at cells;
-  read = Pattern cells begins seen refl;
+  read = read;
   are = subst (λ g. AreCellsAt r (state_at cells) g cells) (sym none) (record { sorted = sorted; nonzero = nonzero; states = λ c. refl });
 }
 
-pub pattern_later : (o : ViewOptions) (text : List ℕ) (r : GenerationsRule) (cells later : List Cell) (g : ℕ) → begins_as_state text ≡ false → o.generation ≡ Some g →
-    pattern_seen (is_some o.generation) o.rule text ≡ Ok (r, cells) → AreCellsAt r (state_at cells) (Some g) later → AreSeen o text r later
-pattern_later o text r cells later g begins some seen are = record {
+pub file_later : (o : ViewOptions) (text : List ℕ) (r : GenerationsRule) (cells later : List Cell) (g : ℕ) → o.generation ≡ Some g → IsReadAs (is_some o.generation) o.rule text r (state_at cells) →
+    AreCellsAt r (state_at cells) (Some g) later → AreSeen o text r later
+file_later o text r cells later g some read are = record {
   states = state_at cells;
-  read = Pattern cells begins seen refl;
+  read = read;
   are = subst (λ n. AreCellsAt r (state_at cells) n later) (sym some) are;
 }
 
@@ -82,17 +91,21 @@ want_where : (o : ViewOptions) (text : List ℕ) (e : ViewFault) → (e ≡ Run 
 want_where o text e why (inl memory) = inl memory
 want_where o text e why (inr full) = inr (full, why full)
 
-pub pattern_late : (o : ViewOptions) (text : List ℕ) (r : GenerationsRule) (cells : List Cell) (g : ℕ) (e : ViewFault) → begins_as_state text ≡ false → o.generation ≡ Some g →
-    pattern_seen (is_some o.generation) o.rule text ≡ Ok (r, cells) → (e ≡ Run StoreFull → IsLateFull r (state_at cells) g) → IsLateRefused r (state_at cells) g e ⊎ IsViewWant e →
-    IsNotSeen o text e ⊎ IsWantAt o text e
-pattern_late o text r cells g e begins some seen full (inl late) =
-    inl (NoGeneration r (state_at cells) (Pattern cells begins seen refl) (subst (λ n. IsRefusedAt r (state_at cells) n e) (sym some) late))
-pattern_late o text r cells g e begins some seen full (inr want) = inr (want_where o text e (λ is. inr (record {
+pub file_late : (o : ViewOptions) (text : List ℕ) (r : GenerationsRule) (cells : List Cell) (g : ℕ) (e : ViewFault) → o.generation ≡ Some g → IsReadAs (is_some o.generation) o.rule text r (state_at cells) →
+    (e ≡ Run StoreFull → IsLateFull r (state_at cells) g) → IsLateRefused r (state_at cells) g e ⊎ IsViewWant e → IsNotSeen o text e ⊎ IsWantAt o text e
+file_late o text r cells g e some read full (inl late) =
+    inl (NoGeneration r (state_at cells) read (subst (λ n. IsRefusedAt r (state_at cells) n e) (sym some) late))
+file_late o text r cells g e some read full (inr want) = inr (want_where o text e (λ is. inr (record {
   rule = r;
   states = state_at cells;
-  read = Pattern cells begins seen refl;
+  read = read;
   full = subst (λ n. IsFullAt r (state_at cells) n) (sym some) (full is);
 })) want)
+
+-- what is not read is refused, or memory is wanting
+pub file_unread : (o : ViewOptions) (text : List ℕ) (e : ViewFault) → begins_as_state text ≡ false → IsRefusedFile (is_some o.generation) o.rule text e ⊎ (e ≡ memory_wanted) → IsNotSeen o text e ⊎ IsWantAt o text e
+file_unread o text e begins (inl refused) = inl (NoFile begins refused)
+file_unread o text e begins (inr want) = inr (inl want)
 
 -- ---- states
 

@@ -1,5 +1,5 @@
 -- Cells of a pattern in the plane, as they can be drawn and run.
-use Rattle.std.specs.Prelude.{◌≡◌, ◌≤◌, ◌^◌, ℤ, pos, ◌+ℤ◌, Bool, true, ◌&&◌, List, length}
+use Rattle.std.specs.Prelude.{◌≡◌, ℤ, pos, ◌+ℤ◌, Bool, true, ◌&&◌, List}
 use Rattle.std.specs.Bool.{OnTrue}
 use Rattle.std.specs.List.{list_all}
 use Rattle.generations_rule.specs.Rule.{GenerationsRule, IsRule}
@@ -19,5 +19,4 @@ pub record ArePatternCells (is_run : Bool) (r : GenerationsRule) (cells : List C
   pub sorted : is_sorted cells ≡ true
   pub nonzero : are_nonzero cells ≡ true
   pub below : are_states_below r.states cells ≡ true
-  pub few : length cells ≤ 2 ^ 20
   pub inside : OnTrue is_run (are_in_plane cells ≡ true)

@@ -3,6 +3,11 @@ use Rattle.std.specs.Prelude.{◌≡◌, ◌⊎◌, ℕ, List, ◌++◌, None, c
 use Rattle.multistate_rle.specs.declared.fault.RleFault.{RleFault}
 use Rattle.multistate_rle.specs.declared.fault.RleFault.TheVariants as texts
 use Rattle.multistate_rle.specs.RleFault.{text_fault_number, text_fault_place}
+use Rattle.macrocell_text.specs.declared.fault.MacrocellFault.{MacrocellFault}
+use Rattle.macrocell_text.specs.declared.fault.MacrocellFault.TheVariants as macrocells
+use Rattle.macrocell_text.specs.declared.listing_fault.ListingFault.{ListingFault}
+use Rattle.macrocell_text.specs.declared.listing_fault.ListingFault.TheVariants as listings
+use Rattle.macrocell_text.specs.Faults.{listing_fault_number, macrocell_fault_number, macrocell_fault_place}
 use Rattle.edit_stamps.specs.declared.fault.EditFault.TheVariants as edits
 use Rattle.edit_stamps.specs.EditFault.{edit_fault_number}
 use Rattle.delta_exchange.specs.declared.fault.ReadFault.{ReadFault}
@@ -58,6 +63,20 @@ fault_of_pattern texts.TooMany = Run (Refused (text_fault_number texts.TooMany) 
 fault_of_pattern (texts.Tag place) = Run (Refused (text_fault_number (texts.Tag place)) (text_fault_place (texts.Tag place)))
 fault_of_pattern (texts.Count place) = Run (Refused (text_fault_number (texts.Count place)) (text_fault_place (texts.Count place)))
 fault_of_pattern (texts.State place) = Run (Refused (text_fault_number (texts.State place)) (text_fault_place (texts.State place)))
+
+-- a text that is no macrocell
+abbrev pub fault_of_macrocell : MacrocellFault → ViewFault
+fault_of_macrocell macrocells.Memory = Run Memory
+fault_of_macrocell macrocells.Header = Run (Refused (macrocell_fault_number macrocells.Header) None)
+fault_of_macrocell (macrocells.Tag place) = Run (Refused (macrocell_fault_number (macrocells.Tag place)) (macrocell_fault_place (macrocells.Tag place)))
+fault_of_macrocell (macrocells.State place) = Run (Refused (macrocell_fault_number (macrocells.State place)) (macrocell_fault_place (macrocells.State place)))
+fault_of_macrocell (macrocells.Square place) = Run (Refused (macrocell_fault_number (macrocells.Square place)) (macrocell_fault_place (macrocells.Square place)))
+
+-- a macrocell whose cells are not listed
+abbrev pub fault_of_listing : ListingFault → ViewFault
+fault_of_listing listings.Memory = Run Memory
+fault_of_listing listings.TooManyCells = refused (listing_fault_number listings.TooManyCells)
+fault_of_listing listings.OutOfPlane = refused (listing_fault_number listings.OutOfPlane)
 
 -- a text that is no state
 abbrev pub fault_of_state : ReadFault → ViewFault

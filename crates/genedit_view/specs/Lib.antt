@@ -1,9 +1,12 @@
 pub mod Fault
 pub mod Cells
+pub mod Rules
+pub mod Macrocells
 pub mod Reading
 pub mod Seeing
 pub mod Universes
 pub mod Words
 pub mod Runs
 pub mod Searches
+pub mod Samples
 pub mod Rows

@@ -1,16 +1,19 @@
 -- Worked values of the definitions.
 use Rattle.std.specs.Fmt.{digits}
-use Rattle.std.specs.Prelude.{◌≡◌, codes, refl, Ok, Err, pos, None}
+use Rattle.std.specs.Prelude.{◌≡◌, true, false, [], codes, refl, Ok, Err, pos, Some, None}
 use Rattle.generations_rule.specs.RuleText.{rule_of_text}
 use Rattle.generations_rule.specs.declared.fault.RuleFault.TheVariants.{Slashes}
 use Rattle.header_rules.specs.declared.family.OtherFamily.TheVariants.{NonTotalistic}
 use Rattle.header_rules.specs.declared.spelling.Misspelling.TheVariants.{Fault, Other}
 use Rattle.header_rules.specs.Families.{other_names, table_ends, table_fronts}
 use Rattle.header_rules.specs.Names.{rule_names}
-use Rattle.genedit_view.specs.declared.fault.ViewFault.TheVariants.{HeaderRule, NoRule}
+use Rattle.genedit_io.specs.declared.fault.RunFault.TheVariants.{Refused}
+use Rattle.macrocell_lines.specs.Squares.{square_of}
+use Rattle.genedit_view.specs.declared.fault.ViewFault.TheVariants.{HeaderRule, NoRule, Run}
 use Rattle.genedit_view.specs.declared.words.WindowFault.TheVariants.{Corner, Outside, Sides}
 use Rattle.genedit_view.specs.Fault.{view_fault_text}
-use Rattle.genedit_view.specs.Reading.{pattern_rule}
+use Rattle.genedit_view.specs.Macrocells.{begins_as_macrocell, macrocell_seen}
+use Rattle.genedit_view.specs.Reading.{bounds_told, generation_told, pattern_rule}
 use Rattle.genedit_view.specs.Words.{window_asked}
 
 -- ---- rules of headers
@@ -48,6 +51,34 @@ of_mcell = refl
 
 pub of_plaintext : pattern_rule None (codes "!x = 1, y = 1, rule = B3/S23\nO") ≡ Err NoRule
 of_plaintext = refl
+
+-- ---- macrocells
+
+pub by_its_mark : begins_as_macrocell (codes "[M2] (golly 3.3)\n") ≡ true
+by_its_mark = refl
+
+pub generation_of_a_macrocell : generation_told (codes "[M2]\n#G 7\n") ≡ 7
+generation_of_a_macrocell = refl
+
+pub bounds_of_a_macrocell : bounds_told (codes "[M2]\n#R B3/S23:T8,9\n") ≡ Some (codes "T8,9")
+unfolding rule_names
+bounds_of_a_macrocell = refl
+
+-- the rule in front of the bounds; and of the first of these texts no square
+pub bounded_macrocell : macrocell_seen false None (codes "[M2]\n#R B3/S23:T8,9\n") ≡ Ok (rule_of_text (codes "23/3/2"), [])
+unfolding rule_names
+bounded_macrocell = refl
+
+pub macrocell_without_a_rule : macrocell_seen false None (codes "[M2]\n") ≡ Err NoRule
+macrocell_without_a_rule = refl
+
+-- its text is refused before its rule, and that before its cells
+pub faulty_macrocell : macrocell_seen false None (codes "[M2]\n2 0 1 0 0") ≡ Err (Run (Refused 44 (Some 9)))
+unfolding square_of
+faulty_macrocell = refl
+
+pub a_state_that_the_rule_has_not : macrocell_seen false (Some (rule_of_text (codes "/2/3"))) (codes "[M2]\n1 0 0 0 3") ≡ Err (Run (Refused 11 None))
+a_state_that_the_rule_has_not = refl
 
 -- ---- windows
 

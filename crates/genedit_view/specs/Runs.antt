@@ -5,11 +5,11 @@ use Rattle.devices.specs.Sink.{KnownSink}
 use Rattle.genedit_io.specs.declared.fault.RunFault.{RunFault}
 use Rattle.genedit_io.specs.declared.fault.RunFault.TheVariants.{Write}
 use Rattle.genedit_io.specs.Runs.{IsLeft, IsReadWhole}
-use Rattle.cell_files.specs.Files.{file_bounds_told}
 use Rattle.cell_pictures.specs.Drawn.{IsDrawn}
 use Rattle.genedit_view.specs.declared.fault.ViewFault.{ViewFault}
 use Rattle.genedit_view.specs.declared.fault.ViewFault.TheVariants.{Run}
 use Rattle.genedit_view.specs.declared.options.ViewOptions.{ViewOptions}
+use Rattle.genedit_view.specs.Reading.{bounds_told}
 use Rattle.genedit_view.specs.Seeing.{IsNotSeen, IsPictureOf, IsWantAt}
 
 -- A view in at most so many pulls. Either the whole of a text came, and its picture went to the sink, which failed where the
@@ -17,7 +17,7 @@ use Rattle.genedit_view.specs.Seeing.{IsNotSeen, IsPictureOf, IsWantAt}
 -- worked out; or the source was left. Nothing is pushed, and the sink is as it was, where the view ends otherwise.
 pub data IsView (o : ViewOptions) (turns : ℕ) {A : Type 0} (bounds_in : A → Option (List ℕ)) (result : Result A ViewFault) (source source' : KnownSource) (known known' : KnownSink) {K : Type 0} (sink sink' : K) : Type 0 where
   Drawn : (text picture : List ℕ) → IsReadWhole turns text source source' → IsPictureOf o text picture → IsDrawn known result picture known'
-      → IfErr result (λ fault. fault ≡ Run Write) → IfOk result (λ told. bounds_in told ≡ file_bounds_told text)
+      → IfErr result (λ fault. fault ≡ Run Write) → IfOk result (λ told. bounds_in told ≡ bounds_told text)
       → IsView o turns bounds_in result source source' known known' sink sink'
   Refused : (text : List ℕ) (fault : ViewFault) → result ≡ Err fault → IsReadWhole turns text source source' → IsNotSeen o text fault ⊎ IsWantAt o text fault
       → sink' ≡ sink → IsView o turns bounds_in result source source' known known' sink sink'

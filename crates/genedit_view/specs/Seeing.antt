@@ -21,7 +21,7 @@ use Rattle.genedit_view.specs.declared.fault.ViewFault.{ViewFault}
 use Rattle.genedit_view.specs.declared.fault.ViewFault.TheVariants.{NoRule, Run}
 use Rattle.genedit_view.specs.declared.options.ViewOptions.{ViewOptions}
 use Rattle.genedit_view.specs.Fault.{fault_of_generation, fault_of_state}
-use Rattle.genedit_view.specs.Reading.{IsReadAs, begins_as_state, pattern_seen, state_rule}
+use Rattle.genedit_view.specs.Reading.{IsReadAs, IsRefusedFile, begins_as_state, state_rule}
 
 -- the cells of a map of states that are not dead, or of what a rule makes of it in some generations
 abbrev pub AreCellsAt : GenerationsRule → (Place → ℕ) → Option ℕ → List Cell → Type 0
@@ -85,10 +85,10 @@ pub record IsViewFull (o : ViewOptions) (text : List ℕ) : Type 0 where
 abbrev pub IsWantAt : ViewOptions → List ℕ → ViewFault → Type 0
 IsWantAt o text fault = (fault ≡ Run Memory) ⊎ ((fault ≡ Run StoreFull) × (IsStateTooLarge o text ⊎ IsViewFull o text))
 
--- why nothing is drawn of a text: it is no pattern, or one that is refused; a state without a rule, or a text that is no
+-- why nothing is drawn of a text: it is a file of cells that is refused; a state without a rule, or a text that is no
 -- state; or a generation that is not shown
 pub data IsNotSeen (o : ViewOptions) (text : List ℕ) (fault : ViewFault) : Type 0 where
-  NoPattern : begins_as_state text ≡ false → pattern_seen (is_some o.generation) o.rule text ≡ Err fault → IsNotSeen o text fault
+  NoFile : begins_as_state text ≡ false → IsRefusedFile (is_some o.generation) o.rule text fault → IsNotSeen o text fault
   NoStateRule : begins_as_state text ≡ true → state_rule o.rule text ≡ None → fault ≡ NoRule → IsNotSeen o text fault
   NoState : (r : GenerationsRule) (refusal : ReadFault) → begins_as_state text ≡ true → state_rule o.rule text ≡ Some r → message_of r text ≡ Err refusal
       → fault ≡ fault_of_state refusal → IsNotSeen o text fault

@@ -7,6 +7,7 @@ use edit_stamps::EditFault;
 use export::ExportFault;
 use genedit_io::RunFault;
 use header_rules::Misspelling;
+use macrocell_text::{ListingFault, MacrocellFault};
 use multistate_rle::RleFault;
 use std::alloc::AllocError;
 use std::error::Error;
@@ -108,6 +109,34 @@ impl From<RleFault> for ViewFault {
         match fault {
             RleFault::Memory => ViewFault::Run(RunFault::Memory),
             refusal => ViewFault::Run(RunFault::Refused(refusal.number(), refusal.place())),
+        }
+    }
+}
+
+impl From<MacrocellFault> for ViewFault {
+    ghost use Rattle.std.specs.Prelude.{◌≡◌};
+    ghost use Rattle.genedit_view.specs.Fault.{fault_of_macrocell};
+
+    ghost from_gives = { λ from fault. fault ≡ fault_of_macrocell from };
+
+    fn from(fault: MacrocellFault) -> ViewFault {
+        match fault {
+            MacrocellFault::Memory => ViewFault::Run(RunFault::Memory),
+            refusal => ViewFault::Run(RunFault::Refused(refusal.number(), refusal.place())),
+        }
+    }
+}
+
+impl From<ListingFault> for ViewFault {
+    ghost use Rattle.std.specs.Prelude.{◌≡◌};
+    ghost use Rattle.genedit_view.specs.Fault.{fault_of_listing};
+
+    ghost from_gives = { λ from fault. fault ≡ fault_of_listing from };
+
+    fn from(fault: ListingFault) -> ViewFault {
+        match fault {
+            ListingFault::Memory => ViewFault::Run(RunFault::Memory),
+            refusal => ViewFault::Run(RunFault::Refused(refusal.number(), None)),
         }
     }
 }

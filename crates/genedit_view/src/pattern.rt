@@ -1,28 +1,24 @@
 //! The rule and the cells of a pattern's file: RLE, MCell's or plaintext.
 
-ghost use Rattle.std.specs.Prelude.{◌≡◌, ◌+ℤ◌, pos, IfErr, IfOk, Ok, Err, ◌⊎◌};
+ghost use Rattle.std.specs.Prelude.{◌≡◌, ◌+ℤ◌, pos, IfErr, IfOk, Ok, Err, ◌⊎◌, option_map};
 ghost use Rattle.edit_stamps.specs.Plane.{is_coordinate_in_plane};
-ghost use Rattle.cell_files.specs.Files.{file_parsed};
+ghost use Rattle.cell_files.specs.Files.{file_bounds_told, file_parsed};
 ghost use Rattle.genedit_view.specs.Fault.{memory_wanted};
 ghost use Rattle.genedit_view.specs.Reading.{cells_or_fault, generation_of_pattern, is_outside, pattern_fault, pattern_seen};
 ghost use Rattle.genedit_view.specs.Cells.{ArePatternCells, are_in_plane_at};
 
 use crate::fault::ViewFault;
+use crate::places::is_in_plane;
 use crate::rule::pattern_rule;
 use crate::seen::SeenCells;
-use cell_files::read_cells;
+use cell_files::{file_bounds, read_cells};
 use edit_stamps::{Corner, are_placeable, have_states_below, placed_cells};
 use generations_rule::Rule;
-use pattern_cells::{Pattern, PatternCell};
+use pattern_cells::{Cell, Pattern, PatternCell};
 use std::alloc::Global;
 
-/// The least coordinate of the plane of edits, and one past the greatest.
-const LEAST: i64 = -0x4000_0000;
-
-const PAST: i64 = 0x4000_0000;
-
-/// The rule and the cells of a text, each moved by the text's position, or the first refusal: what is
-/// wrong with the text, a rule that is not told, a coordinate outside the plane, a state that the rule
+/// The rule and the cells of a text, each moved by the text's position, and its bounds; or the first refusal: what
+/// is wrong with the text, a rule that is not told, a coordinate outside the plane, a state that the rule
 /// does not have. Where the pattern is to be run, the plane is that of edits.
 pub fn pattern_cells(
     alloc: Global,
@@ -33,36 +29,39 @@ pub fn pattern_cells(
     ensures seen { IfOk result (λ seen. pattern_seen is_run given text.now ≡ Ok (seen.rule, seen.cells.items)) }
     ensures cells { IfOk result (λ seen. ArePatternCells is_run seen.rule seen.cells.items) }
     ensures generation { IfOk result (λ seen. seen.generation ≡ generation_of_pattern (file_parsed text.now)) }
+    ensures bounds { IfOk result (λ seen. option_map (λ bounds. bounds.items) seen.bounds ≡ file_bounds_told text.now) }
     ensures fault { IfErr result (λ fault. (pattern_seen is_run given text.now ≡ Err fault) ⊎ (fault ≡ memory_wanted)) }
 {
     let pattern = read_cells(alloc, text)?;
     let rule = pattern_rule(given, text)?;
-    placed(alloc, is_run, rule, &pattern)
+    let cells = placed(alloc, is_run, &rule, &pattern)?;
+    let bounds = file_bounds(alloc, text)?;
+    Ok(SeenCells {
+        rule,
+        generation: pattern.generation(),
+        cells,
+        bounds,
+    })
 }
 
 /// The cells of a pattern that was read; it is looked at for refusals before memory is taken.
 fn placed(
     alloc: Global,
     is_run: bool,
-    rule: Rule,
+    rule: &Rule,
     pattern: &Pattern,
-) -> Result<SeenCells, ViewFault>
-    ensures seen { IfOk result (λ seen. cells_or_fault is_run rule pattern.now ≡ Ok (seen.rule, seen.cells.items)) }
-    ensures cells { IfOk result (λ seen. ArePatternCells is_run seen.rule seen.cells.items) }
-    ensures generation { IfOk result (λ seen. seen.generation ≡ pattern.now.generation) }
-    ensures fault { IfErr result (λ fault. (cells_or_fault is_run rule pattern.now ≡ Err fault) ⊎ (fault ≡ memory_wanted)) }
+) -> Result<Vec<Cell>, ViewFault>
+    ensures seen { IfOk result (λ cells. cells_or_fault is_run rule.now pattern.now ≡ Ok (rule.now, cells.items)) }
+    ensures cells { IfOk result (λ cells. ArePatternCells is_run rule.now cells.items) }
+    ensures fault { IfErr result (λ fault. (cells_or_fault is_run rule.now pattern.now ≡ Err fault) ⊎ (fault ≡ memory_wanted)) }
 {
-    if let Some(fault) = fault_of(is_run, &rule, pattern) {
+    if let Some(fault) = fault_of(is_run, rule, pattern) {
         return Err(fault);
     }
     // For the proof alone: the call tells that it is a rule.
     let _states = rule.states();
     let cells = placed_cells(alloc, pattern.cells(), position_of(pattern))?;
-    Ok(SeenCells {
-        rule,
-        generation: pattern.generation(),
-        cells,
-    })
+    Ok(cells)
 }
 
 /// The first refusal of a pattern that was read.
@@ -100,13 +99,13 @@ fn position_of(pattern: &Pattern) -> Corner
 fn are_in_plane(cells: &[PatternCell], at: Corner) -> bool
     ensures { result ≡ are_in_plane_at at.x at.y cells.now }
 {
-    cells.iter().all(|cell| is_in_plane(at.x, cell.column) && is_in_plane(at.y, cell.row))
+    cells.iter().all(|cell| is_moved_in_plane(at.x, cell.column)
+        && is_moved_in_plane(at.y, cell.row))
 }
 
 /// Whether a moved coordinate lies in the plane of edits.
-fn is_in_plane(n: i32, by: u32) -> bool
+fn is_moved_in_plane(n: i32, by: u32) -> bool
     ensures { result ≡ is_coordinate_in_plane (n +ℤ pos by) }
 {
-    let moved = i64::from(n) + i64::from(by);
-    LEAST <= moved && moved < PAST
+    is_in_plane(i64::from(n) + i64::from(by))
 }

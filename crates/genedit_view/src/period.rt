@@ -1,15 +1,13 @@
 //! The period of what a text tells.
 
 ghost use Rattle.std.specs.Prelude.{◌≡◌, IfErr, IfOk, option_map, true, false};
-ghost use Rattle.cell_files.specs.Files.{file_bounds_told};
-ghost use Rattle.genedit_view.specs.Reading.{begins_as_state};
+ghost use Rattle.genedit_view.specs.Reading.{begins_as_state, bounds_told};
 ghost use Rattle.genedit_view.specs.Searches.{IsNoPeriod, IsPeriodTold};
 
 use crate::drawn::plane_of;
 use crate::fault::ViewFault;
-use crate::pattern::pattern_cells;
+use crate::file::file_cells;
 use crate::rule::{begins_as_state, state_rule};
-use cell_files::file_bounds;
 use delta_exchange::read;
 use generations_rule::Rule;
 use map_periods::{Period, period_in};
@@ -43,44 +41,34 @@ pub fn find_period(
     text: &[u8],
 ) -> Result<FoundPeriod, ViewFault>
     ensures period { IfOk result (λ found. IsPeriodTold given search text.now found.period) }
-    ensures bounds { IfOk result (λ found. option_map (λ bounds. bounds.items) found.bounds ≡ file_bounds_told text.now) }
-    ensures fault { IfErr result (IsNoPeriod given search text.now) }
-{
-    let period = period_of(alloc, given, search, text)?;
-    let bounds = file_bounds(alloc, text)?;
-    Ok(FoundPeriod { period, bounds })
-}
-
-fn period_of(
-    alloc: Global,
-    given: Option<Rule>,
-    search: PeriodSearch,
-    text: &[u8],
-) -> Result<Option<Period>, ViewFault>
-    ensures period { IfOk result (IsPeriodTold given search text.now) }
+    ensures bounds { IfOk result (λ found. option_map (λ bounds. bounds.items) found.bounds ≡ bounds_told text.now) }
     ensures fault { IfErr result (IsNoPeriod given search text.now) }
 {
     if begins_as_state(text) {
         period_of_state(alloc, given, search, text)
     } else {
-        period_of_pattern(alloc, given, search, text)
+        period_of_file(alloc, given, search, text)
     }
 }
 
-fn period_of_pattern(
+fn period_of_file(
     alloc: Global,
     given: Option<Rule>,
     search: PeriodSearch,
     text: &[u8],
-) -> Result<Option<Period>, ViewFault>
+) -> Result<FoundPeriod, ViewFault>
     requires { begins_as_state text.now ≡ false }
-    ensures period { IfOk result (IsPeriodTold given search text.now) }
+    ensures period { IfOk result (λ found. IsPeriodTold given search text.now found.period) }
+    ensures bounds { IfOk result (λ found. option_map (λ bounds. bounds.items) found.bounds ≡ bounds_told text.now) }
     ensures fault { IfErr result (IsNoPeriod given search text.now) }
 {
-    let seen = pattern_cells(alloc, given, true, text)?;
+    let seen = file_cells(alloc, given, true, text)?;
     let plane = plane_of(alloc, &seen.rule, &seen.cells)?;
     let period = period_in(alloc, &seen.rule, &plane, search.first, search.most)?;
-    Ok(period)
+    Ok(FoundPeriod {
+        period,
+        bounds: seen.bounds,
+    })
 }
 
 fn period_of_state(
@@ -88,9 +76,10 @@ fn period_of_state(
     given: Option<Rule>,
     search: PeriodSearch,
     text: &[u8],
-) -> Result<Option<Period>, ViewFault>
+) -> Result<FoundPeriod, ViewFault>
     requires { begins_as_state text.now ≡ true }
-    ensures period { IfOk result (IsPeriodTold given search text.now) }
+    ensures period { IfOk result (λ found. IsPeriodTold given search text.now found.period) }
+    ensures bounds { IfOk result (λ found. option_map (λ bounds. bounds.items) found.bounds ≡ bounds_told text.now) }
     ensures fault { IfErr result (IsNoPeriod given search text.now) }
 {
     let Some(rule) = state_rule(given, text) else {
@@ -101,5 +90,8 @@ fn period_of_state(
         unreachable!()
     };
     let period = period_in(alloc, &rule, plane, search.first, search.most)?;
-    Ok(period)
+    Ok(FoundPeriod {
+        period,
+        bounds: None,
+    })
 }

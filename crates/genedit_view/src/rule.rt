@@ -1,11 +1,13 @@
 //! The rule under which a text is shown.
 
-ghost use Rattle.std.specs.Prelude.{◌≡◌, None, drop, slice_index_or, take};
+ghost use Rattle.std.specs.Prelude.{◌≡◌, slice_index_or};
 ghost use Rattle.genedit_view.specs.Reading.{begins_as_state, own_rule, pattern_rule, state_rule};
+ghost use Rattle.genedit_view.specs.Rules.{given_or_told, rule_told};
 
 use crate::fault::ViewFault;
 use cell_files::file_rule;
 use generations_rule::Rule;
+use header_rules::{HeaderRule, part_at};
 
 /// What the text of a state begins with.
 const STATE_MAGIC: &[u8] = b"GLWS";
@@ -21,17 +23,24 @@ pub fn begins_as_state(text: &[u8]) -> bool
 pub fn pattern_rule(given: Option<Rule>, text: &[u8]) -> Result<Rule, ViewFault>
     ensures { result ≡ pattern_rule given text.now }
 {
+    given_or_told(given, file_rule(text))
+}
+
+/// The rule that is given, else the one that is told.
+pub fn given_or_told(given: Option<Rule>, told: Option<HeaderRule>) -> Result<Rule, ViewFault>
+    ensures { result ≡ given_or_told given told }
+{
     match given {
         Some(rule) => Ok(rule),
-        None => told_rule(text),
+        None => rule_told(told),
     }
 }
 
-/// The rule that a pattern's file tells.
-fn told_rule(text: &[u8]) -> Result<Rule, ViewFault>
-    ensures { result ≡ pattern_rule None text.now }
+/// The rule that is told.
+fn rule_told(told: Option<HeaderRule>) -> Result<Rule, ViewFault>
+    ensures { result ≡ rule_told told }
 {
-    let Some(told) = file_rule(text) else {
+    let Some(told) = told else {
         return Err(ViewFault::NoRule);
     };
     match told.rule {
@@ -54,7 +63,7 @@ pub fn state_rule(given: Option<Rule>, text: &[u8]) -> Option<Rule>
 fn own_rule(text: &[u8]) -> Option<Rule>
     ensures { result ≡ own_rule text.now }
 {
-    Rule::parse(front(behind(text, 6), length_told(text))).ok()
+    Rule::parse(part_at(text, 6, length_told(text))).ok()
 }
 
 /// How long a state's text says that its rule is; 0 where it ends before.
@@ -65,18 +74,4 @@ fn length_told(text: &[u8]) -> usize
         Some(length) => usize::from(*length),
         None => 0,
     }
-}
-
-/// What stands behind so many bytes.
-fn behind(text: &[u8], count: usize) -> &[u8]
-    ensures { result.now ≡ drop count text.now }
-{
-    &text[count.min(text.len())..]
-}
-
-/// So many bytes in front, or all.
-fn front(text: &[u8], count: usize) -> &[u8]
-    ensures { result.now ≡ take count text.now }
-{
-    &text[..count.min(text.len())]
 }

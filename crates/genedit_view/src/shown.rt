@@ -1,6 +1,6 @@
 //! The cells that are shown of a text.
 
-ghost use Rattle.std.specs.Prelude.{◌≡◌, ◌⊎◌, IfErr, IfOk, Some, true, false};
+ghost use Rattle.std.specs.Prelude.{◌≡◌, ◌⊎◌, IfErr, IfOk, Some, true, false, option_map};
 ghost use Rattle.pattern_cells.specs.Cells.{are_states_below};
 ghost use Rattle.edit_stamps.specs.PlaneMap.{HasStatesBelow};
 ghost use Rattle.stamped_tree.specs.Plane.{map_of};
@@ -8,16 +8,16 @@ ghost use Rattle.generation_engine.specs.Universe.{states_in_writes};
 ghost use Rattle.cell_pictures.specs.Shown.{state_at};
 ghost use Rattle.genedit_view.specs.Cells.{ArePatternCells};
 ghost use Rattle.genedit_view.specs.Fault.{IsViewWant};
-ghost use Rattle.genedit_view.specs.Reading.{begins_as_state, generation_told};
+ghost use Rattle.genedit_view.specs.Reading.{begins_as_state, bounds_told, generation_told};
 ghost use Rattle.genedit_io.specs.declared.fault.RunFault.TheVariants.{StoreFull};
 ghost use Rattle.genedit_view.specs.declared.fault.ViewFault.TheVariants.{Run};
 ghost use Rattle.genedit_view.specs.Seeing.{AreCellsAt, AreSeen, IsFullAt, IsLateFull, IsLateRefused, IsNotSeen, IsRefusedAt, IsWantAt};
 
 use crate::drawn::plane_of;
 use crate::fault::ViewFault;
+use crate::file::file_cells;
 use crate::later::{cells_at, in_range};
 use crate::options::ViewOptions;
-use crate::pattern::pattern_cells;
 use crate::rule::{begins_as_state, state_rule};
 use crate::seen::SeenCells;
 use delta_exchange::read;
@@ -31,24 +31,26 @@ pub fn see(alloc: Global, options: &ViewOptions, text: &[u8]) -> Result<SeenCell
     ensures seen { IfOk result (λ seen. AreSeen options.now text.now seen.rule seen.cells.items) }
     ensures below { IfOk result (λ seen. are_states_below seen.rule.states seen.cells.items ≡ true) }
     ensures generation { IfOk result (λ seen. seen.generation ≡ generation_told text.now) }
+    ensures bounds { IfOk result (λ seen. option_map (λ bounds. bounds.items) seen.bounds ≡ bounds_told text.now) }
     ensures fault { IfErr result (λ fault. IsNotSeen options.now text.now fault ⊎ IsWantAt options.now text.now fault) }
 {
     if begins_as_state(text) {
         see_state(alloc, options, text)
     } else {
-        see_pattern(alloc, options, text)
+        see_file(alloc, options, text)
     }
 }
 
-fn see_pattern(alloc: Global, options: &ViewOptions, text: &[u8]) -> Result<SeenCells, ViewFault>
+fn see_file(alloc: Global, options: &ViewOptions, text: &[u8]) -> Result<SeenCells, ViewFault>
     requires { begins_as_state text.now ≡ false }
     ensures seen { IfOk result (λ seen. AreSeen options.now text.now seen.rule seen.cells.items) }
     ensures below { IfOk result (λ seen. are_states_below seen.rule.states seen.cells.items ≡ true) }
     ensures generation { IfOk result (λ seen. seen.generation ≡ generation_told text.now) }
+    ensures bounds { IfOk result (λ seen. option_map (λ bounds. bounds.items) seen.bounds ≡ bounds_told text.now) }
     ensures fault { IfErr result (λ fault. IsNotSeen options.now text.now fault ⊎ IsWantAt options.now text.now fault) }
 {
     let is_run = options.generation.is_some();
-    let seen = pattern_cells(alloc, options.rule, is_run, text)?;
+    let seen = file_cells(alloc, options.rule, is_run, text)?;
     let Some(generation) = options.generation else {
         return Ok(seen);
     };
@@ -57,6 +59,7 @@ fn see_pattern(alloc: Global, options: &ViewOptions, text: &[u8]) -> Result<Seen
         rule: seen.rule,
         generation: seen.generation,
         cells,
+        bounds: seen.bounds,
     })
 }
 
@@ -65,6 +68,7 @@ fn see_state(alloc: Global, options: &ViewOptions, text: &[u8]) -> Result<SeenCe
     ensures seen { IfOk result (λ seen. AreSeen options.now text.now seen.rule seen.cells.items) }
     ensures below { IfOk result (λ seen. are_states_below seen.rule.states seen.cells.items ≡ true) }
     ensures generation { IfOk result (λ seen. seen.generation ≡ generation_told text.now) }
+    ensures bounds { IfOk result (λ seen. option_map (λ bounds. bounds.items) seen.bounds ≡ bounds_told text.now) }
     ensures fault { IfErr result (λ fault. IsNotSeen options.now text.now fault ⊎ IsWantAt options.now text.now fault) }
 {
     let Some(rule) = state_rule(options.rule, text) else {
@@ -79,10 +83,11 @@ fn see_state(alloc: Global, options: &ViewOptions, text: &[u8]) -> Result<SeenCe
         rule,
         generation: 0,
         cells,
+        bounds: None,
     })
 }
 
-/// A pattern's cells some generations later.
+/// A file's cells some generations later.
 fn run_cells(
     alloc: Global,
     rule: &Rule,

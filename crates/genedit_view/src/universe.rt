@@ -1,6 +1,6 @@
 //! The universe that a text tells, some generations later.
 
-ghost use Rattle.std.specs.Prelude.{◌≡◌, ◌⊎◌, ◌^◌, ◌≤◌, IfErr, IfOk, Err, true, false};
+ghost use Rattle.std.specs.Prelude.{◌≡◌, ◌⊎◌, ◌^◌, ◌≤◌, IfErr, IfOk, Err, true, false, option_map};
 ghost use Rattle.edit_stamps.specs.PlaneMap.{HasStatesBelow};
 ghost use Rattle.stamped_tree.specs.Plane.{map_of};
 ghost use Rattle.generation_engine.specs.Universe.{states_in_writes};
@@ -9,14 +9,14 @@ ghost use Rattle.export.specs.Kept.{IsRunOf};
 ghost use Rattle.genedit_io.specs.declared.fault.RunFault.TheVariants.{StoreFull};
 ghost use Rattle.genedit_view.specs.declared.fault.ViewFault.TheVariants.{Run};
 ghost use Rattle.genedit_view.specs.Fault.{IsViewWant};
-ghost use Rattle.genedit_view.specs.Reading.{begins_as_state, generation_told};
+ghost use Rattle.genedit_view.specs.Reading.{begins_as_state, bounds_told, generation_told};
 ghost use Rattle.genedit_view.specs.Seeing.{IsLateFull, IsLateRefused, IsNotSeen, IsWantAt};
 ghost use Rattle.genedit_view.specs.Universes.{IsUniverseOf, universe_view};
 
 use crate::drawn::plane_of;
 use crate::fault::ViewFault;
+use crate::file::file_cells;
 use crate::later::in_range;
-use crate::pattern::pattern_cells;
 use crate::rule::{begins_as_state, state_rule};
 use delta_exchange::read;
 use export::ExportFault;
@@ -26,12 +26,13 @@ use square_store::{Limits, ROOM};
 use stamped_tree::Plane;
 use std::alloc::Global;
 
-/// A rule, a universe at a generation of its map, and the generation that the text tells; a state tells none,
-/// and has 0.
+/// A rule, a universe at a generation of its map, and the generation and the bounds that the text tells; a state
+/// tells neither, and has generation 0.
 pub struct SeenUniverse {
     pub rule: Rule,
     pub generation: u64,
     pub engine: Engine,
+    pub bounds: Option<Vec<u8>>,
 }
 
 /// By hand, so that a caller's proof sees one step where it is dropped.
@@ -41,7 +42,25 @@ impl Drop for SeenUniverse {
             rule: _,
             generation: _,
             engine: _,
+            bounds: _,
         } = self;
+    }
+}
+
+impl SeenUniverse {
+    ghost use Rattle.std.specs.Prelude.{◌≡◌};
+
+    /// The bounds alone.
+    pub fn into_bounds(self) -> Option<Vec<u8>>
+        ensures { result ≡ self.bounds }
+    {
+        let SeenUniverse {
+            rule: _,
+            generation: _,
+            engine: _,
+            bounds,
+        } = self;
+        bounds
     }
 }
 
@@ -55,16 +74,17 @@ pub fn see_universe(
 ) -> Result<SeenUniverse, ViewFault>
     ensures seen { IfOk result (λ seen. IsUniverseOf given generation text.now seen.rule seen.engine) }
     ensures generation { IfOk result (λ seen. seen.generation ≡ generation_told text.now) }
+    ensures bounds { IfOk result (λ seen. option_map (λ bounds. bounds.items) seen.bounds ≡ bounds_told text.now) }
     ensures fault { IfErr result (λ fault. IsNotSeen (universe_view given generation) text.now fault ⊎ IsWantAt (universe_view given generation) text.now fault) }
 {
     if begins_as_state(text) {
         universe_of_state(alloc, given, generation, text)
     } else {
-        universe_of_pattern(alloc, given, generation, text)
+        universe_of_file(alloc, given, generation, text)
     }
 }
 
-fn universe_of_pattern(
+fn universe_of_file(
     alloc: Global,
     given: Option<Rule>,
     generation: u32,
@@ -73,15 +93,17 @@ fn universe_of_pattern(
     requires { begins_as_state text.now ≡ false }
     ensures seen { IfOk result (λ seen. IsUniverseOf given generation text.now seen.rule seen.engine) }
     ensures generation { IfOk result (λ seen. seen.generation ≡ generation_told text.now) }
+    ensures bounds { IfOk result (λ seen. option_map (λ bounds. bounds.items) seen.bounds ≡ bounds_told text.now) }
     ensures fault { IfErr result (λ fault. IsNotSeen (universe_view given generation) text.now fault ⊎ IsWantAt (universe_view given generation) text.now fault) }
 {
-    let seen = pattern_cells(alloc, given, true, text)?;
+    let seen = file_cells(alloc, given, true, text)?;
     let plane = plane_of(alloc, &seen.rule, &seen.cells)?;
     let engine = universe_later(alloc, &seen.rule, &plane, generation)?;
     Ok(SeenUniverse {
         rule: seen.rule,
         generation: seen.generation,
         engine,
+        bounds: seen.bounds,
     })
 }
 
@@ -94,6 +116,7 @@ fn universe_of_state(
     requires { begins_as_state text.now ≡ true }
     ensures seen { IfOk result (λ seen. IsUniverseOf given generation text.now seen.rule seen.engine) }
     ensures generation { IfOk result (λ seen. seen.generation ≡ generation_told text.now) }
+    ensures bounds { IfOk result (λ seen. option_map (λ bounds. bounds.items) seen.bounds ≡ bounds_told text.now) }
     ensures fault { IfErr result (λ fault. IsNotSeen (universe_view given generation) text.now fault ⊎ IsWantAt (universe_view given generation) text.now fault) }
 {
     let Some(rule) = state_rule(given, text) else {
@@ -108,6 +131,7 @@ fn universe_of_state(
         rule,
         generation: 0,
         engine,
+        bounds: None,
     })
 }
 

@@ -11,7 +11,6 @@ use crate::fault::ViewFault;
 use crate::options::ViewOptions;
 use crate::seen::SeenCells;
 use crate::shown::see;
-use cell_files::file_bounds;
 use cell_pictures::{BufferedSink, draw};
 use devices::{Failed, Sink, Source};
 use genedit_io::{RunFault, pull_all};
@@ -21,15 +20,16 @@ use std::alloc::Global;
 const TURNS: u64 = 1 << 32;
 
 /// Pulls a text to its source's end, and pushes its picture: of a file in RLE, MCell's format or plaintext,
-/// each of whose cells is moved by the file's position, or of a state, which is told by its first bytes
-/// `GLWS`; as it is, or some generations later. It tells the bounds that the file tells, which are passed
-/// over: cells live on the whole plane.
+/// each of whose cells is moved by the file's position, of a macrocell, which is told by its first bytes
+/// `[M2]`, or of a state, by `GLWS`; as it is, or some generations later. It tells the bounds that the file
+/// tells, which are passed over: cells live on the whole plane.
 ///
-/// Of several faults the first of these is told, before a byte is pushed. Of a pattern's file: what is wrong
-/// with it (4 to 8), a rule that is not told, a coordinate outside 32 bits with a sign, and outside the
-/// plane of edits where generations are asked for (10), a state that the rule does not have (11). Of a
-/// state: a rule that is not told, and what is wrong with the text (8 to 20). Then a generation that is
-/// none (22), and more than 2^24 cells (23). Where it is Ok, the sink holds all that was pushed.
+/// Of several faults the first of these is told, before a byte is pushed. Of a file: what is wrong with it (4 to
+/// 8, and 44 of a macrocell), a rule that is not told, more than 2^24 cells of a macrocell (23), a coordinate
+/// outside 32 bits with a sign, and outside the plane of edits where generations are asked for (10), a state that
+/// the rule does not have (11). Of a state: a rule that is not told, and what is wrong with the text (8 to 20).
+/// Then a generation that is none (22), and more than 2^24 cells (23). Where it is Ok, the sink holds all that was
+/// pushed.
 pub fn view<S: Source, K: Sink>(
     alloc: Global,
     options: &ViewOptions,
@@ -55,9 +55,8 @@ pub fn view_within<S: Source, K: Sink>(
 {
     let text = pull_all(alloc, source, turns)?;
     let seen = see(alloc, options, &text)?;
-    let bounds = file_bounds(alloc, &text)?;
     match push_picture(sink, options, &seen) {
-        Ok(()) => Ok(bounds),
+        Ok(()) => Ok(seen.bounds),
         Err(fault) => Err(fault),
     }
 }

@@ -86,6 +86,9 @@ idle_orderly place = option_orderly (given place idle_option) refl refl (λ rows
 at_orderly : (place : ℕ) → IsOrderly (given place (optional (codes "at")))
 at_orderly place = option_orderly (given place (optional (codes "at"))) refl refl (λ rows h. cc) (λ v vs passes. refl)
 
+chart_orderly : (place : ℕ) → IsOrderly (given place (optional (codes "chart")))
+chart_orderly place = option_orderly (given place (optional (codes "chart"))) refl refl (λ rows h. cc) (λ v vs passes. refl)
+
 size_orderly : (place : ℕ) → IsOrderly (given place (optional (codes "size")))
 size_orderly place = option_orderly (given place (optional (codes "size"))) refl refl (λ rows h. cc) (λ v vs passes. refl)
 
@@ -165,7 +168,7 @@ rle_rules : AreOrderly (leaf rle_shape).rules
 rle_rules = (file_orderly 1, (rule_orderly 2, (help_orderly, tt)))
 
 view_rules : AreOrderly (leaf view_shape).rules
-view_rules = (file_orderly 1, (own_rule_orderly 2, (at_orderly 2, (size_orderly 2, (gen_orderly 2, (edits_orderly 2, (period_orderly 2, (plain_orderly 2, (svg_orderly 2, (help_orderly, tt))))))))))
+view_rules = (file_orderly 1, (own_rule_orderly 2, (at_orderly 2, (size_orderly 2, (gen_orderly 2, (edits_orderly 2, (period_orderly 2, (chart_orderly 2, (plain_orderly 2, (svg_orderly 2, (help_orderly, tt)))))))))))
 
 convert_rules : AreOrderly (leaf convert_shape).rules
 convert_rules = (in_orderly 1, (out_orderly 2, (own_rule_orderly 3, (gen_orderly 3, (replace_orderly 3, (help_orderly, tt))))))

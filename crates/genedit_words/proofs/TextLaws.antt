@@ -34,11 +34,11 @@ same_texts o s texts h is =
     let some : Some (map (λ (v : Bor (List ℕ)). v.now) s.now) ≡ Some texts = ap (option_map (λ (x : Bor (List (Bor (List ℕ)))). map (λ (v : Bor (List ℕ)). v.now) x.now)) (sym is) ∙ h in cc
 
 -- what the getters read for a picture
-pub is_viewing : (rows : List Row) (rule : Option GenerationsRule) {file at size : Option Text} (generation edits longest_period : Option ℕ) (is_plain is_svg : Bool)
-    → file ≡ file_asked rows → at ≡ first_of (codes "at") rows → size ≡ first_of (codes "size") rows
+pub is_viewing : (rows : List Row) (rule : Option GenerationsRule) {file at size chart : Option Text} (generation edits longest_period : Option ℕ) (is_plain is_svg : Bool)
+    → file ≡ file_asked rows → at ≡ first_of (codes "at") rows → size ≡ first_of (codes "size") rows → chart ≡ first_of (codes "chart") rows
     → number_of (codes "gen") rows ≡ generation → number_of (codes "edits") rows ≡ edits → number_of (codes "period") rows ≡ longest_period → is_set (codes "plain") rows ≡ is_plain → is_set (codes "svg") rows ≡ is_svg
-    → viewing rows rule ≡ record { file = file; rule = rule; at = at; size = size; generation = generation; edits = edits; longest_period = longest_period; is_plain = is_plain; is_svg = is_svg }
-is_viewing rows rule generation edits longest_period is_plain is_svg f a s g e l p v = rw f (rw a (rw s (rw (sym g) (rw (sym e) (rw (sym l) (rw (sym p) (rw (sym v) refl)))))))
+    → viewing rows rule ≡ record { file = file; rule = rule; at = at; size = size; generation = generation; edits = edits; longest_period = longest_period; chart = chart; is_plain = is_plain; is_svg = is_svg }
+is_viewing rows rule generation edits longest_period is_plain is_svg f a s h g e l p v = rw f (rw a (rw s (rw h (rw (sym g) (rw (sym e) (rw (sym l) (rw (sym p) (rw (sym v) refl))))))))
 
 -- ---- a server
 

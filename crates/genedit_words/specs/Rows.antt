@@ -250,29 +250,34 @@ two_files : fault_of genedit_app (genedit (codes "check" ∷ codes "a" ∷ codes
 unfolding clap_on_literals
 two_files = refl
 
-picture : Asks (genedit (codes "view" ∷ [])) (Ok (View (record { file = None; rule = None; at = None; size = None; generation = None; edits = None; longest_period = None; is_plain = false; is_svg = false })))
+picture : Asks (genedit (codes "view" ∷ [])) (Ok (View (record { file = None; rule = None; at = None; size = None; generation = None; edits = None; longest_period = None; chart = None; is_plain = false; is_svg = false })))
 unfolding clap_on_literals
 picture = (refl, refl)
 
 window_of_a_file : Asks (genedit (codes "view" ∷ codes "gun.rle" ∷ codes "--at=-3,4" ∷ codes "--size=9,9" ∷ codes "--gen" ∷ codes "30" ∷ codes "--svg" ∷ []))
-    (Ok (View (record { file = Some (codes "gun.rle"); rule = None; at = Some (codes "-3,4"); size = Some (codes "9,9"); generation = Some 30; edits = None; longest_period = None; is_plain = false; is_svg = true })))
+    (Ok (View (record { file = Some (codes "gun.rle"); rule = None; at = Some (codes "-3,4"); size = Some (codes "9,9"); generation = Some 30; edits = None; longest_period = None; chart = None; is_plain = false; is_svg = true })))
 unfolding clap_on_literals
 window_of_a_file = (refl, refl)
 
 last_generation : Asks (genedit (codes "view" ∷ codes "--gen=536870912" ∷ []))
-    (Ok (View (record { file = None; rule = None; at = None; size = None; generation = Some 536870912; edits = None; longest_period = None; is_plain = false; is_svg = false })))
+    (Ok (View (record { file = None; rule = None; at = None; size = None; generation = Some 536870912; edits = None; longest_period = None; chart = None; is_plain = false; is_svg = false })))
 unfolding clap_on_literals
 last_generation = (refl, refl)
 
 picture_of_a_document : Asks (genedit (codes "view" ∷ codes "a.glwl" ∷ codes "--edits" ∷ codes "4294967295" ∷ []))
-    (Ok (View (record { file = Some (codes "a.glwl"); rule = None; at = None; size = None; generation = None; edits = Some 4294967295; longest_period = None; is_plain = false; is_svg = false })))
+    (Ok (View (record { file = Some (codes "a.glwl"); rule = None; at = None; size = None; generation = None; edits = Some 4294967295; longest_period = None; chart = None; is_plain = false; is_svg = false })))
 unfolding clap_on_literals
 picture_of_a_document = (refl, refl)
 
 longest_period : Asks (genedit (codes "view" ∷ codes "gun.rle" ∷ codes "--period" ∷ codes "65535" ∷ codes "--gen" ∷ codes "100" ∷ []))
-    (Ok (View (record { file = Some (codes "gun.rle"); rule = None; at = None; size = None; generation = Some 100; edits = None; longest_period = Some 65535; is_plain = false; is_svg = false })))
+    (Ok (View (record { file = Some (codes "gun.rle"); rule = None; at = None; size = None; generation = Some 100; edits = None; longest_period = Some 65535; chart = None; is_plain = false; is_svg = false })))
 unfolding clap_on_literals
 longest_period = (refl, refl)
+
+chart_of_generations : Asks (genedit (codes "view" ∷ codes "gun.rle" ∷ codes "--chart" ∷ codes "0..1000/10" ∷ []))
+    (Ok (View (record { file = Some (codes "gun.rle"); rule = None; at = None; size = None; generation = None; edits = None; longest_period = None; chart = Some (codes "0..1000/10"); is_plain = false; is_svg = false })))
+unfolding clap_on_literals
+chart_of_generations = (refl, refl)
 
 period_of_0 : fault_of genedit_app (genedit (codes "view" ∷ codes "--period=0" ∷ [])) ≡ kind.ValueValidation ∷ []
 unfolding clap_on_literals

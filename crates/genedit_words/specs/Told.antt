@@ -18,6 +18,7 @@ pub record Viewed : Type 0 where
   pub generation : Option ℕ
   pub edits : Option ℕ
   pub longest_period : Option ℕ
+  pub chart : Option (List ℕ)
   pub is_plain : Bool
   pub is_svg : Bool
 
@@ -96,6 +97,7 @@ told_of (task.View viewing) = View (record {
   generation = viewing.generation;
   edits = viewing.edits;
   longest_period = viewing.longest_period;
+  chart = option_map (λ s. s.now) viewing.chart;
   is_plain = viewing.is_plain;
   is_svg = viewing.is_svg;
 })

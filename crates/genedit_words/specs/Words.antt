@@ -127,7 +127,7 @@ period_option = record (optional (codes "period")) { parser = Some (vp.Signed (p
 
 abbrev pub view_shape : Shape
 view_shape = record (new_shape (codes "view")) {
-  rules = file_argument ∷ optional (codes "rule") ∷ optional (codes "at") ∷ optional (codes "size") ∷ gen_option ∷ edits_option ∷ period_option ∷ flag (codes "plain") ∷ flag (codes "svg") ∷ [];
+  rules = file_argument ∷ optional (codes "rule") ∷ optional (codes "at") ∷ optional (codes "size") ∷ gen_option ∷ edits_option ∷ period_option ∷ optional (codes "chart") ∷ flag (codes "plain") ∷ flag (codes "svg") ∷ [];
 }
 
 -- a file that has to be named, at its place among the words
@@ -269,6 +269,7 @@ viewing rows rule = record {
   generation = number_of (codes "gen") rows;
   edits = number_of (codes "edits") rows;
   longest_period = number_of (codes "period") rows;
+  chart = first_of (codes "chart") rows;
   is_plain = is_set (codes "plain") rows;
   is_svg = is_set (codes "svg") rows;
 }

@@ -5,7 +5,7 @@ use clap::error::ErrorKind;
 use std::alloc::{AllocError, Global};
 
 /// The options with a value, and what has to stand at a place, as `clap` names them, and an example of each.
-const EXAMPLES: [(&str, &str); 27] = [
+const EXAMPLES: [(&str, &str); 28] = [
     ("--rule <", " --rule 23/3/2"),
     ("--port <", " --port 7020"),
     ("--web <", " --web 7080"),
@@ -20,6 +20,7 @@ const EXAMPLES: [(&str, &str); 27] = [
     ("--gen <", " --gen 30"),
     ("--edits <", " --edits 100"),
     ("--period <", " --period 1000"),
+    ("--chart <", " --chart 0..1000/10"),
     ("--from <", " --from 100"),
     ("--replica <", " --replica 65"),
     ("--renumber <", " --renumber 67"),

@@ -79,11 +79,12 @@ Examples:
   genedit rle --rule 345/2/4 < ship.rle > canonical.rle";
 
 const VIEW_HELP: &str = "\
-The file is an RLE text, a file of MCell (.mcl), plaintext (.cells), a state as it is saved, which begins with
-GLWS, or a document as `genedit draw` and a server keep it, of which --edits N shows the first N edits alone;
-its first bytes tell which. Without --rule its own rule is taken; a pattern's file may tell it as Golly does,
-as B3/S23, and so may --rule. Plaintext tells none. Bounds of a grid are passed over, which is said.
-Coordinates are those of the file's position and its columns and rows; y grows downwards.
+The file is an RLE text, a file of MCell (.mcl), plaintext (.cells), a macrocell (.mc) of up to 2^24 cells, a
+state as it is saved, which begins with GLWS, or a document as `genedit draw` and a server keep it, of which
+--edits N shows the first N edits alone; its first bytes tell which. Without --rule its own rule is taken; a
+pattern's file may tell it as Golly does, as B3/S23, and so may --rule. Plaintext tells none. Bounds of a grid
+are passed over, which is said. Coordinates are those of the file's position and its columns and rows; y grows
+downwards.
 
 On a terminal it draws two cells a character, in Golly's colours; else, and with --plain, a character
 for each cell: `.` is dead, and of two states `O` is live; of more, `A` to `Z`, `a` to `z` and `0` to
@@ -95,20 +96,26 @@ With --period MOST it prints `period P moves X Y` in place of a picture, where P
 after which the cells of generation G (0 without --gen) stand as they did, moved by X and Y; else
 `none to MOST`. Cells lie in the plane of edits then.
 
+With --chart G1..G2/STEP it draws, in place of a picture, an SVG of how many cells of each state there are at
+the generations G1, G1 + STEP, .. up to G2, 65,536 at most; without /STEP at each. They can be read
+back from it. It goes before --period.
+
 Examples:
   genedit view gun.rle
   genedit view --gen 30 --svg < gun.rle > gun.svg
   genedit view gun.rle --at -3,4 --size 40x20
   genedit view my.glwl --edits 100
-  genedit view lwss.rle --period 100";
+  genedit view lwss.rle --period 100
+  genedit view gun.rle --chart 0..1000/10 > gun.svg";
 
 const CONVERT_HELP: &str = "\
-IN is an RLE text, a file of MCell (.mcl), plaintext (.cells), or a state as it is saved; what it is, its
-first bytes tell, and `-` is standard input. OUT ends with .rle or .mc. Its text has the cells where IN
-has them and at IN's generation; with --gen, G generations later. Without --rule its own rule is taken. A
-rule of two states is written as B3/S23, so that Golly takes it for Life. In an .rle file IN's comments
-stand in front of the header: lines #N, #O and #C of RLE, #D of MCell, ! of plaintext. An .mc file is a
-macrocell, as Golly writes it: it has any number of cells, which lie in the plane of edits, and no comment.
+IN is an RLE text, a file of MCell (.mcl), plaintext (.cells), a macrocell (.mc) of up to 2^24 cells, or a
+state as it is saved; what it is, its first bytes tell, and `-` is standard input. OUT ends with .rle or .mc.
+Its text has the cells where IN has them and at IN's generation; with --gen, G generations later. Without
+--rule its own rule is taken. A rule of two states is written as B3/S23, so that Golly takes it for Life. In
+an .rle file IN's comments stand in front of the header: lines #N, #O and #C of RLE, #D of MCell, ! of
+plaintext. An .mc file is a macrocell, as Golly writes it: it has any number of cells, IN's lie in the plane
+of edits, and no comment.
 
 OUT is written beside and then gets its name, so it is whole or as it was. A file that is there is
 replaced only with --replace. Bounds of a grid are passed over, which is said: cells live on the whole
@@ -184,13 +191,20 @@ polls, so that the drawing goes over all that others drew by then.
   redo                   takes an undo back
   show x y               prints a cell as it was at the last poll: `cell STATE COUNTER SEAT`
   count [G]              prints how many cells there are G generations later, and their box
+                         count G1..G2 and count G1..G2/STEP print that of each generation from G1 to G2, by
+                         STEP: `generation G: cells N box x y w h`
+  period MOST [G]        prints after how many generations, MOST at most, the cells of generation G stand as
+                         they do there, and by what they moved: `period P moves X Y`, or `none to MOST`
   export G [FILE]        prints the cells G generations later, or writes them to a file, as an RLE text
+                         or, of any number of cells, as a macrocell, where the name of FILE ends with .mc
+                         export G1..G2 FILE and export G1..G2/STEP FILE write a file for each generation from G1
+                         to G2, by STEP: one % in FILE is replaced by its number
   cut x y w h G [FILE]   as export, of the cells in a window, w wide and h high
   save FILE              writes the board to a file as a state, with its stamps
   export! G FILE         as export, and replaces a file that is there
   cut! x y w h G FILE    as cut, and replaces a file that is there
   save! FILE             as save, and replaces a file that is there
-  open FILE              draws the live and dying cells of a state, a document, RLE, .mcl or .cells
+  open FILE              draws the live and dying cells of a state, a document, RLE, .mcl, .cells or .mc
   poll                   prints what others drew, and `edits K`
   wait N [MS]            polls until others drew N edits, or until MS milliseconds, 10000 if none are
                          given, are over: `edits K` or `late K`
@@ -370,6 +384,7 @@ fn view_command<'a>(alloc: Global) -> Result<Command<'a>, AllocError>
     .arg(generation_argument(alloc))?
     .arg(edits_argument(alloc))?
     .arg(period_argument(alloc))?
+    .arg(chart_argument(alloc))?
     .arg(flag(alloc, "plain", "Draws a character for each cell"))?
     .arg(flag(alloc, "svg", "Draws an SVG"))?;
     Ok(command)
@@ -423,6 +438,18 @@ fn period_argument<'a>(alloc: Global) -> Arg<'a>
         "Prints the least period, 1 to MOST, which is 65535 at most",
     );
     period.value_parser(value_parser!(u16).range(1..=65_535))
+}
+
+fn chart_argument<'a>(alloc: Global) -> Arg<'a>
+    ensures rule { rule_of result ≡ optional (codes "chart") }
+    ensures local { result.global ≡ false }
+{
+    optional(
+        alloc,
+        "chart",
+        "RANGE",
+        "Draws a chart of how many cells of each state there are at G1..G2/STEP",
+    )
 }
 
 fn convert_command<'a>(alloc: Global) -> Result<Command<'a>, AllocError>

@@ -35,11 +35,18 @@ before a line, or after it. N is the number of whoever draws, 65 to 65535: two p
   redo                   takes an undo back: `redone COUNTER N`
   show x y               prints a cell: `cell STATE COUNTER N`
   count [G]              prints how many cells there are G generations later, and their box
+                         count G1..G2 and count G1..G2/STEP print that of each generation from G1 to G2, by
+                         STEP: `generation G: cells N box x y w h`
+  period MOST [G]        prints after how many generations, MOST at most, the cells of generation G stand as
+                         they do there, and by what they moved: `period P moves X Y`, or `none to MOST`
   export G [FILE]        prints the cells G generations later, or writes them to a file, as an RLE text
+                         or, of any number of cells, as a macrocell, where the name of FILE ends with .mc
+                         export G1..G2 FILE and export G1..G2/STEP FILE write a file for each generation from G1
+                         to G2, by STEP: one % in FILE is replaced by its number
   export! G FILE         as export, and replaces a file that is there
   cut x y w h G [FILE]   as export, of the cells in a window, w wide and h high
   cut! x y w h G FILE    as cut, and replaces a file that is there
-  open FILE              draws the live and dying cells of a state, a document, RLE, .mcl or .cells
+  open FILE              draws the live and dying cells of a state, a document, RLE, .mcl, .cells or .mc
   sleep MS               does nothing for so long
   help, ?                prints the commands in short
   bye, quit, exit        ends, as does the end of the input

@@ -72,6 +72,8 @@ pub struct Viewing<'a> {
     pub edits: Option<u32>,
     /// The longest period that is looked for, 1 to 65,535, where a period is asked for in place of a picture.
     pub longest_period: Option<u16>,
+    /// The range of generations, as it is spelled, of which a chart is asked for in place of a picture.
+    pub chart: Option<&'a str>,
     pub is_plain: bool,
     pub is_svg: bool,
 }

@@ -455,6 +455,7 @@ fn view<'a>(words: &ArgMatches<'a>) -> Result<Task<'a>, MisspeltRule<'a>>
         generation: generation(words),
         edits: count_if_given(words, "edits"),
         longest_period: number_if_given(words, "period"),
+        chart: words.get_str("chart"),
         is_plain: is_set(words, "plain"),
         is_svg: is_set(words, "svg"),
     }))

@@ -5,7 +5,6 @@ use Rattle.stamped_writes.specs.declared.write.Write.{Write}
 use Rattle.bitplane_kernel.specs.Population.{sum_from, one_unless_dead, population}
 use Rattle.square_store.specs.Grid.{Grid, quartered, blank_grid}
 use Rattle.square_store.proofs.Quarters.{quarter_nw, quarter_ne, quarter_sw, quarter_se}
-use Rattle.generation_engine.specs.EngineLeaf.{IsPopulationOf}
 
 -- ---- sums
 
@@ -100,17 +99,3 @@ module _ (n : ℕ) (a b c d : Grid) where
     where
       add_four : (w x y z : ℕ) → w + x + (y + z) ≡ w + x + y + z
       add_four w x y z = omega arith
-
--- ---- counts beside squares
-
-least_of_sum : (w x y z m : ℕ) → min (min w m + min x m + min y m + min z m) m ≡ min (w + x + y + z) m
-least_of_sum w x y z m = omega arith
-
-pub counts_four : (n : ℕ) (a b c d : Grid) (w x y z : ℕ) → IsPopulationOf n a w → IsPopulationOf n b x → IsPopulationOf n c y → IsPopulationOf n d z
-    → IsPopulationOf (n + n) (quartered n a b c d) (min (w + x + y + z) (2 ^ 128 - 1))
-counts_four n a b c d w x y z hw hx hy hz =
-    rw (hw, hx, hy, hz) (least_of_sum (population n (λ u v. (a u v).state)) (population n (λ u v. (b u v).state)) (population n (λ u v. (c u v).state)) (population n (λ u v. (d u v).state)) (2 ^ 128 - 1))
-    ∙ ap (λ k. min k (2 ^ 128 - 1)) (sym (population_four n a b c d))
-
-pub counts_none : (n t : ℕ) → IsPopulationOf n (blank_grid t) 0
-counts_none n t = let none = population_none n in omega (arith, none)

@@ -1,19 +1,19 @@
 -- Results that are kept, in a store that grows.
 use Rattle.std.proofs.Common.{◌≡◌, ℕ, zero, suc, ◌⊎◌, inl, inr, List, [], ◌∷◌, ◌++◌, ◌+◌, ◌-◌, ◌*◌, ◌<◌, ◌≤◌, ◌^◌, pos, Bool, true, false, cond, rules, refl, sym, ◌∙◌, ap, subst, arith}
-use Rattle.std.specs.Prelude.{Option, None, Some, IfSome, slice_get, slice_set, take, replicate}
+use Rattle.std.specs.Prelude.{Option, None, Some, IfSome, slice_get, slice_set}
 use Rattle.std.specs.HashMap.{HashMap, get}
 use Rattle.generations_rule.specs.Place.{Place, moved}
 use Rattle.generations_rule.specs.Rule.{GenerationsRule, IsRule}
 use Rattle.square_store.specs.Grid.{Grid}
 use Rattle.square_store.specs.Squares.{Held, side_at, IsAt, grid_at}
-use Rattle.square_store.specs.Store.{IsGrown}
+use Rattle.square_store.specs.Store.{IsGrown, IsNoneKept, nothing_held, with_first}
 use Rattle.stamped_writes.specs.declared.write.Write.{Write}
 use Rattle.generation_engine.specs.declared.leaf_kind.EngineLeaf.{EngineLeaf}
-use Rattle.generation_engine.specs.declared.results.FirstResult.{FirstResult}
+use Rattle.square_store.specs.declared.first_result.FirstResult.{FirstResult}
 use Rattle.generation_engine.specs.declared.results.ResultKey.{ResultKey}
 use Rattle.generation_engine.specs.EngineLeaf.{leaf_grid}
 use Rattle.generation_engine.specs.Results.{IsResult}
-use Rattle.generation_engine.specs.Kept.{AreKept, IsDeadAt, IsKept, IsLater, is_result_key}
+use Rattle.generation_engine.specs.Kept.{AreKept, HasNoneKept, IsDeadAt, IsKept, IsLater, is_result_key}
 use Rattle.std.proofs.lemmas.Nat.{pow-add}
 use Rattle.std.proofs.Math.Nat.{pow-le-pow_right}
 use Rattle.generations_rule.proofs.EvolutionLaws.{stays_empty}
@@ -47,12 +47,20 @@ key_kept_grown r s t key q grown old = record {
   later = later_since r s t t key.level _ key.part q grown old.stands (later_after r s s t key.level _ key.part q grown old.later);
 }
 
-pub kept_grown : {S : Type 0} (r : GenerationsRule) (s t : Held EngineLeaf) (firsts : List (Option FirstResult)) (others : HashMap ResultKey ℕ S) → IsGrown leaf_grid 8 s t → AreKept r s firsts others → AreKept r t firsts others
-kept_grown r s t firsts others grown are = record {
+-- a store that grew, and of whose new squares no result is kept
+pub kept_with_more : {S : Type 0} (r : GenerationsRule) (s t : Held EngineLeaf) (others : HashMap ResultKey ℕ S) → IsGrown leaf_grid 8 s t → IsNoneKept s t → AreKept r s s.firsts others → AreKept r t t.firsts others
+kept_with_more r s t others grown none are = record {
   rule = are.rule;
-  first = λ p x e. key_kept_grown r s t _ _ grown (are.first p x e);
+  first = λ p x e. key_kept_grown r s t _ _ grown (are.first p x (none p x e));
   other = λ key q e. key_kept_grown r s t key q grown (are.other key q e);
 }
+
+-- nothing is kept where nothing was, and no result is new
+pub nothing_kept : (s t : Held EngineLeaf) (room : ℕ) → s ≡ nothing_held room → IsNoneKept s t → HasNoneKept t
+nothing_kept s t room e none p x at = nowhere p x (subst (λ (h : Held EngineLeaf). slice_get h.firsts p ≡ Some (Some x)) e (none p x at))
+  where
+    nowhere : (p : ℕ) (x : FirstResult) → slice_get [] p ≡ Some (Some x) → ⊥
+    nowhere p x h = cc
 
 -- ---- what is found
 
@@ -65,18 +73,6 @@ key_is k q h = search (rules, h)
 
 some_is : (w v : ℕ) → Some w ≡ Some v → w ≡ v
 some_is w v e = cc
-
-no_first : (m p : ℕ) (x : FirstResult) → slice_get (replicate m None) p ≡ Some (Some x) → ⊥
-no_first zero p x e = cc
-no_first (suc m) zero x e = cc
-no_first (suc m) (suc p) x e = no_first m p x e
-
--- places that are new have no result
-pub widened : (n m : ℕ) (firsts : List (Option FirstResult)) (p : ℕ) (x : FirstResult) → slice_get (take n firsts ++ replicate m None) p ≡ Some (Some x) → slice_get firsts p ≡ Some (Some x)
-widened zero m firsts p x e = absurd (no_first m p x e)
-widened (suc n) m [] p x e = absurd (no_first m p x e)
-widened (suc n) m (y ∷ ys) zero x e = e
-widened (suc n) m (y ∷ ys) (suc p) x e = widened n m ys p x e
 
 set_one : (firsts : List (Option FirstResult)) (i p : ℕ) (x y : FirstResult) → slice_get (slice_set firsts i (Some y)) p ≡ Some (Some x) → (slice_get firsts p ≡ Some (Some x)) ⊎ ((p ≡ i) × (y ≡ x))
 set_one [] i p x y e = inl e
@@ -91,9 +87,6 @@ set_one (z ∷ zs) (suc i) (suc p) x y e = elim (set_one zs i p x y e) [
   | inr new ↦ inr (ap suc new.0, new.1)
 ]
 
-pub kept_widened : {S : Type 0} (r : GenerationsRule) (s : Held EngineLeaf) (n m : ℕ) (firsts : List (Option FirstResult)) (others : HashMap ResultKey ℕ S) → AreKept r s firsts others → AreKept r s (take n firsts ++ replicate m None) others
-kept_widened r s n m firsts others are = record { rule = are.rule; first = λ p x e. are.first p x (widened n m firsts p x e); other = are.other }
-
 -- one result more, at the place of its square
 pub kept_first : {S : Type 0} (r : GenerationsRule) (s : Held EngineLeaf) (firsts : List (Option FirstResult)) (others : HashMap ResultKey ℕ S) (i : ℕ) (y : FirstResult) → AreKept r s firsts others
     → IsKept r s (record { level = y.level; part = i; exponent = y.exponent }) y.later → AreKept r s (slice_set firsts i (Some y)) others
@@ -104,6 +97,17 @@ kept_first r s firsts others i y are is = record { rule = are.rule; first = go; 
       | inl there ↦ are.first p x there
       | inr new ↦ rw (new.0, ← new.1) is
     ]
+
+-- the same, in the store that has it
+pub kept_with_first : {S : Type 0} (r : GenerationsRule) (s : Held EngineLeaf) (others : HashMap ResultKey ℕ S) (p : ℕ) (x : FirstResult) → IsGrown leaf_grid 8 s (with_first s p x) → AreKept r s s.firsts others
+    → IsKept r s (record { level = x.level; part = p; exponent = x.exponent }) x.later → AreKept r (with_first s p x) (with_first s p x).firsts others
+kept_with_first r s others p x grown are is =
+    let kept = kept_first r s s.firsts others p x are is in
+    record {
+      rule = kept.rule;
+      first = λ q y e. key_kept_grown r s (with_first s p x) _ _ grown (kept.first q y e);
+      other = λ key q e. key_kept_grown r s (with_first s p x) key q grown (kept.other key q e);
+    }
 
 -- what stands at the place of a square, if it is that of the level and the exponent
 pub first_is : {S : Type 0} (r : GenerationsRule) (s : Held EngineLeaf) (firsts : List (Option FirstResult)) (others : HashMap ResultKey ℕ S) → AreKept r s firsts others → (p k j : ℕ) (x : FirstResult)

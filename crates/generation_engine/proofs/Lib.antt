@@ -8,6 +8,7 @@ pub mod Reading
 pub mod Gathering
 pub mod Spots
 pub mod Counted
+pub mod CountLaws
 pub mod Populations
 pub mod WalkLaws
 pub mod ResultLaws

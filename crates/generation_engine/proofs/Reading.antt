@@ -16,7 +16,8 @@ use Rattle.square_store.specs.Squares.{side_at, grid_at, Draws}
 use Rattle.square_store.specs.Store.{nothing_held, IsFullFor}
 use Rattle.stamped_tree.specs.LeafKind.{plane_grid}
 use Rattle.stamped_tree.specs.Plane.{StampedPlane, from_edge, map_of}
-use Rattle.generation_engine.specs.EngineLeaf.{leaf_grid, states_on, IsPopulationOf}
+use Rattle.generation_engine.specs.EngineLeaf.{leaf_grid, states_on}
+use Rattle.generation_engine.specs.Counts.{population_at}
 use Rattle.generation_engine.specs.Loading.{centred, plane_in_universe}
 use Rattle.generation_engine.specs.Universe.{EngineValue, AreSameStates, IsEngine, from_universe_edge, is_coordinate_in_universe, is_in_universe, population_of, states_in_writes, states_of, universe_corner}
 use Rattle.generation_engine.proofs.Counting.{population_at_most, population_same}
@@ -39,13 +40,9 @@ column_within x h =
 pub state_read : (e : EngineValue) (u v : ℕ) → u < 8589934592 → v < 8589934592 → states_of e (moved universe_corner (pos u) (pos v)) ≡ (grid_at leaf_grid 8 e.store 30 e.root u v).state
 state_read e u v hu hv = rw (in_universe u hu, in_universe v hv, column_of u, column_of v) refl
 
--- the count beside the root is that of the universe
-pub population_read : (e : EngineValue) (x : ℕ) → IsPopulationOf (side_at 8 30) (grid_at leaf_grid 8 e.store 30 e.root) x → x ≡ population_of e
-population_read e x is =
-    let f : ℕ → ℕ → ℕ = λ u v. (grid_at leaf_grid 8 e.store 30 e.root u v).state in
-    let most = population_at_most 8589934592 f in
-    let all : min (population 8589934592 f) (2 ^ 128 - 1) ≡ population 8589934592 f = omega (arith, most) in
-    is ∙ all ∙ sym (population_same 8589934592 _ f (λ u v hu hv. state_read e u v hu hv))
+-- the count of the root is that of the universe
+pub population_read : (e : EngineValue) → population_at e.store 30 e.root ≡ population_of e
+population_read e = sym (population_same 8589934592 _ (λ u v. (grid_at leaf_grid 8 e.store 30 e.root u v).state) (λ u v hu hv. state_read e u v hu hv))
 
 -- what holds of the root's states, and of 0, holds of all
 pub each_state : (P : ℕ → Type 0) (e : EngineValue) → ((u v : ℕ) → u < 8589934592 → v < 8589934592 → P (grid_at leaf_grid 8 e.store 30 e.root u v).state) → P 0 → (c : Place) → P (states_of e c)

@@ -16,7 +16,8 @@ use Rattle.generation_engine.specs.declared.leaf_kind.EngineLeaf.{EngineLeaf}
 use Rattle.generation_engine.specs.declared.placed.PlacedSquare.{PlacedSquare}
 use Rattle.generation_engine.specs.declared.placed.PlacedQuarters.{PlacedQuarters}
 use Rattle.generation_engine.specs.declared.region.Region.{Region}
-use Rattle.generation_engine.specs.EngineLeaf.{leaf_grid, IsPopulationOf}
+use Rattle.generation_engine.specs.Counts.{population_at}
+use Rattle.generation_engine.specs.EngineLeaf.{leaf_grid}
 use Rattle.generation_engine.specs.Placed.{AreSideBySide, GathersSeen, HasColumnsOf, IsPlaced, IsPlacedIn, grid_of, seen_population}
 use Rattle.generation_engine.specs.Region.{HaveCommon, has_region, is_in_region, seen_grid}
 use Rattle.generation_engine.specs.Walk.{GathersSquare}
@@ -202,7 +203,7 @@ module _ (s : Held EngineLeaf) (r : Region) (k left top : ℕ) (f : Grid) (q : P
 
 -- ---- how many there can be
 
-few_in_square : (n : ℕ) (f : Grid) → n ≤ 4294967296 → population n (states f) ≤ 2 ^ 64
+pub few_in_square : (n : ℕ) (f : Grid) → n ≤ 4294967296 → population n (states f) ≤ 2 ^ 64
 few_in_square n f narrow = let most = population_at_most n (states f) in let area = mul-le n n 4294967296 4294967296 narrow narrow in omega (arith, most, area)
 
 few_seen : (s : Held EngineLeaf) (r : Region) (q : PlacedSquare) → IsPlaced s q → seen_population s r q ≤ 2 ^ 64
@@ -213,13 +214,10 @@ few_beside s r k left top f q put =
     let a = few_seen s r q.nw put.nw.placed in let b = few_seen s r q.ne put.ne.placed in let c = few_seen s r q.sw put.sw.placed in let d = few_seen s r q.se put.se.placed in
     omega (arith, a, b, c, d)
 
--- the summary of a square that a region has
-pub summary_seen : (s : Held EngineLeaf) (r own : Region) (q : PlacedSquare) (x : ℕ) → IsPlaced s q → HasColumnsOf q own → has_region r own ≡ true → IsPopulationOf (side_at 8 q.level) (grid_of s q) x → x ≡ seen_population s r q
-summary_seen s r own q x placed is has counts =
-    let h = placed.left in
-    let most = few_in_square (side_at 8 q.level) (grid_of s q) (omega (arith, h)) in
-    let all : min (population (side_at 8 q.level) (states (grid_of s q))) (2 ^ 128 - 1) ≡ population (side_at 8 q.level) (states (grid_of s q)) = omega (arith, most) in
-    counts ∙ all ∙ sym (population_same (side_at 8 q.level) (states (seen_grid r q.corner.left q.corner.top (grid_of s q))) (states (grid_of s q)) (same_states (side_at 8 q.level) _ _ (seen_whole r own q (grid_of s q) is has)))
+-- the count of a square that a region has
+pub count_seen : (s : Held EngineLeaf) (r own : Region) (q : PlacedSquare) → HasColumnsOf q own → has_region r own ≡ true → population_at s q.level q.part ≡ seen_population s r q
+count_seen s r own q is has =
+    sym (population_same (side_at 8 q.level) (states (seen_grid r q.corner.left q.corner.top (grid_of s q))) (states (grid_of s q)) (same_states (side_at 8 q.level) _ _ (seen_whole r own q (grid_of s q) is has)))
 
 pub whole_gathered : (s : Held EngineLeaf) (r own : Region) (q : PlacedSquare) (old new : List ListedCell) → HasColumnsOf q own → has_region r own ≡ true → GathersSquare (side_at 8 q.level) (grid_of s q) q.corner.left q.corner.top old new → GathersSeen s r q old new
 whole_gathered s r own q old new is has h =

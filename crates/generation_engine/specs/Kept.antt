@@ -6,7 +6,7 @@ use Rattle.square_store.specs.Grid.{Grid, quartered}
 use Rattle.square_store.specs.Squares.{Held, side_at, IsAt, grid_at, Draws}
 use Rattle.square_store.specs.Store.{IsGrown}
 use Rattle.generation_engine.specs.declared.leaf_kind.EngineLeaf.{EngineLeaf}
-use Rattle.generation_engine.specs.declared.results.FirstResult.{FirstResult}
+use Rattle.square_store.specs.declared.first_result.FirstResult.{FirstResult}
 use Rattle.generation_engine.specs.declared.results.ResultKey.{ResultKey}
 use Rattle.generation_engine.specs.EngineLeaf.{leaf_grid}
 use Rattle.generation_engine.specs.Results.{IsResult}
@@ -35,6 +35,10 @@ pub record AreKept {S : Type 0} (r : GenerationsRule) (s : Held EngineLeaf) (fir
   pub rule : IsRule r
   pub first : (p : ℕ) (x : FirstResult) → slice_get firsts p ≡ Some (Some x) → IsKept r s (record { level = x.level; part = p; exponent = x.exponent }) x.later
   pub other : (key : ResultKey) (q : ℕ) → get is_result_key others key ≡ Some q → IsKept r s key q
+
+-- no result is kept of any square
+abbrev pub HasNoneKept : Held EngineLeaf → Type 0
+HasNoneKept s = (p : ℕ) (x : FirstResult) → slice_get s.firsts p ≡ Some (Some x) → ⊥
 
 -- the squares that stood stand, under the same rule
 pub record HasGrown (old new : RuledSquares) : Type 0 where

@@ -11,3 +11,4 @@ pub mod Rows
 pub mod Kept
 pub mod Running
 pub mod EngineFault
+pub mod Counts

@@ -17,6 +17,7 @@ ghost use Rattle.generation_engine.specs.Universe.{AreSameStates, IsEngine, popu
 ghost use Rattle.generation_engine.specs.Walk.{AreCellsOf};
 ghost use Rattle.generation_engine.specs.Window.{IsExtent, population_in};
 
+use crate::counts::square_population;
 use crate::extent::extent_of;
 use crate::fault::EngineFault;
 use crate::load::universe_of;
@@ -170,11 +171,12 @@ impl Engine {
         Ok(cells)
     }
 
-    /// How many cells are not dead, in constant time.
+    /// How many cells are not dead. Each square that is in use is looked at once; where memory is refused,
+    /// as often as it is come by.
     pub fn population(&self) -> u128
         ensures { result ≡ population_of self.now }
     {
-        self.squares.store().summary(self.root)
+        square_population(self.alloc, self.squares.store(), 30, self.root)
     }
 
     /// The cells that are not dead in a window, sorted by `y`, then `x`. Squares that the window does not
@@ -188,13 +190,13 @@ impl Engine {
         Ok(seen)
     }
 
-    /// How many cells are not dead in a window. Squares that lie in it as a whole, or not at all, are not
-    /// gone into.
+    /// How many cells are not dead in a window. Squares that lie in it as a whole are counted as by `population`,
+    /// and those that do not meet it are not gone into.
     pub fn population_in(&self, window: Window) -> u128
         ensures { result ≡ population_in window self.now }
     {
         let region = Region::of_window(window);
-        region_population(self.squares.store(), self.root, region)
+        region_population(self.alloc, self.squares.store(), self.root, region)
     }
 
     /// The least window that has all cells that are not dead; `None` where all are. Squares that lie in

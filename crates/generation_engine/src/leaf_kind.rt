@@ -1,7 +1,5 @@
 //! Leaves of 8 by 8 states, as a store of squares has them.
 
-ghost use Rattle.std.specs.Prelude.{◌≡◌, ◌+◌, ◌-◌, ◌^◌, min};
-
 use bitplane_kernel::BitLeaf;
 use square_store::LeafKind;
 
@@ -12,18 +10,12 @@ pub struct EngineLeaf {
     pub leaf: BitLeaf,
 }
 
-fn sum_of_four(a: u128, b: u128, c: u128, d: u128) -> u128
-    ensures { result ≡ min (a + b + c + d) (2 ^ 128 - 1) }
-{
-    a.saturating_add(b).saturating_add(c).saturating_add(d)
-}
-
-/// Beside each square stands how many of its cells are not dead.
+/// Nothing stands beside a square.
 impl LeafKind for EngineLeaf {
     ghost use Rattle.std.proofs.Common.{arith};
-    ghost use Rattle.generation_engine.specs.EngineLeaf.{leaf_grid, IsEngineLeaf, IsPopulationOf, leaf_exact, leaf_same};
+    ghost use Rattle.generation_engine.specs.EngineLeaf.{leaf_grid, IsEngineLeaf, leaf_exact, leaf_same};
 
-    type Summary = u128;
+    type Summary = ();
 
     ghost write = { leaf_grid };
 
@@ -31,23 +23,17 @@ impl LeafKind for EngineLeaf {
 
     ghost IsLeaf = { IsEngineLeaf };
 
-    ghost IsSummary = { IsPopulationOf };
+    ghost IsSummary = { λ _ _ _. Unit {0} };
 
     fn blank_stamp(&self) -> Option<u64> {
         if self.leaf.is_dead() { Some(0) } else { None }
     }
 
-    fn summary(&self) -> u128 {
-        u128::from(self.leaf.population())
-    }
+    fn summary(&self) {}
 
-    fn summary_of_blank(_stamp: u64) -> u128 {
-        0
-    }
+    fn summary_of_blank(_stamp: u64) {}
 
-    fn summary_of_four(nw: u128, ne: u128, sw: u128, se: u128) -> u128 {
-        sum_of_four(nw, ne, sw, se)
-    }
+    fn summary_of_four(_nw: (), _ne: (), _sw: (), _se: ()) {}
 
     ghost some = { Prim.omega arith };
 

@@ -5,6 +5,7 @@
 //! listed, all of them or those in a window.
 #![tactic(auto)]
 
+mod counts;
 mod engine;
 mod extent;
 mod fault;

@@ -3,7 +3,7 @@
 ghost use Rattle.std.specs.Prelude.{◌≡◌, ◌-◌, IfOk, OnOk, Err, length};
 ghost use Rattle.square_store.specs.Pieces.{AddsPiecesOfGrid};
 ghost use Rattle.square_store.specs.Squares.{IsAt, Draws};
-ghost use Rattle.square_store.specs.Store.{IsAbsent, IsGrown, IsOnePartEach, IsStore};
+ghost use Rattle.square_store.specs.Store.{IsAbsent, IsGrown, IsNoneKept, IsOnePartEach, IsStore};
 ghost use Rattle.leaf_merge_lanes.specs.Leaf.{states_of};
 ghost use Rattle.generation_engine.specs.EngineLeaf.{IsEngineLeaf, leaf_grid};
 ghost use Rattle.generation_engine.specs.Loading.{AreBrought, IsBrought, IsBroughtNoted, IsStoreFull, IsTooSmallFor, plane_in_universe, states_of_square};
@@ -34,6 +34,7 @@ pub(crate) fn bring(
     ensures brought { OnOk result (AreBrought square.now.store target.new brought.new.entries) }
     ensures part { IfOk result (IsBrought square.now.store target.new square.now.part) }
     // After a refusal too.
+    ensures firsts { IsNoneKept target.old target.new }
     ensures pieces { AddsPiecesOfGrid leaf_grid 8 target.old target.new level (states_of_square square.now.store level square.now.part) }
     ensures full { result ≡ Err StoreFault.StoreFull → IsStoreFull target.new }
     ensures absent { result ≡ Err StoreFault.StoreFull → IsStore leaf_grid 8 IsEngineLeaf target.new → IsAbsent leaf_grid 8 target.new level (states_of_square square.now.store level square.now.part) }
@@ -92,6 +93,7 @@ pub(crate) fn universe_of(
     requires { length target.old.squares ≡ 0 }
     ensures draws { IfOk result (Draws leaf_grid 8 target.new 30 (plane_in_universe plane.now)) }
     ensures grows { IsGrown leaf_grid 8 target.old target.new }
+    ensures firsts { IsNoneKept target.old target.new }
     ensures full { result ≡ Err StoreFault.StoreFull → IsStoreFull target.new }
     ensures small { result ≡ Err StoreFault.StoreFull → IsTooSmallFor target.old.room plane.now }
 {
@@ -109,6 +111,7 @@ fn add_universe(
     requires { length target.old.squares ≡ 0 }
     ensures draws { IfOk result (Draws leaf_grid 8 target.new 30 (plane_in_universe plane.now)) }
     ensures grows { IsGrown leaf_grid 8 target.old target.new }
+    ensures firsts { IsNoneKept target.old target.new }
     ensures full { result ≡ Err StoreFault.StoreFull → IsStoreFull target.new }
     ensures small { result ≡ Err StoreFault.StoreFull → IsStore leaf_grid 8 IsEngineLeaf target.new → IsOnePartEach leaf_grid 8 target.new → IsTooSmallFor target.new.room plane.now }
 {

@@ -3,7 +3,7 @@
 ghost use Rattle.std.specs.Prelude.{◌≡◌, ◌<◌, ◌+◌, ◌-◌, IfOk, Err};
 ghost use Rattle.square_store.specs.Pieces.{AddsPiecesOfGrid};
 ghost use Rattle.square_store.specs.Squares.{IsAt, grid_at, side_at, Draws};
-ghost use Rattle.square_store.specs.Store.{IsAbsent, IsGrown, IsStore};
+ghost use Rattle.square_store.specs.Store.{IsAbsent, IsGrown, IsNoneKept, IsStore};
 ghost use Rattle.generation_engine.specs.EngineLeaf.{IsEngineLeaf, leaf_grid};
 ghost use Rattle.generation_engine.specs.Loading.{IsStoreFull, centred};
 ghost use Rattle.generation_engine.specs.Walk.{AreMiddleParts};
@@ -23,6 +23,7 @@ pub(crate) fn padded(
     ensures draws { IfOk result (Draws leaf_grid 8 store.new (level + 1) (centred (side_at 8 (level - 1)) (grid_at leaf_grid 8 store.old level part))) }
     ensures grows { IsGrown leaf_grid 8 store.old store.new }
     // After a refusal too.
+    ensures firsts { IsNoneKept store.old store.new }
     ensures pieces { AddsPiecesOfGrid leaf_grid 8 store.old store.new (level + 1) (centred (side_at 8 (level - 1)) (grid_at leaf_grid 8 store.old level part)) }
     ensures full { result ≡ Err StoreFault.StoreFull → IsStoreFull store.new }
     ensures absent { result ≡ Err StoreFault.StoreFull → IsStore leaf_grid 8 IsEngineLeaf store.new → IsAbsent leaf_grid 8 store.new (level + 1) (centred (side_at 8 (level - 1)) (grid_at leaf_grid 8 store.old level part)) }

@@ -10,7 +10,7 @@ ghost use Rattle.generation_engine.specs.Loading.{IsStoreFull, centred};
 ghost use Rattle.generation_engine.specs.Results.{part_from};
 ghost use Rattle.generation_engine.specs.Walk.{AreMiddleParts};
 ghost use Rattle.generation_engine.specs.Running.{IsRun};
-ghost use Rattle.generation_engine.specs.Kept.{AllStand, AreDrawn, AreLater, HasGrown, IsDeadAt, IsKept, IsLater, neighbours_joined};
+ghost use Rattle.generation_engine.specs.Kept.{AllStand, AreDrawn, AreLater, HasGrown, HasNoneKept, IsDeadAt, IsKept, IsLater, neighbours_joined};
 
 use crate::leaf_kind::EngineLeaf;
 use crate::quarters::{middle, padded};
@@ -18,7 +18,7 @@ use bitplane_kernel::{BitLeaf, Block};
 use generations_rule::Rule;
 use indexmap::IndexMap;
 use keyed_hash::HashKey;
-use square_store::{Part, Square, Store, StoreFault};
+use square_store::{FirstResult, Part, Square, Store, StoreFault};
 use std::alloc::Global;
 use std::marker::Model;
 
@@ -31,21 +31,12 @@ pub(crate) struct ResultKey {
     pub exponent: u32,
 }
 
-/// The result of a square of a level.
-#[derive(Clone, Copy)]
-pub(crate) struct FirstResult {
-    pub level: u32,
-    pub exponent: u32,
-    pub later: Part,
-}
-
 /// Squares, and the results that were computed of each under one rule.
 pub(crate) struct ResultStore {
     rule: Rule,
+    /// The result that was first kept of a square stands there, beside its parts. Most squares have no
+    /// other.
     store: Store<EngineLeaf>,
-    /// The first result that was kept of each square, at its place. Most squares have no other, and it
-    /// is found without a hash.
-    firsts: Vec<Option<FirstResult>>,
     /// All other results.
     others: IndexMap<ResultKey, Part, HashKey>,
 }
@@ -56,7 +47,6 @@ impl Drop for ResultStore {
         let ResultStore {
             rule: _,
             store: _,
-            firsts: _,
             others: _,
         } = self;
     }
@@ -69,12 +59,13 @@ impl Model for ResultStore {
 
     ghost view = { λ s. record { rule = s.rule; store = s.store } };
 
-    ghost invariant = { λ s. AreKept s.rule s.store s.firsts.items s.others };
+    ghost invariant = { λ s. AreKept s.rule s.store s.store.firsts s.others };
 }
 
 impl ResultStore {
     /// Squares of which no result is kept.
     pub(crate) fn of_store(alloc: Global, rule: Rule, store: Store<EngineLeaf>) -> ResultStore
+        requires { HasNoneKept store }
         ensures { result ≡ record { rule = rule; store = store } }
     {
         let _states = rule.states();
@@ -82,7 +73,6 @@ impl ResultStore {
         ResultStore {
             rule,
             store,
-            firsts: Vec::new(alloc),
             others,
         }
     }
@@ -116,7 +106,8 @@ impl ResultStore {
     fn kept(&self, level: u32, part: Part, exponent: u32) -> Option<Part>
         ensures { IfSome result (IsLater self.now.rule self.now.store self.now.store level (2 ^ exponent) part) }
     {
-        let Some(Some(first)) = self.firsts.get(part.place() as usize) else {
+        let _ = &self.rule;
+        let Some(first) = self.store.first_result(part) else {
             return None;
         };
         if first.level == level && first.exponent == exponent {
@@ -142,22 +133,18 @@ impl ResultStore {
     fn keep(&mut self, level: u32, part: Part, exponent: u32, later: Part) -> Result<(), StoreFault>
         requires stands { IsAt self.old.store level part }
         requires later { IsLater self.old.rule self.old.store self.old.store level (2 ^ exponent) part later }
-        ensures same { self.new ≡ self.old }
+        ensures grows { HasGrown self.old self.new }
         ensures full { result ≡ Err StoreFault.StoreFull → IsStoreFull self.new.store }
     {
-        let place = part.place() as usize;
-        if place >= self.firsts.len() {
-            self.firsts.resize(place + 1, None)?;
-        }
-        if self.firsts[place].is_some() {
-            return self.keep_other(level, part, exponent, later);
-        }
-        self.firsts[place] = Some(FirstResult {
+        let first = FirstResult {
             level,
             exponent,
             later,
-        });
-        Ok(())
+        };
+        if self.store.keep_first(part, first) {
+            return Ok(());
+        }
+        self.keep_other(level, part, exponent, later)
     }
 
     /// The same, under its key.

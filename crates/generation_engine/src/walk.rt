@@ -8,6 +8,7 @@ ghost use Rattle.stamped_tree.specs.Walk.{AreGathered, IsNonzeroCell};
 ghost use Rattle.generation_engine.specs.EngineLeaf.{leaf_grid};
 ghost use Rattle.generation_engine.specs.Walk.{GathersOne, GathersSquare, cell_of_middle, middle_grid, middle_order, spot_of};
 
+use crate::counts::square_population;
 use crate::gathered::GatheredCells;
 use crate::leaf_kind::EngineLeaf;
 use crate::quarters::middle;
@@ -33,7 +34,8 @@ pub(crate) fn middle_cells(
     ensures placed { IfOk result (λ cells. map cell_of_middle (map spot_of cells.items) ≡ cells.items) }
 {
     let parts = middle(store, 30, root);
-    let mut found = GatheredCells::with_capacity(alloc, store.summary(root))?;
+    let count = square_population(alloc, store, 30, root);
+    let mut found = GatheredCells::with_capacity(alloc, count)?;
     let nw = Corner { left: 0, top: 0 };
     let ne = Corner {
         left: QUARTER,

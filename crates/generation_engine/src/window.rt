@@ -5,16 +5,19 @@ ghost use Rattle.std.specs.List.Sorted.{IsNonDecreasingBy};
 ghost use Rattle.square_store.specs.Squares.{IsAt};
 ghost use Rattle.bitplane_kernel.specs.Population.{population};
 ghost use Rattle.stamped_tree.specs.Walk.{AreGathered, IsNonzeroCell};
+ghost use Rattle.generation_engine.specs.Counts.{AreCounted};
 ghost use Rattle.generation_engine.specs.EngineLeaf.{leaf_grid};
 ghost use Rattle.generation_engine.specs.Placed.{GathersSeen, IsPlaced, seen_population};
 ghost use Rattle.generation_engine.specs.Region.{seen_grid};
 ghost use Rattle.generation_engine.specs.Walk.{GathersSquare, cell_of_middle, middle_grid, middle_order, spot_of};
 
+use crate::counts::count_square;
 use crate::gathered::GatheredCells;
 use crate::leaf_kind::EngineLeaf;
 use crate::placed::{PlacedSquare, middle_squares, seen_cell, side_by_side};
 use crate::region::Region;
 use crate::walk::{gather, push_live};
+use indexmap::IndexMap;
 use pattern_cells::Cell;
 use square_store::{Part, Square, Store};
 use stamped_tree::Corner;
@@ -34,7 +37,7 @@ pub(crate) fn region_cells(
     ensures count { IfOk result (λ cells. length (map spot_of cells.items) ≡ population 4294967296 (λ u v. (seen_grid region 0 0 (middle_grid store.now root) u v).state)) }
     ensures placed { IfOk result (λ cells. map cell_of_middle (map spot_of cells.items) ≡ cells.items) }
 {
-    let count = region_population(store, root, region);
+    let count = region_population(alloc, store, root, region);
     let mut found = GatheredCells::with_capacity(alloc, count)?;
     let squares = middle_squares(store, root);
     gather_in(store, &squares.nw, region, &mut found)?;
@@ -45,14 +48,22 @@ pub(crate) fn region_cells(
 }
 
 /// How many cells are not dead in a region of the middle of the root.
-pub(crate) fn region_population(store: &Store<EngineLeaf>, root: Part, region: Region) -> u128
+pub(crate) fn region_population(
+    alloc: Global,
+    store: &Store<EngineLeaf>,
+    root: Part,
+    region: Region,
+) -> u128
     requires { IsAt store.now 30 root }
     ensures { result ≡ population 4294967296 (λ u v. (seen_grid region 0 0 (middle_grid store.now root) u v).state) }
 {
+    let mut counts = IndexMap::new(alloc);
     let squares = middle_squares(store, root);
-    let north = count_in(store, &squares.nw, region) + count_in(store, &squares.ne, region);
-    let south = count_in(store, &squares.sw, region) + count_in(store, &squares.se, region);
-    north + south
+    let nw = count_in(store, &mut counts, &squares.nw, region);
+    let ne = count_in(store, &mut counts, &squares.ne, region);
+    let sw = count_in(store, &mut counts, &squares.sw, region);
+    let se = count_in(store, &mut counts, &squares.se, region);
+    nw + ne + sw + se
 }
 
 /// Puts the cells of a square that a region has last. What the region does not meet is not gone into.
@@ -107,28 +118,35 @@ fn gather_leaf_in(
     Ok(())
 }
 
-/// How many cells of a square are not dead and in a region. What the region has as a whole, or not at
-/// all, is not gone into.
-fn count_in(store: &Store<EngineLeaf>, square: &PlacedSquare, region: Region) -> u128
-    requires { IsPlaced store.now square.now }
-    ensures { result ≡ seen_population store.now region square.now }
+/// How many cells of a square are not dead and in a region. What the region does not meet is not gone
+/// into, and the count of a square of four that it has as a whole is noted.
+fn count_in(
+    store: &Store<EngineLeaf>,
+    counts: &mut IndexMap<Part, u128>,
+    square: &PlacedSquare,
+    region: Region,
+) -> u128
+    requires placed { IsPlaced store.now square.now }
+    requires counted { AreCounted store.now counts.old.entries }
+    ensures count { result ≡ seen_population store.now region square.now }
+    ensures counted { AreCounted store.now counts.new.entries }
 {
     let own = Region::of_square(square);
     if !region.meets(own) {
         return 0;
     }
     if region.has_all(own) {
-        return store.summary(square.part);
+        return count_square(store, counts, square.level, square.part);
     }
     match store.square(square.part) {
         Square::Blank(_) => 0,
         Square::Leaf(leaf) => count_leaf_in(leaf, square.corner, region),
         Square::Four { parts, .. } => {
             let quarters = side_by_side(square.level - 1, parts, square.corner);
-            let nw = count_in(store, &quarters.nw, region);
-            let ne = count_in(store, &quarters.ne, region);
-            let sw = count_in(store, &quarters.sw, region);
-            let se = count_in(store, &quarters.se, region);
+            let nw = count_in(store, counts, &quarters.nw, region);
+            let ne = count_in(store, counts, &quarters.ne, region);
+            let sw = count_in(store, counts, &quarters.sw, region);
+            let se = count_in(store, counts, &quarters.se, region);
             nw + ne + sw + se
         }
     }

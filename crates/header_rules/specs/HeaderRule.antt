@@ -1,5 +1,5 @@
 -- Which rule the header of a pattern text tells, and where.
-use Rattle.std.specs.Prelude.{ℕ, ◌+◌, ◌-◌, List, [], ◌∷◌, length, codes, drop, nat_lt, if◌then◌else◌, Option, Some, None}
+use Rattle.std.specs.Prelude.{ℕ, ◌+◌, ◌-◌, List, [], ◌∷◌, length, codes, drop, take, nat_lt, if◌then◌else◌, Option, Some, None}
 use Rattle.std.specs.List.{before_first}
 use Rattle.std.specs.Option.{is_some}
 use Rattle.text_scan.specs.Bytes.{is_space_or_tab, past_prefix, ◌>=>◌, behind_all, behind_symbol, is_comma, without_blanks_behind}
@@ -59,6 +59,10 @@ told_as place (byte ∷ part) bounds = Some (record { place = place; length = le
 -- what the rest of a line tells, which begins at a place with a rule's text
 abbrev pub told_at : ℕ → List ℕ → Option HeaderRule
 told_at place rest = told_as place (part_read (rule_text rest)) (bounds_told place (rule_text rest) (unbounded (rule_text rest)) rest)
+
+-- what is told of a rule's text of so many bytes at a place of a text
+abbrev pub rule_standing : List ℕ → ℕ → ℕ → Option HeaderRule
+rule_standing text place length = told_at place (take length (drop place text))
 
 -- the rule that a header's line tells; its text begins where that is left of the line which stands behind `rule =`
 abbrev pub told_in_line : PlacedLine → Option HeaderRule

@@ -5,11 +5,12 @@ ghost use Rattle.std.specs.List.{before_first, position_or_len};
 ghost use Rattle.text_scan.specs.Bytes.{is_comma};
 ghost use Rattle.multistate_rle.specs.Header.{side_spelled, number_in_front};
 ghost use Rattle.multistate_rle.specs.HeaderLine.{HasNoHeader, text_lines, may_precede};
-ghost use Rattle.header_rules.specs.HeaderRule.{header_line, behind_sides, behind_rule, bounds_at, bounds_behind, bounds_told, header_rule_told, part_read, rule_text, told_at};
+ghost use Rattle.header_rules.specs.HeaderRule.{header_line, behind_sides, behind_rule, bounds_at, bounds_behind, bounds_told, header_rule_told, part_read, rule_standing, rule_text, told_at};
 
 use crate::family_forms::unbounded;
 use crate::in_family::is_in_family;
 use crate::lines::split_line;
+use crate::part::part_at;
 use crate::spelling::{Misspelling, spelled_rule};
 use generations_rule::Rule;
 use text_scan::{
@@ -54,6 +55,14 @@ pub fn header_rule(text: &[u8]) -> Option<HeaderRule>
     let line = header_line(text)?;
     let rest = behind_rule(behind_sides(line.text)?)?;
     told_at(line.start + (line.text.len() - rest.len()), rest)
+}
+
+/// What is told of a rule's text that stands at a place of a text and has so many bytes, as far as they stand
+/// there: the same as of one that ends a header, its bounds too.
+pub fn rule_standing(text: &[u8], place: usize, length: usize) -> Option<HeaderRule>
+    ensures { result ≡ rule_standing text.now place length }
+{
+    told_at(place, part_at(text, place, length))
 }
 
 /// What is told of a rule's text with which the rest of a line begins, at this place.

@@ -12,10 +12,12 @@ mod letters;
 mod lines;
 mod names;
 mod notation;
+mod part;
 mod rule_text;
 mod spelling;
 
 pub use family::OtherFamily;
-pub use header::{HeaderBounds, HeaderRule, header_rule};
+pub use header::{HeaderBounds, HeaderRule, header_rule, rule_standing};
 pub use lines::split_line;
+pub use part::part_at;
 pub use spelling::{Misspelling, spelled_rule};

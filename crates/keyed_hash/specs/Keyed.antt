@@ -1,5 +1,5 @@
 -- Hashes with a key: NH (UMAC, Black et al. 1999) of each row of eight numbers, and of what the rows come to.
-use Rattle.std.specs.Prelude.{ℕ, ◌+◌, ◌-◌, ◌*◌, ◌/◌, ◌%◌, ◌^◌, ◌==◌, nat_lt, List, [], ◌∷◌, take, drop, slice_index, if◌then◌else◌}
+use Rattle.std.specs.Prelude.{ℕ, ◌+◌, ◌-◌, ◌*◌, ◌/◌, ◌%◌, ◌^◌, ◌==◌, nat_lt, List, [], ◌∷◌, take, drop, slice_index, if◌then◌else◌, bit_xor}
 use Rattle.std.specs.List.{fold}
 use Rattle.std.specs.Hash.{u128}
 use Rattle.std.specs.Hash.FoldHasher as folding
@@ -9,6 +9,17 @@ use Rattle.keyed_hash.specs.declared.hasher.KeyedHasher.{KeyedHasher}
 -- two numbers, to each of which its part of the key is added modulo 2^64, multiplied
 unfoldable pub product : ℕ → ℕ → ℕ → ℕ → ℕ
 product first_key first second_key second = (first + first_key) % 2 ^ 64 * ((second + second_key) % 2 ^ 64)
+
+-- the product of two numbers, its halves put together by exclusive or
+unfoldable pub folded : ℕ → ℕ → ℕ
+folded a b = bit_xor (a * b % 2 ^ 64) (a * b / 2 ^ 64)
+
+-- the higher half of what the product of two numbers, in one of sixteen rows, is spread to
+unfoldable pub hash_of_two : HashKey → ℕ → ℕ → ℕ → ℕ
+hash_of_two key row first second =
+    let at = 2 * (row % 16) in
+    let sum = product (slice_index key.rows at) first (slice_index key.rows (at + 1)) second in
+    folded (bit_xor (sum % 2 ^ 64) 16294208416658607535) (bit_xor (sum / 2 ^ 64) 7960286522194355700) / 2 ^ 32
 
 -- nothing was taken
 abbrev pub started : HashKey → KeyedHasher

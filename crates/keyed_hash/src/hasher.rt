@@ -7,7 +7,7 @@ use crate::key::HashKey;
 use std::hash::{FoldHasher, Hasher};
 
 /// The bits of the low half of 128.
-const LOW_HALF: u128 = 0xffff_ffff_ffff_ffff;
+pub(crate) const LOW_HALF: u128 = 0xffff_ffff_ffff_ffff;
 
 /// Takes a key of a table number by number, in rows of eight. Of each row a sum of products with the key's
 /// columns is made (NH, two numbers a product), and of the two halves of these sums one with the key's rows.
@@ -137,7 +137,7 @@ impl Hasher for KeyedHasher {
 
 /// The product of two numbers, to each of which its part of the key is added modulo 2^64.
 #[inline(always)]
-fn product(first_key: u64, first: u64, second_key: u64, second: u64) -> u128
+pub(crate) fn product(first_key: u64, first: u64, second_key: u64, second: u64) -> u128
     ensures { result ≡ product first_key first second_key second }
 {
     let first = first.wrapping_add(first_key);

@@ -2,10 +2,10 @@
 
 ghost use Rattle.std.specs.Prelude.{◌≡◌, ◌<◌, ◌+◌, ℕ, slice_index, IfOk};
 ghost use Rattle.keyed_hash.specs.Key.{IsDrawnFrom};
-ghost use Rattle.keyed_hash.specs.Keyed.{started, word_at};
+ghost use Rattle.keyed_hash.specs.Keyed.{folded, hash_of_two, started, word_at};
 ghost use Rattle.keyed_hash.specs.declared.key.TheConstants.{FIXED_COLUMNS, FIXED_ROWS};
 
-use crate::hasher::{KeyedHasher, word};
+use crate::hasher::{KeyedHasher, LOW_HALF, product, word};
 use std::hash::BuildHasher;
 use std::io;
 use std::io::Read;
@@ -59,6 +59,19 @@ impl HashKey {
         key
     }
 
+    /// A hash of two numbers, by the numbers of one of sixteen rows: those of rows 0 and 16 are the same. Two
+    /// different pairs have one product in one row for one in 2^63 keys at most.
+    #[inline(always)]
+    pub fn hash_of_two(&self, row: u32, first: u64, second: u64) -> u32
+        ensures { result ≡ hash_of_two self.now row first second }
+    {
+        let at = 2 * (row as usize % 16);
+        let sum = product(self.rows[at], first, self.rows[at + 1], second);
+        let low = (sum & LOW_HALF) as u64;
+        let high = (sum >> 64) as u64;
+        (folded(low ^ FIXED_COLUMNS[0], high ^ FIXED_COLUMNS[1]) >> 32) as u32
+    }
+
     /// Two numbers of the key, for a hash that takes no more.
     pub fn pair(&self) -> (u64, u64)
         ensures { result ≡ (slice_index self.now.rows 30, slice_index self.now.rows 31) }
@@ -76,6 +89,15 @@ impl BuildHasher for HashKey {
     fn build_hasher(&self) -> KeyedHasher {
         KeyedHasher::of(*self)
     }
+}
+
+/// The product of two numbers, its halves put together by exclusive or.
+#[inline(always)]
+fn folded(first: u64, second: u64) -> u64
+    ensures { result ≡ folded first second }
+{
+    let product = u128::from(first) * u128::from(second);
+    (product & LOW_HALF) as u64 ^ (product >> 64) as u64
 }
 
 /// The number of eight bytes from eight times a place on.

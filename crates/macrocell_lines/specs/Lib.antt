@@ -5,3 +5,4 @@ pub mod Raised
 pub mod Middle
 pub mod Roots
 pub mod Macrocell
+pub mod FileNames

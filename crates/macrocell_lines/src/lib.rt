@@ -2,6 +2,7 @@
 #![tactic(auto)]
 
 mod block;
+mod file_name;
 mod laws;
 mod level;
 mod line;
@@ -13,6 +14,7 @@ mod pairs;
 mod root;
 mod text;
 
+pub use file_name::is_macrocell_name;
 pub use laws::macrocell_laws;
 pub use line::Line;
 pub use macrocell::write_macrocell;

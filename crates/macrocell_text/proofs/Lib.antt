@@ -10,3 +10,10 @@ pub mod RowsBack
 pub mod LiveLaws
 pub mod SquaresRead
 pub mod MapLaws
+pub mod LineKinds
+pub mod WalksKept
+pub mod SquaresBack
+pub mod RuleNames
+pub mod HeadsBack
+pub mod TextsBack
+pub mod OncePlaced

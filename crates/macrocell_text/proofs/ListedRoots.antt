@@ -13,7 +13,7 @@ use Rattle.macrocell_text.specs.declared.entry.Entry.{Entry}
 use Rattle.macrocell_text.specs.declared.entry.Entry.TheVariants as entries
 use Rattle.macrocell_text.specs.declared.found.FoundCells.{FoundCells}
 use Rattle.macrocell_text.specs.declared.listing_fault.ListingFault.{ListingFault}
-use Rattle.macrocell_text.specs.declared.listing_fault.ListingFault.TheVariants.{TooMany, OutOfPlane, Memory}
+use Rattle.macrocell_text.specs.declared.listing_fault.ListingFault.TheVariants.{TooManyCells, OutOfPlane, Memory}
 use Rattle.macrocell_text.specs.Macrocells.{AreLevelled, entry_level, entry_square, squares_of}
 use Rattle.macrocell_text.specs.Maps.{root_of_squares}
 use Rattle.macrocell_text.specs.LiveCells.{LiveCell, cells_of_root, lies_in_plane, listing_refusal, live_cells, most_listed, placed, population_of}
@@ -75,10 +75,10 @@ root_cells es level half q root some is =
 few_enough : (n : ℕ) → n ≤ most_listed → nat_lt most_listed n ≡ false
 few_enough n h = grind (arith, nat_tests)
 
-outside : (a b : Bool) → a ≡ false → b ≡ false → first_of (when a TooMany ∷ when (not b) OutOfPlane ∷ []) ≡ Some OutOfPlane
+outside : (a b : Bool) → a ≡ false → b ≡ false → first_of (when a TooManyCells ∷ when (not b) OutOfPlane ∷ []) ≡ Some OutOfPlane
 outside a b e f = rw (e, f) refl
 
-inside : (a b : Bool) → a ≡ false → b ≡ true → first_of (when a TooMany ∷ when (not b) OutOfPlane ∷ []) ≡ None
+inside : (a b : Bool) → a ≡ false → b ≡ true → first_of (when a TooManyCells ∷ when (not b) OutOfPlane ∷ []) ≡ None
 inside a b e f = rw (e, f) refl
 
 pub refused_listing : (es : List Entry) (level half : ℕ) (q : StateSquare) (f : ListingFault) → IsRoot es level q → 1 ≤ level → half ≡ 2 ^ (level - 1) →

@@ -107,12 +107,12 @@ module _ (k : ℕ) (a b c d : StateSquare) (h : IsSquare (suc k) (Four a b c d))
         live = p.live;
       })
 
-halved : (k side : ℕ) → side ≡ 2 ^ suc k → side / 2 ≡ 2 ^ k
+pub halved : (k side : ℕ) → side ≡ 2 ^ suc k → side / 2 ≡ 2 ^ k
 halved k side e = (let two = double k in omega (arith, e, two))
 
 -- ---- both ways
 
-only_live : (k : ℕ) (q : StateSquare) (side column row : ℕ) (x : LiveCell) → side ≡ 2 ^ k → IsSquare k q → Contains (live_cells side q column row) x → IsLiveIn k q column row x
+pub only_live : (k : ℕ) (q : StateSquare) (side column row : ℕ) (x : LiveCell) → side ≡ 2 ^ k → IsSquare k q → Contains (live_cells side q column row) x → IsLiveIn k q column row x
 only_live zero (Cell s) side column row x e is h = by (s == 0) refl h
   where
     by : (b : Bool) → (s == 0) ≡ b → (let cells : List LiveCell = if b then [] else record { column = column; row = row; state = s } ∷ [] in Contains cells x) → IsLiveIn 0 (Cell s) column row x

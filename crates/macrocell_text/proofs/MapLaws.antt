@@ -12,8 +12,9 @@ use Rattle.macrocell_lines.specs.Squares.{StateSquare, level_of, state_in}
 use Rattle.macrocell_lines.specs.Listing.{IsSquare}
 use Rattle.macrocell_lines.specs.Roots.{half_side, is_in_root}
 use Rattle.macrocell_text.specs.LiveCells.{LiveCell, cells_of_root, live_cells, placed}
+use Rattle.macrocell_text.specs.Macrocells.{AreSquares}
 use Rattle.macrocell_text.specs.Maps.{column_in_root, map_of, map_of_root, root_of_squares, row_in_root}
-use Rattle.macrocell_text.specs.Laws.{AreSquares, IsLiveIn, ListsOnlyMap, ListsWholeMap}
+use Rattle.macrocell_text.specs.Laws.{IsLiveIn, ListsOnlyMap, ListsWholeMap}
 use Rattle.macrocell_text.proofs.LiveLaws.{finds_all_live_cells, finds_only_live_cells, none_in}
 use Rattle.macrocell_text.proofs.SquaresRead.{tells_squares}
 
@@ -59,7 +60,7 @@ column_back n half = let e : (pos n -ℤ pos half) +ℤ pos half ≡ pos n = ome
 row_back : (n half : ℕ) → nat_abs (((pos (suc n) -ℤ pos half) -ℤ pos 1) +ℤ pos half) ≡ n
 row_back n half = let e : ((pos (suc n) -ℤ pos half) -ℤ pos 1) +ℤ pos half ≡ pos n = omega (arith, ints) in ap nat_abs e
 
-double_side : (l : ℕ) → 1 ≤ l → 2 ^ l ≡ 2 ^ (l - 1) + 2 ^ (l - 1)
+pub double_side : (l : ℕ) → 1 ≤ l → 2 ^ l ≡ 2 ^ (l - 1) + 2 ^ (l - 1)
 double_side l some =
     let e : l ≡ suc (l - 1) = omega (arith, some) in
     let f : 2 ^ l ≡ 2 ^ (l - 1) * 2 = ap (λ l. 2 ^ l) e ∙ pow-suc 2 (l - 1) in
@@ -92,26 +93,26 @@ pub record IsCount (z : ℤ) : Type 0 where
   pub count : ℕ
   pub is : z ≡ pos count
 
-count_of : (z : ℤ) → int_le (pos 0) z ≡ true → IsCount z
+pub count_of : (z : ℤ) → int_le (pos 0) z ≡ true → IsCount z
 count_of (pos n) h = record { count = n; is = refl }
 count_of (negsuc n) h = absurd (cc)
 
-from_left : (x : ℤ) (half : ℕ) → int_le (pos 0 -ℤ pos half) x ≡ true → int_le (pos 0) (x +ℤ pos half) ≡ true
+pub from_left : (x : ℤ) (half : ℕ) → int_le (pos 0 -ℤ pos half) x ≡ true → int_le (pos 0) (x +ℤ pos half) ≡ true
 from_left x half h = grind (arith, ints, nat_tests, h)
 
-from_top : (y : ℤ) (half : ℕ) → int_le (pos 1 -ℤ pos half) y ≡ true → int_le (pos 0) ((y -ℤ pos 1) +ℤ pos half) ≡ true
+pub from_top : (y : ℤ) (half : ℕ) → int_le (pos 1 -ℤ pos half) y ≡ true → int_le (pos 0) ((y -ℤ pos 1) +ℤ pos half) ≡ true
 from_top y half h = grind (arith, ints, nat_tests, h)
 
-to_right : (x : ℤ) (n half : ℕ) → x +ℤ pos half ≡ pos n → int_lt x (pos half) ≡ true → n < half + half
+pub to_right : (x : ℤ) (n half : ℕ) → x +ℤ pos half ≡ pos n → int_lt x (pos half) ≡ true → n < half + half
 to_right x n half e h = grind (arith, ints, nat_tests, e, h)
 
-to_bottom : (y : ℤ) (n half : ℕ) → (y -ℤ pos 1) +ℤ pos half ≡ pos n → int_lt y (pos half +ℤ pos 1) ≡ true → n < half + half
+pub to_bottom : (y : ℤ) (n half : ℕ) → (y -ℤ pos 1) +ℤ pos half ≡ pos n → int_lt y (pos half +ℤ pos 1) ≡ true → n < half + half
 to_bottom y n half e h = grind (arith, ints, nat_tests, e, h)
 
-x_back : (x : ℤ) (n half : ℕ) → x +ℤ pos half ≡ pos n → pos n -ℤ pos half ≡ x
+pub x_back : (x : ℤ) (n half : ℕ) → x +ℤ pos half ≡ pos n → pos n -ℤ pos half ≡ x
 x_back x n half e = omega (arith, ints, e)
 
-y_back : (y : ℤ) (n half : ℕ) → (y -ℤ pos 1) +ℤ pos half ≡ pos n → pos (suc n) -ℤ pos half ≡ y
+pub y_back : (y : ℤ) (n half : ℕ) → (y -ℤ pos 1) +ℤ pos half ≡ pos n → pos (suc n) -ℤ pos half ≡ y
 y_back y n half e = omega (arith, ints, e)
 
 all_root : (q : StateSquare) (c : Place) → 1 ≤ level_of q → IsSquare (level_of q) q → (b : Bool) → is_in_root (level_of q) c ≡ b → map_of_root q c ≢ 0 →

@@ -19,9 +19,9 @@ use Rattle.macrocell_text.specs.Faults.{found_or}
 use Rattle.macrocell_text.specs.Marks.{first_spot, misplaced, rows_told, square_marked, unless_misplaced}
 use Rattle.macrocell_text.specs.Numbers.{Number, number_told}
 use Rattle.macrocell_text.specs.SquareLines.{dead_square, is_level, is_other, leaves_with, level_if, level_told, quarter_fault, quarter_told, quarters_told, square_if_of, square_numbered}
-use Rattle.macrocell_text.specs.Macrocells.{MacrocellTold}
+use Rattle.macrocell_text.specs.Macrocells.{AreSquares, MacrocellTold}
 use Rattle.macrocell_text.specs.Texts.{Reading, begins_comment, begins_rows, is_first_line, lines_read, macrocell_read, nothing_told, square_numbers, told_of, with_comment, with_line, with_lines, with_numbers, with_rows, with_square, with_told}
-use Rattle.macrocell_text.specs.Laws.{AreSquares, TellsSquares}
+use Rattle.macrocell_text.specs.Laws.{TellsSquares}
 
 -- ---- what was read in steps
 
@@ -148,7 +148,7 @@ told_kept r s line are e = by (list_all is_space_or_tab line) (begins_comment li
     by false false true e = rows_kept r s line (is_other r.leaves ByRows) refl are e
     by false false false e = numbers_kept r s line are e
 
-lines_kept : (lines : List (List ℕ)) (r s : Reading) → AreSquares r.squares → with_lines r lines ≡ Ok s → AreSquares s.squares
+pub lines_kept : (lines : List (List ℕ)) (r s : Reading) → AreSquares r.squares → with_lines r lines ≡ Ok s → AreSquares s.squares
 lines_kept [] r s are e = subst (λ (t : Reading). AreSquares t.squares) (ok_same r s e) are
 lines_kept (line ∷ lines) r s are e =
     let one = read_steps (with_line r line) _ s e in

@@ -37,11 +37,11 @@ found_or fault (Some x) = Ok x
 -- ---- why cells are not listed
 
 abbrev pub listing_fault_number : ListingFault → ℕ
-listing_fault_number listing.TooMany = 23
+listing_fault_number listing.TooManyCells = 23
 listing_fault_number listing.OutOfPlane = 10
 listing_fault_number listing.Memory = 255
 
 abbrev pub listing_fault_text : ListingFault → List ℕ
-listing_fault_text listing.TooMany = codes "TooMany"
+listing_fault_text listing.TooManyCells = codes "TooManyCells"
 listing_fault_text listing.OutOfPlane = codes "OutOfPlane"
 listing_fault_text listing.Memory = codes "Memory"

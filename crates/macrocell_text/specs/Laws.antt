@@ -1,6 +1,6 @@
 -- What the writer of macrocells writes of a square is read back as that square; what the live cells of a square are.
-use Rattle.std.specs.Prelude.{◌≡◌, ◌≢◌, ℕ, ◌+◌, ◌-◌, ◌^◌, ◌≤◌, ◌<◌, true, Contains, List, ◌∷◌, ◌++◌, codes, decimal, ◌==◌, if◌then◌else◌, Option, Some, Result, Ok, slice_get}
-use Rattle.generations_rule.specs.Place.{Place}
+use Rattle.std.specs.Prelude.{◌≡◌, ◌≢◌, ℕ, ◌+◌, ◌-◌, ◌^◌, ◌≤◌, ◌<◌, true, AllPairs, Contains, List, count_by, ◌∷◌, ◌++◌, codes, decimal, ◌==◌, if◌then◌else◌, Option, Some, Ok, slice_get}
+use Rattle.generations_rule.specs.Place.{Place, is_place}
 use Rattle.pattern_cells.specs.declared.cell.Cell.{Cell}
 use Rattle.pattern_cells.specs.Cells.{place_of}
 use Rattle.bitplane_kernel.specs.Square.{state_at}
@@ -11,9 +11,10 @@ use Rattle.macrocell_lines.specs.Listing.{IsSquare}
 use Rattle.macrocell_text.specs.declared.leaves.Leaves.{Leaves}
 use Rattle.macrocell_text.specs.LiveCells.{LiveCell, cells_of_root, live_cells}
 use Rattle.macrocell_text.specs.Maps.{map_of_squares, root_of_squares}
+use Rattle.macrocell_text.specs.Finding.{AreListed}
 use Rattle.macrocell_text.specs.Marks.{rows_told}
 use Rattle.macrocell_text.specs.SquareLines.{is_level, square_numbered}
-use Rattle.macrocell_text.specs.Macrocells.{MacrocellTold}
+use Rattle.macrocell_text.specs.Macrocells.{AreSquares, MacrocellTold}
 use Rattle.macrocell_text.specs.Texts.{macrocell_read, square_numbers}
 
 -- a line of five numbers, without its end
@@ -62,10 +63,6 @@ FindsOnlyLiveCells = (k : ℕ) (q : StateSquare) (column row : ℕ) (cell : Live
 abbrev pub FindsAllLiveCells : Type 0
 FindsAllLiveCells = (k : ℕ) (q : StateSquare) (column row : ℕ) (cell : LiveCell) → IsSquare k q → IsLiveIn k q column row cell → Contains (live_cells (2 ^ k) q column row) cell
 
--- each square has a level from 1 on, and four quarters of the level below
-abbrev pub AreSquares : List StateSquare → Type 0
-AreSquares squares = (i : ℕ) (q : StateSquare) → slice_get squares i ≡ Some q → (1 ≤ level_of q) × IsSquare (level_of q) q
-
 -- the squares that a text tells are such
 abbrev pub TellsSquares : Type 0
 TellsSquares = (text : List ℕ) (told : MacrocellTold) → macrocell_read text ≡ Ok told → AreSquares told.squares
@@ -79,3 +76,12 @@ ListsOnlyMap = (text : List ℕ) (told : MacrocellTold) (cell : Cell) → macroc
 abbrev pub ListsWholeMap : Type 0
 ListsWholeMap = (text : List ℕ) (told : MacrocellTold) (c : Place) → macrocell_read text ≡ Ok told → map_of_squares told.squares c ≢ 0 →
     Contains (cells_of_root (root_of_squares told.squares)) (record { x = c.x; y = c.y; state = map_of_squares told.squares c })
+
+-- no two of the cells that are listed stand at one place
+abbrev pub ListsNoPlaceTwice : Type 0
+ListsNoPlaceTwice = (text : List ℕ) (told : MacrocellTold) → macrocell_read text ≡ Ok told → AllPairs (λ a b. place_of a ≢ place_of b) (cells_of_root (root_of_squares told.squares))
+
+-- each place of the map that is not dead is listed once, and no other
+abbrev pub ListsEachPlaceOnce : Type 0
+ListsEachPlaceOnce = (text : List ℕ) (told : MacrocellTold) (cells : List Cell) (c : Place) → macrocell_read text ≡ Ok told → AreListed told.squares cells →
+    count_by (λ cell. is_place c (place_of cell)) cells ≡ (if map_of_squares told.squares c == 0 then 0 else 1)

@@ -4,6 +4,7 @@ pub mod Numbers
 pub mod SquareLines
 pub mod Heads
 pub mod Macrocells
+pub mod OneProof
 pub mod Texts
 pub mod Readings
 pub mod Maps
@@ -12,3 +13,4 @@ pub mod Finding
 pub mod Standings
 pub mod Rows
 pub mod Laws
+pub mod WrittenTexts

@@ -6,7 +6,7 @@ use Rattle.generations_rule.specs.Refusal.{first_of, when}
 use Rattle.pattern_cells.specs.declared.cell.Cell.{Cell}
 use Rattle.edit_stamps.specs.Plane.{is_coordinate}
 use Rattle.macrocell_text.specs.declared.listing_fault.ListingFault.{ListingFault}
-use Rattle.macrocell_text.specs.declared.listing_fault.ListingFault.TheVariants.{TooMany, OutOfPlane}
+use Rattle.macrocell_text.specs.declared.listing_fault.ListingFault.TheVariants.{TooManyCells, OutOfPlane}
 use Rattle.macrocell_lines.specs.Squares.{StateSquare, Cell as CellSquare, Four, level_of}
 use Rattle.macrocell_text.specs.Maps.{root_of_squares}
 
@@ -53,7 +53,7 @@ most_listed = 16777216
 -- why the cells of squares' map are not listed
 abbrev pub listing_refusal : List StateSquare → Option ListingFault
 listing_refusal squares = first_of (
-    when (nat_lt most_listed (population_of (root_of_squares squares))) TooMany
+    when (nat_lt most_listed (population_of (root_of_squares squares))) TooManyCells
     ∷ when (not (list_all lies_in_plane (cells_of_root (root_of_squares squares)))) OutOfPlane ∷ [])
 
 -- ---- counts that stop

@@ -1,11 +1,12 @@
 -- What a macrocell tells: the rule's text, a generation, and squares, of which the last is the root.
-use Rattle.std.specs.Prelude.{◌≡◌, ℕ, ◌+◌, ◌-◌, ◌*◌, Bool, true, ◌&&◌, nat_le, List, [], ◌∷◌, ◌++◌, fold, map, ◌==◌, if◌then◌else◌, Option, Some, None, slice_get, unwrap_or}
+use Rattle.std.specs.Prelude.{◌≡◌, ℕ, ◌+◌, ◌-◌, ◌*◌, ◌≤◌, Bool, true, ◌&&◌, nat_le, List, [], ◌∷◌, ◌++◌, fold, map, ◌==◌, if◌then◌else◌, Option, Some, None, slice_get, unwrap_or}
 use Rattle.std.specs.Int.{bit_at}
 use Rattle.std.specs.List.{list_all}
 use Rattle.macrocell_text.specs.declared.head.RulePlace.{RulePlace}
 use Rattle.macrocell_text.specs.declared.entry.Entry.{Entry}
 use Rattle.macrocell_text.specs.declared.entry.Entry.TheVariants as entries
 use Rattle.macrocell_lines.specs.Squares.{StateSquare, Cell, Four, level_of, square_of}
+use Rattle.macrocell_lines.specs.Listing.{IsSquare}
 use Rattle.macrocell_text.specs.SquareLines.{dead_square}
 
 -- where a text tells its rule, if it does; the generation, 0 if none is told; and the square of each square line
@@ -33,6 +34,10 @@ entry_square squares (entries.Four level nw ne sw se) =
 
 abbrev pub with_entry : List StateSquare → Entry → List StateSquare
 with_entry squares entry = squares ++ entry_square squares entry ∷ []
+
+-- each square has a level from 1 on, and four quarters of the level below
+abbrev pub AreSquares : List StateSquare → Type 0
+AreSquares squares = (i : ℕ) (q : StateSquare) → slice_get squares i ≡ Some q → (1 ≤ level_of q) × IsSquare (level_of q) q
 
 -- the squares of entries
 abbrev pub squares_of : List Entry → List StateSquare

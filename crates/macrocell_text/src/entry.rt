@@ -22,7 +22,7 @@ impl Entry {
     ghost use Rattle.macrocell_text.specs.Macrocells.{entry_level};
 
     /// The level of its square, which has 2^level columns and rows.
-    pub(crate) fn level(self) -> u8
+    pub fn level(self) -> u8
         ensures { result ≡ entry_level self }
     {
         match self {

@@ -21,9 +21,10 @@ mod square_line;
 mod standing;
 mod text;
 
+pub use entry::Entry;
 pub use fault::MacrocellFault;
 pub use head::RulePlace;
-pub use laws::{cell_laws, line_laws, map_laws};
+pub use laws::{cell_laws, line_laws, map_laws, text_laws};
 pub use listing_fault::ListingFault;
 pub use macrocell::Macrocell;
 pub use text::read_macrocell;

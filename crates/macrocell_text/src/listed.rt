@@ -19,7 +19,7 @@ const MOST_LISTED: u32 = 0x100_0000;
 impl Macrocell {
     /// How many cells of its map are not dead, 2^24 + 1 where there are more. Time goes by square lines. The only
     /// error is want of memory.
-    pub fn population(&self, alloc: Global) -> Result<u32, AllocError>
+    pub fn capped_population(&self, alloc: Global) -> Result<u32, AllocError>
         ensures { IfOk result (λ n. n ≡ min 16777217 (population_of (root_of_squares (macrocell_told self.now).squares))) }
     {
         let counts = counts_of(alloc, &self.entries)?;
@@ -34,7 +34,7 @@ impl Macrocell {
     {
         let counts = counts_of(alloc, &self.entries)?;
         if last_count(&counts) > MOST_LISTED {
-            return Err(ListingFault::TooMany);
+            return Err(ListingFault::TooManyCells);
         }
         cells_found(alloc, &self.entries, &counts)
     }

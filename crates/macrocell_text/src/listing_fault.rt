@@ -10,7 +10,7 @@ use std::fmt;
 #[derive(Clone, Copy, Debug, PartialEq, Eq)]
 pub enum ListingFault {
     /// There are more than 2^24 cells that are not dead.
-    TooMany,
+    TooManyCells,
     /// A cell that is not dead lies outside the plane of coordinates of 32 bits.
     OutOfPlane,
     /// Memory was refused.
@@ -25,7 +25,7 @@ impl ListingFault {
         ensures { result ≡ listing_fault_number self }
     {
         match self {
-            ListingFault::TooMany => 23,
+            ListingFault::TooManyCells => 23,
             ListingFault::OutOfPlane => 10,
             ListingFault::Memory => 255,
         }
@@ -41,7 +41,7 @@ impl fmt::Display for ListingFault {
 
     fn fmt<W: fmt::Write>(&self, f: &mut fmt::Formatter<W>) -> fmt::Result {
         match self {
-            ListingFault::TooMany => f.write_str("TooMany"),
+            ListingFault::TooManyCells => f.write_str("TooManyCells"),
             ListingFault::OutOfPlane => f.write_str("OutOfPlane"),
             ListingFault::Memory => f.write_str("Memory"),
         }

@@ -2,6 +2,7 @@
 
 ghost use Rattle.std.specs.Prelude.{◌≡◌, ◌⊎◌, ◌<◌, ◌^◌, ◌+◌, MatchResult, length, option_map, Ok, Err, IfSome};
 ghost use Rattle.generations_rule.specs.Refusal.{AnswersAs};
+ghost use Rattle.macrocell_text.specs.Macrocells.{AreSquares, squares_of};
 ghost use Rattle.macrocell_text.specs.Readings.{macrocell_told, reading_of};
 ghost use Rattle.macrocell_text.specs.Texts.{is_first_line, lines_left, macrocell_read, told_of, with_lines};
 
@@ -51,6 +52,7 @@ fn lines_told(reader: Reader, lines: Option<&[u8]>) -> Result<Reader, MacrocellF
 
 /// A macrocell of what lines told.
 fn told_of(reader: Reader) -> Macrocell
+    requires { AreSquares (squares_of reader.entries.items) }
     ensures { macrocell_told result ≡ told_of (reading_of reader) }
 {
     let Reader {

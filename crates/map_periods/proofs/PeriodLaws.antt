@@ -1,6 +1,6 @@
 -- Periods.
 use Rattle.std.proofs.Common.{◌≡◌, ℕ, zero, suc, ◌+◌, ◌*◌, ◌<◌, ◌≤◌, refl, sym, ◌∙◌, ap, subst, arith, ℤ, pos, negsuc}
-use Rattle.std.specs.Prelude.{List, ◌+ℤ◌, ◌*ℤ◌, neg_ℤ, Some, None}
+use Rattle.std.specs.Prelude.{List, ◌+ℤ◌, ◌*ℤ◌, neg_ℤ, Some, None, Result, Ok, Err, IfErr, IsErrAnd}
 use Rattle.std.proofs.lemmas.Int.{ints}
 use Rattle.generations_rule.specs.Place.{Place, moved}
 use Rattle.generations_rule.specs.Rule.{GenerationsRule}
@@ -12,7 +12,7 @@ use Rattle.generations_rule.proofs.EvolutionLaws.{runs_compose}
 use Rattle.pattern_turns.proofs.PlaneLaws.{moves_commute}
 use Rattle.map_periods.specs.declared.period.Period.{Period}
 use Rattle.map_periods.specs.Moves.{IsMoved, IsNotMoved, IsTheMove}
-use Rattle.map_periods.specs.Periods.{IsLeastPeriod, IsPeriodOf}
+use Rattle.map_periods.specs.Periods.{IsLeastPeriod, IsPeriodOf, IsRefusedWithin}
 use Rattle.map_periods.specs.Laws.{HasOnePeriod, PeriodsRepeat}
 use Rattle.map_periods.proofs.MoveLaws.{one_move}
 
@@ -72,6 +72,17 @@ none_more r f g passed none not p some within = elim (order p (passed + 1)) [
   | Equal h ↦ subst (λ n. IsNotMoved (at r f g) (at r f (g + n))) (sym h) not
   | Greater h ↦ absurd (omega (arith, h, within))
 ]
+
+-- a refusal behind generations of which none is a period
+pub refused_there : {F : Type 0} (r : GenerationsRule) (f : Place → ℕ) (refuses : ℕ → F → Type 0) (g most passed n : ℕ) (a b : F) → passed < most → n ≡ g + (passed + 1) → b ≡ a → refuses n a → IsPeriodOf r f g passed None →
+    IsRefusedWithin r f refuses g most b
+refused_there r f refuses g most passed n a b more number same refused none =
+    (passed + 1, (omega (arith, more), (subst (λ fault. refuses (g + (passed + 1)) fault) (sym same) (subst (λ m. refuses m a) number refused), λ q some below. none q some (omega (arith, below)))))
+
+-- the end of a call by another's fault
+pub at_end : {A F : Type 0} (result : Result A F) (Q P : F → Type 0) → IsErrAnd result Q → ((e : F) → Q e → P e) → IfErr result P
+at_end (Ok x) Q P h told = tt
+at_end (Err e) Q P h told = told e h
 
 pub none_in_all : (r : GenerationsRule) (f : Place → ℕ) (g most passed : ℕ) → most ≤ passed → IsPeriodOf r f g passed None → IsPeriodOf r f g most None
 none_in_all r f g most passed all none p some within = none p some (omega (arith, all, within))

@@ -18,9 +18,13 @@ abbrev pub IsPeriodOf : GenerationsRule → (Place → ℕ) → ℕ → ℕ → 
 IsPeriodOf r f g most None = (p : ℕ) → 1 ≤ p → p ≤ most → IsNotMoved (at r f g) (at r f (g + p))
 IsPeriodOf r f g most (Some period) = IsLeastPeriod r f g most period
 
--- one of the generations from g to g + most is refused so
-abbrev pub IsRefusedWithin : {F : Type 0} → (ℕ → F → Type 0) → ℕ → ℕ → F → Type 0
-IsRefusedWithin refuses g most fault = (p : ℕ) × ((p ≤ most) × refuses (g + p) fault)
+-- in fewer generations than p what stands at generation g does not stand moved
+abbrev pub HasNoPeriodBelow : GenerationsRule → (Place → ℕ) → ℕ → ℕ → Type 0
+HasNoPeriodBelow r f g p = (q : ℕ) → 1 ≤ q → q < p → IsNotMoved (at r f g) (at r f (g + q))
+
+-- one of the generations from g to g + most is refused so, and no period is met before it
+abbrev pub IsRefusedWithin : {F : Type 0} → GenerationsRule → (Place → ℕ) → (ℕ → F → Type 0) → ℕ → ℕ → F → Type 0
+IsRefusedWithin r f refuses g most fault = (p : ℕ) × ((p ≤ most) × (refuses (g + p) fault × HasNoPeriodBelow r f g p))
 
 -- each generation that is refused so now was so before
 abbrev pub RefusesNoMore : {F : Type 0} → (ℕ → F → Type 0) → (ℕ → F → Type 0) → Type 0

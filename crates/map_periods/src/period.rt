@@ -14,7 +14,7 @@ pub struct Period {
 }
 
 /// The least period from 1 to `most` of what stands at generation `first`, if there is one. Generations are asked for
-/// one after another, and the first refusal of one is answered.
+/// one after another, and the first refusal of one is answered, where no period was met before.
 pub fn period_of<G: Generations>(
     generations: &mut G,
     first: u32,
@@ -22,7 +22,7 @@ pub fn period_of<G: Generations>(
 ) -> Result<Option<Period>, G::Fault>
     requires { first ≤ 2 ^ 29 }
     ensures period { IfOk result (IsPeriodOf (G.rule_of generations.old) (G.map_of generations.old) first most) }
-    ensures refused { IfErr result (IsRefusedWithin (G.refuses generations.old) first most) }
+    ensures refused { IfErr result (IsRefusedWithin (G.rule_of generations.old) (G.map_of generations.old) (G.refuses generations.old) first most) }
 {
     let before = generations.cells(first)?;
     for passed in 0..most {

@@ -1,2 +1,3 @@
 pub mod SavedLaws
 pub mod OpeningLaws
+pub mod MacrocellLaws

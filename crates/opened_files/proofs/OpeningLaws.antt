@@ -17,7 +17,8 @@ use Rattle.delta_exchange.specs.Versions.{IsReadableStateText}
 use Rattle.replica_core.specs.Replica.{ReplicaState}
 use Rattle.replica_core.specs.declared.fault.Fault.TheVariants as faults
 use Rattle.opened_files.specs.Saved.{IsSaved}
-use Rattle.opened_files.specs.Opening.{OpensBoard, RefusesBoard, suffice, unopened_by}
+use Rattle.opened_files.specs.Counters.{suffice}
+use Rattle.opened_files.specs.Opening.{OpensBoard, RefusesBoard, unopened_by}
 use Rattle.opened_files.specs.Opening.RefusesBoard.{clock_full, unread}
 
 -- counters do not suffice for a board

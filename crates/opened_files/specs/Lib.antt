@@ -1,2 +1,4 @@
+pub mod Counters
 pub mod Opening
+pub mod Macrocells
 pub mod Saved

@@ -4,7 +4,7 @@ ghost use Rattle.std.specs.Prelude.{◌≡◌, ◌<◌, ◌^◌, ℕ, IfOk, leng
 ghost use Rattle.edit_stamps.specs.PlaneMap.{IsGreatestStamp};
 ghost use Rattle.replica_events.specs.declared.edit_spec.EditSpec.TheVariants.{Cells};
 ghost use Rattle.stamped_tree.specs.Plane.{map_of};
-ghost use Rattle.opened_files.specs.Opening.{edits_for, suffice};
+ghost use Rattle.opened_files.specs.Counters.{edits_for, suffice};
 
 use edit_stamps::{MOST_CELLS, Stamp, counter_of};
 use pattern_cells::Cell;

@@ -83,7 +83,7 @@ impl FileKind {
             FileKind::ByteOrderMark => "begins with a byte order mark: save it without one",
             FileKind::Gzip => "is packed by gzip: unpack it, as by `gzip -d`",
             FileKind::Zip => "is a zip archive: unpack it",
-            FileKind::Macrocell => "is a macrocell: open it in Golly and save it as RLE",
+            FileKind::Macrocell => "is a macrocell: `genedit convert` makes RLE of it",
             FileKind::Life105 => "is of the form Life 1.05: open it in Golly and save it as RLE",
             FileKind::Life106 => "is of the form Life 1.06: open it in Golly and save it as RLE",
             FileKind::MCell => "is of MCell: `genedit convert` makes RLE of it",

@@ -7,7 +7,7 @@ use crate::misfit::misfit;
 use crate::nearest::nearest;
 use crate::reason::Reason;
 use crate::word::{Word, Words};
-use command_words::{Argument, Dialect, Keyword};
+use command_words::{Argument, Dialect, Keyword, is_film_name, range_in};
 use generations_rule::RuleFault;
 use std::alloc::{AllocError, Global};
 
@@ -110,12 +110,40 @@ fn spoken_finding(
 {
     match dialect.keyword(word.text) {
         Some(Keyword::End) => Ok(word.finding(Reason::NoBlock)),
-        Some(keyword) => Ok(arguments_finding(dialect, keyword, words)),
+        Some(keyword) => match film_finding(dialect, keyword, words) {
+            Some(finding) => Ok(finding),
+            None => Ok(arguments_finding(dialect, keyword, words)),
+        },
         None if dialect.other().keyword(word.text).is_some() => {
             Ok(word.finding(Reason::OtherDialect))
         }
         None => Ok(word.finding(Reason::NoCommand(nearest(alloc, dialect, word.text)?))),
     }
+}
+
+/// The file of a client's export of a range, where a film's files cannot have its name, or none is named.
+fn film_finding(dialect: Dialect, keyword: Keyword, mut words: Words<'_>) -> Option<Finding>
+    ensures { IfSome result (λ finding. StandsIn finding words.entry.line.now) }
+{
+    if dialect != Dialect::Client || !is_export(keyword) {
+        return None;
+    }
+    let _range = range_in(words.next_word()?.text)?;
+    let Some(file) = words.next_word() else {
+        return Some(Finding {
+            column: words.end(),
+            width: 1,
+            reason: Reason::NoFilm,
+        });
+    };
+    if is_film_name(file.text) || words.next_word().is_some() {
+        return None;
+    }
+    Some(file.finding(Reason::NoFilm))
+}
+
+fn is_export(keyword: Keyword) -> bool {
+    matches!(keyword, Keyword::Export | Keyword::ExportOver)
 }
 
 /// What is wrong with a line that opens a block.

@@ -10,6 +10,7 @@ pub fn misfit(argument: Argument, word: &[u8]) -> Reason {
         Argument::Rule => rule_misfit(word),
         Argument::Name | Argument::NewName => Reason::NoName,
         Argument::Turn => Reason::NoTurn,
+        Argument::Generations if has_dots(word) => Reason::NoRange,
         _ if word.first() == Some(&b'#') => Reason::Remark,
         _ if is_whole_number(word) => Reason::OutOfRange(argument),
         _ => Reason::NoNumber(argument),
@@ -23,6 +24,11 @@ fn is_whole_number(word: &[u8]) -> bool {
         _ => word,
     };
     !digits.is_empty() && digits.iter().all(|byte| byte.is_ascii_digit())
+}
+
+/// Whether two dots stand in a word one behind the other, as in a range.
+fn has_dots(word: &[u8]) -> bool {
+    word.windows(2).any(|pair| pair == b"..".as_slice())
 }
 
 fn rule_misfit(word: &[u8]) -> Reason {

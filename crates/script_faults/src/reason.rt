@@ -29,6 +29,10 @@ pub enum Reason {
     NoName,
     /// The word is no turn.
     NoTurn,
+    /// The word is no range of generations.
+    NoRange,
+    /// A range of generations is exported, and its files cannot have the name that stands here, or none does.
+    NoFilm,
     /// The rule is spelt as Golly spells it too, and a script does not.
     OtherSpelling,
     /// The rule is of another family.

@@ -43,6 +43,11 @@ pub fn reason_text(
                 shown(alloc, word)?
             )
         }
+        Reason::NoRange => no_range_text(alloc, word),
+        Reason::NoFilm => String::from_str(
+            alloc,
+            "a range is exported to files: `export G1..G2 FILE`, and one % in FILE stands for the generation",
+        ),
         Reason::OtherSpelling => other_spelling_text(alloc, word),
         Reason::OtherFamily(family) => other_family_text(alloc, family, word),
         Reason::NoRule(fault) => no_rule_text(alloc, fault, word),
@@ -220,6 +225,13 @@ fn no_number_text(alloc: Global, argument: Argument, word: &[u8]) -> Result<Stri
         "`{word}` is no whole number: {} is {}",
         argument.name(),
         argument.range()
+    )
+}
+
+fn no_range_text(alloc: Global, word: &[u8]) -> Result<String, AllocError> {
+    let word = shown(alloc, word)?;
+    format!(in alloc;
+        "`{word}` is no range: G1..G2 or G1..G2/STEP, in numbers up to 4294967295, G1 at most G2, STEP at least 1"
     )
 }
 

@@ -5,7 +5,7 @@ use Rattle.std.proofs.lemmas.Bool.{cases_lt}
 use Rattle.square_store.specs.Grid.{Grid, blank_grid, quartered, AreSameWithin}
 use Rattle.square_store.specs.Squares.{Held, IsAt, side_at, grid_at, four_grid, Draws}
 use Rattle.square_store.specs.Seen.{AreAt, AreQuartersAt, IsBlankAt}
-use Rattle.square_store.specs.Store.{IsGrown}
+use Rattle.square_store.specs.Store.{IsGrown, IsNoneKept}
 use Rattle.square_store.proofs.Quarters.{twice, quarter_nw, quarter_ne, quarter_sw, quarter_se, each_quarter}
 
 -- a square is twice as wide as one of the level below
@@ -42,6 +42,9 @@ quarters_same n a b c d g ea eb ec ed u v hu hv =
             ap (λ z. quartered n a b c d z v) (sym e) ∙ ap (λ z. quartered n a b c d (n + (u - n)) z) (sym f) ∙ quarter_se n a b c d (u - n) (v - n) ∙ ed (u - n) (v - n) l m ∙ ap (λ z. g z (n + (v - n))) e ∙ ap (λ z. g u z) f)
       ])
     ]
+
+pub none_more : {L : Type 0} (s t r : Held L) → IsNoneKept s t → IsNoneKept t r → IsNoneKept s r
+none_more s t r g h p x at = g p x (h p x at)
 
 module _ {L : Type 0} (writes : L → Grid) (side : ℕ) where
   pub grown_more : (s t r : Held L) → IsGrown writes side s t → IsGrown writes side t r → IsGrown writes side s r

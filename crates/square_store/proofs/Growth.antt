@@ -3,6 +3,7 @@ use Rattle.std.proofs.Common.{◌≡◌, ℕ, zero, suc, ◌-◌, ◌<◌, ◌�
 use Rattle.std.specs.Prelude.{slice_get, Option, None, Some}
 use Rattle.std.proofs.lemmas.Option.{slice_get_cases, slice_get_within}
 use Rattle.std.proofs.lemmas.Bool.{cases_lt}
+use Rattle.square_store.specs.declared.first_result.FirstResult.{FirstResult}
 use Rattle.square_store.specs.declared.node.Node.{Node}
 use Rattle.square_store.specs.declared.node.Node.TheVariants.{Blank, Leaf, Four}
 use Rattle.square_store.specs.Grid.{Grid, quartered, IsSpeltWithin}
@@ -37,10 +38,10 @@ pub longer : {A : Type 0} (xs : List A) (x : A) → length (xs ++ x ∷ []) ≡ 
 longer {A} xs x = omega (arith, length-append {A = A})
 
 abbrev pub with_node : {L : Type 0} → Held L → Node → Held L
-with_node s x = record { leaves = s.leaves; squares = s.squares ++ x ∷ []; room = s.room }
+with_node s x = record { leaves = s.leaves; squares = s.squares ++ x ∷ []; firsts = s.firsts ++ None ∷ []; room = s.room }
 
 abbrev pub with_leaf : {L : Type 0} → Held L → L → Held L
-with_leaf s l = record { leaves = s.leaves ++ l ∷ []; squares = s.squares ++ Leaf (length s.leaves) ∷ []; room = s.room }
+with_leaf s l = record { leaves = s.leaves ++ l ∷ []; squares = s.squares ++ Leaf (length s.leaves) ∷ []; firsts = s.firsts ++ None ∷ []; room = s.room }
 
 pub extends_node : {L : Type 0} (s : Held L) (x : Node) → Extends s (with_node s x)
 extends_node s x = record { leaves = λ q l at. at; squares = λ p y at. got_append s.squares (x ∷ []) p y at }
@@ -212,7 +213,10 @@ module _ {L : Type 0} (writes : L → Grid) (side : ℕ) (IsLeaf : L → Type 0)
   }
 
   -- the summaries of what stood, and that of the new square
-  module _ {S : Type 0} (IsSummary : ℕ → Grid → S → Type 0) (summaries : List S) (long : length summaries ≡ length old.squares) (are : AreSummaries writes side IsSummary old summaries) where
+  module _ {S : Type 0} (IsSummary : ℕ → Grid → S → Type 0) (summaries : List S) (are : AreSummaries writes side IsSummary old summaries) where
+    long : length summaries ≡ length old.squares
+    long = are.as_many
+
     stood : (x : Node) (new : Held L) → new.squares ≡ old.squares ++ x ∷ [] → (k p : ℕ) → p < length old.squares → IsAt new k p → IsAt old k p
     stood x new e k p within h = go (slice_get new.squares p) refl
       where
@@ -228,6 +232,7 @@ module _ {L : Type 0} (writes : L → Grid) (side : ℕ) (IsLeaf : L → Type 0)
 
     pub summaries_node : (x : Node) (summary : S) → IsAbsentNode old x → IsWanted old x → IsSummed writes side IsSummary old x summary → AreSummaries writes side IsSummary (with_node old x) (summaries ++ summary ∷ [])
     summaries_node x summary absent wanted summed = record {
+      as_many = longer summaries summary ∙ ap suc long ∙ sym (longer old.squares x);
       each = λ k p y h at. elim (got_more summaries summary p y at) [
         | inl there ↦ summary_kept x (with_node old x) (extends_node old x) refl k p y h there
         | inr new ↦ (let e : p ≡ length old.squares = new.0 ∙ long in made k p y e new.1 h)
@@ -243,6 +248,7 @@ module _ {L : Type 0} (writes : L → Grid) (side : ℕ) (IsLeaf : L → Type 0)
 
     pub summaries_leaf : (l : L) (summary : S) → IsSummary side (writes l) summary → AreSummaries writes side IsSummary (with_leaf old l) (summaries ++ summary ∷ [])
     summaries_leaf l summary summed = record {
+      as_many = longer summaries summary ∙ ap suc long ∙ sym (longer old.squares (Leaf (length old.leaves)));
       each = λ k p y h at. elim (got_more summaries summary p y at) [
         | inl there ↦ summary_kept (Leaf (length old.leaves)) (with_leaf old l) (extends_leaf old l) refl k p y h there
         | inr new ↦ (let e : p ≡ length old.squares = new.0 ∙ long in made k p y e new.1 h)
@@ -258,3 +264,38 @@ module _ {L : Type 0} (writes : L → Grid) (side : ℕ) (IsLeaf : L → Type 0)
             subst (λ z. IsSummary (side_at side k) (grid_at writes side (with_leaf old l) k p) z) (sym f)
             (subst (λ j. IsSummary (side_at side j) (grid_at writes side (with_leaf old l) j p) summary) (sym level)
             (subst (λ g. IsSummary (side_at side 0) g summary) (sym w) (subst (λ n. IsSummary n (writes l) summary) (sym whole) summed)))
+
+-- the same store with other results
+abbrev pub with_firsts : {L : Type 0} → Held L → List (Option FirstResult) → Held L
+with_firsts s firsts = record { leaves = s.leaves; squares = s.squares; firsts = firsts; room = s.room }
+
+module _ {L : Type 0} (writes : L → Grid) (side : ℕ) (IsLeaf : L → Type 0) (s : Held L) (is : IsStore writes side IsLeaf s) where
+  extends_kept : (firsts : List (Option FirstResult)) → Extends s (with_firsts s firsts)
+  extends_kept firsts = record { leaves = λ q l at. at; squares = λ p x at. at }
+
+  pub kept_store : (firsts : List (Option FirstResult)) → IsStore writes side IsLeaf (with_firsts s firsts)
+  kept_store firsts = record {
+    canonical = record {
+      once = is.canonical.once;
+      leaf_once = is.canonical.leaf_once;
+      leaf = is.canonical.leaf;
+      spelt = is.canonical.spelt;
+      named = is.canonical.named;
+      leaf_within = is.canonical.leaf_within;
+      parts = λ p k a b c d at. parts_stay s (with_firsts s firsts) (extends_kept firsts) k a b c d (is.canonical.parts p k a b c d at);
+      four = is.canonical.four;
+    };
+    few_leaves = is.few_leaves;
+    few_squares = is.few_squares;
+  }
+
+  pub kept_summaries : {S : Type 0} (IsSummary : ℕ → Grid → S → Type 0) (summaries : List S) → AreSummaries writes side IsSummary s summaries → (firsts : List (Option FirstResult)) → AreSummaries writes side IsSummary (with_firsts s firsts) summaries
+  kept_summaries IsSummary summaries are firsts = record {
+    as_many = are.as_many;
+    each = λ k p x at there.
+        (let stood = stays_at (with_firsts s firsts) s (record { leaves = λ q l at. at; squares = λ p x at. at }) k p at in
+        subst (λ f. IsSummary (side_at side k) f x) (sym (same_writes writes side IsLeaf s is.canonical (with_firsts s firsts) (extends_kept firsts) k p stood)) (are.each k p x stood there));
+  }
+
+  pub kept_grown : (firsts : List (Option FirstResult)) → IsGrown writes side s (with_firsts s firsts)
+  kept_grown firsts = grown writes side IsLeaf s is (with_firsts s firsts) refl (omega arith) (extends_kept firsts)

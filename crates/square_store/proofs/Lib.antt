@@ -7,3 +7,6 @@ pub mod Made
 pub mod Nodes
 pub mod PieceLaws
 pub mod Counting
+pub mod Bits
+pub mod Chains
+pub mod Tables

@@ -3,11 +3,9 @@ use Rattle.std.proofs.Common.{arith, ◌≡◌, ℕ, zero, suc, ◌<◌, Bool, t
 use borrow.Author.Tests.{ltb-false}
 use Rattle.std.specs.Prelude.{slice_get, Some, None, Decides, nat_lt}
 use Rattle.std.specs.List.{position, position_or_len, list_any}
-use Rattle.std.specs.Map.{keys_of, values_of}
 use Rattle.std.proofs.lemmas.List.Quantifiers.{position-Some}
 use Rattle.std.proofs.lemmas.List.Sums.{position_or_len_is, fails_before_first}
 use Rattle.std.proofs.lemmas.Option.{slice_get_within, slice_get-get_or, get_or_from_slice_get}
-use Rattle.indexmap.specs.IndexMap.{insert_entry}
 
 pub got_append : {A : Type 0} (xs ys : List A) (i : ℕ) (x : A) → slice_get xs i ≡ Some x → slice_get (xs ++ ys) i ≡ Some x
 got_append [] ys i x e = cc
@@ -50,14 +48,6 @@ once_more ks x once missing p q y at at' = elim (got_more ks x p y at) [
   ]
 ]
 
-pub keys_more : {K V : Type 0} (es : List (K × V)) (k : K) (v : V) → keys_of (es ++ (k, v) ∷ []) ≡ keys_of es ++ k ∷ []
-keys_more [] k v = refl
-keys_more (e ∷ es) k v = ap (λ l. e.0 ∷ l) (keys_more es k v)
-
-pub values_more : {K V : Type 0} (es : List (K × V)) (k : K) (v : V) → values_of (es ++ (k, v) ∷ []) ≡ values_of es ++ v ∷ []
-values_more [] k v = refl
-values_more (e ∷ es) k v = ap (λ l. e.1 ∷ l) (values_more es k v)
-
 module _ {T : Type 0} (eq : T → T → Bool) (same : (a b : T) → Decides (eq a b) (a ≡ b)) where
   module _ (x : T) where
     -- x is none of the keys
@@ -80,10 +70,6 @@ module _ {T : Type 0} (eq : T → T → Bool) (same : (a b : T) → Decides (eq 
 
     pub missing_place : (ks : List T) → IsMissing ks → position_or_len (eq x) ks ≡ length ks
     missing_place ks h = position_or_len_is (eq x) ks (length ks) x (omega arith) (λ k within. fails_all ks h k x within) (λ below. absurd (omega arith))
-
-    pub missing_entry : {V : Type 0} (es : List (T × V)) (v : V) → IsMissing (keys_of es) → insert_entry eq es x v ≡ es ++ (x, v) ∷ []
-    missing_entry [] v h = refl
-    missing_entry (e ∷ es) v h = rw (fails e.0 (λ z. h 0 (ap (λ z. Some z) (sym z)))) (ap (λ l. e ∷ l) (missing_entry es v (λ p at. h (suc p) at)))
 
     found_here : (y : T) → Some y ≡ Some x → eq x y ≡ true
     found_here y e = (same x y).1 (sym (some_inj e))

@@ -1,15 +1,15 @@
 -- What was added draws what it should, and was not there.
-use Rattle.std.proofs.Common.{◌≡◌, ℕ, zero, suc, ◌+◌, ◌-◌, ◌<◌, [], ◌∷◌, length, refl, sym, ap, ◌∙◌, arith, subst}
+use Rattle.std.proofs.Common.{◌≡◌, ℕ, zero, suc, ◌+◌, ◌-◌, ◌<◌, inl, inr, [], ◌∷◌, ◌++◌, length, refl, sym, ap, ◌∙◌, arith, subst}
 use Rattle.std.specs.Prelude.{slice_get, slice_index_or, Option, None, Some, Result, Err}
 use Rattle.std.specs.Result.{IsErrAnd}
 use Rattle.square_store.specs.declared.node.Node.{Node}
 use Rattle.square_store.specs.declared.node.Node.TheVariants.{Blank, Leaf, Four}
 use Rattle.square_store.specs.Grid.{Grid, blank_grid, quartered, AreSameWithin, IsBlankWithin, IsSpeltWithin}
 use Rattle.square_store.specs.Squares.{Held, side_at, IsAt, grid_at, quarters_grid, Draws}
-use Rattle.square_store.specs.Store.{HasParts, IsCanonical, IsStore, IsAbsent, IsGrown, IsAdded, Stood, Added, IsFullFor, IsRoomFor}
+use Rattle.square_store.specs.Store.{HasParts, IsCanonical, IsStore, IsAbsent, IsGrown, IsAdded, IsNoneKept, Stood, Added, IsFullFor, IsRoomFor}
 use Rattle.square_store.specs.Steps.{node_grid, IsBlankNode, IsOneBlank, IsAbsentNode, IsAbsentLeaf, IsPlaceOfLeaf, IsWanted, IsPushed, IsLeafPushed, IsLeafEntered, LeafStood, LeafAdded}
 use Rattle.square_store.specs.Seen.{IsBlankAt, IsLeafAt, IsFourAt}
-use Rattle.square_store.proofs.Lists.{got_last}
+use Rattle.square_store.proofs.Lists.{got_last, got_more}
 use Rattle.square_store.proofs.Quarters.{twice, quarters_of, same_quarters, blank_quarters}
 use Rattle.square_store.proofs.Places.{at_node, node_at, blank_at, blank_writes, leaf_writes, four_writes, parts_below, leaf_at, blank_place, same_place}
 use Rattle.square_store.proofs.Growth.{Extends, same_writes, with_node, with_leaf, extends_node, longer, grown_node, grown_leaf}
@@ -187,6 +187,16 @@ four_summed writes side IsSummary s k a b c d x h summed j e =
     subst (λ i. IsSummary (side_at side i) (node_grid writes side s i (Some (Four k a b c d))) x) up
     (subst (λ n. IsSummary n (quarters_grid writes side s (k - 1) a b c d) x) (sym (twice side (k - 1))) summed)
 
+-- of a square that went last no result is kept
+none_last : {L : Type 0} (old new : Held L) → new.firsts ≡ old.firsts ++ None ∷ [] → IsNoneKept old new
+none_last old new e p x at = elim (got_more old.firsts None p (Some x) (ap (λ l. slice_get l p) (sym e) ∙ at)) [
+  | inl there ↦ there
+  | inr last ↦ absurd (no_result last.1)
+]
+  where
+    no_result : {A : Type 0} {y : A} → Some y ≡ None → ⊥
+    no_result z = cc
+
 -- a node that went last
 module _ {L : Type 0} (writes : L → Grid) (side : ℕ) (old new : Held L) (x : Node) (p : ℕ) (pushed : IsPushed old new x p) where
   pub pushed_there : slice_get new.squares p ≡ Some x
@@ -197,6 +207,9 @@ module _ {L : Type 0} (writes : L → Grid) (side : ℕ) (old new : Held L) (x :
 
   pub pushed_grown : (IsLeaf : L → Type 0) → IsStore writes side IsLeaf old → IsGrown writes side old new
   pushed_grown IsLeaf is = subst (λ s. IsGrown writes side old s) (sym pushed.whole) (grown_node writes side IsLeaf old is x)
+
+  pub pushed_firsts : IsNoneKept old new
+  pushed_firsts = none_last old new (ap (λ s. s.firsts) pushed.whole)
 
   pub pushed_added : (k : ℕ) (f : Grid) → IsAbsent writes side old k f → IsAdded writes side old new k f p
   pushed_added k f absent = Added absent pushed.place (ap (λ s. length s.squares) pushed.whole ∙ longer old.squares x)
@@ -213,6 +226,9 @@ module _ {L : Type 0} (writes : L → Grid) (side : ℕ) (old new : Held L) (l :
   pub leaf_pushed_grown : (IsLeaf : L → Type 0) → IsStore writes side IsLeaf old → IsGrown writes side old new
   leaf_pushed_grown IsLeaf is = subst (λ s. IsGrown writes side old s) (sym pushed.whole) (grown_leaf writes side IsLeaf old is l)
 
+  pub leaf_pushed_firsts : IsNoneKept old new
+  leaf_pushed_firsts = none_last old new (ap (λ s. s.firsts) pushed.whole)
+
   pub leaf_pushed_added : (k : ℕ) (f : Grid) → IsAbsent writes side old k f → IsAdded writes side old new k f p
   leaf_pushed_added k f absent = Added absent pushed.place (ap (λ s. length s.squares) pushed.whole ∙ longer old.squares (Leaf (length old.leaves)))
 
@@ -221,6 +237,10 @@ module _ {L : Type 0} (writes : L → Grid) (side : ℕ) (old new : Held L) (l :
   pub entered_there : IsLeafEntered old new l p → IsPlaceOfLeaf new l p
   entered_there (LeafStood same there) = subst (λ s. IsPlaceOfLeaf s l p) (sym same) there
   entered_there (LeafAdded absent pushed) = leaf_pushed_there writes side old new l p pushed
+
+  pub entered_firsts : IsLeafEntered old new l p → IsNoneKept old new
+  entered_firsts (LeafStood same there) = subst (λ s. IsNoneKept old s) (sym same) (λ q x at. at)
+  entered_firsts (LeafAdded absent pushed) = leaf_pushed_firsts writes side old new l p pushed
 
   pub entered_added : IsLeafEntered old new l p → (k : ℕ) (f : Grid) → (IsAbsentLeaf old l → IsAbsent writes side old k f) → IsAdded writes side old new k f p
   entered_added (LeafStood same there) k f absent_as = Stood same

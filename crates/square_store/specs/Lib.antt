@@ -1,5 +1,7 @@
 pub mod Grid
 pub mod Squares
+pub mod Groups
+pub mod Stored
 pub mod Limits
 pub mod Store
 pub mod Pieces

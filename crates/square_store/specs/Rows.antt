@@ -1,5 +1,5 @@
 -- Worked values of the definitions, over leaves of one write.
-use Rattle.std.specs.Prelude.{◌≡◌, [], ◌∷◌, refl}
+use Rattle.std.specs.Prelude.{◌≡◌, None, [], ◌∷◌, refl}
 use Rattle.stamped_writes.specs.declared.write.Write.{Write}
 use Rattle.stamped_writes.specs.Write.{unwritten}
 use Rattle.square_store.specs.declared.node.Node.TheVariants.{Blank, Leaf, Four}
@@ -16,7 +16,7 @@ live = record { stamp = 65537; state = 1 }
 
 -- a blank of stamp 0, a live leaf, and two squares that differ in their level alone
 abbrev four_squares : Held Write
-four_squares = record { leaves = live ∷ []; squares = Blank 0 ∷ Leaf 0 ∷ Four 1 0 1 0 0 ∷ Four 2 0 2 2 0 ∷ []; room = 4 }
+four_squares = record { leaves = live ∷ []; squares = Blank 0 ∷ Leaf 0 ∷ Four 1 0 1 0 0 ∷ Four 2 0 2 2 0 ∷ []; firsts = None ∷ None ∷ None ∷ None ∷ []; room = 4 }
 
 -- leaves of 8 columns: level 28 has 2^31
 pub plane_side : side_at 8 28 ≡ 2147483648

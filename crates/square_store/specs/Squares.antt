@@ -1,13 +1,15 @@
 -- What a place in a store means, over leaves of any kind.
 use Rattle.std.specs.Prelude.{◌≡◌, ℕ, zero, suc, ◌*◌, ◌^◌, List, slice_get, slice_index_or, Option, None, Some}
+use Rattle.square_store.specs.declared.first_result.FirstResult.{FirstResult}
 use Rattle.square_store.specs.declared.node.Node.{Node}
 use Rattle.square_store.specs.declared.node.Node.TheVariants.{Blank, Leaf, Four}
 use Rattle.square_store.specs.Grid.{Grid, blank_grid, quartered, AreSameWithin}
 
--- the leaves and the squares that a store holds, and how many squares it has room for
+-- the leaves and the squares that a store holds, the first result that is kept of each square, if any, and how many squares the store has room for
 pub record Held (L : Type 0) : Type 0 where
   pub leaves : List L
   pub squares : List Node
+  pub firsts : List (Option FirstResult)
   pub room : ℕ
 
 -- the side of a square of level k, where leaves are of level 0

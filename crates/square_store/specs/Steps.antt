@@ -50,12 +50,12 @@ IsSummed writes side IsSummary s x summary = (k : ℕ) → HasLevel k (Some x) �
 -- a node went last
 pub record IsPushed {L : Type 0} (old new : Held L) (x : Node) (p : ℕ) : Type 0 where
   pub place : p ≡ length old.squares
-  pub whole : new ≡ record { leaves = old.leaves; squares = old.squares ++ x ∷ []; room = old.room }
+  pub whole : new ≡ record { leaves = old.leaves; squares = old.squares ++ x ∷ []; firsts = old.firsts ++ None ∷ []; room = old.room }
 
 -- a leaf went last, and its square
 pub record IsLeafPushed {L : Type 0} (old new : Held L) (l : L) (p : ℕ) : Type 0 where
   pub place : p ≡ length old.squares
-  pub whole : new ≡ record { leaves = old.leaves ++ l ∷ []; squares = old.squares ++ Leaf (length old.leaves) ∷ []; room = old.room }
+  pub whole : new ≡ record { leaves = old.leaves ++ l ∷ []; squares = old.squares ++ Leaf (length old.leaves) ∷ []; firsts = old.firsts ++ None ∷ []; room = old.room }
 
 -- a leaf has its square at p: it stood there, or went last
 pub data IsLeafEntered {L : Type 0} (old new : Held L) (l : L) (p : ℕ) : Type 0 where

@@ -1,5 +1,6 @@
 -- What holds of every store, and what a call makes of one.
-use Rattle.std.specs.Prelude.{◌≡◌, ℕ, suc, ◌-◌, ◌<◌, ◌≤◌, List, [], length, slice_get, Some}
+use Rattle.std.specs.Prelude.{◌≡◌, ℕ, suc, ◌-◌, ◌<◌, ◌≤◌, List, [], length, slice_get, slice_set, Some}
+use Rattle.square_store.specs.declared.first_result.FirstResult.{FirstResult}
 use Rattle.square_store.specs.declared.node.Node.{Node}
 use Rattle.square_store.specs.declared.node.Node.TheVariants.{Blank, Leaf, Four}
 use Rattle.square_store.specs.Grid.{Grid, AreSameWithin, IsSpeltWithin}
@@ -32,11 +33,12 @@ pub record IsStore {L : Type 0} (writes : L → Grid) (side : ℕ) (IsLeaf : L �
 
 -- each square has the summary beside it that it should
 pub record AreSummaries {L S : Type 0} (writes : L → Grid) (side : ℕ) (IsSummary : ℕ → Grid → S → Type 0) (s : Held L) (summaries : List S) : Type 0 where
+  pub as_many : length summaries ≡ length s.squares
   pub each : (k p : ℕ) (x : S) → IsAt s k p → slice_get summaries p ≡ Some x → IsSummary (side_at side k) (grid_at writes side s k p) x
 
 -- a store of nothing
 abbrev pub nothing_held : {L : Type 0} → ℕ → Held L
-nothing_held room = record { leaves = []; squares = []; room = room }
+nothing_held room = record { leaves = []; squares = []; firsts = []; room = room }
 
 -- a place has a square
 abbrev pub IsHeld : {L : Type 0} → Held L → ℕ → Type 0
@@ -48,6 +50,14 @@ pub record IsGrown {L : Type 0} (writes : L → Grid) (side : ℕ) (old new : He
   pub held : (p : ℕ) → IsHeld old p → IsHeld new p
   pub stands : (k p : ℕ) → IsAt old k p → IsAt new k p
   pub same : (k p : ℕ) → IsAt old k p → grid_at writes side new k p ≡ grid_at writes side old k p
+
+-- no result is new
+abbrev pub IsNoneKept : {L : Type 0} → (old new : Held L) → Type 0
+IsNoneKept old new = (p : ℕ) (x : FirstResult) → slice_get new.firsts p ≡ Some (Some x) → slice_get old.firsts p ≡ Some (Some x)
+
+-- a result was kept of the square at p
+abbrev pub with_first : {L : Type 0} → Held L → ℕ → FirstResult → Held L
+with_first s p x = record { leaves = s.leaves; squares = s.squares; firsts = slice_set s.firsts p (Some x); room = s.room }
 
 -- no square of level k has the writes of f
 abbrev pub IsAbsent : {L : Type 0} → (L → Grid) → ℕ → Held L → ℕ → Grid → Type 0

@@ -6,14 +6,20 @@
 #![tactic(auto)]
 
 mod fault;
+mod first_result;
+mod group;
+mod groups;
 mod kind;
 mod limits;
 mod node;
 mod part;
 mod square;
 mod store;
+mod stored;
+mod table;
 
 pub use fault::StoreFault;
+pub use first_result::FirstResult;
 pub use kind::LeafKind;
 pub use limits::{Limits, ROOM};
 pub use part::Part;

@@ -1,19 +1,22 @@
 //! Squares over leaves, each once.
 
-ghost use Rattle.std.specs.Prelude.{◌≡◌, ◌-◌, ◌<◌, ◌↔◌, ◌∷◌, ◌++◌, ℕ, [], IsTrue, IfOk, OnErr, IfSome, IfNone, Some, Err, length, slice_get};
+ghost use Rattle.std.specs.Prelude.{◌≡◌, ◌-◌, ◌<◌, ◌↔◌, ◌∷◌, ◌++◌, ℕ, [], IsTrue, IfOk, OnErr, IfSome, IfNone, Some, Err, length, slice_get, if◌then◌else◌};
+ghost use Rattle.square_store.specs.declared.first_result.FirstResult.{FirstResult};
 ghost use Rattle.square_store.specs.Grid.{Grid, blank_grid, IsSpeltWithin};
 ghost use Rattle.square_store.specs.Squares.{Held, IsAt, grid_at, side_at, four_grid, quarters_grid, Draws};
-ghost use Rattle.square_store.specs.Store.{nothing_held, IsHeld, HasParts, IsGrown, IsAdded, IsFullFor, IsRoomFor, IsOnePartEach, IsStore};
+ghost use Rattle.square_store.specs.Store.{nothing_held, IsHeld, HasParts, IsGrown, IsAdded, IsNoneKept, IsFullFor, IsRoomFor, IsOnePartEach, IsStore, with_first};
 ghost use Rattle.square_store.specs.Steps.{IsWanted, IsSummed, IsAbsentNode, IsAbsentLeaf, IsPushed, IsLeafEntered, IsPlaceOfLeaf, IsOneBlank};
 ghost use Rattle.square_store.specs.Seen.{AreAt, AreQuartersAt, IsSeen};
 
 use crate::fault::StoreFault;
+use crate::first_result::FirstResult;
 use crate::kind::LeafKind;
 use crate::limits::Limits;
 use crate::node::Node;
 use crate::part::Part;
 use crate::square::Square;
-use indexmap::{IndexMap, IndexSet};
+use crate::table::SquareTable;
+use indexmap::IndexSet;
 use keyed_hash::HashKey;
 use std::alloc::Global;
 use std::marker::Model;
@@ -22,8 +25,7 @@ use std::marker::Model;
 /// `side * 2^k` columns and rows, and leaves are of level 0. Squares are added and never taken out.
 pub struct Store<L: LeafKind> {
     leaves: IndexSet<L, HashKey>,
-    /// The squares in the order in which they were added, and beside each its summary.
-    squares: IndexMap<Node, L::Summary, HashKey>,
+    squares: SquareTable<L::Summary>,
     room: u32,
 }
 
@@ -39,15 +41,14 @@ impl<L: LeafKind> Drop for Store<L> {
 }
 
 impl<L: LeafKind> Model for Store<L> {
-    ghost use Rattle.indexmap.specs.IndexMap.{keys, values};
     ghost use Rattle.square_store.specs.Squares.{Held};
     ghost use Rattle.square_store.specs.Store.{IsStore, AreSummaries};
 
     ghost Value = { Held L };
 
-    ghost view = { λ s. record { leaves = s.leaves.keys; squares = keys s.squares; room = s.room } };
+    ghost view = { λ s. record { leaves = s.leaves.keys; squares = s.squares.nodes; firsts = s.squares.firsts; room = s.room } };
 
-    ghost invariant = { λ s. IsStore L.write L.side L.IsLeaf (record { leaves = s.leaves.keys; squares = keys s.squares; room = s.room }) × AreSummaries L.write L.side L.IsSummary (record { leaves = s.leaves.keys; squares = keys s.squares; room = s.room }) (values s.squares) };
+    ghost invariant = { λ s. IsStore L.write L.side L.IsLeaf (record { leaves = s.leaves.keys; squares = s.squares.nodes; firsts = s.squares.firsts; room = s.room }) × AreSummaries L.write L.side L.IsSummary (record { leaves = s.leaves.keys; squares = s.squares.nodes; firsts = s.squares.firsts; room = s.room }) s.squares.summaries };
 }
 
 impl<L: LeafKind> Store<L> {
@@ -57,7 +58,7 @@ impl<L: LeafKind> Store<L> {
     {
         Store {
             leaves: IndexSet::with_hasher(alloc, limits.key),
-            squares: IndexMap::with_hasher(alloc, limits.key),
+            squares: SquareTable::new(alloc, limits.key),
             room: limits.room,
         }
     }
@@ -74,7 +75,7 @@ impl<L: LeafKind> Store<L> {
 
     /// The key by whose hashes it finds its squares.
     pub fn key(&self) -> HashKey {
-        *self.squares.hasher()
+        self.squares.key()
     }
 
     /// How many squares there are. A blank counts once, whatever its level.
@@ -148,10 +149,27 @@ impl<L: LeafKind> Store<L> {
         ensures { (k : ℕ) → IsAt self.now k part → L.IsSummary (side_at L.side k) (grid_at L.write L.side self.now k part) result }
     {
         let _ = &self.room;
-        let Some((_, summary)) = self.squares.get_index(part.place as usize) else {
-            unreachable!()
-        };
-        *summary
+        self.squares.summary(part.place)
+    }
+
+    /// The result that was first kept of the square at a part.
+    pub fn first_result(&self, part: Part) -> Option<FirstResult>
+        ensures some { IfSome result (λ first. slice_get self.now.firsts part ≡ Some (Some first)) }
+        ensures none { IfNone result ((first : FirstResult) → slice_get self.now.firsts part ≡ Some (Some first) → ⊥) }
+    {
+        let _ = &self.room;
+        self.squares.first(part.place)
+    }
+
+    /// Keeps the result of a square, unless there is one already; whether it is kept. No result is kept of
+    /// a leaf, of a blank, of a level or an exponent from 256 on.
+    pub fn keep_first(&mut self, part: Part, first: FirstResult) -> bool
+        requires { IsAt self.old first.level part }
+        ensures kept { self.new ≡ (if result then with_first self.old part first else self.old) }
+        ensures grows { IsGrown L.write L.side self.old self.new }
+    {
+        let _ = &self.room;
+        self.squares.keep_first(part.place, first)
     }
 
     /// Each leaf and each square stands once, and no blank is spelt out. So two parts of one level
@@ -169,6 +187,7 @@ impl<L: LeafKind> Store<L> {
         ensures draws { IfOk result (λ p. (k : ℕ) → Draws L.write L.side self.new k (blank_grid stamp) p) }
         ensures added { IfOk result (λ p. (k : ℕ) → IsAdded L.write L.side self.old self.new k (blank_grid stamp) p) }
         ensures grows { IsGrown L.write L.side self.old self.new }
+        ensures firsts { IsNoneKept self.old self.new }
         ensures err { OnErr result (self.new ≡ self.old) }
         ensures full { result ≡ Err StoreFault.StoreFull → (k : ℕ) → IsFullFor L.write L.side self.old k (blank_grid stamp) }
         ensures memory { result ≡ Err StoreFault.Memory → (k : ℕ) → IsRoomFor L.write L.side self.old k (blank_grid stamp) }
@@ -186,6 +205,7 @@ impl<L: LeafKind> Store<L> {
         ensures draws { IfOk result (λ p. Draws L.write L.side self.new 0 (L.write leaf) p) }
         ensures added { IfOk result (λ p. IsAdded L.write L.side self.old self.new 0 (L.write leaf) p) }
         ensures grows { IsGrown L.write L.side self.old self.new }
+        ensures firsts { IsNoneKept self.old self.new }
         ensures err { OnErr result (self.new ≡ self.old) }
         ensures full { result ≡ Err StoreFault.StoreFull → IsFullFor L.write L.side self.old 0 (L.write leaf) }
         ensures memory { result ≡ Err StoreFault.Memory → IsRoomFor L.write L.side self.old 0 (L.write leaf) }
@@ -207,6 +227,7 @@ impl<L: LeafKind> Store<L> {
         ensures draws { IfOk result (λ p. Draws L.write L.side self.new level (four_grid L.write L.side self.old (level - 1) parts) p) }
         ensures added { IfOk result (λ p. IsAdded L.write L.side self.old self.new level (four_grid L.write L.side self.old (level - 1) parts) p) }
         ensures grows { IsGrown L.write L.side self.old self.new }
+        ensures firsts { IsNoneKept self.old self.new }
         ensures err { OnErr result (self.new ≡ self.old) }
         ensures full { result ≡ Err StoreFault.StoreFull → IsFullFor L.write L.side self.old level (four_grid L.write L.side self.old (level - 1) parts) }
         ensures memory { result ≡ Err StoreFault.Memory → IsRoomFor L.write L.side self.old level (four_grid L.write L.side self.old (level - 1) parts) }
@@ -227,6 +248,7 @@ impl<L: LeafKind> Store<L> {
         ensures draws { IfOk result (λ p. Draws L.write L.side self.new level (quarters_grid L.write L.side self.old (level - 1) nw ne sw se) p) }
         ensures added { IfOk result (λ p. IsAdded L.write L.side self.old self.new level (quarters_grid L.write L.side self.old (level - 1) nw ne sw se) p) }
         ensures grows { IsGrown L.write L.side self.old self.new }
+        ensures firsts { IsNoneKept self.old self.new }
         ensures err { OnErr result (self.new ≡ self.old) }
         ensures full { result ≡ Err StoreFault.StoreFull → IsFullFor L.write L.side self.old level (quarters_grid L.write L.side self.old (level - 1) nw ne sw se) }
         ensures memory { result ≡ Err StoreFault.Memory → IsRoomFor L.write L.side self.old level (quarters_grid L.write L.side self.old (level - 1) nw ne sw se) }
@@ -266,8 +288,8 @@ impl<L: LeafKind> Store<L> {
     fn node(&self, part: Part) -> Option<Node>
         ensures { result ≡ slice_get self.now.squares part }
     {
-        let (node, _) = self.squares.get_index(part.place as usize)?;
-        Some(*node)
+        let _ = &self.room;
+        self.squares.node(part.place)
     }
 
     fn are_one_blank(&self, nw: Part, ne: Part, sw: Part, se: Part) -> bool
@@ -287,12 +309,8 @@ impl<L: LeafKind> Store<L> {
         ensures none { IfNone result (IsAbsentNode self.now node) }
     {
         let _room = self.room;
-        match self.squares.get_index_of(&node) {
-            Some(place) => Some(Part {
-                place: place as u32,
-            }),
-            None => None,
-        }
+        let place = self.squares.find(&node)?;
+        Some(Part { place })
     }
 
     fn find_leaf(&self, leaf: &L) -> Option<Part>
@@ -325,12 +343,12 @@ impl<L: LeafKind> Store<L> {
         if self.is_full() {
             return Err(StoreFault::StoreFull);
         }
-        let Ok((place, _)) = self.squares.insert_full(node, summary) else {
+        let place = self.squares.len() as u32;
+        if self.squares.reserve().is_err() {
             return Err(StoreFault::Memory);
-        };
-        Ok(Part {
-            place: place as u32,
-        })
+        }
+        self.squares.push(node, summary);
+        Ok(Part { place })
     }
 
     /// The part of a leaf that is no blank: that of its square, which goes last where it is new. The leaf
@@ -348,22 +366,16 @@ impl<L: LeafKind> Store<L> {
             return self.find_leaf(&leaf).ok_or(StoreFault::StoreFull);
         }
         // With room made first, no leaf stays without its square.
-        if self.squares.reserve(1).is_err() {
+        if self.squares.reserve().is_err() {
             return self.find_leaf(&leaf).ok_or(StoreFault::Memory);
         }
         let Ok((at, is_new)) = self.leaves.insert_full(leaf) else {
             return Err(StoreFault::Memory);
         };
         if is_new {
-            let Ok((place, _)) = self
-                .squares
-                .insert_full(Node::Leaf(at as u32), leaf.summary())
-            else {
-                unreachable!()
-            };
-            return Ok(Part {
-                place: place as u32,
-            });
+            let place = self.squares.len() as u32;
+            self.squares.push(Node::Leaf(at as u32), leaf.summary());
+            return Ok(Part { place });
         }
         let Some(part) = self.find(Node::Leaf(at as u32)) else {
             unreachable!()

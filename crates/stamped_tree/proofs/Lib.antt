@@ -4,6 +4,7 @@ pub mod Held
 pub mod Maps
 pub mod TreeLaws
 pub mod Shown
+pub mod SoughtLaws
 pub mod Copying
 pub mod Cutting
 pub mod Kept

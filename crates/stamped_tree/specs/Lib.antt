@@ -13,6 +13,7 @@ pub mod Drawn
 pub mod MapPieces
 pub mod Overwriting
 pub mod OnPlane
+pub mod Sought
 pub mod Walk
 pub mod RowOrder
 pub mod Rows

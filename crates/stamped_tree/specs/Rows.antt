@@ -1,5 +1,5 @@
 -- Worked values of the definitions.
-use Rattle.std.specs.Prelude.{◌≡◌, ℕ, zero, suc, ◌^◌, ◌-◌, List, [], ◌∷◌, ◌++◌, pos, negsuc, refl, replicate, slice_index, slice_set, true}
+use Rattle.std.specs.Prelude.{◌≡◌, None, ℕ, zero, suc, ◌^◌, ◌-◌, List, [], ◌∷◌, ◌++◌, pos, negsuc, refl, replicate, slice_index, slice_set, true}
 use Rattle.stamped_writes.specs.declared.write.Write.{Write}
 use Rattle.generations_rule.specs.Place.{at_place}
 use Rattle.stamped_writes.specs.Write.{unwritten}
@@ -42,6 +42,7 @@ one_cell = record {
   store = record {
     leaves = record { leaf = slice_set (replicate 64 unwritten) 0 live } ∷ [];
     squares = squares_up_to 27 ++ node.Four 28 0 0 0 28 ∷ [];
+    firsts = replicate 30 None;
     room = 30;
   };
   root = 29;

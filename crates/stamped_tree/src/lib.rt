@@ -16,6 +16,7 @@ mod leaf_kind;
 mod lookup;
 mod on_plane;
 mod plane;
+mod sought;
 mod square;
 mod walk;
 

@@ -16,6 +16,7 @@ ghost use Rattle.stamped_tree.specs.Plane.{ArePlaneWrites, AreQuarterParts, Draw
 ghost use Rattle.stamped_tree.specs.MapPieces.{AddsPiecesOfMap, IsFullForMap};
 ghost use Rattle.stamped_tree.specs.Overwriting.{overwritten};
 ghost use Rattle.stamped_tree.specs.Tree.{OneMap, OneTree};
+ghost use Rattle.stamped_tree.specs.Sought.{is_in_some, part_of};
 ghost use Rattle.stamped_tree.specs.Walk.{AreNonzeroCells};
 ghost use Rattle.stamped_tree.specs.View.{ShowSameWhereSame, ShowsItsTree, square_at};
 
@@ -23,9 +24,10 @@ use crate::copy::copy_square;
 use crate::draw::draw_edit;
 use crate::leaf_kind::PlaneLeaf;
 use crate::lookup;
+use crate::sought::Sought;
 use crate::square::Square;
 use crate::walk::nonzero_cells;
-use edit_stamps::{Edit, Write};
+use edit_stamps::{Edit, Rect, Write};
 use indexmap::IndexMap;
 use keyed_hash::HashKey;
 use leaf_merge_lanes::Leaf;
@@ -175,7 +177,16 @@ impl Plane {
     pub fn walk(&self) -> Result<Vec<Cell>, AllocError>
         ensures { IfOk result (λ cells. AreNonzeroCells (map_of self.now) cells.items) }
     {
-        let cells = nonzero_cells(self.alloc, &self.store, self.root)?;
+        let cells = nonzero_cells(self.alloc, &self.store, self.root, &Sought::All)?;
+        Ok(cells)
+    }
+
+    /// Those in some areas, each once, whatever areas have it. Only squares that an area meets are gone through.
+    pub fn walk_in(&self, areas: &[Rect]) -> Result<Vec<Cell>, AllocError>
+        ensures { IfOk result (λ cells. AreNonzeroCells (part_of (is_in_some areas.now) (map_of self.now)) cells.items) }
+    {
+        let sought = Sought::InAreas(Vec::from_slice(self.alloc, areas)?);
+        let cells = nonzero_cells(self.alloc, &self.store, self.root, &sought)?;
         Ok(cells)
     }
 

@@ -1,5 +1,5 @@
 -- Worked values of the definitions.
-use Rattle.std.specs.Prelude.{◌≡◌, [], ◌∷◌, refl, true, false}
+use Rattle.std.specs.Prelude.{◌≡◌, None, [], ◌∷◌, refl, true, false}
 use Rattle.stamped_writes.specs.Write.{unwritten}
 use Rattle.leaf_merge_lanes.specs.Leaf.{write_of}
 use Rattle.square_store.specs.Grid.{blank_grid}
@@ -26,10 +26,10 @@ nothing_written = refl
 
 -- one blank in each of two stores
 abbrev earlier : Held PlaneLeaf
-earlier = record { leaves = []; squares = node.Blank 65537 ∷ []; room = 1 }
+earlier = record { leaves = []; squares = node.Blank 65537 ∷ []; firsts = None ∷ []; room = 1 }
 
 abbrev later : Held PlaneLeaf
-later = record { leaves = []; squares = node.Blank 0 ∷ node.Blank 65538 ∷ []; room = 2 }
+later = record { leaves = []; squares = node.Blank 0 ∷ node.Blank 65538 ∷ []; firsts = None ∷ None ∷ []; room = 2 }
 
 -- place 0 of the one is joined with place 1 of the other
 pub of_two_stores : join_grid earlier later 28 0 1 5 6 ≡ write_of 65538 0

@@ -17,6 +17,7 @@ is_mistake number = (nat_le 4 number && nat_le number 11) || ((nat_le 22 number 
 abbrev pub is_read_as_rle : CellFormat → Bool
 is_read_as_rle formats.MCell = false
 is_read_as_rle formats.Plaintext = false
+is_read_as_rle formats.Macrocell = false
 is_read_as_rle format = true
 
 -- what a file is, where it is none that is read

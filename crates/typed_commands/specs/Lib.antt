@@ -1,4 +1,5 @@
 pub mod Cures
 pub mod Files
+pub mod Films
 pub mod Refusals
 pub mod Rows

@@ -72,7 +72,7 @@ fn is_read_as_rle(text: &[u8]) -> bool
 {
     !matches!(
         CellFormat::of(text),
-        CellFormat::MCell | CellFormat::Plaintext
+        CellFormat::MCell | CellFormat::Plaintext | CellFormat::Macrocell
     )
 }
 

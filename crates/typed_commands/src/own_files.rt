@@ -1,8 +1,23 @@
 //! The files that a client wrote.
 
-use client_commands::FileName;
+use crate::files::{FileFault, refused_text, write_target, wrote_text};
+use client_commands::{FileName, FileTarget};
+use genedit_io::RunFault;
 use std::alloc::{AllocError, Global};
 use std::collections::BTreeSet;
+use std::rt::Files;
+
+/// The refusal of a file that cannot be written.
+const WRITE: u8 = 37;
+
+/// What came of a file that was to be written.
+#[derive(Debug, Drop)]
+pub struct Written {
+    /// That it was, and how many bytes it has; or its refusal.
+    pub line: Vec<u8>,
+    /// Its name, where it was.
+    pub file: Option<FileName>,
+}
 
 /// The files that a client wrote.
 #[derive(Drop)]
@@ -36,6 +51,36 @@ impl OwnFiles {
         ensures { option_copied result ≡ self.now.saved }
     {
         self.saved.as_ref()
+    }
+
+    /// Writes a file, which then is one of the client's. One that is there is replaced where the target says so, or it is the
+    /// client's. `AllocError` where memory is refused: the file may be there or not.
+    pub fn write<R: Files>(
+        &mut self,
+        rt: &R,
+        alloc: Global,
+        target: FileTarget,
+        text: &[u8],
+    ) -> Result<Written, AllocError> {
+        let is_own = self.has(&target.name);
+        let allowed = FileTarget {
+            name: target.name,
+            replaces: target.replaces || is_own,
+        };
+        match write_target(rt, alloc, &allowed, text) {
+            Ok(()) => {
+                self.add(alloc, &allowed.name, false)?;
+                let line = wrote_text(alloc, text.len() as u64, &allowed.name)?;
+                let file = Some(allowed.name);
+                Ok(Written { line, file })
+            }
+            Err(FileFault::Refused(cause)) => {
+                let refusal = RunFault::Refused(WRITE, None);
+                let line = refused_text(alloc, refusal, &allowed.name, cause)?;
+                Ok(Written { line, file: None })
+            }
+            Err(FileFault::Memory) => Err(AllocError),
+        }
     }
 
     /// Keeps in mind that the client wrote a file, and whether it saved the board there.

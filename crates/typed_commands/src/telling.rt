@@ -1,9 +1,11 @@
 //! What is said on standard error of lines at fault, of commands that were refused, and of texts under another rule.
 
-use cell_files::{file_bounds, file_rule};
+use cell_files::{CellFormat, file_bounds, file_rule};
 use delta_exchange::is_delta;
 use genedit_script::without_return;
 use generations_rule::Rule;
+use header_rules::{HeaderRule, part_at, rule_standing};
+use macrocell_text::{MacrocellFault, RulePlace, read_macrocell};
 use script_faults::{
     Dialect, Finding, Reason, Warning, client_finding, other_rule, reason_text, warning_text,
 };
@@ -58,22 +60,91 @@ pub fn warn_of_rule<R: Eprint>(
 
 /// What is warned of a file of cells on a board of this rule.
 fn file_warning(alloc: Global, rule: &Rule, text: &[u8]) -> Result<Option<String>, AllocError> {
-    if let Some(told) = file_rule(text)
-        && let Some(warning) = other_rule(rule, &told.rule)
-    {
-        let end = told.place.saturating_add(told.length);
-        let word = text.get(told.place..end).unwrap_or_default();
-        return Ok(Some(warning_text(alloc, Dialect::Client, warning, word, rule)?));
+    if CellFormat::of(text) == CellFormat::Macrocell {
+        return macrocell_warning(alloc, rule, text);
     }
-    match file_bounds(alloc, text)? {
-        None => Ok(None),
-        Some(bounds) => Ok(Some(warning_text(
-            alloc,
-            Dialect::Client,
-            Warning::Bounds,
-            &bounds,
-            rule,
-        )?)),
+    let warning = rule_warning(alloc, rule, text, file_rule(text))?;
+    if warning.is_some() {
+        return Ok(warning);
+    }
+    let bounds = file_bounds(alloc, text)?;
+    bounds_warning(alloc, rule, bounds)
+}
+
+/// What is warned of a macrocell, which tells its rule and bounds behind `#R`.
+fn macrocell_warning(
+    alloc: Global,
+    rule: &Rule,
+    text: &[u8],
+) -> Result<Option<String>, AllocError> {
+    let Some(RulePlace { place, length }) = rule_place(alloc, text)? else {
+        return Ok(None);
+    };
+    let warning = rule_warning(alloc, rule, text, rule_standing(text, place, length))?;
+    if warning.is_some() {
+        return Ok(warning);
+    }
+    let bounds = bounds_standing(alloc, text, place, length)?;
+    bounds_warning(alloc, rule, bounds)
+}
+
+/// What is warned where a file tells bounds.
+fn bounds_warning(
+    alloc: Global,
+    rule: &Rule,
+    bounds: Option<Vec<u8>>,
+) -> Result<Option<String>, AllocError> {
+    let Some(bounds) = bounds else {
+        return Ok(None);
+    };
+    let warning = warning_text(alloc, Dialect::Client, Warning::Bounds, &bounds, rule)?;
+    Ok(Some(warning))
+}
+
+/// What is warned where the rule that a file tells, if it tells one, is not the board's.
+fn rule_warning(
+    alloc: Global,
+    rule: &Rule,
+    text: &[u8],
+    told: Option<HeaderRule>,
+) -> Result<Option<String>, AllocError> {
+    let Some(told) = told else {
+        return Ok(None);
+    };
+    let Some(warning) = other_rule(rule, &told.rule) else {
+        return Ok(None);
+    };
+    let word = part_at(text, told.place, told.length);
+    let warning = warning_text(alloc, Dialect::Client, warning, word, rule)?;
+    Ok(Some(warning))
+}
+
+/// The bounds of the rule that stands at a place.
+fn bounds_standing(
+    alloc: Global,
+    text: &[u8],
+    place: usize,
+    length: usize,
+) -> Result<Option<Vec<u8>>, AllocError> {
+    let Some(
+        HeaderRule {
+            bounds: Some(bounds),
+            ..
+        },
+    ) = rule_standing(text, place, length)
+    else {
+        return Ok(None);
+    };
+    let bounds = part_at(text, bounds.place, bounds.length).to_vec(alloc)?;
+    Ok(Some(bounds))
+}
+
+/// Where the rule of a macrocell stands; nowhere where it is refused.
+fn rule_place(alloc: Global, text: &[u8]) -> Result<Option<RulePlace>, AllocError> {
+    match read_macrocell(alloc, text) {
+        Ok(macrocell) => Ok(macrocell.rule()),
+        Err(MacrocellFault::Memory) => Err(AllocError),
+        Err(_) => Ok(None),
     }
 }
 

@@ -4,9 +4,13 @@
 #[cfg(test)]
 mod blocks;
 #[cfg(test)]
+mod charts;
+#[cfg(test)]
 mod colours;
 #[cfg(test)]
 mod faulty;
+#[cfg(test)]
+mod macrocells;
 #[cfg(test)]
 mod periods;
 #[cfg(test)]

@@ -24,7 +24,7 @@ static SCRIPT: [&str; 18] = [
     "count R [G]",
 ];
 
-static CLIENT: [&str; 26] = [
+static CLIENT: [&str; 27] = [
     "cells x y state ..",
     "clear x y w h",
     "pattern NAME",
@@ -36,6 +36,7 @@ static CLIENT: [&str; 26] = [
     "redo",
     "show x y",
     "count [G]",
+    "period MOST [G]",
     "export G [FILE]",
     "export! G FILE",
     "cut x y w h G [FILE]",
@@ -73,7 +74,7 @@ fn forms_of_scripts(rt: HostRuntime) -> Result<(), AllocError> {
 
 #[test]
 fn forms_of_clients(rt: HostRuntime) -> Result<(), AllocError> {
-    assert_eq!(rt; Dialect::Client.keywords().len(), 26);
-    assert_eq!(rt; alike(rt.alloc(), Dialect::Client, &CLIENT)?, 26);
+    assert_eq!(rt; Dialect::Client.keywords().len(), 27);
+    assert_eq!(rt; alike(rt.alloc(), Dialect::Client, &CLIENT)?, 27);
     Ok(())
 }

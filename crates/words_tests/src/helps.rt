@@ -65,8 +65,8 @@ fn help_of_scripts(rt: HostRuntime) -> Result<(), AllocError> {
 fn help_of_clients(rt: HostRuntime) -> Result<(), AllocError> {
     let forms = told_forms(rt.alloc(), JOIN_HELP)?;
     let told = told_keywords(rt.alloc(), Dialect::Client, &forms)?;
-    assert_eq!(rt; forms.len(), 25);
-    assert_eq!(rt; told, 25);
-    assert_eq!(rt; Dialect::Client.keywords().len(), 26);
+    assert_eq!(rt; forms.len(), 26);
+    assert_eq!(rt; told, 26);
+    assert_eq!(rt; Dialect::Client.keywords().len(), 27);
     Ok(())
 }

@@ -1,6 +1,6 @@
 //! Lines, and what their words spell.
 
-use command_words::{Argument, Dialect, Keyword, cells_in, read_line};
+use command_words::{Argument, Dialect, Keyword, cells_in, is_film_name, read_line};
 use std::alloc::AllocError;
 
 /// A line, and whether a script and a client have it.
@@ -10,7 +10,7 @@ struct Row {
     in_client: bool,
 }
 
-static ROWS: [Row; 12] = [
+static ROWS: [Row; 14] = [
     Row {
         line: b"show 1 0 -1",
         in_script: true,
@@ -28,6 +28,16 @@ static ROWS: [Row; 12] = [
     },
     Row {
         line: b"export 4 a.rle",
+        in_script: false,
+        in_client: true,
+    },
+    Row {
+        line: b"export 4..9/2 a%.rle",
+        in_script: false,
+        in_client: true,
+    },
+    Row {
+        line: b"export 1 4..9",
         in_script: false,
         in_client: true,
     },
@@ -123,6 +133,13 @@ fn files_of_lines(rt: HostRuntime) {
     assert!(rt; file_of(b"save \"my board\"".as_slice()) == Some(b"my board".as_slice()));
     assert!(rt; file_of(b"open -".as_slice()) == Some(b"-".as_slice()));
     assert!(rt; file_of(b"save -".as_slice()).is_none());
+}
+
+#[test]
+fn names_of_films(rt: HostRuntime) {
+    assert!(rt; is_film_name(b"a%.rle"));
+    assert!(rt; !is_film_name(b"a.rle"));
+    assert!(rt; !is_film_name(b"%%"));
 }
 
 #[test]

@@ -1,6 +1,6 @@
 //! Planes of random edits, read beside the edits' own lists.
 
-use edit_stamps::{Cell, Corner, Edit, EditFault, Stamp};
+use edit_stamps::{Cell, Corner, Edit, EditFault, Rect, Stamp};
 use generations_rule::Rule;
 use samples::{CENTRES, REACH, edit_near, next, write_by};
 use stamped_tree::Plane;
@@ -33,12 +33,49 @@ fn walks_them(alloc: Global, plane: &Plane, edit: &Edit) -> Result<bool, AllocEr
     Ok(plane.walk()?.as_slice() == alive.as_slice())
 }
 
+/// Two areas around a centre that overlap.
+fn areas_around(centre: Corner) -> [Rect; 2] {
+    let wide = Rect {
+        x: centre.x.saturating_sub(REACH),
+        y: centre.y.saturating_sub(5),
+        width: 19,
+        height: 8,
+    };
+    let high = Rect {
+        x: centre.x.saturating_sub(2),
+        y: centre.y.saturating_sub(REACH),
+        width: 7,
+        height: 21,
+    };
+    [wide, high]
+}
+
+/// Whether a walk of two areas gives those of an edit's nonzero cells that one of them has, in their order.
+fn walks_areas(
+    alloc: Global,
+    plane: &Plane,
+    edit: &Edit,
+    centre: Corner,
+) -> Result<bool, AllocError> {
+    let areas = areas_around(centre);
+    let mut alive: Vec<Cell> = Vec::new(alloc);
+    for cell in edit.listed_cells() {
+        let is_in = areas.iter().any(|area| area.has(cell.x, cell.y));
+        if cell.state != 0 && is_in {
+            alive.push(*cell)?;
+        }
+    }
+    let told = plane.walk_in(&areas)?;
+    Ok(told.as_slice() == alive.as_slice() && plane.walk_in(&[])?.is_empty())
+}
+
 /// Whether the plane of an edit near a centre reads as the edit, walks its cells and tells its stamp.
 fn reads_as_drawn(alloc: Global, edit: &Edit, centre: Corner) -> Result<bool, AllocError> {
     let plane = Plane::of_edit(alloc, edit)?;
     Ok(
         places_read(&plane, edit, centre) == 625
             && walks_them(alloc, &plane, edit)?
+            && walks_areas(alloc, &plane, edit, centre)?
             && plane.greatest_stamp() == edit.stamp().number(),
     )
 }

@@ -1,4 +1,4 @@
-use Rattle.client_commands.proofs.DictationLaws.{spell_the_same, export_the_same, cut_the_same, turn_the_same, hear_the_same, hear_in_order}
+use Rattle.client_commands.proofs.DictationLaws.{spell_the_same, export_the_same, count_the_same, cut_the_same, turn_the_same, hear_the_same, hear_in_order}
 use Rattle.client_commands.proofs.PieceLaws.{hear_pieces}
 use Rattle.client_commands.proofs.laws.command_laws.Goals as goal
 
@@ -7,6 +7,9 @@ returns-clause-spelled c = spell_the_same
 
 pub returns-clause-exported : goal.returns-clause-exported
 returns-clause-exported c = export_the_same
+
+pub returns-clause-counted : goal.returns-clause-counted
+returns-clause-counted c = count_the_same
 
 pub returns-clause-cut : goal.returns-clause-cut
 returns-clause-cut c = cut_the_same

@@ -11,4 +11,4 @@ returns-in-Cut-default-default-Some g c =
     let is : c.args.command ≡ Cut w.window w.generation (Some w.file) = search rules in
     let given : IsTextGiven (λ (text : Vec ℕ). text.items) (cut_of w.window w.generation) c.args.pen.now c.text-in-Cut-default-default-Some.new.self c.text-in-Cut-default-default-Some.result =
     (rw c.cut_of-in-Cut-default-default-Some.ensures at c.text-in-Cut-default-default-Some.ensures) in
-    rw is (record { called = c.text-in-Cut-default-default-Some.result; does = given; behind = c.written-in-Cut-default-default-Some.ensures })
+    rw is (record { called = c.text-in-Cut-default-default-Some.result; does = given; behind = c.written.ensures })

@@ -2,7 +2,8 @@ use Rattle.std.proofs.Common.{◌≡◌, ℕ, ◌+◌, ◌≤◌, List, ◌++◌
 use Rattle.std.specs.Prelude.{OnOk}
 use Rattle.generations_rule.specs.RuleText.{text_of}
 use Rattle.multistate_rle.specs.Writing.{text_of_cells}
-use Rattle.genedit_convert.specs.Names.{name_place, renamed, rule_name, text_named}
+use Rattle.genedit_convert.specs.Names.{name_place, renamed, text_named}
+use Rattle.macrocell_lines.specs.Macrocell.{rule_name}
 use Rattle.genedit_convert.proofs.NameLaws.{name_within, named_is}
 use Rattle.genedit_convert.proofs.named.push_text.Goals as goal
 

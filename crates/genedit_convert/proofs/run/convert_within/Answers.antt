@@ -3,7 +3,7 @@ use Rattle.std.specs.Prelude.{◌⊎◌, Option, Result, IfErr, IfOk}
 use Rattle.std.proofs.lemmas.Result.{err_from_is_err_and}
 use Rattle.devices.specs.Source.{KnownSource}
 use Rattle.genedit_io.specs.Runs.{IsReadWhole}
-use Rattle.cell_files.specs.Files.{file_bounds_told}
+use Rattle.genedit_view.specs.Reading.{bounds_told}
 use Rattle.genedit_view.specs.declared.fault.ViewFault.{ViewFault}
 use Rattle.genedit_view.specs.Seeing.{IsWantAt}
 use Rattle.genedit_convert.specs.declared.options.ConvertOptions.{ConvertOptions}
@@ -14,7 +14,7 @@ use Rattle.genedit_convert.proofs.run.convert_within.Goals as goal
 
 -- a conversion of a text that was read whole
 converts : {A : Type 0} (o : ConvertOptions) (turns : ℕ) (out : A → List ℕ) (bounds : A → Option (List ℕ)) (result : Result A ViewFault) (source source' : KnownSource) (text : List ℕ) →
-    IsReadWhole turns text source source' → IfOk result (λ made. IsConverted o text (out made)) → IfOk result (λ made. bounds made ≡ file_bounds_told text) →
+    IsReadWhole turns text source source' → IfOk result (λ made. IsConverted o text (out made)) → IfOk result (λ made. bounds made ≡ bounds_told text) →
     IfErr result (λ fault. IsNotConverted o text fault ⊎ IsWantAt (as_view o) text fault) → IsConversion o turns out bounds result source source'
 converts o turns out bounds (Ok made) source source' text read is told fault = Made text made refl read is told
 converts o turns out bounds (Err e) source source' text read is told fault = Refused text e refl read fault

@@ -2,10 +2,7 @@ use Rattle.std.proofs.Common.{◌≡◌, ◌∙◌, ap, inl, inr, sym, Err, true
 use Rattle.std.specs.Prelude.{◌⊎◌, Some}
 use Rattle.stamped_tree.specs.Plane.{map_of}
 use Rattle.generation_engine.specs.Universe.{states_in_writes}
-use Rattle.genedit_view.specs.declared.fault.ViewFault.{ViewFault}
 use Rattle.genedit_view.specs.Reading.{state_rule}
-use Rattle.genedit_view.specs.Searches.{IsNoPeriod, IsSearchRefused}
-use Rattle.genedit_view.specs.Seeing.{IsNotSeen, IsWantAt}
 use Rattle.genedit_view.specs.Universes.{universe_view}
 use Rattle.genedit_view.proofs.SeenLaws.{at_end, state_read, state_refused}
 use Rattle.genedit_view.proofs.period.period_of_state.Goals as goal
@@ -46,5 +43,6 @@ returns-clause-period c =
       rule = r;
       states = states_in_writes (map_of c.in-Some-plane.plane.now);
       read = state_read true c.args.given text r c.in_ok-message.message.content c.in-Some-plane.plane.now c.requires rule c.in-Some-plane.ensures.value c.in_ok-message.ensures.found.1;
+      within = c.in_ok-period.ensures.range;
       is = c.in_ok-period.ensures.period;
     }

@@ -1,10 +1,9 @@
-use Rattle.std.proofs.Common.{ℕ, List, ◌∙◌, ap, subst, refl, inl, inr, Err}
+use Rattle.std.proofs.Common.{ℕ, List, ◌∙◌, ap, subst, refl, Err}
 use Rattle.std.specs.Prelude.{◌⊎◌}
 use Rattle.std.proofs.lemmas.Result.{err_from_is_err_and}
 use Rattle.cell_pictures.specs.Picture.{picture_text}
 use Rattle.genedit_view.specs.declared.fault.ViewFault.{ViewFault}
-use Rattle.cell_files.specs.Files.{file_bounds_told}
-use Rattle.genedit_view.specs.Fault.{memory_wanted}
+use Rattle.genedit_view.specs.Reading.{bounds_told}
 use Rattle.genedit_view.specs.Runs.IsView.{Drawn, Refused, Left}
 use Rattle.genedit_view.specs.Seeing.{AreSeen, IsNotSeen, IsPictureOf, IsWantAt}
 use Rattle.genedit_view.proofs.SeenLaws.{seen_sorted}
@@ -26,11 +25,6 @@ returns-in_err-seen g c =
 pub push_picture-requires : goal.push_picture-requires
 push_picture-requires g c = seen_sorted c.args.options.now c.deref.result.now c.in_ok-seen.seen.rule c.in_ok-seen.seen.cells.items c.in_ok-seen.ensures.seen
 
-pub returns-in_err-bounds : goal.returns-in_err-bounds
-returns-in_err-bounds g c =
-    let p = err_from_is_err_and c.from_residual-in_err-bounds.result c.from_residual-in_err-bounds.ensures.1 in
-    Refused c.in_ok-text.text.items memory_wanted (p.1 ∙ ap (λ (e : ViewFault). Err e) p.2) c.in_ok-text.ensures.all (inr (inl refl)) refl
-
 pub returns-in-Ok : goal.returns-in-Ok
 returns-in-Ok g c =
     let o = c.args.options.now in
@@ -38,7 +32,7 @@ returns-in-Ok g c =
     let cells = c.in_ok-seen.seen.cells.items in
     let seen : AreSeen o c.in_ok-text.text.items r cells = subst (λ (text : List ℕ). AreSeen o text r cells) c.deref.ensures.value c.in_ok-seen.ensures.seen in
     let is : IsPictureOf o c.in_ok-text.text.items (picture_text o.form r.states cells o.window) = record { rule = r; cells = cells; seen = seen; drawn = refl } in
-    Drawn c.in_ok-text.text.items (picture_text o.form r.states cells o.window) c.in_ok-text.ensures.all is c.in-Ok.ensures.drawn tt (c.in_ok-bounds.ensures ∙ ap file_bounds_told c.deref-2.ensures.value)
+    Drawn c.in_ok-text.text.items (picture_text o.form r.states cells o.window) c.in_ok-text.ensures.all is c.in-Ok.ensures.drawn tt (c.in_ok-seen.ensures.bounds ∙ ap bounds_told c.deref.ensures.value)
 
 pub returns : goal.returns
 returns g c =

@@ -14,6 +14,7 @@ returns-clause-shape c =
     let gen = with_argument c.in_ok-arg-4.field-0 c.in_ok-arg-5.field-0 c.generation_argument.result _ gen_option size c.generation_argument.ensures.rule c.generation_argument.ensures.local c.in_ok-arg-5.ensures in
     let edits = with_argument c.in_ok-arg-5.field-0 c.in_ok-arg-6.field-0 c.edits_argument.result _ edits_option gen c.edits_argument.ensures.rule c.edits_argument.ensures.local c.in_ok-arg-6.ensures in
     let period = with_argument c.in_ok-arg-6.field-0 c.in_ok-arg-7.field-0 c.period_argument.result _ period_option edits c.period_argument.ensures.rule c.period_argument.ensures.local c.in_ok-arg-7.ensures in
-    let plain = with_argument c.in_ok-arg-7.field-0 c.in_ok-arg-8.field-0 c.flag.result _ (flag (codes "plain")) period c.flag.ensures.rule c.flag.ensures.local c.in_ok-arg-8.ensures in
-    let svg = with_argument c.in_ok-arg-8.field-0 c.in_ok-command.command c.flag-2.result _ (flag (codes "svg")) plain c.flag-2.ensures.rule c.flag-2.ensures.local c.in_ok-command.ensures in
+    let chart = with_argument c.in_ok-arg-7.field-0 c.in_ok-arg-8.field-0 c.chart_argument.result _ (optional (codes "chart")) period c.chart_argument.ensures.rule c.chart_argument.ensures.local c.in_ok-arg-8.ensures in
+    let plain = with_argument c.in_ok-arg-8.field-0 c.in_ok-arg-9.field-0 c.flag.result _ (flag (codes "plain")) chart c.flag.ensures.rule c.flag.ensures.local c.in_ok-arg-9.ensures in
+    let svg = with_argument c.in_ok-arg-9.field-0 c.in_ok-command.command c.flag-2.result _ (flag (codes "svg")) plain c.flag-2.ensures.rule c.flag-2.ensures.local c.in_ok-command.ensures in
     ap (λ (a : App). a.top) svg.is

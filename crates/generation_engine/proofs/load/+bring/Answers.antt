@@ -1,7 +1,7 @@
 use Rattle.std.proofs.Common.{ap, Err, sym, ◌∙◌, ◌-◌}
 use Rattle.square_store.proofs.Made.{told}
 use Rattle.generation_engine.proofs.Bringing.{all_later, all_noted, blank_brought, leaf_brought, four_stand, four_same, four_brought, all_moved, moved_source, states_listed, some_above, above_leaves, nw_seen, ne_seen, sw_seen, se_seen, bring_falls}
-use Rattle.square_store.proofs.Drawn.{grown_more}
+use Rattle.square_store.proofs.Drawn.{grown_more, none_more}
 use Rattle.generation_engine.specs.EngineLeaf.{leaf_grid, IsEngineLeaf}
 use Rattle.generation_engine.proofs.Squares.{full_kept}
 use Rattle.square_store.proofs.Counting.{absent_as, adds_all, adds_more, adds_nothing, adds_nw, adds_one, adds_three, adds_two, lacks_ne, lacks_nw, lacks_se, lacks_sw}
@@ -223,3 +223,41 @@ returns-in_ok-note-in-Four-clause-pieces t c =
     (moved_source _ _ _ _ _ c.in-Four.ensures.nw_store c.in_ok-nw-in-Four.ensures.part) (moved_source _ _ _ _ _ c.in-Four.ensures.ne_store c.in_ok-ne-in-Four.ensures.part)
     (moved_source _ _ _ _ _ c.in-Four.ensures.sw_store c.in_ok-sw-in-Four.ensures.part) (moved_source _ _ _ _ _ c.in-Four.ensures.se_store c.in_ok-se-in-Four.ensures.part)
     c.in_ok-there-in-Four.ensures.draws).draws c.args.level c.requires.square))
+
+-- ---- no result is new
+
+pub returns-in_err-there-in-Four-clause-firsts : goal.returns-in_err-there-in-Four-clause-firsts
+returns-in_err-there-in-Four-clause-firsts t c = λ p x e. c.in_ok-nw-in-Four.ensures.firsts p x (c.in_ok-ne-in-Four.ensures.firsts p x (c.in_ok-sw-in-Four.ensures.firsts p x (c.in_ok-se-in-Four.ensures.firsts p x (c.in_err-there-in-Four.ensures.firsts p x e))))
+
+pub returns-in_err-nw-in-Four-clause-firsts : goal.returns-in_err-nw-in-Four-clause-firsts
+returns-in_err-nw-in-Four-clause-firsts t c = c.in_err-nw-in-Four.ensures.firsts
+
+pub returns-in_err-ne-in-Four-clause-firsts : goal.returns-in_err-ne-in-Four-clause-firsts
+returns-in_err-ne-in-Four-clause-firsts t c = none_more c.args.target.now c.bring.new.target c.bring-in-Four.new.target c.in_ok-nw-in-Four.ensures.firsts c.in_err-ne-in-Four.ensures.firsts
+
+pub returns-in_err-sw-in-Four-clause-firsts : goal.returns-in_err-sw-in-Four-clause-firsts
+returns-in_err-sw-in-Four-clause-firsts t c = none_more c.args.target.now c.bring.new.target c.bring-in-Four-2.new.target c.in_ok-nw-in-Four.ensures.firsts (none_more c.bring.new.target c.bring-in-Four.new.target c.bring-in-Four-2.new.target c.in_ok-ne-in-Four.ensures.firsts c.in_err-sw-in-Four.ensures.firsts)
+
+pub returns-in_err-se-in-Four-clause-firsts : goal.returns-in_err-se-in-Four-clause-firsts
+returns-in_err-se-in-Four-clause-firsts t c = none_more c.args.target.now c.bring.new.target c.bring-in-Four-3.new.target c.in_ok-nw-in-Four.ensures.firsts (none_more c.bring.new.target c.bring-in-Four.new.target c.bring-in-Four-3.new.target c.in_ok-ne-in-Four.ensures.firsts (none_more c.bring-in-Four.new.target c.bring-in-Four-2.new.target c.bring-in-Four-3.new.target c.in_ok-sw-in-Four.ensures.firsts c.in_err-se-in-Four.ensures.firsts))
+
+pub returns-in_ok-note-in-Four-clause-firsts : goal.returns-in_ok-note-in-Four-clause-firsts
+returns-in_ok-note-in-Four-clause-firsts t c = none_more c.args.target.now c.bring.new.target c.add_four.new.self c.in_ok-nw-in-Four.ensures.firsts (none_more c.bring.new.target c.bring-in-Four.new.target c.add_four.new.self c.in_ok-ne-in-Four.ensures.firsts (none_more c.bring-in-Four.new.target c.bring-in-Four-2.new.target c.add_four.new.self c.in_ok-sw-in-Four.ensures.firsts (none_more c.bring-in-Four-2.new.target c.bring-in-Four-3.new.target c.add_four.new.self c.in_ok-se-in-Four.ensures.firsts c.in_ok-there-in-Four.ensures.firsts)))
+
+pub returns-in_err-note-in-Four-clause-firsts : goal.returns-in_err-note-in-Four-clause-firsts
+returns-in_err-note-in-Four-clause-firsts t c = none_more c.args.target.now c.bring.new.target c.add_four.new.self c.in_ok-nw-in-Four.ensures.firsts (none_more c.bring.new.target c.bring-in-Four.new.target c.add_four.new.self c.in_ok-ne-in-Four.ensures.firsts (none_more c.bring-in-Four.new.target c.bring-in-Four-2.new.target c.add_four.new.self c.in_ok-sw-in-Four.ensures.firsts (none_more c.bring-in-Four-2.new.target c.bring-in-Four-3.new.target c.add_four.new.self c.in_ok-se-in-Four.ensures.firsts c.in_ok-there-in-Four.ensures.firsts)))
+
+pub returns-in_err-there-in-Leaf-clause-firsts : goal.returns-in_err-there-in-Leaf-clause-firsts
+returns-in_err-there-in-Leaf-clause-firsts t c = c.in_err-there-in-Leaf.ensures.firsts
+
+pub returns-in_err-note-in-Leaf-clause-firsts : goal.returns-in_err-note-in-Leaf-clause-firsts
+returns-in_err-note-in-Leaf-clause-firsts t c = c.in_ok-there-in-Leaf.ensures.firsts
+
+pub returns-in_ok-note-in-Leaf-clause-firsts : goal.returns-in_ok-note-in-Leaf-clause-firsts
+returns-in_ok-note-in-Leaf-clause-firsts t c = c.in_ok-there-in-Leaf.ensures.firsts
+
+pub returns-in_err-dead-in-Blank-clause-firsts : goal.returns-in_err-dead-in-Blank-clause-firsts
+returns-in_err-dead-in-Blank-clause-firsts t c = c.in_err-dead-in-Blank.ensures.firsts
+
+pub returns-in_ok-dead-in-Blank-clause-firsts : goal.returns-in_ok-dead-in-Blank-clause-firsts
+returns-in_ok-dead-in-Blank-clause-firsts t c = c.in_ok-dead-in-Blank.ensures.firsts

@@ -28,3 +28,12 @@ returns-in_err-root-clause-small c =
     (subst (λ (q : PlaneSquare). AddsPiecesOfGrid leaf_grid 8 c.args.target.now c.bring.new.target 28 (states_of_square q.store 28 q.part)) c.root.ensures.square c.in_ok-middle.ensures.pieces)
     ((subst (λ (q : PlaneSquare). IsBrought q.store c.bring.new.target q.part c.in_ok-middle.middle) c.root.ensures.square c.in_ok-middle.ensures.part).draws 28 c.root.ensures.level)
     c.in_ok-wider.ensures.pieces c.in_ok-wider.ensures.draws c.in_err-root.ensures.pieces is one (c.in_err-root.ensures.full (ap (λ e. Err e) (told _ _ _ c.from_residual-in_err-root.ensures.1 h))) (c.in_err-root.ensures.absent (ap (λ e. Err e) (told _ _ _ c.from_residual-in_err-root.ensures.1 h)) is)
+
+pub returns-in_err-wider-clause-firsts : goal.returns-in_err-wider-clause-firsts
+returns-in_err-wider-clause-firsts c = λ p x e. c.in_ok-middle.ensures.firsts p x (c.in_err-wider.ensures.firsts p x e)
+
+pub returns-in_err-root-clause-firsts : goal.returns-in_err-root-clause-firsts
+returns-in_err-root-clause-firsts c = λ p x e. c.in_ok-middle.ensures.firsts p x (c.in_ok-wider.ensures.firsts p x (c.in_err-root.ensures.firsts p x e))
+
+pub returns-clause-firsts : goal.returns-clause-firsts
+returns-clause-firsts c = λ p x e. c.in_ok-middle.ensures.firsts p x (c.in_ok-wider.ensures.firsts p x (c.in_ok-root.ensures.firsts p x e))

@@ -130,3 +130,23 @@ returns-clause-pieces c =
     let four : AddsPiecesOfGrid leaf_grid 8 c.args.store.now c.add_four-3.new.self (c.args.level + 1) (centred (side_at 8 (c.args.level - 1)) (grid_at leaf_grid 8 c.args.store.now c.args.level c.args.part)) = adds_more leaf_grid 8 c.args.store.now c.add_four-2.new.self c.add_four-3.new.self (c.args.level + 1) (centred (side_at 8 (c.args.level - 1)) (grid_at leaf_grid 8 c.args.store.now c.args.level c.args.part)) c.in_ok-sw.ensures.grows three (sw_added c.args.store.now c.add_blank.new.self c.args.level c.args.part c.quarters-quarters.result (slice_index_or c.quarters-quarters.result 0 0) (slice_index_or c.quarters-quarters.result 1 0) _ (slice_index_or c.quarters-quarters.result 3 0) _ c.requires.above c.requires.stands c.in_ok-dead.ensures.grows c.in_ok-dead.ensures.draws c.quarters-quarters.ensures refl refl (part 2 _ (omega arith)) refl c.add_four-2.new.self (grown_more leaf_grid 8 c.add_blank.new.self c.add_four.new.self c.add_four-2.new.self c.in_ok-nw.ensures.grows c.in_ok-ne.ensures.grows) c.add_four-3.new.self _ c.in_ok-sw.ensures.added c.in_ok-sw.ensures.draws) in
     let five : AddsPiecesOfGrid leaf_grid 8 c.args.store.now c.add_four-4.new.self (c.args.level + 1) (centred (side_at 8 (c.args.level - 1)) (grid_at leaf_grid 8 c.args.store.now c.args.level c.args.part)) = adds_more leaf_grid 8 c.args.store.now c.add_four-3.new.self c.add_four-4.new.self (c.args.level + 1) (centred (side_at 8 (c.args.level - 1)) (grid_at leaf_grid 8 c.args.store.now c.args.level c.args.part)) c.in_ok-se.ensures.grows four (se_added c.args.store.now c.add_blank.new.self c.args.level c.args.part c.quarters-quarters.result (slice_index_or c.quarters-quarters.result 0 0) (slice_index_or c.quarters-quarters.result 1 0) (slice_index_or c.quarters-quarters.result 2 0) _ _ c.requires.above c.requires.stands c.in_ok-dead.ensures.grows c.in_ok-dead.ensures.draws c.quarters-quarters.ensures refl refl refl (part 3 _ (omega arith)) c.add_four-3.new.self (grown_more leaf_grid 8 c.add_blank.new.self c.add_four-2.new.self c.add_four-3.new.self (grown_more leaf_grid 8 c.add_blank.new.self c.add_four.new.self c.add_four-2.new.self c.in_ok-nw.ensures.grows c.in_ok-ne.ensures.grows) c.in_ok-sw.ensures.grows) c.add_four-4.new.self _ c.in_ok-se.ensures.added c.in_ok-se.ensures.draws) in
     adds_more leaf_grid 8 c.args.store.now c.add_four-4.new.self c.add_four-5.new.self (c.args.level + 1) (centred (side_at 8 (c.args.level - 1)) (grid_at leaf_grid 8 c.args.store.now c.args.level c.args.part)) c.in_ok-whole.ensures.grows five (adds_one leaf_grid 8 c.add_four-4.new.self c.add_four-5.new.self (c.args.level + 1) (c.args.level + 1) _ (centred (side_at 8 (c.args.level - 1)) (grid_at leaf_grid 8 c.args.store.now c.args.level c.args.part)) _ c.in_ok-whole.ensures.added (returns-clause-draws c))
+
+-- ---- no result is new
+
+pub returns-in_err-ne-clause-firsts : goal.returns-in_err-ne-clause-firsts
+returns-in_err-ne-clause-firsts c = λ p x e. c.in_ok-dead.ensures.firsts p x (c.in_ok-nw.ensures.firsts p x (c.in_err-ne.ensures.firsts p x e))
+
+pub returns-in_err-sw-clause-firsts : goal.returns-in_err-sw-clause-firsts
+returns-in_err-sw-clause-firsts c = λ p x e. c.in_ok-dead.ensures.firsts p x (c.in_ok-nw.ensures.firsts p x (c.in_ok-ne.ensures.firsts p x (c.in_err-sw.ensures.firsts p x e)))
+
+pub returns-in_err-se-clause-firsts : goal.returns-in_err-se-clause-firsts
+returns-in_err-se-clause-firsts c = λ p x e. c.in_ok-dead.ensures.firsts p x (c.in_ok-nw.ensures.firsts p x (c.in_ok-ne.ensures.firsts p x (c.in_ok-sw.ensures.firsts p x (c.in_err-se.ensures.firsts p x e))))
+
+pub returns-in_err-whole-clause-firsts : goal.returns-in_err-whole-clause-firsts
+returns-in_err-whole-clause-firsts c = λ p x e. c.in_ok-dead.ensures.firsts p x (c.in_ok-nw.ensures.firsts p x (c.in_ok-ne.ensures.firsts p x (c.in_ok-sw.ensures.firsts p x (c.in_ok-se.ensures.firsts p x (c.in_err-whole.ensures.firsts p x e)))))
+
+pub returns-clause-firsts : goal.returns-clause-firsts
+returns-clause-firsts c = λ p x e. c.in_ok-dead.ensures.firsts p x (c.in_ok-nw.ensures.firsts p x (c.in_ok-ne.ensures.firsts p x (c.in_ok-sw.ensures.firsts p x (c.in_ok-se.ensures.firsts p x (c.in_ok-whole.ensures.firsts p x e)))))
+
+pub returns-in_err-nw-clause-firsts : goal.returns-in_err-nw-clause-firsts
+returns-in_err-nw-clause-firsts c = λ p x e. c.in_ok-dead.ensures.firsts p x (c.in_err-nw.ensures.firsts p x e)

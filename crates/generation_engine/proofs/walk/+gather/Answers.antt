@@ -1,47 +1,12 @@
 use Rattle.std.proofs.Common.{◌∙◌, ap, ◌+◌, length}
 use Rattle.square_store.proofs.Places.{at_within}
+use Rattle.generation_engine.proofs.CountLaws.{below, above_leaves, nw_of_four, ne_of_four, sw_of_four, se_of_four}
 use Rattle.generation_engine.proofs.Counted.{leaf_counted, parts_counted, square_blank}
 use Rattle.stamped_tree.proofs.Gathering.{gathers_leaf_at}
 use Rattle.std.proofs.Common.{◌≡◌, ℕ, ◌-◌, ◌<◌, ◌≤◌, List, sym, subst, arith, slice_index_or}
 use Rattle.std.specs.Prelude.{length}
-use Rattle.square_store.specs.Squares.{Held, IsAt, side_at}
-use Rattle.square_store.specs.Seen.{IsFourAt}
-use Rattle.stamped_tree.proofs.Parts.{same_default}
-use Rattle.generation_engine.specs.declared.leaf_kind.EngineLeaf.{EngineLeaf}
 use Rattle.generation_engine.specs.EngineLeaf.{leaf_grid}
-use Rattle.square_store.proofs.Drawn.{twice_below}
 use Rattle.generation_engine.proofs.walk.+gather.Goals as goal
-
--- each part is a square of the level below, half as wide
-record IsBelow (s : Held EngineLeaf) (k p : ℕ) : Type 0 where
-  some : 0 < k
-  half : side_at 8 k ≡ side_at 8 (k - 1) + side_at 8 (k - 1)
-  stands : IsAt s (k - 1) p
-
-below : (s : Held EngineLeaf) (k j p i r : ℕ) (parts : List ℕ) → IsFourAt leaf_grid 8 s j parts p → IsAt s k p → i < 4 → IsBelow s k (slice_index_or parts i r)
-below s k j p i r parts four stands few =
-    let level : k ≡ j = four.level k stands in
-    let some : 0 < k = (let h = four.positive in omega (arith, h, level)) in
-    record {
-      some = some;
-      half = twice_below 8 k some;
-      stands = subst (λ q. IsAt s (k - 1) q) (sym (same_default parts i r 0 (let h = four.four in omega (arith, few, h)))) (subst (λ l. IsAt s (l - 1) (slice_index_or parts i 0)) (sym level) (four.parts_stand i few));
-    }
-
-nw_of_four : 0 < 4
-nw_of_four = omega arith
-
-ne_of_four : 1 < 4
-ne_of_four = omega arith
-
-sw_of_four : 2 < 4
-sw_of_four = omega arith
-
-se_of_four : 3 < 4
-se_of_four = omega arith
-
-above_leaves : (s : Held EngineLeaf) (k j p : ℕ) (parts : List ℕ) → IsFourAt leaf_grid 8 s j parts p → IsAt s k p → 1 ≤ k
-above_leaves s k j p parts four stands = let level : k ≡ j = four.level k stands in let h = four.positive in omega (arith, h, level)
 
 pub square-requires : goal.square-requires
 square-requires t c = at_within c.args.store.now c.args.level c.args.part c.requires.stands

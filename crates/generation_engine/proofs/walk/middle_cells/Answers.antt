@@ -1,13 +1,9 @@
 use Rattle.stamped_tree.specs.Walk.{IsNonzeroCell}
-use Rattle.square_store.proofs.Places.{at_within}
 use Rattle.generation_engine.specs.Walk.{GathersSquare, middle_grid}
 use Rattle.generation_engine.proofs.Counted.{middle_counted}
 use Rattle.stamped_tree.proofs.Placing.{sorted_gathered}
 use Rattle.generation_engine.proofs.WalkLaws.{sorted_counted}
 use Rattle.generation_engine.proofs.walk.middle_cells.Goals as goal
-
-pub summary-requires : goal.summary-requires
-summary-requires c = at_within c.args.store.now 30 c.args.root c.requires
 
 all : (c : goal.After-into_sorted) → GathersSquare 4294967296 (middle_grid c.args.store.now c.args.root) 0 0 c.in_ok-found.found c.gather-4.new.found
 all c = middle_counted c.args.store.now c.args.root c.middle-parts.result c.index-parts-0.result c.index-parts-1.result c.index-parts-2.result c.index-parts-3.result

@@ -1,5 +1,5 @@
 use Rattle.std.proofs.Common.{◌∙◌, ◌+◌, ap, refl}
-use Rattle.map_periods.proofs.PeriodLaws.{found, none_in_all, none_more, told_at}
+use Rattle.map_periods.proofs.PeriodLaws.{at_end, found, none_in_all, none_more, refused_there, told_at}
 use Rattle.map_periods.proofs.period.period_of.Goals as goal
 
 pub returns-in-Some-clause-period : goal.returns-in-Some-clause-period
@@ -13,6 +13,15 @@ returns-in-Some-clause-period g c =
     (told_at rule _ map _ (c.args.first + (c.loop-passed.passed + 1)) _ c.in_ok-after.after.items c.deref-in-loop-passed.result.now now.same_rule now.same_map (ap (λ n. c.args.first + n) c.from.ensures)
     c.deref-in-loop-passed.ensures.value c.in_ok-after.ensures.cells))
     now.none
+
+pub returns-in_err-after-clause-refused : goal.returns-in_err-after-clause-refused
+returns-in_err-after-clause-refused g c =
+    let rule = g.G.Generations.rule_of c.args.generations.now in
+    let map = g.G.Generations.map_of c.args.generations.now in
+    let now = c.loop-passed.invariant in
+    at_end c.from_residual-in_err-after.result _ _ c.from_residual-in_err-after.ensures.1
+    (λ e told. refused_there rule map (g.G.Generations.refuses c.args.generations.now) c.args.first c.args.most c.loop-passed.passed _ c.in_err-after.field-0.0 e
+    c.loop-passed-test.true (ap (λ n. c.args.first + n) c.from.ensures) told (now.refusals _ _ c.in_err-after.ensures.refused) now.none)
 
 pub loop-passed-preserved : goal.loop-passed-preserved
 loop-passed-preserved g c =

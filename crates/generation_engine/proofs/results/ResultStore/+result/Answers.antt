@@ -3,7 +3,7 @@ use Rattle.square_store.proofs.Made.{told}
 use Rattle.square_store.specs.Squares.{IsAt}
 use Rattle.generations_rule.specs.Rule.{IsRule}
 use Rattle.generation_engine.specs.Kept.{HasGrown, IsLater, RuledSquares}
-use Rattle.generation_engine.proofs.KeptLaws.{dead_later}
+use Rattle.generation_engine.proofs.KeptLaws.{dead_later, later_after}
 use Rattle.generation_engine.proofs.Passes.{nothing_replaced, all_replaced, read_whole, read_stands, replaced_more, ruled_passes, sixteen_stand, nine_stand, four_stand, later_stand, later_four, twice_power, grown_on, result_there, some_above, above_one, level_below, few_below, exponent_below, first_exponent, less_exponent, next_fits, result_falls, computed_falls, pass_falls, results_fall}
 use Rattle.generation_engine.proofs.results.ResultStore.+result.Goals as goal
 
@@ -195,13 +195,13 @@ pub result-returns-in_err-keep-clause-full : goal.result-returns-in_err-keep-cla
 result-returns-in_err-keep-clause-full t c = λ e. c.in_err-keep.ensures.full (ap (λ e. Err e) (told _ _ _ c.from_residual-in_err-keep.ensures.1 e))
 
 pub result-returns-in_err-keep-clause-grows : goal.result-returns-in_err-keep-clause-grows
-result-returns-in_err-keep-clause-grows t c = subst (λ (s : RuledSquares). HasGrown c.args.self.now s) (sym c.keep.ensures.same) c.in_ok-later.ensures.grows
+result-returns-in_err-keep-clause-grows t c = grown_on c.args.self.now c.computed.new.self c.keep.new.self c.in_ok-later.ensures.grows c.keep.ensures.grows
 
 pub result-returns-clause-grows : goal.result-returns-clause-grows
-result-returns-clause-grows t c = subst (λ (s : RuledSquares). HasGrown c.args.self.now s) (sym c.keep.ensures.same) c.in_ok-later.ensures.grows
+result-returns-clause-grows t c = grown_on c.args.self.now c.computed.new.self c.keep.new.self c.in_ok-later.ensures.grows c.keep.ensures.grows
 
 pub result-returns-clause-later : goal.result-returns-clause-later
-result-returns-clause-later t c = subst (λ (s : RuledSquares). IsLater c.args.self.now.rule c.args.self.now.store s.store c.args.level (2 ^ c.args.exponent) c.args.part c.in_ok-later.later) (sym c.keep.ensures.same) c.in_ok-later.ensures.later
+result-returns-clause-later t c = later_after c.args.self.now.rule c.args.self.now.store c.computed.new.self.store c.keep.new.self.store c.args.level (2 ^ c.args.exponent) c.args.part c.in_ok-later.later c.keep.ensures.grows.store c.in_ok-later.ensures.later
 
 pub result-returns-in-Some-clause-later : goal.result-returns-in-Some-clause-later
 result-returns-in-Some-clause-later t c = c.in-Some.ensures

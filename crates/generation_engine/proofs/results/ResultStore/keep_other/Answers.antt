@@ -10,5 +10,5 @@ invariant_of-self c =
     let is : IsKept c.self.inside.rule c.self.inside.store (record { level = c.args.level; part = c.args.part; exponent = c.args.exponent }) c.args.later = rw (← c.self.view_is) at asked in
     elim c.match-insert.branch [
       | in-Ok w ↦ kept_more _ _ _ _ _ (record { level = c.args.level; part = c.args.part; exponent = c.args.exponent }) c.args.later c.self.invariant is w.in-Ok.ensures.updates.0
-      | in-Err w ↦ (let same = w.in-Err.ensures.err in let are : AreKept c.self.inside.rule c.self.inside.store c.self.inside.firsts.items c.insert.new.self = record { rule = c.self.invariant.rule; first = c.self.invariant.first; other = λ key q e. c.self.invariant.other key q (rw same at e) } in are)
+      | in-Err w ↦ (let same = w.in-Err.ensures.err in let are : AreKept c.self.inside.rule c.self.inside.store c.self.inside.store.firsts c.insert.new.self = record { rule = c.self.invariant.rule; first = c.self.invariant.first; other = λ key q e. c.self.invariant.other key q (rw same at e) } in are)
     ]

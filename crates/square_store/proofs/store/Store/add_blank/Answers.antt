@@ -1,7 +1,7 @@
 use Rattle.std.proofs.Common.{ap, subst, Err}
 use Rattle.square_store.specs.Grid.{blank_grid}
 use Rattle.square_store.specs.Store.{IsStore}
-use Rattle.square_store.proofs.Made.{blank_draws, blank_absent, pushed_there, pushed_grown, pushed_added, told}
+use Rattle.square_store.proofs.Made.{blank_draws, blank_absent, pushed_there, pushed_grown, pushed_added, pushed_firsts, told}
 use Rattle.square_store.proofs.store.Store.add_blank.Goals as goal
 
 pub returns-in-Some-clause-draws : goal.returns-in-Some-clause-draws
@@ -28,3 +28,6 @@ returns-clause-added g c = λ k. pushed_added g.L.LeafKind.write g.L.LeafKind.si
 
 pub returns-clause-grows : goal.returns-clause-grows
 returns-clause-grows g c = pushed_grown g.L.LeafKind.write g.L.LeafKind.side _ _ _ _ c.in_ok-part.ensures.pushed g.L.LeafKind.IsLeaf (subst (λ s. IsStore g.L.LeafKind.write g.L.LeafKind.side g.L.LeafKind.IsLeaf s) c.self.view_is c.self.invariant.0)
+
+pub returns-clause-firsts : goal.returns-clause-firsts
+returns-clause-firsts g c = pushed_firsts g.L.LeafKind.write g.L.LeafKind.side _ _ _ _ c.in_ok-part.ensures.pushed

@@ -1,7 +1,7 @@
 use Rattle.std.proofs.Common.{ap, subst, Err}
 use Rattle.square_store.specs.Grid.{blank_grid}
 use Rattle.square_store.specs.Store.{IsStore}
-use Rattle.square_store.proofs.Made.{leaf_draws, leaf_absent, blank_leaf, drawn_as, full_as, room_as, added_as, entered_there, entered_added, entered_grown, told}
+use Rattle.square_store.proofs.Made.{leaf_draws, leaf_absent, blank_leaf, drawn_as, full_as, room_as, added_as, entered_there, entered_added, entered_grown, entered_firsts, told}
 use Rattle.square_store.proofs.store.Store.add_leaf.Goals as goal
 
 pub returns-in_err-part-clause-full : goal.returns-in_err-part-clause-full
@@ -45,3 +45,6 @@ returns-clause-added g c = entered_added g.L.LeafKind.write g.L.LeafKind.side _ 
 
 pub returns-clause-grows : goal.returns-clause-grows
 returns-clause-grows g c = entered_grown g.L.LeafKind.write g.L.LeafKind.side _ _ _ _ c.in_ok-part-2.ensures.entered g.L.LeafKind.IsLeaf (subst (λ s. IsStore g.L.LeafKind.write g.L.LeafKind.side g.L.LeafKind.IsLeaf s) c.self.view_is c.self.invariant.0)
+
+pub returns-clause-firsts : goal.returns-clause-firsts
+returns-clause-firsts g c = entered_firsts g.L.LeafKind.write g.L.LeafKind.side _ _ _ _ c.in_ok-part-2.ensures.entered

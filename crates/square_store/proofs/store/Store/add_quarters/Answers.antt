@@ -1,7 +1,7 @@
 use Rattle.std.proofs.Common.{◌≡◌, ◌-◌, ◌∙◌, sym, ap, subst, Err, true, false}
 use Rattle.square_store.specs.Store.{IsStore}
 use Rattle.square_store.proofs.Places.{at_within, side_some}
-use Rattle.square_store.proofs.Made.{one_blank_draws, four_draws, four_absent, four_summed, pushed_there, pushed_extends, pushed_grown, pushed_added, told}
+use Rattle.square_store.proofs.Made.{one_blank_draws, four_draws, four_absent, four_summed, pushed_there, pushed_extends, pushed_grown, pushed_added, pushed_firsts, told}
 use Rattle.square_store.proofs.store.Store.add_quarters.Goals as goal
 
 pub returns-then-are_one_blank-clause-draws : goal.returns-then-are_one_blank-clause-draws
@@ -64,3 +64,6 @@ returns-clause-added g c = pushed_added g.L.LeafKind.write g.L.LeafKind.side _ _
 
 pub returns-clause-grows : goal.returns-clause-grows
 returns-clause-grows g c = pushed_grown g.L.LeafKind.write g.L.LeafKind.side _ _ _ _ c.in_ok-part.ensures.pushed g.L.LeafKind.IsLeaf (subst (λ s. IsStore g.L.LeafKind.write g.L.LeafKind.side g.L.LeafKind.IsLeaf s) c.self.view_is c.self.invariant.0)
+
+pub returns-clause-firsts : goal.returns-clause-firsts
+returns-clause-firsts g c = pushed_firsts g.L.LeafKind.write g.L.LeafKind.side _ _ _ _ c.in_ok-part.ensures.pushed

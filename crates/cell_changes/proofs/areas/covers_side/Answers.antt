@@ -1,6 +1,0 @@
-use Rattle.std.proofs.Common.{arith}
-use Rattle.std.proofs.lemmas.Int.{ints}
-use Rattle.cell_changes.proofs.areas.covers_side.Goals as goal
-
-pub returns-then-from-coordinate_of : goal.returns-then-from-coordinate_of
-returns-then-from-coordinate_of c = grind (arith, ints)

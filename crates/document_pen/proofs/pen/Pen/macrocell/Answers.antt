@@ -1,0 +1,30 @@
+use Rattle.std.proofs.Common.{◌≡◌, ℕ, ◌∙◌, List, length, take, Err, ap, rules, subst}
+use Rattle.square_store.specs.Limits.{usual_room}
+use Rattle.export.specs.Export.{IsRoomWanted}
+use Rattle.std.specs.Global.{Vec}
+use Rattle.stamped_tree.specs.Plane.{map_of}
+use Rattle.generation_engine.specs.Universe.{states_in_writes}
+use Rattle.told_generations.specs.Macrocells.{IsMacrocellGiven}
+use Rattle.document_pen.specs.Pen.{PenState}
+use Rattle.document_pen.proofs.PenLaws.{cut_back}
+use Rattle.document_pen.proofs.pen.Pen.macrocell.Goals as goal
+
+pub returns-in-Err-StoreFull : goal.returns-in-Err-StoreFull
+returns-in-Err-StoreFull g c =
+    let m = c.args.self.now in
+    let out = c.self.inside.out.items in
+    let cut_out = c.truncate-in-Err-StoreFull.new.self.items in
+    let size : c.len-before.result ≡ length out = search rules in
+    let cut : cut_out ≡ take c.len-before.result c.macrocell_at.new.out.items = search rules in
+    let same = cut_back out c.macrocell_at.new.out.items cut_out c.len-before.result c.in-Err-StoreFull.ensures.kept size cut in
+    let stays =
+    ap (λ (p : PenState). record p { out = cut_out }) c.self.view_is
+    ∙ ap (λ (o : List ℕ). record m { out = o }) (same ∙ ap (λ (p : PenState). p.out) c.self.view_is) in
+    let full = c.in-Err-StoreFull.ensures.full (ap Err c.in-Err-StoreFull.field-0-is) in
+    (stays, subst (λ (p : PenState). IsRoomWanted p.replica.rule p.replica.plane c.args.generation usual_room) c.self.view_is full.1)
+
+pub returns-in-Ok : goal.returns-in-Ok
+returns-in-Ok g c = (
+  subst (λ (p : PenState). IsMacrocellGiven (λ (text : Vec ℕ). text.items) p.replica.rule (states_in_writes (map_of p.replica.plane)) c.args.generation p.out c.macrocell_at.new.out.items c.in-Ok.text) c.self.view_is c.in-Ok.ensures.given,
+  ap (λ (p : PenState). record p { out = c.macrocell_at.new.out.items }) c.self.view_is,
+)

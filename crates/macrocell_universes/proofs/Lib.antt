@@ -1,0 +1,14 @@
+pub mod Numbers
+pub mod StatesIn
+pub mod ReachLaws
+pub mod BlockReaches
+pub mod EntryReaches
+pub mod LoweredRows
+pub mod Lowerings
+pub mod Inside
+pub mod Inner
+pub mod Widenings
+pub mod Abouts
+pub mod Corners
+pub mod PlaneLaws
+pub mod Built

@@ -1,0 +1,5 @@
+pub mod Sample
+pub mod Axis
+pub mod Chart
+pub mod Laws
+pub mod Rows

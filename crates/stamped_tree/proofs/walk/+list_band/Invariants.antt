@@ -1,4 +1,0 @@
-use Rattle.stamped_tree.proofs.walk.+list_band.Given as goal
-
-abbrev pub decreases-list_band : goal.decreases-list_band
-decreases-list_band l = l.rows.level

@@ -1,7 +1,0 @@
-use Rattle.std.proofs.Common.{◌≡◌, ◌++◌, map, take}
-use Rattle.stamped_tree.specs.RowOrder.{band_row}
-use Rattle.stamped_tree.specs.Walk.{cell_of_plane}
-use Rattle.stamped_tree.proofs.walk.list_band_row.Given as goal
-
-abbrev pub invariant-loop-square : goal.invariant-loop-square
-invariant-loop-square l = l.found.items ≡ l.fn.found.items ++ map cell_of_plane (band_row l.store 0 (take l.square-index l.band) l.row l.plane_row)

@@ -1,7 +1,0 @@
-use Rattle.std.proofs.Common.{◌≡◌, ◌+◌, ◌++◌, map}
-use Rattle.stamped_tree.specs.RowOrder.{band_row, strung}
-use Rattle.stamped_tree.specs.Walk.{cell_of_plane}
-use Rattle.stamped_tree.proofs.walk.list_leaves.Given as goal
-
-abbrev pub invariant-loop-row : goal.invariant-loop-row
-invariant-loop-row l = l.found.items ≡ l.fn.found.items ++ map cell_of_plane (strung (λ v. band_row l.store 0 l.band v (l.top + v)) l.row)
