@@ -38,7 +38,7 @@ build: $(PROGRAM)
 # What is proved and built with the program: all that the gate reads of the crates, tests and programs
 # that measure aside.
 SOURCES := $(shell find crates -name out -prune -o -name trials -prune -o -name must-fail -prune \
-	-o -path '*_tests/*' -prune -o -path '*_calls/*' -prune \
+	-o -path '*/test_*/*' -prune -o -path '*_calls/*' -prune \
 	-o -path 'crates/samples/*' -prune -o -path 'crates/memory_board/*' -prune \
 	-o \( -name '*.rt' -o -name '*.antt' -o -name src -o -name specs -o -name proofs \) -print)
 

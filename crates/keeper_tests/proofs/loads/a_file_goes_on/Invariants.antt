@@ -1,6 +1,0 @@
-use Rattle.std.specs.Arc.{arc_value}
-use Rattle.keeper_tests.proofs.loads.a_file_goes_on.Given as goal
-
--- the board and the inbox that were just opened
-abbrev pub ghosts-goes_on : goal.ghosts-goes_on
-ghosts-goes_on g a = record { origin = a.board.publisher.origin; inbox = (arc_value a.board.drain.queue).table.shared.table_id }

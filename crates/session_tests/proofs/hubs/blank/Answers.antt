@@ -1,6 +1,0 @@
-use Rattle.std.proofs.Common.{arith, ◌<◌}
-use Rattle.session_tests.proofs.Blank.{blank_below}
-use Rattle.session_tests.proofs.hubs.blank.Goals as goal
-
-pub returns : goal.returns
-returns c = blank_below c.args.rule.now.states _ (let h = c.states-states.ensures.rule.least in omega (arith, h)) c.in_ok-plane.ensures.map
