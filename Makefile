@@ -35,33 +35,40 @@ look:
 # Proves the program and all that it stands on, in a copy, and builds it: a line for each crate that is done.
 build: $(PROGRAM)
 
-# What is proved and built with the program: all that the gate reads of the crates, tests and programs
-# that measure aside.
-SOURCES := $(shell find crates -name out -prune -o -name trials -prune -o -name must-fail -prune \
-	-o -path '*/test_*/*' -prune -o -path '*_calls/*' -prune \
-	-o -path 'crates/samples/*' -prune -o -path 'crates/memory_board/*' -prune \
+# What is proved and built: all that the gate reads of the crates, tests aside; and of that what the program stands on.
+ALL_SOURCES := $(shell find crates -name out -prune -o -name trials -prune -o -name must-fail -prune \
+	-o -path '*/test_*/*' -prune \
 	-o \( -name '*.rt' -o -name '*.antt' -o -name src -o -name specs -o -name proofs \) -print)
+SOURCES := $(filter-out $(patsubst %,crates/%/%,samples memory_board trial_calls bench_calls),$(ALL_SOURCES))
+
+# The program that tries calls with memory refused and with bytes by chance, and the one that measures what no script
+# reaches.
+TRIALS := crates/trial_calls/out/trial_calls
+MEASURES := crates/bench_calls/out/bench_calls
 
 $(PROGRAM): $(SOURCES) crates.txt HANDLES
-	@examples/build $(CPU)
+	@examples/build genedit $(CPU)
+
+$(TRIALS) $(MEASURES): $(ALL_SOURCES) crates.txt HANDLES
+	@examples/build $(notdir $@)
 
 # Measures; asserts nothing: scripts through the program, how costs grow, and what no script reaches.
-bench:
+bench: $(PROGRAM) $(MEASURES)
 	@examples/measure
 	@examples/growth $(PROGRAM)
-	@cd crates/bench_calls && rt run -- --time
+	@$(MEASURES) --time
 
 # Runs each call that takes memory with each allocation refused in turn, and so a server of a kept board and the
 # commands of documents. Needs a C compiler.
-memory: $(PROGRAM)
+memory: $(PROGRAM) $(TRIALS)
 	@examples/refuse
 	@examples/kept $(PROGRAM) refuse
 	@examples/documents $(PROGRAM) refuse
 
 # Feeds 3,000 rounds of bytes by chance to each call that reads what others send, and 3,000 files of MCell and of
 # plaintext to the program.
-fuzz: $(PROGRAM)
-	@cd crates/trial_calls && rt run -- fuzz 3000 7
+fuzz: $(PROGRAM) $(TRIALS)
+	@$(TRIALS) fuzz 3000 7
 	@examples/files $(PROGRAM) 3000 7
 
 # Tries the page in headless Chromium, and tells where its pictures are. Needs Node.js 20 and Debian's chromium.
