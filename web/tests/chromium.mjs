@@ -7,12 +7,12 @@ import { join } from "node:path";
 export const sleep = ms => new Promise(done => setTimeout(done, ms));
 
 export class Chromium {
-  /** With words in front, as those that run it at another host. */
-  constructor(...front) {
+  /** With words in front, as those that run it at another host, and flags of its own. */
+  constructor(front = [], flags = []) {
     const [program, ...words] = [...front, process.env.CHROMIUM || "chromium"];
     this.dir = mkdtempSync(join(tmpdir(), "pazgrot-"));
     this.process = spawn(program, [...words, "--headless=new", "--no-sandbox", "--disable-gpu", "--remote-debugging-pipe", "--user-data-dir=" + this.dir, "--hide-scrollbars",
-      "--disable-renderer-backgrounding", "--disable-background-timer-throttling", "--disable-backgrounding-occluded-windows", "--no-first-run", "about:blank"], { stdio: ["ignore", "ignore", "ignore", "pipe", "pipe"] });
+      "--disable-renderer-backgrounding", "--disable-background-timer-throttling", "--disable-backgrounding-occluded-windows", "--no-first-run", ...flags, "about:blank"], { stdio: ["ignore", "ignore", "ignore", "pipe", "pipe"] });
     this.number = 0;
     this.waiting = new Map();
     this.events = [];

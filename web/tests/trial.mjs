@@ -344,7 +344,7 @@ async function apart() {
   const network = hosts();
   if (!network) return console.log("left out: hosts of this machine's own, which want Debian's iproute2 and its rights: a page at an address that is no loopback");
   const [front, ...words] = [...network.server, program, "serve", "--rule", "23/3/2", "--sessions", "4", "--web", `${SERVED}:0`, "--until-close"];
-  const server = spawn(front, words), far = new Chromium(...network.browser);
+  const server = spawn(front, words), far = new Chromium(network.browser);
   let warned = "";
   server.stderr.on("data", piece => { warned += piece; });
   const link = await new Promise(done => server.stdout.on("data", piece => { const found = /open (\S+)\n/.exec(piece); if (found) done(found[1]); }));
