@@ -107,7 +107,7 @@ try-deb: $(PROGRAM)
 	@mkdir -p out
 	@examples/package/try "$$(examples/package/deb $(PROGRAM) out)" $(HOW)
 
-# Makes a release of the last commit in out/release, or in FOLDER: from a clean clone it builds, runs the gate, `memory`
+# Makes a release of the last commit in out/release, or in FOLDER: from a clean clone it runs the gate, builds, runs `memory`
 # and `fuzz`, makes the package, and writes what was proved.
 release:
 	@examples/package/release $(FOLDER)
