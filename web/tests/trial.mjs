@@ -117,6 +117,15 @@ async function alone(chromium) {
   await page.js("document.querySelectorAll('details').forEach((d, k) => { d.open = k === 2; })"); await page.shot(join(out, "alone-file.png"));
 }
 
+/** A glider that is drawn and saved by keys alone. */
+async function keys(chromium) {
+  const page = await chromium.open(`file://${file}#rule=B3/S23`);
+  await gather(page);
+  for (const key of ["ArrowRight", "d", "ArrowRight", "ArrowDown", "d", "ArrowLeft", "ArrowLeft", "ArrowDown", "d", "ArrowRight", "d", "ArrowRight", "d", "r"]) await page.key(key);
+  await page.until("given.length === 1");
+  check("keys alone draw a glider and save it", (await page.js("given[0]")).endsWith("rule = B3/S23\nbo$2bo$3o!\n"), await page.js("given[0]"));
+}
+
 async function narrow(chromium) {
   const page = await chromium.open(`file://${file}#rule=345/2/4&rle=${encodeURIComponent("8.A$6.ABC$CBA$CBA!")}`, 360, 640, { features: [{ name: "prefers-reduced-motion", value: "reduce" }] });
   await page.until("pazgrot.board.plane.population > 0");
@@ -370,7 +379,7 @@ async function apart() {
 
 const chromium = new Chromium();
 try {
-  const parts = flags.includes("--speed") ? [alone, narrow, together, full, apart, great] : [alone, narrow, together, full, apart];
+  const parts = flags.includes("--speed") ? [alone, keys, narrow, together, full, apart, great] : [alone, keys, narrow, together, full, apart];
   for (const part of parts) await part(chromium);
   const errors = chromium.errors();
   check("no error in any page", errors.length === 0, JSON.stringify(errors.slice(0, 2)).slice(0, 500));
