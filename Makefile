@@ -54,7 +54,7 @@ $(TRIALS) $(MEASURES): $(ALL_SOURCES) crates.txt HANDLES
 
 # Measures; asserts nothing: scripts through the program, how costs grow, and what no script reaches.
 bench: $(PROGRAM) $(MEASURES)
-	@examples/measure
+	@examples/measure --program $(PROGRAM)
 	@examples/growth $(PROGRAM)
 	@$(MEASURES) --time
 
