@@ -11,7 +11,7 @@ abbrev pub HasStatesBelow : ℕ → (Place → ℕ) → Type 0
 HasStatesBelow n f = (c : Place) → f c < n
 
 -- The refusal of a map under a rule of so many states: a live cell lies outside the plane; else a state is not below the number; and
--- of a want neither is so.
+-- where room is wanting neither is so. Memory may be wanting before any of that is known.
 abbrev pub IsRefused : ℕ → (Place → ℕ) → UniverseFault → Type 0
 IsRefused n f OutOfPlane = (c : Place) × ((is_in_plane c ≡ false) × (f c ≢ 0))
 IsRefused n f StateRange = LiesInPlane f × ((c : Place) × (n ≤ f c))

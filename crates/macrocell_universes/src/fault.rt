@@ -7,7 +7,7 @@ use std::alloc::AllocError;
 use std::error::Error;
 use std::fmt;
 
-/// Why a macrocell is no universe under a rule; the first that holds is told.
+/// Why a macrocell is no universe under a rule; the first that holds is told, but `Memory` wherever it was refused.
 #[derive(Clone, Copy, Debug, PartialEq, Eq)]
 pub enum UniverseFault {
     /// A cell that is not dead lies outside the plane of edits, x and y from -2^30 to 2^30 - 1.

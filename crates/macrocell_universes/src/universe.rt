@@ -35,8 +35,8 @@ pub struct UniverseSquares {
 
 /// The squares of the universe of a macrocell's map under a rule, at generation 0, within limits. Its cells are not listed,
 /// so how many there are does not matter. `OutOfPlane` is answered where a live cell lies outside the plane of edits, else
-/// `StateRange` where a state is not below the rule's number of states, and `StoreFull` and `Memory` only where neither
-/// is so.
+/// `StateRange` where a state is not below the rule's number of states, and `StoreFull` only where neither is so. `Memory`
+/// may come in their place: the list by which they are found takes some.
 pub fn universe_of(
     alloc: Global,
     rule: &Rule,
